@@ -18,7 +18,7 @@ HERE = Path(__file__).resolve().parent
 DATE = (1980, 1, 1, 0, 0, 0)
 
 
-def project() -> dict[str, Any]:
+def project_table() -> dict[str, Any]:
     """Returns what `pyproject.toml` says."""
     with open(HERE / "pyproject.toml", "rb") as file:
         return tomllib.load(file)
@@ -52,7 +52,7 @@ def metadata(about: dict[str, Any]) -> str:
 
 def contents() -> dict[str, bytes]:
     """Returns the files of the wheel, without the list of them."""
-    settings = project()
+    settings = project_table()
     about, folder = settings["project"], f"bbmlab-{version()}.dist-info"
     scripts = "".join(f"{name} = {target}\n" for name, target in about["scripts"].items())
     found = {name: path.read_bytes() for name, path in files_of(settings["tool"]["lab_wheel"])}

@@ -494,7 +494,7 @@ ADDERS = [add_check, add_receipts, add_explain, add_trace, add_draw, add_view, a
 
 def answered(run: Callable[[argparse.Namespace], int], options: argparse.Namespace) -> int:
     """Runs a command and returns its exit status; what goes wrong is a line on standard error."""
-    from .host.program import ProgramError, ProgramTimeout
+    from .host.program import BadProgramError, ProgramTimeout
     from .host.signals import Stopped, end_by_pipe, listen
     from .host.terminal import LabError, escape_controls, require_output
     from .texts.reports import ReportError
@@ -509,7 +509,7 @@ def answered(run: Callable[[argparse.Namespace], int], options: argparse.Namespa
     except LabError as error:
         print(f"bbmlab: {escape_controls(str(error))}", file=sys.stderr)
         return error.status
-    except (ProgramError, ProgramTimeout, ReportError) as error:
+    except (BadProgramError, ProgramTimeout, ReportError) as error:
         print(f"bbmlab: {escape_controls(str(error))}", file=sys.stderr)
         return 4
     except BrokenPipeError:
@@ -524,7 +524,7 @@ def answered(run: Callable[[argparse.Namespace], int], options: argparse.Namespa
         return signal.status
 
 
-def open_errors() -> None:
+def open_standard_error() -> None:
     """Opens standard error if it is closed: otherwise `print` writes messages to standard output, and the next file
     that is opened gets them."""
     if sys.stderr is None:
@@ -543,7 +543,7 @@ def drop_output() -> None:
 
 def main(words: list[str] | None = None) -> int:
     """Runs a command and returns the exit status."""
-    open_errors()
+    open_standard_error()
     words = sys.argv[1:] if words is None else words
     commands = commands_for(words)
     options, unknown = commands.parser.parse_known_args(words)

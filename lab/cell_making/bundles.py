@@ -1,14 +1,14 @@
 """A machine of two-cell balls, and its bundle: circuit, layout, and a certificate with stops at its ports."""
 
-from dataclasses import dataclass, field
+from dataclasses import dataclass, field, replace
 
 from bbmlab_core.certify.certifier import CertificatePlan, certified, grid_boxes
 from bbmlab_core.route.balls import Ball, Mirror, Run, block_cells, mirror_cells, run_exactly, start_state
-from bbmlab_core.texts.certificates import MAX_BOX_SIDE, Module
-from bbmlab_core.texts.circuits import Circuit, evaluate
+from bbmlab_core.texts.certificates import MAX_BOX_SIDE, Certificate, Stop, local_wires, whole_module
+from bbmlab_core.texts.circuits import Circuit, evaluate_all
 from bbmlab_core.texts.documents import read_document
 from bbmlab_core.texts.gates import Table
-from bbmlab_core.texts.layouts import Cell, row_order
+from bbmlab_core.texts.layouts import Box, Cell, Layout, Port, row_order
 
 # Dead cells between the machine and the rim, so that nothing is live on the rim.
 MARGIN = 2
@@ -100,7 +100,7 @@ def rectangles(cells: set[Cell]) -> list[Mirror]:
 def bundle_text(machine: Machine) -> str:
     """Returns the bundle of a machine, after a run of it under all its inputs."""
     circuit = read_circuit(machine.circuit_text())
-    values = evaluate(circuit, circuit.inputs, [gate.number for gate in circuit.gates])
+    values = evaluate_all(circuit)
     run = run_machine(machine, values.tables, values.full)
     dx, dy, width, height = frame_of(machine, run)
 
@@ -108,54 +108,39 @@ def bundle_text(machine: Machine) -> str:
         """Returns the cells of a ball in the layout."""
         return [(x + dx, y + dy) for x, y in ball.cells()]
 
-    outs = {name: shifted(ball.at(machine.last)) for name, ball in machine.outs.items()}
-    taken = {cell for cells in outs.values() for cell in cells}
-    wastes = sorted({(x + dx, y + dy) for x, y in run.states[-1]} - taken, key=row_order)
+    def ports(balls: dict[str, Ball], time: int) -> tuple[Port, ...]:
+        """Returns the cells of balls at a time, with their names."""
+        return tuple(Port(name, x, y) for name, ball in balls.items() for x, y in shifted(ball.at(time)))
+
+    outs = ports(machine.outs, machine.last)
+    wastes = {(x + dx, y + dy) for x, y in run.states[-1]} - {port.cell for port in outs}
     mirrors = rectangles({(x + dx, y + dy) for x, y in mirror_cells(machine.mirrors)})
-    lines = [f"layout {width} {height} {machine.last}"]
-    lines += [f"mirror {mirror.x} {mirror.y} {mirror.width} {mirror.height}" for mirror in mirrors]
-    lines += [f"ball {x} {y}" for ball in machine.constants for x, y in shifted(ball.at(0))]
-    lines += [f"in {name} {x} {y}" for name, ball in machine.ins.items() for x, y in shifted(ball.at(0))]
-    lines += [f"out {name} {x} {y}" for name, cells in outs.items() for x, y in cells]
-    lines += [f"waste {x} {y}" for x, y in wastes]
-    design = machine.circuit_text() + "\n".join([*lines, "end", ""])
-    stops = [(ball.time, name, cell) for name, ball in machine.ports() for cell in shifted(ball)]
-    return with_stops(certificate_for(design, circuit, width, height), stops)
+    balls = tuple(cell for ball in machine.constants for cell in shifted(ball.at(0)))
+    layout = Layout(width, height, machine.last,
+                    tuple(Box(mirror.x, mirror.y, mirror.width, mirror.height) for mirror in mirrors), balls,
+                    ports(machine.ins, 0), outs, tuple(sorted(wastes, key=row_order)))
+    stops = [Stop(ball.time, name, *cell) for name, ball in machine.ports() for cell in shifted(ball)]
+    certificate = with_stops(certificate_for(circuit, layout), circuit, stops)
+    return f"{circuit}{layout}{certificate}"
 
 
-def certificate_for(design: str, circuit: Circuit, width: int, height: int) -> str:
-    """Returns a design with its certificate: one module if it is small enough, else modules on a grid."""
-    if max(width, height) <= MAX_BOX_SIDE:
-        lines = [f"certificate 2\nmodule 0 0 {width} {height}", *(f"cut {name}" for name in circuit.inputs)]
-        lines += [f"use {gate.number}" for gate in circuit.gates]
-        lines += [f"keep {gate.number}" for gate in circuit.gates if gate.is_inverse]
-        return design + "\n".join([*lines, "end", ""])
-    document = read_document(design, "design")
-    assert document.layout is not None
-    return certified(document, grid_boxes(document.layout, MAX_BOX_SIDE, MAX_BOX_SIDE), CertificatePlan(2, "safe"))
+def certificate_for(circuit: Circuit, layout: Layout) -> Certificate:
+    """Returns the certificate of a design: one module if it is small enough, else modules on a grid."""
+    if max(layout.width, layout.height) <= MAX_BOX_SIDE:
+        return Certificate(2, (whole_module(circuit, layout),))
+    plan, boxes = CertificatePlan(2, "safe"), grid_boxes(layout, MAX_BOX_SIDE, MAX_BOX_SIDE)
+    made = read_document(certified(read_document(f"{circuit}{layout}", "design"), boxes, plan)).certificate
+    assert made is not None
+    return made
 
 
-def with_stops(bundle: str, stops: list[tuple[int, str, Cell]]) -> str:
-    """Returns a bundle with stops added to the modules that have their cells. Their wires become local there."""
-    document = read_document(bundle)
-    circuit, certificate = document.circuit, document.certificate
-    if document.refusal or circuit is None or certificate is None:
-        raise ValueError(f"the bundle is refused: {document.refusal}")
-    lines = bundle.split("\n")
-    # From the last module, so that the lines of earlier ones keep their numbers.
-    for module in reversed(certificate.modules):
-        own = sorted((time, y, x, name) for time, name, (x, y) in stops if module.box.has((x, y)))
-        if not own:
-            continue
-        end = next(number for number in range(module.line, len(lines)) if lines[number].startswith("module ")
-                   or lines[number] == "end")
-        cuts, uses = circuit.cone(sorted({*module.local, *(name for _, _, _, name in own)}))
-        lines[module.line:end] = [*(f"cut {name}" for name in cuts), *(f"use {number}" for number in uses),
-                                  *other_lines(module),
-                                  *(f"stop {time} {name} {x} {y}" for time, y, x, name in own)]
-    return "\n".join(lines)
-
-
-def other_lines(module: Module) -> list[str]:
-    """Returns the lines of a module between its `use` lines and its stops."""
-    return [*(f"keep {number}" for number in sorted(module.keeps)), *(str(line) for line in module.edges)]
+def with_stops(certificate: Certificate, circuit: Circuit, stops: list[Stop]) -> Certificate:
+    """Returns a certificate with stops added to the modules that have their cells. Their wires become local there."""
+    modules = []
+    for module in certificate.modules:
+        own = sorted((stop for stop in stops if module.box.has(stop.cell)), key=lambda stop: (stop.place, stop.name))
+        if own:
+            cuts, uses = circuit.cone({*local_wires(circuit, module), *(stop.name for stop in own)})
+            module = replace(module, cuts=tuple(cuts), uses=tuple(uses), stops=tuple(own))
+        modules.append(module)
+    return Certificate(certificate.version, tuple(modules))

@@ -32,11 +32,15 @@ CALLS = ["certify", "check", "clean", "equivalent", "explain", "inverse", "local
 
 
 def fields_of(record: type) -> list[str]:
-    """Returns the public fields of a record in their order."""
-    fields = [field.name
-              for field in dataclasses.fields(record)] if dataclasses.is_dataclass(record) else list(
-                  record._fields)  # type: ignore[attr-defined]
+    """Returns the public fields of a record in their order: a field that is not compared says where a line is."""
+    fields = ([field.name for field in dataclasses.fields(record) if field.compare]
+              if dataclasses.is_dataclass(record) else list(record._fields))  # type: ignore[attr-defined]
     return [name for name in fields if not name.startswith("_")]
+
+
+def is_builder(record: type, function: object) -> bool:
+    """Whether a member of a record returns a record of the same type."""
+    return inspect.isfunction(function) and inspect.signature(function).return_annotation == record.__name__
 
 
 class Page(unittest.TestCase):
@@ -79,7 +83,7 @@ class Page(unittest.TestCase):
         self.assertTrue(all(f"`{name}`" in self.page for name in fields_of(bbmlab.Finding)[3:]))
         for record in (bbmlab.Circuit, bbmlab.Layout, bbmlab.Certificate, bbmlab.Module):
             for name, builder in vars(record).items():
-                if inspect.isfunction(builder) and not name.startswith("_"):
+                if is_builder(record, builder) and name not in ("clipped", "with_parts"):
                     self.assertEqual(shown.get(name), str(inspect.signature(builder))[len("(self, "):].split(") ->")[0]
                                      and
                                      ", ".join(str(part).split(":")[0]

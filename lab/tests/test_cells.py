@@ -92,7 +92,7 @@ class Meaning(unittest.TestCase):
         """Constants are balls of two cells, and each source 1 has one."""
         for name in cell_names():
             cell = read_cell(name)
-            sources = [gate for gate in cell.document.circuit.gates if gate.word == "source" and gate.parameter == 1]
+            sources = [gate for gate in cell.document.circuit.gates if gate.kind == "source" and gate.parameter == 1]
             with self.subTest(name):
                 self.assertEqual(cell.constants, len(sources))
                 self.assertEqual(len(cell.document.layout.of_kind("ball")), 2 * len(sources))

@@ -93,7 +93,7 @@ class Forms(unittest.TestCase):
         """The graph has an arrow for each wire, and is read by dot where it is there."""
         circuit = random_circuit(random.Random(3), 6, self.FORWARD)
         text = circuit_forms.dot_text(circuit)
-        self.assertEqual(text.count(" -> "), len(circuit.defined))
+        self.assertEqual(text.count(" -> "), len(circuit.wires))
         if shutil.which("dot"):
             subprocess.run(["dot", "-Tsvg"], input=text.encode(), check=True, stdout=subprocess.DEVNULL)
 

@@ -13,17 +13,17 @@ import support
 from bbmlab_core.explain.diagnosis import Diagnosis, Truth
 from bbmlab_core.explain.edits import EditError, add, applied, delete, edits_between, replace
 from bbmlab_core.explain.expected_lines import BorderCheck
-from bbmlab_core.explain.explaining import Explanation, explain_answer
+from bbmlab_core.explain.explaining import ExplainedAnswer, explain_answer
 from bbmlab_core.explain.fixing import Fixer
+from bbmlab_core.explain.refusal_edits import refusal_edits
 from bbmlab_core.explain.trials import Budget, Trial, is_yes
 from bbmlab_core.host.program import ask
 from bbmlab_core.physics.mirrors import stays
 from bbmlab_core.physics.own_report import own_report
 from bbmlab_core.texts.skimming import certificate_digest
 from bbmlab_core.physics.simulation import Field, key_of
-from bbmlab_core.texts.boxes import Box
-from bbmlab_core.texts.certificates import BorderLine, Module
-from bbmlab_core.texts.layouts import Layout, Part
+from bbmlab_core.texts.certificates import Border, Module
+from bbmlab_core.texts.layouts import Box, Layout, Part
 from bbmlab_core.texts.reports import ReportError, parse_report
 from measure_fixes import right_texts, rounds_to_yes
 from mutations import FAMILIES, mutants
@@ -34,7 +34,7 @@ def text_of(name: str) -> str:
     return (support.EXAMPLES / f"{name}.txt").read_text()
 
 
-def explained(text: str, command: str = "check") -> Explanation:
+def explained(text: str, command: str = "check") -> ExplainedAnswer:
     """Returns the program's answer to a text in words, with fixes that the program tried."""
     output = ask(support.program(), command, text.encode("latin-1")).output
     return explain_answer(text, command, output, "text", Trial(support.program()))
@@ -63,6 +63,15 @@ class Edits(unittest.TestCase):
                          ("a\na\na\n", "a\n")):
             with self.subTest(one=one, two=two):
                 self.assertEqual(applied(one, edits_between(one, two)), two)
+
+
+    def test_module_for_a_gap(self) -> None:
+        """A module that was left out is added again, if no wire comes into its box."""
+        head = "circuit\ninput p\noutput p\nend\nlayout 16 8 3\nin p 2 2\nout p 5 5\nend\n"
+        whole = f"{head}certificate 2\nmodule 0 0 8 8\ncut p\nmodule 8 0 8 8\nend\n"
+        text = whole.replace("module 8 0 8 8\n", "")
+        self.assertEqual([applied(text, edits) for edits in refusal_edits(support.read_document(text))], [whole])
+        self.assertTrue(says_yes(whole))
 
 
 class DeletedLines(unittest.TestCase):
@@ -94,19 +103,19 @@ class DeletedLines(unittest.TestCase):
         """The wire of the line about the cell at the nearest time comes first, then those that most modules know, then
         that of a line next to it."""
         tables, layout = {"p": 5, "d": 5, "e": 5, "z": 3}, Layout(32, 32, 100)
-        knowing = [Module(number, Box(8 * number, 0, 8, 8), 1, local=dict.fromkeys(names, 1)) for number,
-                   names in enumerate(("p", "pe", "pe"))]
+        knowing = [Module(Box(8 * number, 0, 8, 8), tuple(names)) for number, names in enumerate(("p", "pe", "pe"))]
         for lines, modules, wanted in (([(8, 3, 41, "e"), (8, 3, 61, "p"), (9, 4, 49, "d")], [], "epd"),
                                        ([(8, 3, 41, "p"), (8, 3, 53, "e")], [], "epd"),
                                        ([(9, 4, 49, "d")], knowing, "ped"),
                                        ([(9, 4, 49, "d"), (7, 2, 47, "e"), (12, 3, 49, "p")], [], "dep"),
                                        ([], [], "pde")):
             check = BorderCheck.__new__(BorderCheck)
-            at: dict[tuple[int, int], list[tuple[Module, BorderLine]]] = {}
+            at: dict[tuple[int, int], list[tuple[Module, Border]]] = {}
             for x, y, time, name in lines:
-                at.setdefault((x, y), []).append((knowing[0], BorderLine("edge", time, x, y, name, 1)))
+                at.setdefault((x, y), []).append((knowing[0], Border(time, x, y, name)))
             check.__dict__.update(lines_at=at, layout=layout,
-                                  diagnosis=SimpleNamespace(values=SimpleNamespace(tables=tables)))
+                                  diagnosis=SimpleNamespace(values=SimpleNamespace(tables=tables),
+                                                            local=lambda module: module.cuts))
             self.assertEqual("".join(check.likely_wires(5, modules, (8, 3), 49)), wanted, lines)
 
     def test_first_edit(self) -> None:
@@ -138,7 +147,7 @@ class Mirrors(unittest.TestCase):
             for y in (4, 5):
                 for width in range(1, 6):
                     for height in range(1, 6):
-                        part = Part("mirror", None, x, y, width, height, 1)
+                        part = Part("mirror", None, x, y, width, height)
                         start = {key_of(cell): 1 for cell in part.cells()}
                         field = Field(start)
                         kept = []
@@ -159,7 +168,7 @@ class Mirrors(unittest.TestCase):
 class Mistakes(unittest.TestCase):
     """The usual mistakes of designers, each with its fix in one look."""
 
-    def fixed(self, text: str, broken: str) -> Explanation:
+    def fixed(self, text: str, broken: str) -> ExplainedAnswer:
         """Returns the words on a broken text, after checking that its fix gets a yes and is about the edited lines."""
         self.assertNotEqual(text, broken)
         told = explained(broken)

@@ -94,8 +94,8 @@ class Joining(unittest.TestCase):
         document = self.joined("@half", "@half", "--connect", "A.sum=B.a")
         circuit = document.circuit
         assert circuit
-        self.assertEqual(circuit.inputs, ["a_a", "a_b", "b_b"])
-        self.assertEqual(circuit.outputs, ["a_carry", "b_sum", "b_carry"])
+        self.assertEqual(circuit.inputs, ("a_a", "a_b", "b_b"))
+        self.assertEqual(circuit.outputs, ("a_carry", "b_sum", "b_carry"))
         for number in range(8):
             on = {name for index, name in enumerate(circuit.inputs) if number >> index & 1}
             values = values_under(circuit, on)[0]
@@ -121,7 +121,7 @@ class Joining(unittest.TestCase):
         """Parts without connections end together. The balls of the part with fewer steps are led to its start."""
         document = self.joined("p=@half", "q=@block")
         assert document.layout and document.circuit
-        self.assertEqual(document.circuit.outputs, ["p_sum", "p_carry", "q_b"])
+        self.assertEqual(document.circuit.outputs, ("p_sum", "p_carry", "q_b"))
         parts = {name: read_part(name, self.parts[name].read_text()) for name in ("half", "block")}
         self.assertEqual(document.layout.steps, max(own.layout.steps for own in parts.values()))
         plan = planning.made_plan(composed(parts, []), 512, 150)
@@ -133,7 +133,7 @@ class Joining(unittest.TestCase):
         """Stops and keeps of parts are those of the join."""
         document = self.joined("@block", "d=@delayed", "i=@inverse", "--connect", "A.b=d.a", "d.d=i.b", "d.c=i.a")
         assert document.certificate and document.circuit
-        self.assertEqual([gate.word for gate in document.circuit.gates if gate.is_inverse], ["unswitch"])
+        self.assertEqual([gate.kind for gate in document.circuit.gates if gate.is_inverse], ["unswitch"])
         self.assertTrue(any(module.keeps for module in document.certificate.modules))
         self.assertTrue(any(module.stops for module in document.certificate.modules))
         self.assert_runs(document)

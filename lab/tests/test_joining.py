@@ -11,7 +11,7 @@ from typing import Callable, NamedTuple
 import support
 from bbmlab_core.host.program import ask
 from bbmlab_core.physics.simulation import WholeRun, cell_of, end_tables, key_of
-from bbmlab_core.texts.circuits import Circuit, evaluate
+from bbmlab_core.texts.circuits import Circuit, evaluate_all
 from bbmlab_core.texts.documents import read_document
 from bbmlab_core.texts.layouts import Cell, Layout
 from bbmlab_core.physics.standard_cells import CellPort, parts_of, read_cell
@@ -82,7 +82,7 @@ def gate_lines(circuit: Circuit, renamed: Callable[[str], str]) -> list[str]:
     lines = []
     for gate in circuit.gates:
         parameter = [] if gate.parameter is None else [str(gate.parameter)]
-        lines.append(" ".join([gate.word, *parameter, *map(renamed, gate.ins), "->", *map(renamed, gate.outs)]))
+        lines.append(" ".join([gate.kind, *parameter, *map(renamed, gate.ins), "->", *map(renamed, gate.outs)]))
     return lines
 
 
@@ -184,7 +184,7 @@ def ends_well(text: str) -> bool:
     layout, circuit = document.layout, document.circuit
     if document.refusal or layout is None or circuit is None:
         return False
-    values = evaluate(circuit, circuit.inputs, [gate.number for gate in circuit.gates])
+    values = evaluate_all(circuit)
     run = WholeRun(layout, values.tables, values.full)
     if not run.run_to(layout.steps):
         return False

@@ -11,6 +11,7 @@ import sys
 import tempfile
 import unittest
 from collections import Counter
+from dataclasses import replace
 from pathlib import Path
 from unittest import mock
 
@@ -29,12 +30,11 @@ from bbmlab_core.physics.simulation import Fault, ModuleRun, WholeRun, key_of, l
 from bbmlab_core.pictures.golly import golly_text
 from bbmlab_core.texts import designs
 from bbmlab_core.texts.assigns import AssignReader
-from bbmlab_core.texts.boxes import Box, clipped
-from bbmlab_core.texts.certificates import CertificateReader
+from bbmlab_core.texts.certificates import Certificate, CertificateReader
 from bbmlab_core.texts.circuits import Circuit, CircuitReader, Gate, evaluate_samples, sampled_tables
 from bbmlab_core.texts.documents import HEADER_LINE, HEADERS, Document
 from bbmlab_core.texts.json_form import indented
-from bbmlab_core.texts.layouts import Layout, LayoutReader, Part
+from bbmlab_core.texts.layouts import Box, Layout, LayoutReader, Part
 from bbmlab_core.texts.lines import Form, Values, match_line, word_value
 
 # Memory in which the trace of a large layout fits.
@@ -75,14 +75,20 @@ class Runs(unittest.TestCase):
         for name, document in bundles().items():
             circuit, layout, certificate = document.circuit, document.layout, document.certificate
             assert circuit and layout and certificate
-            for module in certificate.modules:
+            for number in range(len(certificate.modules)):
                 for change in range(4):
-                    if change and (module.edges or module.halos or module.stops):
-                        lines = chooser.choice([kind for kind in (module.edges, module.halos, module.stops) if kind])
-                        del lines[chooser.randrange(len(lines))]  # type: ignore[attr-defined]
+                    module = certificate.modules[number]
+                    kinds = [kind for kind in ("edges", "halos", "stops") if getattr(module, kind)]
+                    if change and kinds:
+                        kind = chooser.choice(kinds)
+                        lines = getattr(module, kind)
+                        gone = chooser.randrange(len(lines))
+                        module = replace(module, **{kind: lines[:gone] + lines[gone + 1:]})
+                        certificate = Certificate(certificate.version, (*certificate.modules[:number], module,
+                                                                        *certificate.modules[number + 1:]))
                     wanted = plain_least_fault(ModuleRun(circuit, layout, certificate, module))
                     self.assertEqual(ModuleRun(circuit, layout, certificate, module).least_fault(), wanted,
-                                     (name, module.number))
+                                     (name, number))
                     count, faults = count + 1, faults + (wanted is not None)
         self.assertGreater(min(count, faults), 150)
 
@@ -132,7 +138,7 @@ class Runs(unittest.TestCase):
                             wanted.setdefault(cell, {})[run.time] = run.field.live[key_of(cell)]
                 if not run.step():
                     wanted = None
-            self.assertEqual(check.seen, wanted, name)
+            self.assertEqual(check.ring_tables, wanted, name)
 
 
 def random_layout(chooser: random.Random) -> Layout:
@@ -140,14 +146,14 @@ def random_layout(chooser: random.Random) -> Layout:
     free, parts = {(x, y) for x in range(20) for y in range(20)}, []
     for _ in range(chooser.randrange(1, 6)):
         part = Part("mirror", None, chooser.randrange(2, 14), chooser.randrange(2, 14), chooser.randrange(1, 5),
-                    chooser.randrange(1, 5), 1)
+                    chooser.randrange(1, 5))
         if set(part.cells()) <= free:
             free -= set(part.cells())
             parts.append(part)
     cells = chooser.sample(sorted(free), chooser.randrange(1, 12))
-    parts += [Part("ball", None, *cell, 1, 1, 1) for cell in cells[::2]] + [Part("in", "pq"[x % 2], x, y, 1, 1, 1)
-                                                                            for x, y in cells[1::2]]
-    return Layout(20, 20, chooser.randrange(1, 30), parts)
+    parts += [Part("ball", None, *cell) for cell in cells[::2]]
+    parts += [Part("in", "pq"[x % 2], x, y) for x, y in cells[1::2]]
+    return Layout(20, 20, chooser.randrange(1, 30)).with_parts(parts)
 
 
 class ManyModules(unittest.TestCase):
@@ -158,25 +164,23 @@ class ManyModules(unittest.TestCase):
         """
         chooser = random.Random(82)
         parts = [Part("mirror", None, chooser.randrange(990), chooser.randrange(990), chooser.choice((1, 2, 9, 90)),
-                      chooser.choice((1, 2, 9, 90)), 1) for _ in range(90)]
-        layout = Layout(1000, 1000, 9, parts)
+                      chooser.choice((1, 2, 9, 90))) for _ in range(90)]
+        layout = Layout(1000, 1000, 9).with_parts(parts)
         every = [set(part.cells()) for part in parts]
         for _ in range(60):
             box = Box(chooser.randrange(0, 990, 2), chooser.randrange(0, 990, 2), chooser.randrange(2, 66, 2),
                       chooser.randrange(2, 66, 2))
             inside = set(box.cells())
             wanted = [sorted(cells & inside) for cells in every]
-            self.assertEqual([sorted(part.cells()) for part in clipped(layout, box).parts],
+            self.assertEqual([sorted(part.cells()) for part in layout.clipped(box).parts],
                              [cells for cells in wanted if cells])
             self.assertEqual(box.ring(),
                              {(x, y) for x, y in box.cells() if {x - box.x, y - box.y} & {0}
                               or x - box.x == box.width - 1 or y - box.y == box.height - 1})
-        grid = Layout(4096, 4096, 9,
-                      [Part("ball", None, x, y, 1, 1, 1) for x in range(0, 4096, 16) for y in range(0, 4096, 16)])
-        self.assertLess(len(grid.parts_near(640, 640, 64, 64)), 50)
-        grid.parts.append(Part("ball", None, 641, 641, 1, 1, 1))
-        self.assertEqual(clipped(grid, Box(640, 640, 4, 4)).parts,
-                         [grid.parts[640 // 16 * 256 + 640 // 16], grid.parts[-1]])
+        cells = tuple((x, y) for x in range(0, 4096, 16) for y in range(0, 4096, 16))
+        grid = Layout(4096, 4096, 9, balls=(*cells, (641, 641)))
+        self.assertLess(len(grid.parts_near(Box(640, 640, 64, 64))), 50)
+        self.assertEqual(grid.clipped(Box(640, 640, 4, 4)).balls, ((640, 640), (641, 641)))
 
     def test_samples(self) -> None:
         """Column A of a table is bit A of its number, as in a sum of single bits; the columns with all rows are found
@@ -190,8 +194,8 @@ class ManyModules(unittest.TestCase):
         self.assertEqual(columns[3:19], [wires for name in single for wires in ({name}, set(names) - {name})])
         for column, share in zip(range(19, 64), (0.5, 0.5, 0.25, 0.75, 0.1, 0.9, 0.03, 0.97) * 9):
             self.assertEqual(columns[column], {name for name in names if chance.random() < share}, column)
-        gate = Gate(0, "switch", None, names[:2], ["d", "y", "z"], 1)
-        values = evaluate_samples(Circuit(names, [gate]), 64)
+        gate = Gate("switch", (names[0], names[1]), ("d", "y", "z"))
+        values = evaluate_samples(Circuit(tuple(names), (gate,)), 64)
         self.assertIs(values.defined, values.defined)
 
     def test_golly_rows(self) -> None:
@@ -321,12 +325,12 @@ class Once(unittest.TestCase):
         self.assertTrue(diagnosis.can_run_whole())
         with mock.patch("bbmlab_core.explain.expected_lines.WholeRun.step", autospec=True,
                         side_effect=WholeRun.step) as step:
-            self.assertIsNone(BorderCheck(diagnosis, -1.0).seen)
+            self.assertIsNone(BorderCheck(diagnosis, -1.0).ring_tables)
             self.assertLessEqual(step.call_count, 1)
             with self.assertRaises(LabError):
                 certified(document, None, CertificatePlan(until=0.0))
             self.assertLessEqual(step.call_count, 2)
-            self.assertIsNotNone(BorderCheck(Diagnosis(document), 30.0).seen)
+            self.assertIsNotNone(BorderCheck(Diagnosis(document), 30.0).ring_tables)
             self.assertGreater(step.call_count, 5)
 
 

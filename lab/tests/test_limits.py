@@ -18,8 +18,8 @@ from bbmlab_core.farm.receipts import section_digests
 from bbmlab_core.physics import tracing
 from bbmlab_core.pictures import golly
 from bbmlab_core.texts import json_form
-from bbmlab_core.texts.boxes import Box
 from bbmlab_core.texts.documents import Document, read_document
+from bbmlab_core.texts.layouts import Box
 from bbmlab_core.texts.limits import FIRST, SECOND
 from bbmlab_core.texts.refusals import explain_refusal, refusal_words
 from bbmlab_core.texts.spelling import spelled

@@ -89,7 +89,7 @@ class Written(unittest.TestCase):
         for _ in range(120):
             text = random_text(chance, chance.randint(1, 12))
             inputs, outputs, circuit = names(text, "input"), names(text, "output"), circuit_of(text)
-            words |= {gate.word for gate in circuit.gates}
+            words |= {gate.kind for gate in circuit.gates}
             real, qasm, aiger = line_forms.real_text(circuit), line_forms.qasm_text(circuit), aiger_form.aiger_text(
                 circuit)
             for bits in itertools.product((False, True), repeat=len(inputs)):

@@ -21,8 +21,8 @@ from bbmlab_core.pictures import golly
 from bbmlab_core.pictures.drawing import centre, module_parts
 from bbmlab_core.pictures.ways import joined_pieces
 from bbmlab_core.texts import json_form
-from bbmlab_core.texts.boxes import Box
 from bbmlab_core.texts.certificates import Module
+from bbmlab_core.texts.layouts import Box
 from bbmlab_core.texts.reports import parse_report
 from bbmlab_core.texts.spelling import spelled
 
@@ -298,7 +298,7 @@ class Pictures(unittest.TestCase):
         self.assertNotIn("g.plan text{font-size", small)
         size = float(re.search(r"g\.plan text\{font-size:([\d.]+)px", large)[1])
         self.assertAlmostEqual(size, 7 * 144 / 64, delta=0.1)
-        modules = [Module(number, Box(2 * number, 0, 2, 2), 0) for number in range(65)]
+        modules = [Module(Box(2 * number, 0, 2, 2), number=number) for number in range(65)]
         self.assertIn("text", "".join(module_parts(modules[:64])))
         self.assertNotIn("text", "".join(module_parts(modules)))
 

@@ -222,7 +222,7 @@ class Equivalence(unittest.TestCase):
     def test_adder_is_small(self) -> None:
         """A full adder takes two XORs of three gates and one join, so seven gates, and two constants."""
         text = full_adder_blif()
-        gates = [gate.word for gate in circuit_of(text).gates]
+        gates = [gate.kind for gate in circuit_of(text).gates]
         self.assertLessEqual((len(gates) - gates.count("source"), gates.count("source")), (7, 2))
         self.compare(text, lambda on: {"s": sum(on.values()) % 2 == 1, "t": sum(on.values()) > 1}, ["a", "b", "c"],
                      ["s", "t"])

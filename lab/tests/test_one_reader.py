@@ -5,7 +5,7 @@ import unittest
 from pathlib import Path
 
 import support
-from bbmlab_core.texts.skimming import head_of
+from bbmlab_core.texts.skimming import design_text
 from bbmlab_core.studio.folder import bytes_of, text_of
 from bbmlab_core.texts.documents import read_document
 from bbmlab_core.texts.spelling import free_words, mark_length, spelled
@@ -55,7 +55,7 @@ class OneReader(unittest.TestCase):
             own = spelled(text.decode("latin-1")).text
             if read_document(own, "check").refusal is None:
                 yes += 1
-                self.assertEqual(drawn, head_of(own), text)
+                self.assertEqual(drawn, design_text(own), text)
         self.assertGreater(yes, 20)
 
     def test_parts_joined_by_carriage_returns(self) -> None:

@@ -7,7 +7,7 @@ from typing import Iterable
 
 import support
 from bbmlab_core.physics.simulation import WholeRun
-from bbmlab_core.texts.layouts import Cell, Layout, Part
+from bbmlab_core.texts.layouts import Box, Cell, Layout
 
 PAGE = (support.TOP / "docs" / "PHYSICS.md").read_text(encoding="utf-8")
 FORMATS = (support.TOP / "docs" / "FORMATS.md").read_text(encoding="utf-8")
@@ -49,8 +49,7 @@ def run(balls: Iterable[Cell], mirrors: Iterable[Mirror], steps: int) -> set[Cel
     Raises AssertionError if a mirror changes.
     """
     solid = {(u, v) for x, y, width, height in mirrors for u in range(x, x + width) for v in range(y, y + height)}
-    cells = [("mirror", cell) for cell in solid] + [("ball", cell) for cell in balls]
-    layout = Layout(2 * SIDE, 2 * SIDE, steps, [Part(kind, None, *cell, 1, 1, 0) for kind, cell in cells])
+    layout = Layout(2 * SIDE, 2 * SIDE, steps, tuple(Box(*cell, 1, 1) for cell in solid), tuple(balls))
     whole = WholeRun(layout, {}, 1)
     assert whole.run_to(steps)
     state = whole.field.state()

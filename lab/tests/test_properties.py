@@ -20,7 +20,6 @@ except ImportError as missing:
     raise unittest.SkipTest("hypothesis is not installed (Debian: python3-hypothesis)") from missing
 
 import properties as pr  # noqa: E402
-from bbmlab_core.certify.certifier import certificate_text  # noqa: E402
 from bbmlab_core.cli import Commands  # noqa: E402
 from bbmlab_core.pictures.golly import golly_states, golly_text, layout_from_golly, live_cells  # noqa: E402
 from bbmlab_core.texts.documents import read_document  # noqa: E402
@@ -82,14 +81,6 @@ class RoundTrips(unittest.TestCase):
         for part in (bbmlab.Bundle(bundle.circuit), bbmlab.Bundle(None, bundle.layout),
                      bbmlab.Bundle(bundle.circuit, bundle.layout)):
             self.assertEqual(bbmlab.read(str(part)), part)
-
-    @TRIED
-    @given(pr.bundles())
-    def test_certificates(self, bundle: "bbmlab.Bundle") -> None:
-        """The lab's own writer of certificates gives the text that was read."""
-        document = read_document(str(bundle), "check")
-        assert document.certificate
-        self.assertEqual(certificate_text(document.certificate), str(bundle.certificate))
 
     @TRIED
     @given(pr.bundles(), st.data())

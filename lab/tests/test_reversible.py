@@ -140,7 +140,7 @@ class Mapped(unittest.TestCase):
             inputs = [line for line, sign in enumerate(constants) if sign == "-"]
             kept = [line for line, sign in enumerate(garbage) if sign == "-"]
             self.compare(text, inputs, kept, gates, [sign == "1" for sign in constants])
-            words = [line.split()[0] for line in map_netlist(text).circuit.gates]
+            words = [gate.kind for gate in map_netlist(text).circuit.gates]
             self.assertEqual(words.count("fredkin"), sum(len(controls) == 1 for controls, _ in gates))
             self.assertLessEqual(set(words), {"fredkin", "source", "delay"})
 

@@ -244,7 +244,7 @@ class Clean(unittest.TestCase):
                                                                for name in (f"p{at}", f"r{at}", f"t{at}")]
         text = "\n".join([*lines, f"output {last}", *(f"spill {name}" for name in wires), "end", ""])
         result = read_circuit(clean(circuit_of(text)))
-        words = [gate.word for gate in result.gates]
+        words = [gate.kind for gate in result.gates]
         self.assertGreater(words.count("fredkin"), 0)
         self.assertGreater(words.count("unswitch") + words.count("uninteract"), 0)
         self.assertNotIn(None, [keeping_cone(result, gate.number) for gate in result.gates if gate.is_inverse])

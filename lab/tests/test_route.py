@@ -24,7 +24,7 @@ from bbmlab_core.route import certificate, search, world
 from bbmlab_core.route.netlist import Netlist
 from bbmlab_core.route.settings import Settings
 from bbmlab_core.route.world import Item
-from bbmlab_core.texts.circuits import evaluate
+from bbmlab_core.texts.circuits import evaluate_all
 from bbmlab_core.texts.documents import Document, read_document
 
 sys.path.insert(0, str(support.TOP / "bench"))
@@ -98,7 +98,7 @@ class Routing(unittest.TestCase):
         """Asserts that under all inputs the layout's run ends with the circuit's values in its `out` cells."""
         circuit, layout = document.circuit, document.layout
         assert circuit and layout
-        values = evaluate(circuit, circuit.inputs, [gate.number for gate in circuit.gates])
+        values = evaluate_all(circuit)
         run = WholeRun(layout, values.tables, values.full)
         self.assertTrue(run.run_to(layout.steps))
         wastes = {key_of(part.cell) for part in layout.of_kind("waste")}

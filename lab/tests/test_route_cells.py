@@ -124,7 +124,7 @@ class Names(unittest.TestCase):
     def test_port_counts(self) -> None:
         """Each gate has as many ports as wires."""
         for word, (inputs, outputs) in PORTS.items():
-            gate = Gate(0, word, None, list(inputs), list(outputs), 1)
+            gate = Gate(word, tuple(inputs), tuple(outputs))
             self.assertEqual(gate.is_inverse, word.startswith("un"))
             self.assertEqual(len(gate_row(word, None, input_tables(len(inputs)), 1)[0]), len(outputs))
 

@@ -182,8 +182,8 @@ class Counting(unittest.TestCase):
                 "switch f d -> h i j\nswitch g e -> k l m\noutput c\n"
                 + "".join(f"output {name}\n" for name in "hijklm") + "end\n")
         part: Circuit = partial_circuit(read_circuit(text), {4})
-        self.assertEqual((part.inputs, [gate.word for gate in part.gates], part.outputs),
-                         (["a"], ["source", "delay", "switch"], ["h", "i", "j"]))
+        self.assertEqual((part.inputs, [gate.kind for gate in part.gates], part.outputs),
+                         (("a",), ["source", "delay", "switch"], ("h", "i", "j")))
 
 
 if __name__ == "__main__":

@@ -3,6 +3,7 @@
 import random
 import subprocess
 import unittest
+from dataclasses import replace
 
 import support
 from bbmlab_core.physics.simulation import ModuleRun, run_layout
@@ -53,10 +54,11 @@ class Simulation(unittest.TestCase):
             document = support.read_document(path.read_text())
             if document.layout is None or document.layout.width == 0:
                 continue
-            names = sorted({part.name for part in document.layout.of_kind("in")})
+            names, most = sorted({port.name for port in document.layout.ins}), document.layout.steps
             for _ in range(3):
-                document.on = [name for name in names if chooser.random() < 0.5]
-                document.layout.steps = chooser.randrange(document.layout.steps + 1)
+                document.on = tuple(name for name in names if chooser.random() < 0.5)
+                most = chooser.randrange(most + 1)
+                document.layout = replace(document.layout, steps=most)
                 lines = layout_lines(document)
                 lines[0] = f"layout {document.layout.width} {document.layout.height} {document.layout.steps}"
                 ended = subprocess.run([program, "run"], input=run_text(lines, document.on), capture_output=True,

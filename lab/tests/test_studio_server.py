@@ -348,7 +348,7 @@ class Verdicts(Served):
         for name in ("four_modules", "timed_modules", "not_gate", "machine_full_adder"):
             text = Path(support.example(name)).read_text()
             document = support.read_document(text, "check")
-            wanted = [module.cuts for module in document.certificate.modules] if document.certificate else []
+            wanted = [list(module.cuts) for module in document.certificate.modules] if document.certificate else []
             self.assertEqual(cuts_of(text), wanted, name)
 
     def test_fixes(self) -> None:

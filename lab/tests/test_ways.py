@@ -14,10 +14,9 @@ from bbmlab_core.physics.simulation import DIAGONAL, ROW, Table, WholeRun, block
 from bbmlab_core.pictures import drawing
 from bbmlab_core.pictures.picture_parts import OTHERS, Look, bring_out, chevrons, cone_of, piece_within
 from bbmlab_core.pictures.ways import Piece, WayRun, block_moves, directed_ways, joined_pieces, ways_of
-from bbmlab_core.texts.boxes import Box
 from bbmlab_core.texts.designs import read_design
 from bbmlab_core.texts.documents import Document, read_document
-from bbmlab_core.texts.layouts import Cell
+from bbmlab_core.texts.layouts import Box, Cell
 
 Step = tuple[Cell, Cell]
 

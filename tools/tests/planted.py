@@ -1,12 +1,26 @@
-"""A copy of the sources, in which a test plants a fault, and the tools that look for it."""
+"""A copy of the sources, in which a test plants a fault, and the tools that look for it, also as modules."""
+import importlib.machinery
+import importlib.util
 import shutil
 import subprocess
 import sys
 import tempfile
 import unittest
 from pathlib import Path
+from typing import Any
 
 TOP = Path(__file__).resolve().parent.parent.parent
+
+
+def gate_script(name: str) -> Any:
+    """Returns a script of `tools/gate` as a module."""
+    loader = importlib.machinery.SourceFileLoader(name, str(TOP / "tools" / "gate" / name))
+    spec = importlib.util.spec_from_loader(loader.name, loader)
+    assert spec is not None
+    module = importlib.util.module_from_spec(spec)
+    sys.modules[loader.name] = module
+    loader.exec_module(module)
+    return module
 
 
 class Planted(unittest.TestCase):

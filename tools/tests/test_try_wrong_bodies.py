@@ -1,30 +1,15 @@
 """What `try_wrong_bodies` makes of the lines of a check, and of edits that are gone."""
 from __future__ import annotations
 
-import importlib.machinery
-import importlib.util
-import sys
 import tempfile
 import unittest
 from pathlib import Path
 from types import SimpleNamespace
 from typing import Any
 
-TOP = Path(__file__).resolve().parent.parent.parent
+from planted import TOP, gate_script
 
-
-def script() -> Any:
-    """Returns the script as a module."""
-    loader = importlib.machinery.SourceFileLoader("try_wrong_bodies", str(TOP / "tools" / "gate" / "try_wrong_bodies"))
-    spec = importlib.util.spec_from_loader(loader.name, loader)
-    assert spec is not None
-    module = importlib.util.module_from_spec(spec)
-    sys.modules[loader.name] = module
-    loader.exec_module(module)
-    return module
-
-
-TRIED = script()
+TRIED = gate_script("try_wrong_bodies")
 
 
 class Refusals(unittest.TestCase):

@@ -12,13 +12,12 @@ from typing import Iterable
 from ..circuits.cones import fewest_cuts, keeping_cone
 from ..host.processor import processor_seconds
 from ..host.terminal import LabError
-from ..physics.simulation import ModuleRun, Table, cell_of, key_of, keys_of
-from ..texts.boxes import Box
-from ..texts.certificates import (MAX_BOX_SIDE, MAX_BORDER_LINES, MAX_CUTS, MAX_USES, BorderLine, Certificate, Module,
-                                  StopLine)
+from ..physics.simulation import Fault, ModuleRun, Table, cell_of, key_of, keys_of
+from ..texts.certificates import (MAX_BOX_SIDE, MAX_BORDER_LINES, MAX_CUTS, MAX_USES, Border, Certificate, Module,
+                                  ModuleDraft, Stop, line_words)
 from ..texts.circuits import Circuit, Gate
 from ..texts.documents import Document, without_collector
-from ..texts.layouts import Cell, Layout, row_order
+from ..texts.layouts import Box, Cell, Layout, row_order
 from ..texts.limits import SECOND, limits_for, sections_after_line, with_line
 from .observing import Observer, perimeter
 
@@ -53,7 +52,7 @@ class CertificatePlan:
 
     version: int = 2
     cuts: str = "auto"
-    stops: list[StopLine] = field(default_factory=list)
+    stops: list[Stop] = field(default_factory=list)
     until: float | None = None
     is_tried: bool = True
 
@@ -68,10 +67,10 @@ class Maker:
         # What the user should know of the certificate.
         self.notes: list[str] = []
         self.stops = self.chosen_stops()
-        self.ports = {key_of(part.cell): part.name or "" for part in layout.of_kind("in") + layout.of_kind("out")}
+        self.ports = {key_of(port.cell): port.name for port in layout.ins + layout.outs}
         # The modules of each rectangle that was tried, or why it has none.
-        self.known: dict[Box, list[Module] | str] = {}
-        self.starts = {key_of(part.cell): part.name or "" for part in layout.of_kind("in")}
+        self.known: dict[Box, list[ModuleDraft] | str] = {}
+        self.starts = {key_of(port.cell): port.name for port in layout.ins}
 
     # ---- boxes
 
@@ -81,15 +80,13 @@ class Maker:
                    for box in boxes] if boxes else self.divided(Box(0, 0, self.layout.width, self.layout.height))
         if len(modules) > SECOND.max_modules:
             raise LabError(f"the certificate takes {len(modules)} modules; {SECOND.max_modules} is the most", 1)
-        for number, module in enumerate(modules):
-            module.number = number
         self.add_keeps(modules)
         if self.plan.version == 2:
             for module in modules:
                 module.halos = []
-        return Certificate(self.plan.version, modules)
+        return Certificate(self.plan.version, tuple(module.module() for module in modules))
 
-    def divided(self, box: Box) -> list[Module]:
+    def divided(self, box: Box) -> list[ModuleDraft]:
         """Returns the modules of a rectangle: itself, or those of its parts.
 
         What came of a rectangle is kept, since both orders of cuts lead to it.
@@ -105,7 +102,7 @@ class Maker:
             raise NoBoxError(found)
         return found
 
-    def newly_divided(self, box: Box) -> list[Module]:
+    def newly_divided(self, box: Box) -> list[ModuleDraft]:
         """Returns the modules of a rectangle that was not tried before."""
         if self.plan.until is not None and processor_seconds() > self.plan.until:
             raise LabError("no certificate was found in the time that was given", 1)
@@ -160,14 +157,13 @@ class Maker:
 
     # ---- one module
 
-    def module(self, box: Box) -> Module:
+    def module(self, box: Box) -> ModuleDraft:
         """Returns the module of a box, whose own run has no fault."""
         ring, halo = perimeter(self.layout, box)
         unnamed = [key for key in (*ring, *halo) if self.observer.names_at(key) is None]
         if unnamed:
             raise NoBoxError(self.observer.unnamed_words(min(unnamed, key=self.observer.unnamed_place)))
-        module = Module(0, box, 0)
-        module.edges, module.halos = self.border_lines("edge", ring), self.border_lines("halo", halo)
+        module = ModuleDraft(box, edges=self.border_lines(ring), halos=self.border_lines(halo))
         module.stops = [stop for stop in self.stops if box.has(stop.cell)]
         if len(module.edges) + max(len(module.halos), len(module.stops)) > MAX_BORDER_LINES:
             raise NoBoxError(f"the box {box.words} takes more than {MAX_BORDER_LINES} lines")
@@ -177,9 +173,8 @@ class Maker:
         fault = None
         for wiring in self.wirings(box, needed, inside, halo):
             if wiring.fits():
-                module.cuts, module.uses = wiring.cuts, dict.fromkeys(wiring.uses, 0)
-                fault = ModuleRun(self.circuit, self.layout, Certificate(1, [module]),
-                                  module).least_fault() if self.plan.is_tried else None
+                module.cuts, module.uses = wiring.cuts, wiring.uses
+                fault = self.fault_of(module.module()) if self.plan.is_tried else None
                 if fault is None:
                     return module
         if fault is None:
@@ -189,15 +184,19 @@ class Maker:
             f"with the last cuts that were tried the cell ({fault.x}, {fault.y}) in the box {box.words} is "
                          f"wrong at time {fault.time}")
 
-    def border_lines(self, kind: str, keys: list[int]) -> list[BorderLine]:
+    def fault_of(self, module: Module) -> Fault | None:
+        """Returns the least fault of a module's own run."""
+        return ModuleRun(self.circuit, self.layout, Certificate(1, (module,)), module).least_fault()
+
+    def border_lines(self, keys: list[int]) -> list[Border]:
         """Returns the lines for cells of a ring or a halo."""
         lines = []
         for key in keys:
             x, y = cell_of(key)
             if key in self.observer.observed.always and self.layout.steps > 1:
-                lines.append(BorderLine(kind, None, x, y, "1", 0))
-            lines += [BorderLine(kind, time, x, y, self.observer.signals[table], 0) for time,
-                      table in self.observer.observed.seen.get(key, ())]
+                lines.append(Border(None, x, y, "1"))
+            lines += [Border(time, x, y, self.observer.signals[table])
+                      for time, table in self.observer.observed.seen.get(key, ())]
         return sorted(lines, key=lambda line: line.place)
 
     def wirings(self, box: Box, needed: set[str], inside: list[int], halo: list[int]) -> Iterable[CutsAndUses]:
@@ -238,17 +237,17 @@ class Maker:
 
     # ---- inverse gates
 
-    def add_keeps(self, modules: list[Module]) -> None:
+    def add_keeps(self, modules: list[ModuleDraft]) -> None:
         """Has each inverse gate kept by a module that can show that it always has a row."""
         for gate in self.circuit.gates:
             if gate.is_inverse:
                 self.add_keep(gate, modules)
 
-    def add_keep(self, gate: Gate, modules: list[Module]) -> None:
+    def add_keep(self, gate: Gate, modules: list[ModuleDraft]) -> None:
         """Has a gate kept by the module that needs the fewest more wires for it."""
         found = keeping_cone(self.circuit, gate.number)
         if found is None:
-            raise LabError(f"gate {gate.number} (`{gate.word}`, line {gate.line}) always has a row only if more than "
+            raise LabError(f"gate {gate.number} (`{gate.kind}`, line {gate.line}) always has a row only if more than "
                            f"{MAX_CUTS} wires or "
                            f"{MAX_USES} gates are looked at: no certificate keeps it", 1)
         cone = CutsAndUses(*found)
@@ -258,33 +257,33 @@ class Maker:
             ins = {name for number in uses for name in self.circuit.gates[number].ins}
             cuts = sorted(({*module.cuts, *cone.cuts} | ins) - made, key=self.circuit.rank)
             if len(cuts) <= MAX_CUTS and len(uses) <= MAX_USES:
-                module.cuts, module.uses = cuts, dict.fromkeys(uses, 0)
-                module.keeps[gate.number] = 0
+                module.cuts, module.uses = cuts, uses
+                module.keeps.append(gate.number)
                 return
         raise LabError(f"no module has room for the {len(cone.cuts)} wires that show that gate {gate.number} always "
                        "has a row", 1)
 
     # ---- stops
 
-    def chosen_stops(self) -> list[StopLine]:
+    def chosen_stops(self) -> list[Stop]:
         """Returns the user's stops if all of them hold and show the delays, and else stops for the delays."""
         if not self.plan.stops:
             return self.delay_stops()
         wrong = [stop for stop in self.plan.stops if not self.holds(stop)]
-        wrong += [stop for gate in self.circuit.gates if gate.word == "delay" for stop in self.delay_faults(gate)]
+        wrong += [stop for gate in self.circuit.gates if gate.kind == "delay" for stop in self.delay_faults(gate)]
         if not wrong:
             return self.plan.stops
-        self.notes.append(f"the old stops are left out: `{wrong[0]}` does not hold in the layout")
+        self.notes.append(f"the old stops are left out: `{line_words('stop', wrong[0])}` does not hold in the layout")
         return self.delay_stops()
 
-    def holds(self, stop: StopLine) -> bool:
+    def holds(self, stop: Stop) -> bool:
         """Whether the cell of a stop is live just in the cases in which its wire is true."""
         key, values = key_of(stop.cell), self.observer.values
         live = values.full if key in self.observer.observed.always else self.observer.observed.moments[stop.time].get(
             key, 0)
         return live == values.tables[stop.name]
 
-    def delay_faults(self, gate: Gate) -> list[StopLine]:
+    def delay_faults(self, gate: Gate) -> list[Stop]:
         """Returns the stops of the user that show another delay than a gate's."""
         before = [stop for stop in self.plan.stops if stop.name == gate.ins[0]]
         after = [stop for stop in self.plan.stops if stop.name == gate.outs[0]]
@@ -292,14 +291,13 @@ class Maker:
             return self.plan.stops[:1]
         return [] if after[0].time - before[-1].time == gate.parameter else [after[0]]
 
-    def delay_stops(self) -> list[StopLine]:
+    def delay_stops(self) -> list[Stop]:
         """Returns stops for delays: a wire is seen once, at its `in` cell or at the first time at which a cell carries
         it."""
         moments = self.observer.observed.moments
-        seen: dict[str, tuple[int, Cell]] = {part.name or "": (0, part.cell)
-                                             for part in reversed(self.layout.of_kind("in"))}
-        stops: dict[str, StopLine] = {}
-        for gate in (gate for gate in self.circuit.gates if gate.word == "delay"):
+        seen: dict[str, tuple[int, Cell]] = {port.name: (0, port.cell) for port in reversed(self.layout.ins)}
+        stops: dict[str, Stop] = {}
+        for gate in (gate for gate in self.circuit.gates if gate.kind == "delay"):
             used, made, steps = gate.ins[0], gate.outs[0], gate.parameter or 0
             first = [seen[used]] if used in seen else [(time, cell) for time in range(len(moments))
                                                        for cell in [self.place_of(used, moments[time])] if cell]
@@ -312,13 +310,13 @@ class Maker:
                                f"{gate.line}", 1)
             seen[used], seen[made] = pair
             for wire in (used, made):
-                time, (x, y) = seen[wire]
-                stops.setdefault(wire, StopLine(time, wire, x, y, 0))
+                time, cell = seen[wire]
+                stops.setdefault(wire, Stop(time, wire, *cell))
         return sorted(stops.values(), key=lambda stop: stop.place)
 
     def place_of(self, wire: str, live: dict[int, Table]) -> Cell | None:
         """Returns a cell that carries a wire, an `out` cell of it first."""
-        outs = {part.cell for part in self.layout.of_kind("out") if part.name == wire}
+        outs = {port.cell for port in self.layout.outs if port.name == wire}
         table = self.observer.values.tables[wire]
         cells = [cell for cell in (cell_of(key) for key, other in live.items() if other == table)
                  if self.layout.has(cell)]
@@ -329,18 +327,6 @@ def grid_boxes(layout: Layout, width: int, height: int) -> list[Box]:
     """Returns the boxes of a grid, row by row; the last ones are smaller if the rectangle ends."""
     return [Box(x, y, min(width, layout.width - x), min(height, layout.height - y))
             for y in range(0, layout.height, height) for x in range(0, layout.width, width)]
-
-
-def certificate_text(certificate: Certificate) -> str:
-    """Writes a certificate section."""
-    lines = [f"certificate {certificate.version}"]
-    for module in certificate.modules:
-        lines.append(f"module {module.box.words}")
-        lines += [f"cut {name}" for name in module.cuts]
-        lines += [f"use {number}" for number in sorted(module.uses)]
-        lines += [f"keep {number}" for number in sorted(module.keeps)]
-        lines += [str(line) for line in (*module.edges, *module.halos, *module.stops)]
-    return "\n".join([*lines, "end"]) + "\n"
 
 
 def certified(document: Document, boxes: list[Box] | None, plan: CertificatePlan,
@@ -368,8 +354,8 @@ def newly_certified(document: Document, boxes: list[Box] | None, plan: Certifica
         notes += maker.notes
     head = sections_after_line(document.text).split("\nend\n", 2)
     limits = limits_for(max(layout.width, layout.height), layout.steps, len(certificate.modules), len(circuit.gates),
-                        len(circuit.defined))
-    return with_line(f"{head[0]}\nend\n{head[1]}\nend\n{certificate_text(certificate)}", limits)
+                        len(circuit.wires))
+    return with_line(f"{head[0]}\nend\n{head[1]}\nend\n{certificate}", limits)
 
 
 def checked_boxes(layout: Layout, width: int, height: int) -> list[Box]:

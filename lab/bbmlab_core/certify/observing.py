@@ -7,9 +7,8 @@ from dataclasses import dataclass, field
 from ..host.processor import processor_seconds
 from ..host.terminal import LabError
 from ..physics.simulation import Table, WholeRun, cell_of, key_of, lowest_bit
-from ..texts.boxes import Box
-from ..texts.circuits import Circuit, evaluate, evaluate_samples
-from ..texts.layouts import Cell, Layout, row_order
+from ..texts.circuits import Circuit, evaluate_choices
+from ..texts.layouts import Box, Cell, Layout, row_order
 from ..texts.refusals import listed
 
 # Up to this many inputs all choices are tried, and else so many samples.
@@ -41,11 +40,8 @@ class Observer:
         # `until` is the processor time at which the run is given up.
         self.circuit, self.layout, self.until = circuit, layout, until
         # Whether the cells are remembered at each time, for stops.
-        self.remembers = remembers or any(gate.word == "delay" for gate in circuit.gates)
-        if len(circuit.inputs) <= MAX_TRIED_INPUTS:
-            self.values = evaluate(circuit, circuit.inputs, [gate.number for gate in circuit.gates])
-        else:
-            self.values = evaluate_samples(circuit, SAMPLES)
+        self.remembers = remembers or any(gate.kind == "delay" for gate in circuit.gates)
+        self.values = evaluate_choices(circuit, MAX_TRIED_INPUTS, SAMPLES)
         self.require_rows()
         self.signals: dict[Table, str] = {}
         for name, table in self.values.tables.items():

@@ -1,5 +1,7 @@
 """A circuit as a combinational AIGER file in its binary form (Biere 2006)."""
 
+from typing import Sequence
+
 from ..texts.circuits import Circuit
 from .circuit_forms import output_rows
 
@@ -9,7 +11,7 @@ Literal = int
 class AndGraph:
     """AND gates over literals: twice a variable, plus 1 if it is inverted. Equal gates are one."""
 
-    def __init__(self, inputs: list[str]) -> None:
+    def __init__(self, inputs: Sequence[str]) -> None:
         self.literals: dict[str, Literal] = {name: 2 * at + 2 for at, name in enumerate(inputs)}
         self.input_count = len(inputs)
         self.gates: list[tuple[Literal, Literal]] = []

@@ -20,10 +20,10 @@ wor xnor xor""".split())
 
 def output_rows(gate: Gate) -> Iterator[tuple[str, list[str]]]:
     """Yields each output of a gate with the rows of its table."""
-    if gate.word == "source":
+    if gate.kind == "source":
         yield gate.outs[0], [""] if gate.parameter else []
     else:
-        yield from zip(gate.outs, ROWS[gate.word])
+        yield from zip(gate.outs, ROWS[gate.kind])
 
 
 def blif_text(circuit: Circuit) -> str:
@@ -57,7 +57,7 @@ def verilog_text(circuit: Circuit) -> str:
 
     An output that is an input gets a name of its own, with `_out` at its end.
     """
-    outs, ends, taken = [], [], set(circuit.defined)
+    outs, ends, taken = [], [], set(circuit.wires)
     for name in circuit.outputs:
         own = name
         while own in circuit.inputs or own != name and own in taken:
@@ -86,8 +86,8 @@ def dot_text(circuit: Circuit) -> str:
     starts = {name: f"input {name}" for name in circuit.inputs}
     for gate in circuit.gates:
         number = f" {gate.parameter}" if gate.parameter is not None else ""
-        lines.append(f'  "gate {gate.number}" [label="{gate.word}{number}"];')
+        lines.append(f'  "gate {gate.number}" [label="{gate.kind}{number}"];')
         starts.update((name, f"gate {gate.number}") for name in gate.outs)
         ends.update((name, f"gate {gate.number}") for name in gate.ins)
-    lines += [f'  "{starts[name]}" -> "{ends[name]}" [label="{name}"];' for name in circuit.defined if name in ends]
+    lines += [f'  "{starts[name]}" -> "{ends[name]}" [label="{name}"];' for name in circuit.wires if name in ends]
     return "\n".join([*lines, "}", ""])

@@ -5,8 +5,7 @@ A copy is a `switch` with a constant 1, which makes the bit and its complement: 
 outputs. What is left are the inputs, and the constants.
 """
 
-from ..texts import sections
-from ..texts.circuits import Circuit
+from ..texts.circuits import Circuit, Gate
 from .cones import keeping_cone
 from .gate_lines import read_circuit, source_line
 from .inverting import INVERSES, require_rows
@@ -27,54 +26,56 @@ class Cleaner:
     def __init__(self, circuit: Circuit, separate: frozenset[int]) -> None:
         self.circuit, self.separate = circuit, separate
         self.book = NameBook()
-        self.book.taken.update(circuit.defined)
-        self.gates: list[sections.Gate] = []
+        self.book.taken.update(circuit.wires)
+        self.gates: list[Gate] = []
         # The number of the gate that each line of the second half undoes.
         self.undone: dict[int, int] = {}
         # The name under which a wire of the first half comes back, if it is another one.
         self.now: dict[str, str] = {}
 
-    def fresh(self, name: str, ending: str) -> str:
+    def fresh_name(self, name: str, ending: str) -> str:
         """Returns a new name that looks like another one."""
         return self.book.fresh(name[:MAX_NAME - len(ending)] + ending)
 
-    def run(self) -> sections.Circuit:
+    def run(self) -> Circuit:
         """Returns the lines of the circuit."""
         maker = self.circuit.maker
-        copied = [name for name in self.circuit.outputs if name in maker and maker[name].word != "source"]
-        own = {name: self.fresh(name, "_own") for name in copied}
+        copied = [name for name in self.circuit.outputs if name in maker and maker[name].kind != "source"]
+        own = {name: self.fresh_name(name, "_own") for name in copied}
         first = [(gate.number, line) for gate in self.circuit.gates for line in self.forward(gate.number, own)]
         self.gates = [line for _, line in first]
         complements = [self.copy(own[name], name) for name in copied]
         for number, line in reversed(first):
             self.undo(number, line)
-        ends = self.circuit.inputs + [line.outs[0] for _, line in first if line.kind == "source"]
+        ends = [*self.circuit.inputs, *(line.outs[0] for _, line in first if line.kind == "source")]
         spills = tuple(self.now.get(name, name) for name in ends if name not in self.circuit.outputs)
         outputs = (*self.circuit.outputs, *complements)
-        return sections.Circuit(tuple(self.circuit.inputs), tuple(self.gates), outputs, spills)
+        return Circuit(tuple(self.circuit.inputs), tuple(self.gates), outputs, spills)
 
-    def forward(self, number: int, own: dict[str, str]) -> list[sections.Gate]:
+    def forward(self, number: int, own: dict[str, str]) -> list[Gate]:
         """Returns the lines of a gate in the first half: its own, or Fredkin gates and constants in its place."""
         gate = self.circuit.gates[number]
         ins, outs = tuple(own.get(name, name) for name in gate.ins), tuple(own.get(name, name) for name in gate.outs)
         if number not in self.separate:
-            return [sections.Gate(gate.word, ins, outs, gate.parameter)]
-        zero = self.fresh("zero", "")
-        if gate.word == "switch":
-            return [source_line(0, zero), sections.Gate("fredkin", (*ins, zero), outs)]
+            return [Gate(gate.kind, ins, outs, gate.parameter)]
+        zero = self.fresh_name("zero", "")
+        if gate.kind == "switch":
+            return [source_line(0, zero), Gate("fredkin", (*ins, zero), outs)]
         # `interact` is a switch of q by p, and then one of p by "p and q".
-        other, control, both = self.fresh("zero", ""), self.fresh(ins[0], "_on"), self.fresh(outs[0], "_on")
-        return [source_line(0, zero), sections.Gate("fredkin", (*ins, zero), (control, both, outs[1])),
-                source_line(0, other), sections.Gate("fredkin", (both, control, other), (outs[0], outs[3], outs[2]))]
+        other = self.fresh_name("zero", "")
+        control, both = (self.fresh_name(name, "_on") for name in (ins[0], outs[0]))
+        return [source_line(0, zero), Gate("fredkin", (*ins, zero), (control, both, outs[1])),
+                source_line(0, other), Gate("fredkin", (both, control, other), (outs[0], outs[3], outs[2]))]
 
     def copy(self, wire: str, name: str) -> str:
         """Adds the copy of a wire, which gets the name of the output, and returns the name of its complement."""
-        one, passed, complement = self.fresh("one", ""), self.fresh(name, "_read"), self.fresh(name, "_not")
-        self.gates += [source_line(1, one), sections.Gate("switch", (wire, one), (passed, name, complement))]
+        one = self.fresh_name("one", "")
+        passed, complement = (self.fresh_name(name, ending) for ending in ("_read", "_not"))
+        self.gates += [source_line(1, one), Gate("switch", (wire, one), (passed, name, complement))]
         self.now[wire] = passed
         return complement
 
-    def undo(self, number: int, line: sections.Gate) -> None:
+    def undo(self, number: int, line: Gate) -> None:
         """Adds the gate that undoes a line of the first half.
 
         A delay is not undone: its wire comes back with the same values.
@@ -85,12 +86,12 @@ class Cleaner:
         if line.kind == "delay":
             self.now[line.ins[0]] = ins[0]
             return
-        self.now.update((name, self.fresh(name, "_back")) for name in line.ins)
+        self.now.update((name, self.fresh_name(name, "_back")) for name in line.ins)
         self.undone[len(self.gates)] = number
-        self.gates.append(sections.Gate(INVERSES[line.kind], ins, tuple(self.now[name] for name in line.ins)))
+        self.gates.append(Gate(INVERSES[line.kind], ins, tuple(self.now[name] for name in line.ins)))
 
 
-def clean(circuit: Circuit) -> sections.Circuit:
+def clean(circuit: Circuit) -> Circuit:
     """Returns a circuit with the outputs of another one and their complements, whose garbage are its inputs and
     constants.
 
@@ -98,7 +99,7 @@ def clean(circuit: Circuit) -> sections.Circuit:
     becomes too large.
     """
     require_rows(circuit, "the circuit")
-    replaceable = frozenset(gate.number for gate in circuit.gates if gate.word in REPLACED)
+    replaceable = frozenset(gate.number for gate in circuit.gates if gate.kind in REPLACED)
     separate = replaceable if len(replaceable) > MAX_SEARCHED else frozenset[int]()
     while True:
         cleaner = Cleaner(circuit, separate)

@@ -47,7 +47,7 @@ def delays_between(circuit: Circuit, wires: set[str]) -> set[int]:
     for wire in wires:
         passed: list[int] = []
         gate = circuit.maker.get(wire)
-        while gate is not None and gate.word == "delay":
+        while gate is not None and gate.kind == "delay":
             passed.append(gate.number)
             if gate.ins[0] in wires:
                 found.update(passed)

@@ -3,8 +3,7 @@ Toffoli 1982).
 """
 
 from ..host.terminal import LabError
-from ..texts import sections
-from ..texts.circuits import Circuit, Valuation, evaluate, evaluate_samples
+from ..texts.circuits import Circuit, Gate, Valuation, evaluate_choices
 from .gate_lines import read_circuit, source_line
 from .row_check import missing_row
 
@@ -18,9 +17,7 @@ INVERSES = {"fredkin": "fredkin", "cswap": "cswap", "delay": "delay", "switch": 
 
 def values_of(circuit: Circuit) -> Valuation:
     """Returns the values of a circuit's wires, in all choices of up to 16 inputs, or in samples."""
-    if len(circuit.inputs) <= MAX_ALL:
-        return evaluate(circuit, circuit.inputs, [gate.number for gate in circuit.gates])
-    return evaluate_samples(circuit, SAMPLES)
+    return evaluate_choices(circuit, MAX_ALL, SAMPLES)
 
 
 def constant_bit(values: Valuation, name: str) -> int | None:
@@ -35,7 +32,7 @@ def choice_words(values: Valuation, name: str, bit: int) -> str:
     return f"with {' '.join(on[:12])}{' and more' if len(on) > 12 else ''} on" if on else "with no input on"
 
 
-def inverse(circuit: Circuit) -> sections.Circuit:
+def inverse(circuit: Circuit) -> Circuit:
     """Returns the inverse of a circuit. Its inputs are the outputs, and its constants the garbage, which must not
     change.
 
@@ -55,10 +52,10 @@ def inverse(circuit: Circuit) -> sections.Circuit:
                            f"{choice_words(values, name, 0)}, so no "
                            "constant can take its place. Make it an output", 1)
         gates.append(source_line(bit, name))
-    gates += [sections.Gate(INVERSES[gate.word], tuple(gate.outs), tuple(gate.ins), gate.parameter)
-                    for gate in reversed(circuit.gates) if gate.word != "source"]
-    spills = tuple(gate.outs[0] for gate in circuit.gates if gate.word == "source")
-    back = sections.Circuit(tuple(circuit.outputs), tuple(gates), tuple(circuit.inputs), spills)
+    gates += [Gate(INVERSES[gate.kind], tuple(gate.outs), tuple(gate.ins), gate.parameter)
+                    for gate in reversed(circuit.gates) if gate.kind != "source"]
+    spills = tuple(gate.outs[0] for gate in circuit.gates if gate.kind == "source")
+    back = Circuit(tuple(circuit.outputs), tuple(gates), tuple(circuit.inputs), spills)
     require_constants(circuit, read_circuit(back))
     return back
 
@@ -75,7 +72,7 @@ def require_constants(circuit: Circuit, back: Circuit) -> None:
     require_rows(back, "the inverse")
     values = values_of(back)
     for gate in circuit.gates:
-        if gate.word != "source":
+        if gate.kind != "source":
             continue
         name, bit = gate.outs[0], gate.parameter or 0
         if constant_bit(values, name) != bit:

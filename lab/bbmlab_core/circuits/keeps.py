@@ -46,7 +46,7 @@ class KeepSearch:
         self.before = circuit.cone(circuit.gates[number].ins)[1]
         chance = random.Random(1)
         # A sample of assignments for each wire, if it is cut.
-        self.samples = {wire: chance.getrandbits(SAMPLES) for wire in circuit.defined}
+        self.samples = {wire: chance.getrandbits(SAMPLES) for wire in circuit.wires}
         self.consumer = {wire: gate.number for gate in circuit.gates for wire in gate.ins}
         self.runs = 0
 

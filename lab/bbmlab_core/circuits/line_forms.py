@@ -25,7 +25,7 @@ class LineNetwork:
     def __init__(self, circuit: Circuit) -> None:
         self.circuit = circuit
         self.book = NameBook()
-        self.book.taken.update(circuit.defined)
+        self.book.taken.update(circuit.wires)
         self.lines = list(circuit.inputs)
         self.constants: dict[str, int] = {}
         self.steps: list[tuple[list[str], list[str]]] = []
@@ -48,7 +48,7 @@ class LineNetwork:
 
     def add(self, gate: Gate) -> None:
         """Adds the steps of a gate."""
-        ins, word = [self.at[name] for name in gate.ins], gate.word
+        ins, word = [self.at[name] for name in gate.ins], gate.kind
         if word == "source":
             outs = [self.constant(gate.outs[0], gate.parameter or 0)]
         elif word == "delay":

@@ -6,7 +6,7 @@ take minutes to fail.
 """
 
 from ..physics.simulation import lowest_bit
-from ..texts.circuits import Circuit, Gate, Valuation, evaluate, evaluate_samples
+from ..texts.circuits import Circuit, Gate, Valuation, evaluate_choices
 
 MAX_INPUTS = 12
 SAMPLES = 256
@@ -21,9 +21,7 @@ def missing_row(circuit: Circuit) -> str | None:
     """
     if not any(gate.is_inverse for gate in circuit.gates):
         return None
-    is_all = len(circuit.inputs) <= MAX_INPUTS
-    values = evaluate(circuit, circuit.inputs,
-                      [gate.number for gate in circuit.gates]) if is_all else evaluate_samples(circuit, SAMPLES)
+    values = evaluate_choices(circuit, MAX_INPUTS, SAMPLES)
     before = values.full
     for gate in circuit.gates:
         missing = before & ~values.rows[gate.number]
@@ -39,6 +37,6 @@ def row_words(values: Valuation, gate: Gate, column: int) -> str:
     on = values.names_of(column)
     more = f" and {len(on) - MAX_NAMED} more" if len(on) > MAX_NAMED else ""
     inputs = f"with {' '.join(on[:MAX_NAMED])}{more} on" if on else "with no input on"
-    return (f"gate {gate.number} (`{gate.word}`, line {gate.line}) has no row for {given}, which it gets {inputs}: the "
+    return (f"gate {gate.number} (`{gate.kind}`, line {gate.line}) has no row for {given}, which it gets {inputs}: the "
             "circuit has no values "
             "there, so no layout computes it")

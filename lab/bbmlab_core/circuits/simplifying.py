@@ -4,8 +4,7 @@ Outputs keep their values.
 Each wire gets a literal, by the rules of `netlists.graph`: wires with one literal always have one value.
 """
 
-from ..texts import sections
-from ..texts.circuits import Circuit
+from ..texts.circuits import Circuit, Gate
 from .cones import keeping_cone
 from .gate_lines import payload, read_circuit
 from .inverting import require_rows
@@ -20,28 +19,28 @@ class ConstantFolder:
     """One pass from the first gate to the last: folds constants, and removes pairs of gates of which the second undoes
     the first."""
 
-    def __init__(self, lines: sections.Circuit) -> None:
+    def __init__(self, lines: Circuit) -> None:
         self.before = lines
         self.graph = Graph(list(lines.inputs))
         self.literals: dict[str, Literal] = {name: 2 * at + 2 for at, name in enumerate(lines.inputs)}
-        self.gates: list[sections.Gate | None] = []
+        self.gates: list[Gate | None] = []
         # Wires that became another wire, the place of the gate that makes a wire, and wires that nothing uses.
         self.became: dict[str, str] = {}
         self.place: dict[str, int] = {}
         self.dropped: list[str] = []
 
-    def run(self) -> sections.Circuit:
+    def run(self) -> Circuit:
         """Returns the circuit after the pass."""
         for gate in self.before.gates:
             ins = [self.wire(name) for name in gate.ins]
             if not self.is_folded(gate, ins) and not self.is_undone(gate, ins):
                 self.emit(gate.kind, gate.parameter, ins, gate.outs)
-        gates = [sections.Gate(gate.kind, tuple(map(self.wire, gate.ins)), gate.outs, gate.parameter)
+        gates = [Gate(gate.kind, tuple(map(self.wire, gate.ins)), gate.outs, gate.parameter)
                  for gate in self.gates
                  if gate is not None]
         outputs, spills = (tuple(map(self.wire, names)) for names in (
             self.before.outputs, (*self.before.spills, *self.dropped)))
-        return with_names(sections.Circuit(self.before.inputs, tuple(gates), outputs, spills), self.before.outputs)
+        return with_names(Circuit(self.before.inputs, tuple(gates), outputs, spills), self.before.outputs)
 
     def wire(self, name: str) -> str:
         """Returns what a wire became."""
@@ -64,7 +63,7 @@ class ConstantFolder:
     def emit(self, word: str, parameter: int | None, ins: list[str], outs: tuple[str, ...]) -> None:
         """Adds a gate."""
         self.place.update((name, len(self.gates)) for name in outs)
-        self.gates.append(sections.Gate(word, tuple(ins), outs, parameter))
+        self.gates.append(Gate(word, tuple(ins), outs, parameter))
         self.literals.update(zip(outs, self.values(word, parameter, [self.literals[name] for name in ins])))
 
     def values(self, word: str, parameter: int | None, ins: list[Literal]) -> list[Literal]:
@@ -86,7 +85,7 @@ class ConstantFolder:
             return [ins[0], graph.or_(ins[1], ins[2])]
         return [graph.or_(ins[0], ins[2]), graph.or_(ins[0], ins[1])]
 
-    def is_folded(self, gate: sections.Gate, ins: list[str]) -> bool:
+    def is_folded(self, gate: Gate, ins: list[str]) -> bool:
         """Replaces a gate whose inputs are constant, alike or opposite. Returns whether it did."""
         outs, known = list(gate.outs), [self.literals[name] for name in ins]
         if gate.kind == "delay" and known[0] in (FALSE, TRUE):
@@ -161,7 +160,7 @@ class ConstantFolder:
             return False
         return True
 
-    def is_undone(self, gate: sections.Gate, ins: list[str]) -> bool:
+    def is_undone(self, gate: Gate, ins: list[str]) -> bool:
         """Removes a gate and the earlier one that it undoes. Returns whether it did."""
         parts = ins[1:] if gate.kind in ("switch", "unswitch", "fredkin", "cswap") else ins
         places = {self.place.get(name, -1) for name in parts}
@@ -201,23 +200,23 @@ def exchanged(first: str, second: str, is_same: bool, is_turned: bool, is_opposi
     return True if {first, second} == {"interact", "uninteract"} and is_same else None
 
 
-def with_names(lines: sections.Circuit, wanted: tuple[str, ...]) -> sections.Circuit:
+def with_names(lines: Circuit, wanted: tuple[str, ...]) -> Circuit:
     """Returns a circuit whose outputs have the wanted names. A delay names an input that leaves at once."""
     renamed = {found: name for found, name in zip(lines.outputs, wanted) if found != name and found not in lines.inputs}
-    delays = [sections.Gate("delay", (found,), (name,), 1) for found,
+    delays = [Gate("delay", (found,), (name,), 1) for found,
             name in zip(lines.outputs, wanted) if found != name and found in lines.inputs]
 
     def names(old: tuple[str, ...]) -> tuple[str, ...]:
         """Returns the new names of some wires."""
         return tuple(renamed.get(name, name) for name in old)
 
-    gates = [sections.Gate(gate.kind, names(gate.ins), names(gate.outs), gate.parameter) for gate in lines.gates]
-    return sections.Circuit(lines.inputs, (*gates, *delays), wanted, names(lines.spills))
+    gates = [Gate(gate.kind, names(gate.ins), names(gate.outs), gate.parameter) for gate in lines.gates]
+    return Circuit(lines.inputs, (*gates, *delays), wanted, names(lines.spills))
 
 
-def without_dead(lines: sections.Circuit) -> sections.Circuit:
+def without_dead(lines: Circuit) -> Circuit:
     """Returns a circuit without the gates of which nothing is used but the control that they hand on."""
-    spare, became, kept = set(lines.spills), dict[str, str](), list[sections.Gate]()
+    spare, became, kept = set(lines.spills), dict[str, str](), list[Gate]()
     order = list(lines.spills)
     for gate in reversed(lines.gates):
         own, unused = payload(gate), gate.outs[:len(gate.outs) - len(payload(gate))]
@@ -237,13 +236,13 @@ def without_dead(lines: sections.Circuit) -> sections.Circuit:
             name = became[name]
         return name
 
-    gates = [sections.Gate(gate.kind, tuple(map(wire, gate.ins)), gate.outs, gate.parameter) for gate in reversed(kept)]
+    gates = [Gate(gate.kind, tuple(map(wire, gate.ins)), gate.outs, gate.parameter) for gate in reversed(kept)]
     spills = tuple(name for name in dict.fromkeys(order) if name in spare)
     outputs = tuple(map(wire, lines.outputs))
-    return with_names(sections.Circuit(lines.inputs, tuple(gates), outputs, spills), lines.outputs)
+    return with_names(Circuit(lines.inputs, tuple(gates), outputs, spills), lines.outputs)
 
 
-def literals_of(lines: sections.Circuit) -> dict[str, Literal]:
+def literals_of(lines: Circuit) -> dict[str, Literal]:
     """Returns the literal of each wire."""
     folder = ConstantFolder(lines)
     for gate in lines.gates:
@@ -253,7 +252,7 @@ def literals_of(lines: sections.Circuit) -> dict[str, Literal]:
     return folder.literals
 
 
-def shared(lines: sections.Circuit) -> sections.Circuit:
+def shared(lines: Circuit) -> Circuit:
     """Returns a circuit in which garbage takes the place of wires with its values, if a gate is dead then."""
     literals, spare = literals_of(lines), list(lines.spills)
     born = {name: at for at, gate in enumerate(lines.gates) for name in gate.outs}
@@ -278,9 +277,9 @@ def shared(lines: sections.Circuit) -> sections.Circuit:
     return exchange(lines, swaps)
 
 
-def exchange(lines: sections.Circuit, swaps: dict[str, str]) -> sections.Circuit:
+def exchange(lines: Circuit, swaps: dict[str, str]) -> Circuit:
     """Returns a circuit in which those who use pairs of wires use the other one."""
-    gates = [sections.Gate(gate.kind, tuple(swaps.get(name, name) for name in gate.ins), gate.outs, gate.parameter)
+    gates = [Gate(gate.kind, tuple(swaps.get(name, name) for name in gate.ins), gate.outs, gate.parameter)
              for gate in lines.gates]
     outputs, spills = ([swaps.get(name, name) for name in names] for names in (lines.outputs, lines.spills))
     # An output keeps its name: the two wires of such a pair exchange their names.
@@ -291,8 +290,8 @@ def exchange(lines: sections.Circuit, swaps: dict[str, str]) -> sections.Circuit
         """Returns wires under their new names."""
         return tuple(names.get(name, name) for name in old)
 
-    gates = [sections.Gate(gate.kind, named(gate.ins), named(gate.outs), gate.parameter) for gate in gates]
-    return sections.Circuit(lines.inputs, tuple(gates), lines.outputs, named(tuple(spills)))
+    gates = [Gate(gate.kind, named(gate.ins), named(gate.outs), gate.parameter) for gate in gates]
+    return Circuit(lines.inputs, tuple(gates), lines.outputs, named(tuple(spills)))
 
 
 def kept_count(circuit: Circuit) -> int:
@@ -301,7 +300,7 @@ def kept_count(circuit: Circuit) -> int:
     return sum(keeping_cone(circuit, number) is not None for number in inverse) if len(inverse) <= MAX_SEARCHED else 0
 
 
-def passes(lines: sections.Circuit, may_share: bool) -> sections.Circuit:
+def passes(lines: Circuit, may_share: bool) -> Circuit:
     """Returns a circuit after passes that change it no more."""
     for _ in range(MAX_PASSES):
         before = lines
@@ -312,14 +311,14 @@ def passes(lines: sections.Circuit, may_share: bool) -> sections.Circuit:
     return lines
 
 
-def simplify(circuit: Circuit) -> sections.Circuit:
+def simplify(circuit: Circuit) -> Circuit:
     """Returns a smaller circuit with the same outputs. Copies are not shared if an inverse gate would have no cone that
     keeps it then.
 
     Raises LabError if the circuit has no values at some inputs.
     """
     require_rows(circuit, "the circuit")
-    lines = sections.circuit_of(circuit)
+    lines = circuit
     for may_share in (True, False):
         found = passes(lines, may_share)
         result = read_circuit(found)

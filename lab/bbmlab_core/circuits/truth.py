@@ -6,7 +6,7 @@ from collections import Counter
 from typing import Iterator
 
 from ..host.terminal import LabError
-from ..texts.circuits import Circuit, Valuation, evaluate, evaluate_samples, evaluate_under, values_under
+from ..texts.circuits import Circuit, Valuation, evaluate_choices, evaluate_under, values_under
 from ..texts.documents import Document
 
 # Up to so many inputs a table has all rows, and two circuits are compared in all.
@@ -30,7 +30,7 @@ def rows(circuit: Circuit, on: list[str] | None) -> Iterator[list[str]]:
             yield bits + [str(int(values[name])) for name in circuit.outputs]
         else:
             gate = circuit.gates[undefined]
-            yield [*bits, f"gate {undefined} ({gate.word}) has no row"]
+            yield [*bits, f"gate {undefined} ({gate.kind}) has no row"]
 
 
 def choices(circuit: Circuit, on: list[str] | None) -> list[set[str]]:
@@ -55,7 +55,7 @@ def depth(circuit: Circuit) -> int:
     """Returns the most gates on a way from an input or a constant to an output. A source and a delay count as none."""
     depths: dict[str, int] = {}
     for gate in circuit.gates:
-        own = max((depths.get(name, 0) for name in gate.ins), default=0) + (gate.word not in ("source", "delay"))
+        own = max((depths.get(name, 0) for name in gate.ins), default=0) + (gate.kind not in ("source", "delay"))
         depths.update((name, own) for name in gate.outs)
     return max(depths.values(), default=0)
 
@@ -71,7 +71,7 @@ def width(circuit: Circuit) -> int:
 
 def circuit_figures(circuit: Circuit) -> list[tuple[str, str]]:
     """Returns the figures of a circuit with their names."""
-    kinds = Counter(gate.word for gate in circuit.gates)
+    kinds = Counter(gate.kind for gate in circuit.gates)
     return [("inputs", str(len(circuit.inputs))), ("outputs", str(len(circuit.outputs))),
             ("constants", str(kinds["source"])),
             ("garbage", str(len(circuit.spills))), ("gates", str(len(circuit.gates) - kinds["source"])),
@@ -87,7 +87,7 @@ def figures(document: Document) -> list[tuple[str, str]]:
     if layout is not None:
         area = layout.width * layout.height
         found += [("layout", f"{layout.width} by {layout.height}"), ("area", str(area)), ("steps", str(layout.steps)),
-                  ("area times steps", str(area * layout.steps)), ("mirrors", str(len(layout.of_kind("mirror")))),
+                  ("area times steps", str(area * layout.steps)), ("mirrors", str(len(layout.mirrors))),
                   ("mirror cells", str(len(layout.mirror_cells()))),
                   *((f"{kind} cells", str(len(layout.of_kind(kind)))) for kind in ("ball", "in", "out", "waste"))]
     if document.certificate is not None:
@@ -98,13 +98,9 @@ def figures(document: Document) -> list[tuple[str, str]]:
 def both_values(one: Circuit, other: Circuit) -> tuple[Valuation, Valuation]:
     """Returns the values of two circuits with the same inputs, in all choices of up to 16 inputs, or else in samples.
     """
-    gates = [gate.number for gate in one.gates]
-    if len(one.inputs) <= MAX_ALL:
-        values = evaluate(one, one.inputs, gates)
-    else:
-        values = evaluate_samples(one, SAMPLES)
+    values = evaluate_choices(one, MAX_ALL, SAMPLES)
     free = {name: values.tables[name] for name in one.inputs}
-    return values, evaluate_under(other, free, values.full, [gate.number for gate in other.gates])
+    return values, evaluate_under(other, free, values.full, range(len(other.gates)))
 
 
 def difference(one: Circuit, other: Circuit, is_of_common: bool = False) -> tuple[str, str]:

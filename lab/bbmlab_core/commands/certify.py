@@ -4,12 +4,11 @@ import argparse
 import sys
 
 from ..certify.certifier import CertificatePlan, certified, checked_boxes
-from ..host.program import ProgramError, ProgramTimeout, ask, find_program
+from ..host.program import BadProgramError, ProgramTimeout, ask, find_program
 from ..host.terminal import LabError, escape_controls, read_text, write_text
-from ..texts.boxes import Box
 from ..texts.certificates import MAX_BOX_SIDE
 from ..texts.documents import Document, read_document
-from ..texts.layouts import Layout
+from ..texts.layouts import Box, Layout
 from ..texts.refusals import refusal_words
 
 
@@ -88,7 +87,7 @@ def verdict_status(bundle: str, options: argparse.Namespace) -> int:
     """
     try:
         answer = ask(find_program(options.program), "check", bundle.encode("latin-1"), options.timeout)
-    except (ProgramError, ProgramTimeout) as error:
+    except (BadProgramError, ProgramTimeout) as error:
         print(f"bbmlab: the certificate was not checked: {escape_controls(str(error))}", file=sys.stderr)
         return 4
     lines = answer.output.split("\n")

@@ -6,7 +6,7 @@ import sys
 from ..farm.checking import Checker, exit_status, text_files
 from ..farm.progress import Progress
 from ..farm.receipts import ReceiptFolder
-from ..farm.results import WRITERS, OnlyWriter, ResultWriter
+from ..farm.results import WRITERS, FilteredWriter, ResultWriter
 from ..farm.sharding import in_shard
 from ..host.program import find_program
 from ..host.releases import program_of
@@ -36,7 +36,7 @@ def run(options: argparse.Namespace) -> int:
     if options.only:
         if options.format in ("tap", "junit"):
             raise LabError("--only is for the formats text, json and jsonl: TAP and JUnit count all files", 2)
-        writer = OnlyWriter(writer, options.only)
+        writer = FilteredWriter(writer, options.only)
     writer.begin(files)
     counts: dict[str, int] = {}
     try:

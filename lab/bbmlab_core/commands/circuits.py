@@ -17,10 +17,10 @@ from ..circuits.netlists import Reading
 from ..circuits.simplifying import simplify
 from ..host.terminal import LabError, read_text, write_bytes, write_text
 from ..route.command import circuit_of
-from ..texts import sections
 from ..texts.circuits import Circuit, evaluate_under
 from ..texts.documents import read_document
 from ..texts.limits import limits_for, with_line
+from ..texts.sections import text_of
 
 WRITERS = {"aiger": aiger_text, "blif": blif_text, "dot": dot_text, "qasm": qasm_text, "real": real_text,
            "verilog": verilog_text}
@@ -29,11 +29,11 @@ WRITERS = {"aiger": aiger_text, "blif": blif_text, "dot": dot_text, "qasm": qasm
 def run_circuit(options: argparse.Namespace) -> int:
     """Writes the circuit of a file: in the one spelling, or in the form of another tool."""
     text, circuit = circuit_of(options.file, Reading.asked(options))
-    text = with_line(text, limits_for(gates=len(circuit.gates), wires=len(circuit.defined)))
+    text = with_line(text, limits_for(gates=len(circuit.gates), wires=len(circuit.wires)))
     try:
         for change in changes(options):
             lines, before = change(circuit), circuit
-            text, circuit = sections.text_of(lines), read_circuit(lines)
+            text, circuit = text_of(lines), read_circuit(lines)
             if before.outputs:
                 print(f"bbmlab: the new circuit was compared with the one before {compared(change, before, circuit)}",
                       file=sys.stderr)
@@ -46,7 +46,7 @@ def run_circuit(options: argparse.Namespace) -> int:
     return 0
 
 
-def compared(change: Callable[[Circuit], sections.Circuit], before: Circuit, after: Circuit) -> str:
+def compared(change: Callable[[Circuit], Circuit], before: Circuit, after: Circuit) -> str:
     """Returns in which inputs a changed circuit has the values that it should have, in words.
 
     Raises LabError where it has others.
@@ -62,12 +62,12 @@ def returns_inputs(before: Circuit, after: Circuit) -> tuple[str, str]:
     compared."""
     values = values_of(before)
     back = evaluate_under(after, {name: values.tables[name] for name in after.inputs}, values.full,
-                          [gate.number for gate in after.gates])
+                          range(len(after.gates)))
     wrong = next((name for name in before.inputs if back.tables[name] != values.tables[name]), None)
     return ("" if wrong is None else f"it does not give `{wrong}` back"), values.scope
 
 
-def changes(options: argparse.Namespace) -> list[Callable[[Circuit], sections.Circuit]]:
+def changes(options: argparse.Namespace) -> list[Callable[[Circuit], Circuit]]:
     """Returns what a circuit is put through, in order.
 
     To `simplify` the second half of a clean circuit is dead, so it comes before.

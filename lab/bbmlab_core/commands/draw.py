@@ -6,17 +6,16 @@ from ..host.terminal import LabError, write_text
 from ..physics import tracing
 from ..pictures import drawing
 from ..pictures.picture_parts import Look, bring_out, wanted_wires
-from ..texts.boxes import Box
 from ..texts.circuits import Circuit
 from ..texts.designs import read_design, report_for
 from ..texts.documents import Document
-from ..texts.layouts import Layout
-from ..texts.reports import Report
+from ..texts.layouts import Box, Layout
+from ..texts.reports import ReportOrRefusal
 from ..texts.skimming import boxes_and_uses
 
 
-def picture_of(design: tuple[Document, Layout], names: str | None, time: int | None, report: Report | None = None,
-               look: Look = Look()) -> str:
+def picture_of(design: tuple[Document, Layout], names: str | None, time: int | None,
+               report: ReportOrRefusal | None = None, look: Look = Look()) -> str:
     """Returns the picture of a design at a time, or without a time the ways of its balls."""
     document, layout = design
     is_large = max(layout.width, layout.height) > drawing.LARGE_SIDE
@@ -62,7 +61,7 @@ def gate_boxes(text: str, circuit: Circuit) -> list[tuple[Box, list[str]]]:
     found = []
     for box, uses in boxes_and_uses(text):
         gates = [circuit.gates[number] for number in uses if number < len(circuit.gates)]
-        found.append((box, [f"{gate.word} {gate.number}" for gate in gates if gate.word not in ("source", "delay")]))
+        found.append((box, [f"{gate.kind} {gate.number}" for gate in gates if gate.kind not in ("source", "delay")]))
     least = min((box.width * box.height for box, _ in found), default=0)
     return [(box, gates) for box, gates in found if gates and box.width * box.height > least]
 

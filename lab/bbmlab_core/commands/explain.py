@@ -5,11 +5,11 @@ import sys
 
 from ..circuits.netlists import NetlistFormat, netlist_format
 from ..explain import explaining
-from ..explain.explaining import Explanation
+from ..explain.explaining import ExplainedAnswer
 from ..explain.fixing import Fixer, outcome_words
 from ..explain.trials import Budget, Trial
 from ..farm.answering import why_no_verdict
-from ..host.program import Executable, ProgramError, ask, find_program
+from ..host.program import Executable, BadProgramError, ask, find_program
 from ..host.terminal import LabError, painted, escape_controls, read_text, wrapped, write_bytes
 from ..texts.cell_pictures import LEGEND
 from ..texts.documents import command_for
@@ -53,7 +53,7 @@ def program_of(options: argparse.Namespace) -> Executable | None:
     """Returns the program, or None if it is not found."""
     try:
         return find_program(options.program)
-    except ProgramError:
+    except BadProgramError:
         return None
 
 
@@ -96,7 +96,7 @@ def write_fix(text: str, command: str, program: Executable | None, options: argp
     return 0 if program and (fix is None or fix.report.verdict == "yes") else 1
 
 
-def show_explanation(explanation: Explanation, options: argparse.Namespace) -> int:
+def show_explanation(explanation: ExplainedAnswer, options: argparse.Namespace) -> int:
     """Writes an explanation in the form that is asked for."""
     if options.json:
         print(explaining.as_json(explanation))
@@ -108,7 +108,7 @@ def show_explanation(explanation: Explanation, options: argparse.Namespace) -> i
     return 1 if explanation.verdict in ("no", "refused", "left", "undefined") else 0
 
 
-def text_of(explanation: Explanation) -> str:
+def text_of(explanation: ExplainedAnswer) -> str:
     """Writes an explanation for people."""
     good = explanation.verdict not in ("no", "refused", "left", "undefined")
     blocks = ["\n".join([painted(explanation.headline[0], "green" if good else "red"),
@@ -126,7 +126,7 @@ def text_of(explanation: Explanation) -> str:
         lines = [painted(entry.report_line, "bold" if entry.is_against else "dim")]
         lines += [wrapped(what, "  ") for what in entry.what]
         if explanation.fix is None or entry.fixes != explanation.fix.words:
-            lines += labelled("Fix:", entry.fixes)
+            lines += labelled_sentences("Fix:", entry.fixes)
         if entry.picture:
             lines += ["", *(f"    {row}" for row in entry.picture)]
         blocks.append("\n".join(lines))
@@ -135,15 +135,15 @@ def text_of(explanation: Explanation) -> str:
     return "\n\n".join(blocks)
 
 
-def fix_blocks(explanation: Explanation) -> list[str]:
+def fix_blocks(explanation: ExplainedAnswer) -> list[str]:
     """Returns the fix of the whole text, or what was tried in vain."""
     if explanation.fix:
-        others = [line for words in explanation.fix.others for line in labelled("Or:", words)]
-        return ["\n".join(labelled("Fix:", explanation.fix.words) + others)]
+        others = [line for words in explanation.fix.others for line in labelled_sentences("Or:", words)]
+        return ["\n".join(labelled_sentences("Fix:", explanation.fix.words) + others)]
     return ["\n".join(wrapped(line, "  ") for line in explanation.tried)] if explanation.tried else []
 
 
-def labelled(label: str, sentences: list[str]) -> list[str]:
+def labelled_sentences(label: str, sentences: list[str]) -> list[str]:
     """Returns sentences, one a line, with a label before the first."""
     margin = " " * (len(label) + 3)
     return [wrapped(sentence, margin if index else f"  {painted(label, 'bold')} ", margin) for index,

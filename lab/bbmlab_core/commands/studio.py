@@ -10,7 +10,7 @@ from contextlib import ExitStack
 from html import escape
 from pathlib import Path
 
-from ..host.program import ProgramError, find_program
+from ..host.program import BadProgramError, find_program
 from ..host.terminal import LabError, escape_controls
 from ..studio.answers import Answers
 from ..studio.folder import Folder
@@ -30,7 +30,7 @@ def run(options: argparse.Namespace) -> int:
     try:
         program = find_program(options.program)
         jobs, routes = Jobs(program, options.timeout or 20.0, options.memory), Routes(str(program), options.memory)
-    except ProgramError as error:
+    except BadProgramError as error:
         print(f"bbmlab: the studio gives no verdicts: {escape_controls(str(error))}", file=sys.stderr)
     try:
         server = studio_server(options.port, Answers(folder, jobs, routes))

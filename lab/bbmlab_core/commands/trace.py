@@ -3,7 +3,7 @@
 import argparse
 import sys
 
-from ..host.program import ProgramError, ProgramTimeout, ask, find_program
+from ..host.program import BadProgramError, ProgramTimeout, ask, find_program
 from ..host.terminal import LabError, escape_controls, write_text
 from ..physics import tracing
 from ..texts.designs import read_design
@@ -34,7 +34,7 @@ def warn_of_difference(options: argparse.Namespace, trace: tracing.Trace, text: 
     error."""
     try:
         answer = ask(find_program(options.program), "run", text, options.timeout)
-    except (ProgramError, ProgramTimeout) as error:
+    except (BadProgramError, ProgramTimeout) as error:
         print(f"bbmlab: the last state was not compared: {escape_controls(str(error))}", file=sys.stderr)
         return
     if answer.status >= 3:

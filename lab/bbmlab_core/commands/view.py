@@ -7,7 +7,7 @@ import sys
 from ..explain import explaining
 from ..explain.trials import Budget, Trial
 from ..farm.answering import why_no_verdict
-from ..host.program import ProgramError, ProgramTimeout, ask, find_program
+from ..host.program import BadProgramError, ProgramTimeout, ask, find_program
 from ..host.terminal import escape_controls, read_text, write_text
 from ..texts.designs import read_design
 from ..view import viewing
@@ -21,18 +21,19 @@ def run(options: argparse.Namespace) -> int:
             output = read_text(options.report) if options.report else report_of(document.text, options)
             explanation = explaining.explain_answer(document.text, "check", output, options.file, trial_of(options),
                                                     document)
-        except (ProgramError, ProgramTimeout) as error:
+        except (BadProgramError, ProgramTimeout) as error:
             print(f"bbmlab: the page has no report: {escape_controls(str(error))}", file=sys.stderr)
     write_text(options.output, viewing.page(document, explanation, os.path.basename(options.file)))
     return 0
 
 
 def report_of(text: str, options: argparse.Namespace) -> str:
-    """Returns the report or the refusal of the program. Raises ProgramError if its status is not that of its report."""
+    """Returns the report or the refusal of the program. Raises BadProgramError if its status is not that of the report.
+    """
     answer = ask(find_program(options.program), "check", text.encode("latin-1"), options.timeout)
     why = why_no_verdict(answer)
     if why:
-        raise ProgramError(f"the program gave no verdict: {why}")
+        raise BadProgramError(f"the program gave no verdict: {why}")
     return answer.output
 
 
@@ -40,5 +41,5 @@ def trial_of(options: argparse.Namespace) -> Trial | None:
     """Returns who tries fixes: the program, if it is found."""
     try:
         return Trial(find_program(options.program), Budget(200, 10.0))
-    except ProgramError:
+    except BadProgramError:
         return None

@@ -1,12 +1,12 @@
 """Edits of a certificate that may remove a fault of a report. They are tried before one of them is printed."""
 
 from dataclasses import dataclass
-from typing import Iterator
+from typing import Iterator, Sequence
 
 from ..physics.simulation import Table, key_of
-from ..texts.certificates import MAX_CUTS, MAX_USES, Module, StopLine
+from ..texts.certificates import MAX_CUTS, MAX_USES, Module, Stop, line_words
 from ..texts.layouts import Cell
-from ..texts.reports import Finding
+from ..texts.reports import ReportLine
 from .diagnosis import MAX_SECONDS, Diagnosis
 from .edits import Edit, add, delete, place_in_module, replace
 from .expected_lines import BorderCheck, CellEdits
@@ -36,7 +36,7 @@ class CertificateEditor:
         self.check = BorderCheck(diagnosis, seconds)
         self.groups: list[CellEdits] = self.check.groups()
 
-    def for_all(self, findings: list[Finding]) -> Iterator[Proposal]:
+    def for_all(self, findings: list[ReportLine]) -> Iterator[Proposal]:
         """Yields edits for a whole report: all borders together, then each by itself, then those for each line of the
         report."""
         together = tuple(dict.fromkeys(edit for group in self.groups for edit in group.edits))
@@ -45,7 +45,7 @@ class CertificateEditor:
         for finding in findings:
             yield from self.for_finding(finding)
 
-    def for_finding(self, finding: Finding) -> Iterator[Proposal]:
+    def for_finding(self, finding: ReportLine) -> Iterator[Proposal]:
         """Yields edits for one line of a report."""
         if finding.word == "local":
             yield from self.for_local(finding)
@@ -60,7 +60,7 @@ class CertificateEditor:
         elif finding.word == "meet":
             yield from self.for_meet(finding)
 
-    def for_local(self, finding: Finding) -> Iterator[Proposal]:
+    def for_local(self, finding: ReportLine) -> Iterator[Proposal]:
         """Yields edits for a `local` line: the borders of its module up to its time, its stop, and gates in place of
         cuts."""
         module, time = self.diagnosis.module_of(finding), finding.number("time")
@@ -87,13 +87,13 @@ class CertificateEditor:
         for number in sorted(makers, reverse=True):
             gate = self.circuit.gates[number]
             cuts = [name for name in module.cuts if name not in gate.outs]
-            cuts += [name for name in gate.ins if name not in module.local]
+            cuts += [name for name in gate.ins if name not in self.diagnosis.local(module)]
             yield from self.wiring(module, cuts, sorted({*module.uses, number}))
         free, used = self.circuit.cone(module.cuts)
         if makers:
             yield from self.wiring(module, free, sorted({*used, *module.uses}))
 
-    def wiring(self, module: Module, cuts: list[str], uses: list[int]) -> Iterator[Proposal]:
+    def wiring(self, module: Module, cuts: Sequence[str], uses: Sequence[int]) -> Iterator[Proposal]:
         """Yields the edits after which a module has these `cut` and `use` lines, if they are within its limits."""
         if len(cuts) > MAX_CUTS or len(uses) > MAX_USES:
             return
@@ -106,11 +106,11 @@ class CertificateEditor:
                 edits.append(delete(number))
         new = [f"cut {name}" for name in cuts if name not in module.cuts] + [f"use {number}" for number in uses
                                                                              if number not in module.uses]
-        edits += [add(place_in_module(self.lines, module.line, text), text) for text in new]
+        edits += [self.added(module, text) for text in new]
         if edits:
             yield Proposal("gates in place of cuts", tuple(edits))
 
-    def for_border(self, finding: Finding) -> Iterator[Proposal]:
+    def for_border(self, finding: ReportLine) -> Iterator[Proposal]:
         """Yields edits of the `halo` line or the `edge` line of a border that do not agree."""
         module, time = self.diagnosis.module_of(finding), finding.number("time")
         cell = finding.number("x"), finding.number("y")
@@ -120,25 +120,30 @@ class CertificateEditor:
             for edits in (group.edits, *group.others):
                 yield Proposal("border lines as the whole run has them", tuple(edits))
         for line, other, kind, place in ((edge, halo, "halo", module), (halo, edge, "edge", owner)):
-            if line and place:
-                text = f"{kind}{str(line)[4:]}"
-                yield Proposal("lines that agree",
-                               (replace(other.line, text) if other
-                                else add(place_in_module(self.lines, place.line, text), text),))
-            elif other:
-                yield Proposal("lines that agree", (delete(other.line),))
+            if place is None:
+                continue
+            at = place.line_number(kind, other) if other else None
+            if line:
+                text = line_words(kind, line)
+                yield Proposal("lines that agree", (replace(at, text) if at else self.added(place, text),))
+            elif at:
+                yield Proposal("lines that agree", (delete(at),))
 
     def for_unkept(self, number: int) -> Iterator[Proposal]:
         """Yields a `keep` line in a module that uses the gate."""
         for module in (module for module in self.certificate.modules if number in module.uses):
             text = f"keep {number}"
-            yield Proposal("`keep` lines", (add(place_in_module(self.lines, module.line, text), text),))
+            yield Proposal("`keep` lines", (self.added(module, text),))
+
+    def added(self, module: Module, text: str) -> Edit:
+        """Returns the edit that adds a line to a module."""
+        return add(place_in_module(self.lines, module.line, text), text)
 
     def carried(self, name: str) -> Table | None:
         """Returns the table of a wire over the tried inputs."""
         return self.diagnosis.values.tables.get(name)
 
-    def for_stop(self, module: Module, stop: StopLine) -> Iterator[Proposal]:
+    def for_stop(self, module: Module, stop: Stop) -> Iterator[Proposal]:
         """Yields other times and cells for a stop, at which the whole run has its wire, and other wires."""
         spots = [(stop.time + dt, (stop.x + dx, stop.y + dy)) for dt in range(-STOP_TIMES, STOP_TIMES + 1)
                  for dx in (-1, 0, 1) for dy in (-1, 0, 1)]
@@ -146,40 +151,38 @@ class CertificateEditor:
         for time, cell in spots:
             if (0 <= time <= self.diagnosis.layout.steps and module.box.has(cell)
                 and self.table_at(time, cell) == self.carried(stop.name)):
-                yield Proposal("stops", self.moved_stop(module, stop, StopLine(time, stop.name, *cell, 0)))
-        for name in module.local:
+                yield Proposal("stops", self.moved_stop(module, stop, Stop(time, stop.name, *cell)))
+        for name in self.diagnosis.local(module):
             if name != stop.name and self.table_at(stop.time, stop.cell) == self.carried(name):
-                yield Proposal("stops", (replace(stop.line, str(StopLine(stop.time, name, stop.x, stop.y, 0))),))
+                yield Proposal("stops", (self.renamed(module, stop, name),))
+
+    def renamed(self, module: Module, stop: Stop, name: str) -> Edit:
+        """Returns the edit that gives a stop another wire."""
+        return replace(module.line_number("stop", stop), line_words("stop", stop._replace(name=name)))
 
     def table_at(self, time: int, cell: Cell) -> Table | None:
         """Returns the table of a cell in the whole run at a time."""
         field = self.diagnosis.whole_field(time)
         return None if field is None else field.live.get(key_of(cell), 0)
 
-    def moved_stop(self, module: Module, old: StopLine, new: StopLine) -> Edits:
+    def moved_stop(self, module: Module, old: Stop, new: Stop) -> Edits:
         """Returns the edits that move a stop to its place in the list."""
+        at, text = module.line_number("stop", old), line_words("stop", new)
         rest = [stop for stop in module.stops if stop is not old]
         before = [stop for stop in module.stops if stop.place < old.place]
         if all((stop.place < new.place) == (stop in before) for stop in rest):
-            return (replace(old.line, str(new)),)
-        return delete(old.line), add(place_in_module(self.lines, module.line, str(new)), str(new))
+            return (replace(at, text),)
+        return delete(at), self.added(module, text)
 
-    def stops_of(self, name: str) -> list[tuple[Module, StopLine]]:
-        """Returns the stops of a wire with their modules, in order of time."""
-        found = [(module, stop) for module in self.certificate.modules for stop in module.stops if stop.name == name]
-        return sorted(found, key=lambda pair: pair[1].place)
-
-    def for_delay(self, finding: Finding) -> Iterator[Proposal]:
+    def for_delay(self, finding: ReportLine) -> Iterator[Proposal]:
         """Yields stops at other times for a delay, stops that are missing, and another number of steps in the circuit.
         """
         gate, wanted, found = self.circuit.gates[finding.number("gate")], finding.number(
             "wanted"), finding.values["found"]
-        used, made = self.stops_of(gate.ins[0]), self.stops_of(gate.outs[0])
+        used, made = self.certificate.stops_of(gate.ins[0]), self.certificate.stops_of(gate.outs[0])
         if used and made:
             if found == "before":
-                (_, one), (_, two) = used[-1], made[0]
-                yield Proposal("stops", (replace(one.line, str(StopLine(one.time, two.name, one.x, one.y, 0))),
-                                         replace(two.line, str(StopLine(two.time, one.name, two.x, two.y, 0)))))
+                yield Proposal("stops", (self.renamed(*used[-1], gate.outs[0]), self.renamed(*made[0], gate.ins[0])))
             yield from self.retimed(used[-1], made[0][1].time - wanted)
             yield from self.retimed(made[0], used[-1][1].time + wanted)
         elif used or made:
@@ -196,11 +199,11 @@ class CertificateEditor:
             yield Proposal("the steps of a delay",
                            (replace(gate.line, f"delay {found} {gate.ins[0]} -> {gate.outs[0]}"),))
 
-    def retimed(self, seen: tuple[Module, StopLine], time: int) -> Iterator[Proposal]:
+    def retimed(self, seen: tuple[Module, Stop], time: int) -> Iterator[Proposal]:
         """Yields moves of a stop to a time, to the nearest cells of its module at which the whole run has its wire."""
         module, stop = seen
         for cell in self.cells_with(stop.name, time, module, stop.cell)[:2]:
-            yield Proposal("stops", self.moved_stop(module, stop, StopLine(time, stop.name, *cell, 0)))
+            yield Proposal("stops", self.moved_stop(module, stop, Stop(time, stop.name, *cell)))
 
     def cells_with(self, name: str, time: int, module: Module, near: Cell) -> list[Cell]:
         """Returns the cells of a module that carry a wire at a time, the nearest first."""
@@ -211,20 +214,19 @@ class CertificateEditor:
 
     def new_stop(self, name: str, time: int) -> Iterator[Proposal]:
         """Yields a stop of a wire at a time, in a module that knows it."""
-        for module in (module for module in self.certificate.modules if name in module.local):
+        for module in (module for module in self.certificate.modules if name in self.diagnosis.local(module)):
             for cell in self.cells_with(name, time, module, (module.box.x, module.box.y))[:1]:
-                text = str(StopLine(time, name, *cell, 0))
-                yield Proposal("stops", (add(place_in_module(self.lines, module.line, text), text),))
+                yield Proposal("stops", (self.added(module, line_words("stop", Stop(time, name, *cell))),))
 
-    def for_meet(self, finding: Finding) -> Iterator[Proposal]:
+    def for_meet(self, finding: ReportLine) -> Iterator[Proposal]:
         """Yields stops after which the inputs of a gate have their last stops at one time, or only one of them has
         stops."""
         gate = self.circuit.gates[finding.number("gate")]
-        last = {name: self.stops_of(name)[-1] for name in gate.ins if self.stops_of(name)}
+        last = {name: self.certificate.stops_of(name)[-1] for name in gate.ins if self.certificate.stops_of(name)}
         for name, seen in last.items():
             for time in dict.fromkeys(stop.time for _, stop in last.values()):
                 yield from self.new_stop(name, time) if time > seen[1].time else self.retimed(seen, time)
         for name in last:
             yield Proposal("stops",
-                           tuple(delete(stop.line) for other in last if other != name for _,
-                                 stop in self.stops_of(other)))
+                           tuple(delete(module.line_number("stop", stop)) for other in last if other != name
+                                 for module, stop in self.certificate.stops_of(other)))

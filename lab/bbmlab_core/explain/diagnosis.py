@@ -12,11 +12,11 @@ from typing import Callable
 
 from ..host.processor import processor_seconds
 from ..physics.simulation import Fault, Field, ModuleRun, Table, WholeRun, cell_of, end_tables, key_of, lowest_bit
-from ..texts.certificates import Module
-from ..texts.circuits import Circuit, Valuation, evaluate, evaluate_samples
+from ..texts.certificates import Module, local_wires
+from ..texts.circuits import Circuit, Valuation, evaluate, evaluate_choices
 from ..texts.documents import Document
 from ..texts.layouts import Cell, Layout, row_order
-from ..texts.reports import Finding
+from ..texts.reports import ReportLine
 
 MAX_INPUTS = 12
 # How many choices of the inputs are tried where they are more than MAX_INPUTS.
@@ -135,15 +135,20 @@ class Diagnosis:
         # Whether a run of the whole layout took too long.
         self.is_slow = False
         self._fields: dict[int, Field | None] = {}
+        self._local: dict[int, dict[str, None]] = {}
         # The lines whose causes are looked for by runs; None stands for all.
         self.detailed: set[str] | None = None
+
+    def local(self, module: Module) -> dict[str, None]:
+        """Returns the wires that a module knows, as a set in order."""
+        if module.number not in self._local:
+            self._local[module.number] = local_wires(self.circuit, module)
+        return self._local[module.number]
 
     @cached_property
     def values(self) -> Valuation:
         """The tables of all wires over all choices of the inputs, or over samples of them."""
-        if len(self.circuit.inputs) <= MAX_INPUTS:
-            return evaluate(self.circuit, self.circuit.inputs, [gate.number for gate in self.circuit.gates])
-        return evaluate_samples(self.circuit, SAMPLES)
+        return evaluate_choices(self.circuit, MAX_INPUTS, SAMPLES)
 
     @property
     def scope(self) -> str:
@@ -311,6 +316,6 @@ class Diagnosis:
         return f"{len(on)} of the {len(names)} inputs on" + (f" ({shown}{' ..' if len(on) > MAX_INPUTS else ''})" if on
                                                              else "")
 
-    def module_of(self, finding: Finding) -> Module:
+    def module_of(self, finding: ReportLine) -> Module:
         """Returns the module of a line of a report."""
         return self.certificate.modules[finding.number("module")]

@@ -8,7 +8,7 @@ from typing import Callable, Iterable
 
 from ..host.processor import processor_seconds
 from ..physics.simulation import Table, WholeRun, cell_of
-from ..texts.certificates import BorderLine, Module
+from ..texts.certificates import Border, Module, line_words
 from ..texts.layouts import Cell
 from .diagnosis import MAX_SECONDS, Diagnosis
 from .edits import Edit, add, delete, place_in_module, replace
@@ -106,7 +106,7 @@ class BorderCheck:
         return owner if owner and owner.box.has_in_ring(cell) else None
 
     @cached_property
-    def seen(self) -> dict[Cell, dict[int, Table]] | None:
+    def ring_tables(self) -> dict[Cell, dict[int, Table]] | None:
         """The tables of the cells of all rings at the odd times at which they are live, or None if the run is too long
         or leaves."""
         if not self.diagnosis.can_run_whole():
@@ -129,31 +129,31 @@ class BorderCheck:
 
     def groups(self) -> list[CellEdits]:
         """Returns the edits of all cells whose lines are wrong, in order of the first wrong time."""
-        if self.seen is None:
+        if self.ring_tables is None:
             return []
         found = [self.group(cell, self.lines_at.get(cell, []))
-                 for cell in sorted(self.seen.keys() | self.lines_at.keys())]
+                 for cell in sorted(self.ring_tables.keys() | self.lines_at.keys())]
         return sorted((group for group in found if group), key=lambda group: group.time)
 
     @cached_property
-    def lines_at(self) -> dict[Cell, list[tuple[Module, BorderLine]]]:
+    def lines_at(self) -> dict[Cell, list[tuple[Module, Border]]]:
         """The border lines of each cell, with their modules."""
-        lines: dict[Cell, list[tuple[Module, BorderLine]]] = {}
+        lines: dict[Cell, list[tuple[Module, Border]]] = {}
         for module in self.certificate.modules:
             for line in (*module.edges, *module.halos):
                 lines.setdefault(line.cell, []).append((module, line))
         return lines
 
-    def group(self, cell: Cell, lines: list[tuple[Module, BorderLine]]) -> CellEdits | None:
+    def group(self, cell: Cell, lines: list[tuple[Module, Border]]) -> CellEdits | None:
         """Returns the edits for one cell, or None if its lines are right or no lines would be."""
         owner = self.owner(cell)
-        if owner is None or self.seen is None:
+        if owner is None or self.ring_tables is None:
             return None
-        actual = self.seen.get(cell, {})
+        actual = self.ring_tables.get(cell, {})
         hearers = [other for other in self.certificate.neighbours(owner) if other.box.has_in_halo(cell)]
-        wrong = self.wrong_time(owner, "edge", actual, lines)
+        wrong = self.wrong_time(owner, actual, lines)
         if self.certificate.version == 1:
-            wrong += [time for hearer in hearers for time in self.wrong_time(hearer, "halo", actual, lines)]
+            wrong += [time for hearer in hearers for time in self.wrong_time(hearer, actual, lines)]
         if not wrong:
             return None
         edits = [self.edits(cell, owner, hearers, signals)
@@ -172,7 +172,7 @@ class BorderCheck:
         return list(dict.fromkeys(edits + self.made_local(owner, signals)))
 
     def choices(self, cell: Cell, actual: dict[int, Table], modules: list[Module],
-                lines: list[tuple[Module, BorderLine]]) -> list[dict[int | None, str]]:
+                lines: list[tuple[Module, Border]]) -> list[dict[int | None, str]]:
         """Returns the signals that a cell may have, the likeliest first; none if no wire has its values, or if it needs
         too many lines."""
         found: list[dict[int | None, str]] = []
@@ -183,18 +183,17 @@ class BorderCheck:
             found.append(signals)
         return found
 
-    def wrong_time(self, module: Module, kind: str, actual: dict[int, Table],
-                   lines: list[tuple[Module, BorderLine]]) -> list[int]:
+    def wrong_time(self, module: Module, actual: dict[int, Table], lines: list[tuple[Module, Border]]) -> list[int]:
         """Returns the first odd time at which the lines of a module about a cell differ from the run, in a list that
         may be empty."""
-        own = {line.time: self.table_of(line.signal) for other, line in lines if other is module and line.kind == kind}
+        own = {line.time: self.table_of(line.signal) for other, line in lines if other is module}
         if None in own:
             return next(([time] for time in range(1, self.layout.steps, 2) if actual.get(time, 0) != own[None]), [])
         times = sorted(time for time in actual.keys() | own.keys() if time is not None)
         return next(([time] for time in times if actual.get(time, 0) != own.get(time, 0)), [])
 
     def signals(self, cell: Cell, actual: dict[int, Table], modules: list[Module],
-                lines: list[tuple[Module, BorderLine]],
+                lines: list[tuple[Module, Border]],
                 rank: int) -> dict[int | None, str] | None:
         """Returns the signals that a cell should have by time, or None if no wire has its values.
 
@@ -225,10 +224,9 @@ class BorderCheck:
         if len(wires) < 2:
             return wires
         here, around = self.near_times([cell], time), self.near_times(neighbours_of(cell), time)
-        far = self.layout.steps + 1
-        return sorted(wires,
-                      key=lambda name: (here.get(name, far), -sum(name in module.local for module in modules),
-                                        around.get(name, far)))
+        far, known = self.layout.steps + 1, [self.diagnosis.local(module) for module in modules]
+        return sorted(wires, key=lambda name: (here.get(name, far), -sum(name in local for local in known),
+                                               around.get(name, far)))
 
     def near_times(self, cells: Iterable[Cell], time: int) -> dict[str, int]:
         """Returns how far from a time the nearest line about one of some cells is, for each signal."""
@@ -240,27 +238,25 @@ class BorderCheck:
 
     def written(self, cell: Cell, module: Module, kind: str, signals: dict[int | None, str]) -> list[Edit]:
         """Returns the edits after which a module has just these lines about a cell."""
-        old = {line.time: line for line in module.border_lines(kind) if line.cell == cell}
-        edits = [delete(line.line) for time, line in old.items() if time not in signals]
+        old = {line.time: (at, line.signal) for at, line in module.numbered(kind) if line.cell == cell}
+        edits = [delete(at) for time, (at, _) in old.items() if time not in signals]
         for time, signal in signals.items():
-            text = str(BorderLine(kind, time, cell[0], cell[1], signal, 0))
+            text = line_words(kind, Border(time, *cell, signal))
             if time not in old:
                 edits.append(add(place_in_module(self.lines, module.line, text), text))
-            elif str(old[time]) != text:
-                edits.append(replace(old[time].line, text))
+            elif old[time][1] != signal:
+                edits.append(replace(old[time][0], text))
         return edits
 
     def made_local(self, module: Module, signals: dict[int | None, str]) -> list[Edit]:
         """Returns the edits after which a module knows the wires of some signals: a gate that it can use, or else a
         cut."""
-        edits = []
+        edits, local = [], self.diagnosis.local(module)
         for name in dict.fromkeys(signals.values()):
-            if name == "1" or name in module.local:
+            if name == "1" or name in local:
                 continue
             gate = self.circuit.maker.get(name)
-            is_made = gate is not None and all(wire in module.local
-                                               for wire in gate.ins) and not any(wire in module.local
-                                                                                 for wire in gate.outs)
+            is_made = gate is not None and set(gate.ins) <= local.keys() and local.keys().isdisjoint(gate.outs)
             text = f"use {gate.number}" if gate is not None and is_made else f"cut {name}"
             edits.append(add(place_in_module(self.lines, module.line, text), text))
         return edits

@@ -6,13 +6,13 @@ from dataclasses import asdict, dataclass, field, replace
 
 from ..host.terminal import escape_controls
 from ..physics.mirrors import falling_mirrors
-from ..texts.certificates import Certificate, StopLine
+from ..texts.certificates import Certificate, line_words
 from ..texts.circuits import Circuit
 from ..texts.code_names import CODE_NAMES
 from ..texts.designs import require_report_of
 from ..texts.documents import Document, read_document
 from ..texts.refusals import Explained, explain_code, explain_refusal, listed
-from ..texts.reports import RUN_ANSWER, Finding, Report, ReportError, parse_report
+from ..texts.reports import RUN_ANSWER, ReportLine, ReportOrRefusal, ReportError, parse_report
 from .diagnosis import MAX_STEPS, Diagnosis, Truth
 from .edits import Edit
 from .faults import Entry, assignment_words, explain_border, explain_keep, explain_local, shown
@@ -45,7 +45,7 @@ class FixForm:
 
 
 @dataclass
-class Explanation:
+class ExplainedAnswer:
     """An answer in words. A refusal has `refused` and no entries."""
 
     file: str
@@ -64,22 +64,17 @@ class Explanation:
     fixed: str | None = None
 
 
-def stops_of(diagnosis: Diagnosis, wire: str) -> list[StopLine]:
-    """Returns the stops of a wire in all modules, in order of time."""
-    found = [stop for module in diagnosis.certificate.modules for stop in module.stops if stop.name == wire]
-    return sorted(found, key=lambda stop: stop.place)
-
-
 def stop_words(diagnosis: Diagnosis, wire: str, which: int) -> str:
     """Returns the first (0) or last (-1) stop of a wire in words."""
-    stops = stops_of(diagnosis, wire)
+    stops = diagnosis.certificate.stops_of(wire)
     if not stops:
         return f"`{wire}` has no stop"
     name = "first" if which == 0 else "last"
-    return f"the {name} stop of `{wire}` is line {stops[which].line} (`{stops[which]}`)"
+    module, stop = stops[which]
+    return f"the {name} stop of `{wire}` is line {module.line_number('stop', stop)} (`{line_words('stop', stop)}`)"
 
 
-def explain_delay(diagnosis: Diagnosis, finding: Finding) -> Entry:
+def explain_delay(diagnosis: Diagnosis, finding: ReportLine) -> Entry:
     """Returns a `delay` line in words."""
     gate, found, wanted = diagnosis.circuit.gates[finding.number("gate")], finding.values["found"], finding.values[
         "wanted"]
@@ -91,7 +86,7 @@ def explain_delay(diagnosis: Diagnosis, finding: Finding) -> Entry:
     if not finding.is_against:
         entry.what.append(f"So the delay takes {found} steps, as it says.")
     elif found == "missing":
-        missing = [wire for wire in (used, made) if not stops_of(diagnosis, wire)]
+        missing = [wire for wire in (used, made) if not diagnosis.certificate.stops_of(wire)]
         entry.what.append(f"So nothing shows how long the delay takes: there is no stop for {listed(missing)}.")
     elif found == "before":
         entry.what.append("So the output is seen before the input.")
@@ -100,15 +95,16 @@ def explain_delay(diagnosis: Diagnosis, finding: Finding) -> Entry:
     return entry
 
 
-def explain_meet(diagnosis: Diagnosis, finding: Finding) -> Entry:
+def explain_meet(diagnosis: Diagnosis, finding: ReportLine) -> Entry:
     """Returns a `meet` line in words."""
     gate = diagnosis.circuit.gates[finding.number("gate")]
-    seen = [(wire, stops_of(diagnosis, wire)[-1]) for wire in gate.ins if stops_of(diagnosis, wire)]
-    told = ", ".join(f"`{wire}` at time {stop.time} (line {stop.line})" for wire, stop in seen)
-    entry = Entry(finding.text, finding.is_against, [f"Inputs of gate {gate.number} (`{gate.word}`, line {gate.line}) "
+    last = [stops[-1] for stops in map(diagnosis.certificate.stops_of, gate.ins) if stops]
+    seen = [(stop, module.line_number("stop", stop)) for module, stop in last]
+    told = ", ".join(f"`{stop.name}` at time {stop.time} (line {line})" for stop, line in seen)
+    entry = Entry(finding.text, finding.is_against, [f"Inputs of gate {gate.number} (`{gate.kind}`, line {gate.line}) "
                                                      f"have their last stops: {told}."],
-                  line=seen[0][1].line if seen else None,
-                  facts={"gate": gate.number, "last_stops": {wire: stop.time for wire, stop in seen}})
+                  line=seen[0][1] if seen else None,
+                  facts={"gate": gate.number, "last_stops": {stop.name: stop.time for stop, _ in seen}})
     if not finding.is_against:
         entry.what.append(f"So they meet at time {finding.values['found']}.")
         return entry
@@ -116,12 +112,12 @@ def explain_meet(diagnosis: Diagnosis, finding: Finding) -> Entry:
     return entry
 
 
-def explain_unkept(diagnosis: Diagnosis, finding: Finding) -> Entry:
+def explain_unkept(diagnosis: Diagnosis, finding: ReportLine) -> Entry:
     """Returns an `unkept` line in words."""
     gate = diagnosis.circuit.gates[finding.number("gate")]
     users = [module.number for module in diagnosis.certificate.modules if gate.number in module.uses]
     entry = Entry(finding.text, True, [f"No module has a line `keep {gate.number}` for the inverse gate {gate.number} "
-                                       f"(`{gate.word}`, line {gate.line})."],
+                                       f"(`{gate.kind}`, line {gate.line})."],
                   line=gate.line, cause="unkept", facts={"gate": gate.number, "modules_that_use_it": users})
     used = f"Modules that use it: {', '.join(map(str, users))}." if users else "No module uses it."
     entry.what.append(used)
@@ -132,7 +128,8 @@ EXPLAINERS = {"local": explain_local, "keep": explain_keep, "border": explain_bo
               "delay": explain_delay, "meet": explain_meet}
 
 
-def explain_report(document: Document, report: Report, file: str, trial: Trial | None = None) -> Explanation:
+def explain_report(document: Document, report: ReportOrRefusal, file: str,
+                   trial: Trial | None = None) -> ExplainedAnswer:
     """Returns a report in words, with fixes if there is somebody who tries them."""
     if report.refused:
         return explain_refused(document, report, file, trial)
@@ -155,7 +152,7 @@ def explain_report(document: Document, report: Report, file: str, trial: Trial |
         headline += whole_run_words(diagnosis, report.faults)
     headline.append(f"The certificate has {report.modules} module{'s' if report.modules != 1 else ''}; its digest is "
                     f"{report.digest[:16]}..")
-    explanation = Explanation(file, "check", headline, report.verdict, entries)
+    explanation = ExplainedAnswer(file, "check", headline, report.verdict, entries)
     if trial and report.verdict == "no":
         add_fixes(explanation, diagnosis, report, trial)
     return explanation
@@ -184,7 +181,7 @@ def mirror_words(diagnosis: Diagnosis) -> list[str]:
     return words
 
 
-def add_fixes(explanation: Explanation, diagnosis: Diagnosis, report: Report, trial: Trial) -> None:
+def add_fixes(explanation: ExplainedAnswer, diagnosis: Diagnosis, report: ReportOrRefusal, trial: Trial) -> None:
     """Adds a fix of the whole text and fixes of lines of the report; each was tried."""
     trial.begin_search()
     fixer = Fixer(diagnosis.document.text, report, trial, diagnosis)
@@ -205,7 +202,7 @@ def add_fixes(explanation: Explanation, diagnosis: Diagnosis, report: Report, tr
             entries[finding.text].fixes = explanation.fix.words
 
 
-def fix_form(before: Report, fix: Fix) -> FixForm:
+def fix_form(before: ReportOrRefusal, fix: Fix) -> FixForm:
     """Returns a fix as a document has it."""
     return FixForm(fix.edits, fix.remakes, fix.judge, fix.report.verdict, [*fix.words, outcome_words(before, fix)],
                    fix.others)
@@ -220,7 +217,7 @@ def tried_words(fixer: Fixer, trial: Trial) -> list[str]:
             f"{trial.judge}.{end}", *kinds]
 
 
-def whole_run_words(diagnosis: Diagnosis, faults: list[Finding]) -> list[str]:
+def whole_run_words(diagnosis: Diagnosis, faults: list[ReportLine]) -> list[str]:
     """Returns whether the whole run ends as the layout asks with a dead rim: a sentence for yes, no, and what was not
     found out."""
     outcome, values = diagnosis.outcome, diagnosis.values
@@ -243,7 +240,7 @@ def whole_run_words(diagnosis: Diagnosis, faults: list[Finding]) -> list[str]:
 def missing_certificate_words(document: Document) -> list[str]:
     """Returns whether a certificate would help a design that has none: the whole run shows it, whatever certificate
     there is."""
-    design = replace(document, certificate=Certificate(2, []))
+    design = replace(document, certificate=Certificate())
     if design.circuit is None or design.layout is None or document.certificate and document.certificate.modules:
         return []
     outcome = Diagnosis(design).outcome
@@ -253,16 +250,17 @@ def missing_certificate_words(document: Document) -> list[str]:
             "layout asks."]
 
 
-def explain_refused(document: Document, report: Report, file: str, trial: Trial | None = None) -> Explanation:
+def explain_refused(document: Document, report: ReportOrRefusal, file: str,
+                    trial: Trial | None = None) -> ExplainedAnswer:
     """Returns a refusal in words. Where the lab's reader does not come to the same line and code, only these are told.
     """
     assert report.refused
     (line, code), refusal = report.refused, document.refusal
     same = refusal is not None and (refusal.line, refusal.code) == (line, code)
     told = explain_refusal(document, refusal) if same and refusal else explain_code(line, code)
-    explanation = Explanation(file, document.command, [f"The text was refused: line {line}, code {code}."], "refused",
-                              refused=told, line=line,
-                              code=code, line_text=document.line(line))
+    headline = [f"The text was refused: line {line}, code {code}."]
+    explanation = ExplainedAnswer(file, document.command, headline, "refused", refused=told, line=line, code=code,
+                                  line_text=document.line(line))
     if refusal and same and refusal.cause == "text_ended" and refusal.facts["section"] == "certificate":
         explanation.headline += missing_certificate_words(document)
     if trial and same and document.command == "check":
@@ -275,7 +273,7 @@ def explain_refused(document: Document, report: Report, file: str, trial: Trial 
     return explanation
 
 
-def explain_run(document: Document, output: str, file: str) -> Explanation:
+def explain_run(document: Document, output: str, file: str) -> ExplainedAnswer:
     """Returns the answer of `run` in words."""
     word, count = output.split("\n", 1)[0].split(" ")
     on = listed(document.on or []) or "none of the inputs"
@@ -285,7 +283,7 @@ def explain_run(document: Document, output: str, file: str) -> Explanation:
     else:
         headline = [f"With {on} on, step {count} makes a cell outside the rectangle live.",
                     "A ball leaves: put a mirror on its way, make the layout larger, or take fewer steps."]
-    return Explanation(file, "run", headline, word)
+    return ExplainedAnswer(file, "run", headline, word)
 
 
 def undefined_gate(circuit: Circuit, output: str) -> int | None:
@@ -294,11 +292,11 @@ def undefined_gate(circuit: Circuit, output: str) -> int | None:
     A wire can have the name `undefined` too.
     """
     lines = output.splitlines()
-    is_gate = bool(lines) and lines[-1].startswith("undefined ") and len(lines) < len(circuit.defined)
+    is_gate = bool(lines) and lines[-1].startswith("undefined ") and len(lines) < len(circuit.wires)
     return int(lines[-1].split(" ")[1]) if is_gate else None
 
 
-def explain_value(document: Document, output: str, file: str) -> Explanation:
+def explain_value(document: Document, output: str, file: str) -> ExplainedAnswer:
     """Returns the answer of `value` in words."""
     assert document.circuit
     number = undefined_gate(document.circuit, output)
@@ -307,20 +305,20 @@ def explain_value(document: Document, output: str, file: str) -> Explanation:
     headline = [f"With {listed(document.on or []) or 'none of the inputs'} on, these wires are true: {true}."]
     if number is not None:
         gate = document.circuit.gates[number]
-        headline.append(f"Gate {gate.number} (`{gate.word}`, line {gate.line}) has no row for "
+        headline.append(f"Gate {gate.number} (`{gate.kind}`, line {gate.line}) has no row for "
                         f"{assignment_words({n: int(values[n]) for n in gate.ins})}: "
                         "the gate that it turns back never gives these values.")
-    return Explanation(file, "value", headline, "values" if number is None else "undefined")
+    return ExplainedAnswer(file, "value", headline, "values" if number is None else "undefined")
 
 
-def explain_listing(command: str, output: str, file: str) -> Explanation:
+def explain_listing(command: str, output: str, file: str) -> ExplainedAnswer:
     """Returns the answer of `modules` or `migrate`, which refused nothing, in words."""
     if command == "modules":
         count = len(output.splitlines())
         modules = "one module" if count == 1 else f"{count} modules"
-        return Explanation(file, command, [f"The text is read, and its certificate has {modules}."], "read")
-    return Explanation(file, command, ["The text is read, and the program wrote it with a certificate of version 2."],
-                       "read")
+        return ExplainedAnswer(file, command, [f"The text is read, and its certificate has {modules}."], "read")
+    headline = ["The text is read, and the program wrote it with a certificate of version 2."]
+    return ExplainedAnswer(file, command, headline, "read")
 
 
 def require_answer(document: Document, output: str) -> None:
@@ -338,7 +336,7 @@ def require_answer(document: Document, output: str) -> None:
 
 
 def explain_answer(text: str, command: str, output: str, file: str, trial: Trial | None = None,
-                   known: Document | None = None) -> Explanation:
+                   known: Document | None = None) -> ExplainedAnswer:
     """Returns what a command of the program wrote, in words. Fixes are looked for only if there is a trial.
 
     `known` is the text as it was read already, if it was.
@@ -358,7 +356,7 @@ def own_answer(text: str, command: str) -> str | None:
     return f"refused {refusal.line} {refusal.code}\n" if refusal else None
 
 
-def as_json(explanation: Explanation) -> str:
+def as_json(explanation: ExplainedAnswer) -> str:
     """Writes an explanation as one JSON document."""
     members = asdict(explanation)
     del members["fixed"]
@@ -367,7 +365,7 @@ def as_json(explanation: Explanation) -> str:
     return json.dumps({"format": "bbmlab explanation 2", **members}, indent=2, ensure_ascii=True)
 
 
-def as_gcc(explanation: Explanation) -> list[str]:
+def as_gcc(explanation: ExplainedAnswer) -> list[str]:
     """Writes an explanation as `file:line: error: text` lines for editors.
 
     A control character, also one of the file's name, is an escape.

@@ -5,10 +5,10 @@ from typing import Any
 
 from ..physics.mirrors import stays
 from ..texts.cell_pictures import text_picture
-from ..texts.certificates import BorderLine, Module, StopLine
+from ..texts.certificates import Border, Module, Stop, line_words
 from ..texts.circuits import evaluate
 from ..texts.layouts import Cell
-from ..texts.reports import Finding, parse_finding
+from ..texts.reports import ReportLine, parse_finding
 from .diagnosis import Diagnosis, Difference, Occurrence, Signal, Truth
 
 
@@ -53,17 +53,17 @@ def wire_value(diagnosis: Diagnosis, module: Module, name: str, assignment: int)
     """Returns the value of a local wire under an assignment of the cuts."""
     if name == "1":
         return 1
-    values = evaluate(diagnosis.circuit, module.cuts, sorted(module.uses))
+    values = evaluate(diagnosis.circuit, module.cuts, module.uses)
     return values.tables[name] >> assignment & 1
 
 
-def wanted_of(diagnosis: Diagnosis, module: Module, finding: Finding) -> Wanted:
+def wanted_of(diagnosis: Diagnosis, module: Module, finding: ReportLine) -> Wanted:
     """Returns what the cell of a `local` line is to be."""
     cell, time = (finding.number("x"), finding.number("y")), finding.number("time")
     assignment, kind = finding.number("assignment"), finding.values["kind"]
     if kind == "end":
         return wanted_at_end(diagnosis, module, cell, assignment)
-    line: BorderLine | StopLine | None
+    line: Border | Stop | None
     if kind == "edge":
         line = module.line_at("edge", time, cell)
     else:
@@ -73,12 +73,13 @@ def wanted_of(diagnosis: Diagnosis, module: Module, finding: Finding) -> Wanted:
         why = "the cell is on the rim, where nothing may be live at odd times" if rim else \
             f"module {module.number} has no `edge` line for this cell at time {time}"
         return Wanted(False, why, None)
-    name = line.name if isinstance(line, StopLine) else line.signal
+    name = line.name if isinstance(line, Stop) else line.signal
     value = wire_value(diagnosis, module, name, assignment)
-    why = f"line {line.line} (`{line}`) says: live if and only if `{name}` is true, and `{name}` is {value} here"
+    at, text = module.line_number(str(kind), line), line_words(str(kind), line)
+    why = f"line {at} (`{text}`) says: live if and only if `{name}` is true, and `{name}` is {value} here"
     if name == "1":
-        why = f"line {line.line} (`{line}`) says: always live"
-    return Wanted(bool(value), why, line.line, str(line))
+        why = f"line {at} (`{text}`) says: always live"
+    return Wanted(bool(value), why, at, text)
 
 
 def wanted_at_end(diagnosis: Diagnosis, module: Module, cell: Cell, assignment: int) -> Wanted:
@@ -109,7 +110,7 @@ def occurrence_words(diagnosis: Diagnosis, occurrence: Occurrence, names: str) -
             else f"{example}.")
 
 
-def explain_local(diagnosis: Diagnosis, finding: Finding) -> Entry:
+def explain_local(diagnosis: Diagnosis, finding: ReportLine) -> Entry:
     """Returns a `local` line in words."""
     module, time = diagnosis.module_of(finding), finding.number("time")
     cell, assignment = (finding.number("x"), finding.number("y")), finding.number("assignment")
@@ -163,7 +164,7 @@ def add_never_occurs(diagnosis: Diagnosis, module: Module, entry: Entry) -> None
     add_cause(diagnosis, module, finding, entry, diagnosis.occurrence(module, fault.assignment))
 
 
-def add_cause(diagnosis: Diagnosis, module: Module, finding: Finding, entry: Entry, occurrence: Occurrence) -> None:
+def add_cause(diagnosis: Diagnosis, module: Module, finding: ReportLine, entry: Entry, occurrence: Occurrence) -> None:
     """Adds the cause of a fault under an assignment that occurs: what the module hears, its line, or the layout."""
     assignment, time = finding.number("assignment"), finding.number("time")
     cell = finding.number("x"), finding.number("y")
@@ -207,7 +208,7 @@ def unheard_words(diagnosis: Diagnosis, module: Module, cell: Cell, time: int, i
     kind, teller = ("halo", module) if certificate.version == 1 else ("edge", owner)
     line = teller.line_at(kind, time, cell)
     state = "live" if is_live else "dead"
-    against = (f"against line {line.line} (`{line}`)" if line
+    against = (f"against line {teller.line_number(kind, line)} (`{line_words(kind, line)}`)" if line
                else f"and module {teller.number} has no `{kind}` line for it")
     return [f"At time {time} the cell {shown(cell)} of module {owner.number} is {state} in the whole run, {against}.",
             *signal_words(diagnosis, diagnosis.signal_of(cell, time), "it")]
@@ -235,16 +236,16 @@ def mirror_note(diagnosis: Diagnosis, cell: Cell) -> list[str]:
             "does not stay as it is."]
 
 
-def explain_keep(diagnosis: Diagnosis, finding: Finding) -> Entry:
+def explain_keep(diagnosis: Diagnosis, finding: ReportLine) -> Entry:
     """Returns a `keep` line in words."""
     module, gate = diagnosis.module_of(finding), diagnosis.circuit.gates[finding.number("gate")]
     assignment = finding.number("assignment")
     values = module.assignment_names(assignment)
     occurrence = diagnosis.occurrence(module, assignment)
     ins = {name: wire_value(diagnosis, module, name, assignment) for name in gate.ins}
-    keeps = module.keeps.get(gate.number)
+    keeps = module.line_number("keep", gate.number)
     entry = Entry(finding.text, True, [
-        f"Module {module.number} keeps the inverse gate {gate.number} (`{gate.word}`, line {gate.line}) "
+        f"Module {module.number} keeps the inverse gate {gate.number} (`{gate.kind}`, line {gate.line}) "
         f"by line {keeps}.",
         f"With {assignment_words(values)} that gate is fed {assignment_words(ins)}, "
         "and it has no row for these values.",
@@ -263,13 +264,13 @@ def explain_keep(diagnosis: Diagnosis, finding: Finding) -> Entry:
     return entry
 
 
-def said_words(line: BorderLine | None, kind: str, module: Module) -> str:
+def said_words(line: Border | None, kind: str, module: Module) -> str:
     """Returns what a line about a border says."""
-    return (f"line {line.line} of module {module.number} says `{line}`" if line
+    return (f"line {module.line_number(kind, line)} of module {module.number} says `{line_words(kind, line)}`" if line
             else f"module {module.number} has no `{kind}` line for it")
 
 
-def explain_border(diagnosis: Diagnosis, finding: Finding) -> Entry:
+def explain_border(diagnosis: Diagnosis, finding: ReportLine) -> Entry:
     """Returns a `border` line in words."""
     module, time = diagnosis.module_of(finding), finding.number("time")
     cell = finding.number("x"), finding.number("y")
@@ -280,8 +281,10 @@ def explain_border(diagnosis: Diagnosis, finding: Finding) -> Entry:
         f"At time {time} modules {module.number} and {owner.number} say different things of the cell {shown(cell)} on "
         "their border: "
         f"{said_words(halo, 'halo', module)}, and {said_words(edge, 'edge', owner)}."],
-        line=halo.line if halo else edge.line if edge else None, cause="border")
+        line=module.line_number("halo", halo) if halo else owner.line_number("edge", edge) if edge else None,
+        cause="border")
     entry.facts = {"module": module.number, "owner": owner.number, "time": time, "cell": list(cell),
-                   "halo": str(halo) if halo else None, "edge": str(edge) if edge else None}
+                   "halo": line_words("halo", halo) if halo else None,
+                   "edge": line_words("edge", edge) if edge else None}
     entry.what += signal_words(diagnosis, diagnosis.signal_of(cell, time), "the cell")
     return entry

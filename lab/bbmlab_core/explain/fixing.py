@@ -9,8 +9,8 @@ from ..host.processor import processor_seconds
 from ..host.terminal import LabError
 from ..texts.documents import Document, read_document
 from ..texts.layouts import Cell
-from ..texts.reports import Finding, Report
-from ..texts.skimming import head_of
+from ..texts.reports import ReportLine, ReportOrRefusal
+from ..texts.skimming import design_text
 from .certificate_edits import CertificateEditor
 from .diagnosis import Diagnosis, Truth
 from .edits import Edit, EditError, applied, edits_between
@@ -38,7 +38,7 @@ class TriedText:
     """A text that was tried, whether its certificate was made again, and its report."""
 
     text: str
-    report: Report
+    report: ReportOrRefusal
     remakes: bool = False
     # Other texts that are as good, by changes of the same size.
     others: tuple[str, ...] = ()
@@ -52,7 +52,7 @@ class Fix:
     """
 
     text: str
-    report: Report
+    report: ReportOrRefusal
     edits: list[Edit]
     remakes: bool
     judge: str
@@ -68,7 +68,7 @@ def step_words(text: str, edits: list[Edit], remakes: bool) -> list[str]:
     if len(edits) > MAX_EDITS:
         words.append(f"And {len(edits) - MAX_EDITS} more edits: `bbmlab explain --fix` writes the whole text.")
     if remakes:
-        verb = "make the certificate again" if head_of(text) != text else "add a certificate"
+        verb = "make the certificate again" if design_text(text) != text else "add a certificate"
         words.append(f"Then {verb}: `bbmlab certify` does." if edits
                      else f"{verb.capitalize()}: `bbmlab certify` does.")
     return words
@@ -77,7 +77,7 @@ def step_words(text: str, edits: list[Edit], remakes: bool) -> list[str]:
 class Fixer:
     """Looks for fixes of a text whose report is given."""
 
-    def __init__(self, text: str, report: Report, trial: Trial, diagnosis: Diagnosis | None = None) -> None:
+    def __init__(self, text: str, report: ReportOrRefusal, trial: Trial, diagnosis: Diagnosis | None = None) -> None:
         # `own` is the diagnosis of the text itself, if there is one: its runs need not be made again.
         self.text, self.report, self.trial, self.own = text, report, trial, diagnosis
         # The kinds of edits that were tried, in words.
@@ -105,7 +105,7 @@ class Fixer:
 
     def fix_of(self, step: TriedText, remakes: bool) -> Fix | None:
         """Returns a step as edits of the text; None if the edits do not lead to it."""
-        old, new = (head_of(text) if remakes else text for text in (self.text, step.text))
+        old, new = (design_text(text) if remakes else text for text in (self.text, step.text))
         if remakes and old == self.text:
             old, new = (text.rstrip("\n") for text in (old, new))
         edits = edits_between(old, new)
@@ -148,7 +148,7 @@ class Fixer:
                 later = TriedText(text, report)
         return best or self.ported(step, document) or self.certified_step(step) or later
 
-    def is_later(self, step: TriedText, text: str, report: Report) -> bool:
+    def is_later(self, step: TriedText, text: str, report: ReportOrRefusal) -> bool:
         """Whether a text is refused at a later line than that of a step, counted from the ends of both texts."""
         assert step.report.refused and report.refused
         was = len(step.text.split("\n")) - step.report.refused[0]
@@ -168,8 +168,8 @@ class Fixer:
 
     def changed_head(self, step: TriedText) -> TriedText | None:
         """Returns a text with a changed design, if circuit and layout are taken and do not end as the layout asks."""
-        head = read_document(head_of(step.text), "design")
-        if head.refusal or head_of(step.text) == step.text:
+        head = read_document(design_text(step.text), "design")
+        if head.refusal or design_text(step.text) == step.text:
             return None
         bench = self.bench(step, head)
         is_right = bench.last is not None and not wrong_cells(bench.values, bench.layout, bench.last)
@@ -178,7 +178,7 @@ class Fixer:
     def certified_step(self, step: TriedText) -> TriedText | None:
         """Returns a text whose certificate was made by the lab, if circuit and layout are taken; if that fails, with a
         changed design."""
-        head = read_document(head_of(step.text), "design")
+        head = read_document(design_text(step.text), "design")
         if head.refusal:
             return None
         return self.remade(head) or self.changed_design(step, head)
@@ -258,7 +258,7 @@ class Fixer:
 
     # ---- the design
 
-    def near(self, report: Report) -> Cell | None:
+    def near(self, report: ReportOrRefusal) -> Cell | None:
         """Returns the cell of the first fault of a report."""
         faults = [finding for finding in report.findings if finding.word == "local"]
         first = min(faults, key=lambda finding: finding.number("time"), default=None)
@@ -274,7 +274,7 @@ class Fixer:
         """Returns a text with a changed layout or circuit that gets a yes, with its certificate or with one that the
         lab makes."""
         bench = self.bench(step, document)
-        has_certificate = head_of(step.text) != step.text
+        has_certificate = design_text(step.text) != step.text
         kept: list[tuple[Change, str]] = []
         for change in design_changes(bench, self.kinds):
             if self.trial.is_over() or bench.is_over() or len(kept) >= MAX_KEPT:
@@ -289,7 +289,7 @@ class Fixer:
                 assert report
                 return TriedText(text, report, others=self.other_texts(bench, step.text, text))
         for _, text in kept:
-            made = self.remade(read_document(head_of(text), "design"))
+            made = self.remade(read_document(design_text(text), "design"))
             if made:
                 return made
         return None
@@ -308,7 +308,7 @@ class Fixer:
 
     # ---- one line of the report
 
-    def find_for(self, diagnosis: Diagnosis, finding: Finding) -> Fix | None:
+    def find_for(self, diagnosis: Diagnosis, finding: ReportLine) -> Fix | None:
         """Returns a fix of one line of the report: after its edits the line is gone, and nothing new is against the
         text."""
         if self.trial.is_over():
@@ -347,7 +347,7 @@ def design_changes(bench: Bench, kinds: dict[str, None]) -> Iterator[Change]:
         yield from changes
 
 
-def outcome_words(before: Report, fix: Fix) -> str:
+def outcome_words(before: ReportOrRefusal, fix: Fix) -> str:
     """Returns what the report of a fixed text says."""
     edited = "" if not fix.edits else "this edit" if len(fix.edits) == 1 else "these edits"
     made = "the new certificate" if fix.remakes else ""

@@ -7,19 +7,20 @@ inputs that were tried; the program decides.
 
 from dataclasses import dataclass, replace as with_fields
 from functools import cached_property
+from itertools import combinations
 from typing import Iterable, Iterator
 
 from ..host.processor import processor_seconds
 from ..physics.simulation import Table, WholeRun, cell_of, end_tables, key_of
-from ..texts.circuits import Circuit, Gate, Valuation, evaluate, evaluate_under, sampled_tables
+from ..texts.circuits import Circuit, Gate, Valuation, evaluate_all, evaluate_choices
 from ..texts.layouts import Cell, Layout, Part, cells_of
 from ..texts.limits import limits_of
 from .diagnosis import MAX_INPUTS, MAX_STEPS
 from .edits import Edit, add, delete, place_in_section, replace
 from .meeting_places import meeting_places, start_before
 
-# How many choices of the inputs are tried first.
-SAMPLES = 20
+# How many samples of the inputs are tried first, if they are more than so many.
+SAMPLES, FEW_INPUTS = 20, 4
 # The most lines of one change.
 MAX_LINES = 8
 # How far from a place that is likely wrong a mirror is added, in cells.
@@ -37,20 +38,9 @@ class Change:
     layout: Layout
 
 
-def part_text(part: Part) -> str:
-    """Writes the line of a part."""
-    sides = f" {part.width} {part.height}" if part.kind == "mirror" else ""
-    return f"{part.kind}{f' {part.name}' if part.name else ''} {part.x} {part.y}{sides}"
-
-
 def few_values(circuit: Circuit) -> Valuation:
     """Returns the tables of all wires in at most 20 choices of the inputs, all of them if they are few."""
-    gates = [gate.number for gate in circuit.gates]
-    if 1 << len(circuit.inputs) <= SAMPLES:
-        return evaluate(circuit, circuit.inputs, gates)
-    values = evaluate_under(circuit, sampled_tables(circuit.inputs, SAMPLES), (1 << SAMPLES) - 1, gates)
-    values.is_all = False
-    return values
+    return evaluate_choices(circuit, FEW_INPUTS, SAMPLES)
 
 
 def wrong_cells(circuit_values: Valuation, layout: Layout, live: dict[int, Table]) -> dict[int, Table]:
@@ -78,7 +68,7 @@ class Bench:
         self.tried = 0
         self.values = few_values(circuit)
         self.all_values = self.values if self.values.is_all or len(circuit.inputs) > MAX_INPUTS else \
-            evaluate(circuit, circuit.inputs, [gate.number for gate in circuit.gates])
+            evaluate_all(circuit)
         self.touched: dict[int, int] = {}
         self.last = self.final(layout, self.values, notes=True)
 
@@ -107,7 +97,7 @@ class Bench:
                 values = self.all_values if all_of_them else self.values
             else:
                 values = few_values(change.circuit) if not all_of_them or len(self.circuit.inputs) > MAX_INPUTS else \
-                    evaluate(change.circuit, change.circuit.inputs, [gate.number for gate in change.circuit.gates])
+                    evaluate_all(change.circuit)
             live = self.final(change.layout, values)
             if live is None or wrong_cells(values, change.layout, live):
                 return False
@@ -139,10 +129,10 @@ class Bench:
         if not self.is_possible([*swaps.values(), *added], dropped | swaps.keys()):
             return None
         parts = [swaps.get(part, part) for part in self.layout.parts if part not in dropped] + added
-        edits = [replace(part.line, part_text(new)) for part, new in swaps.items()]
+        edits = [replace(part.line, str(new)) for part, new in swaps.items()]
         edits += [delete(part.line) for part in dropped]
-        edits += [add(place_in_section(self.lines, "layout", part_text(part)), part_text(part)) for part in added]
-        return Change(tuple(edits), self.circuit, with_fields(self.layout, parts=parts))
+        edits += [add(place_in_section(self.lines, "layout", str(part)), str(part)) for part in added]
+        return Change(tuple(edits), self.circuit, self.layout.with_parts(parts))
 
     @cached_property
     def places(self) -> list[Cell]:
@@ -150,7 +140,7 @@ class Bench:
         nearest to each other."""
         return [] if self.is_over() else meeting_places(self.layout, self.values)
 
-    def distance(self, part: Part) -> int:
+    def distance_to_fault(self, part: Part) -> int:
         """Returns how far a part lies from the places at which something is likely wrong, or from the first fault."""
         cells = self.places or ([self.near] if self.near else [])
         return min((max(part.x - cell[0], cell[0] - part.x - part.width + 1, part.y - cell[1],
@@ -160,7 +150,7 @@ class Bench:
 
 def shifted(part: Part, dx: int, dy: int) -> Part:
     """Returns a part at another place."""
-    return with_fields(part, x=part.x + dx, y=part.y + dy)
+    return part._replace(x=part.x + dx, y=part.y + dy)
 
 
 # ---- the circuit and the ports, by the run that there is
@@ -169,43 +159,28 @@ def circuit_changes(bench: Bench) -> Iterator[Change]:
     """Yields changes of one gate line: two outputs or two inputs exchanged, the other bit of a source, `fredkin` for
     `cswap`."""
     for gate in bench.circuit.gates:
-        texts = [gate_text(gate, ins, outs, word, bit) for word, bit, ins, outs in gate_forms(gate)]
-        for text, (word, bit, ins, outs) in zip(texts, gate_forms(gate)):
-            changed = with_gate(bench.circuit, with_fields(gate, word=word, parameter=bit, ins=ins, outs=outs))
-            yield Change((replace(gate.line, text),), changed, bench.layout)
+        for other in gate_forms(gate):
+            gates = (*bench.circuit.gates[:gate.number], other, *bench.circuit.gates[gate.number + 1:])
+            yield Change((replace(gate.line, str(other)),), with_fields(bench.circuit, gates=gates), bench.layout)
 
 
-def gate_forms(gate: Gate) -> Iterator[tuple[str, int | None, list[str], list[str]]]:
-    """Yields other forms of a gate: its word, its parameter, its inputs and its outputs."""
-    if gate.word == "source":
-        yield gate.word, 1 - (gate.parameter or 0), gate.ins, gate.outs
-    for one in range(len(gate.outs)):
-        for two in range(one + 1, len(gate.outs)):
-            yield gate.word, gate.parameter, gate.ins, exchanged(gate.outs, one, two)
-    for one in range(len(gate.ins)):
-        for two in range(one + 1, len(gate.ins)):
-            yield gate.word, gate.parameter, exchanged(gate.ins, one, two), gate.outs
-    if gate.word in ("fredkin", "cswap"):
-        yield "cswap" if gate.word == "fredkin" else "fredkin", None, gate.ins, gate.outs
+def gate_forms(gate: Gate) -> Iterator[Gate]:
+    """Yields gates that may be meant in place of a gate."""
+    if gate.kind == "source":
+        yield with_fields(gate, parameter=1 - (gate.parameter or 0))
+    for one, two in combinations(range(len(gate.outs)), 2):
+        yield with_fields(gate, outs=exchanged(gate.outs, one, two))
+    for one, two in combinations(range(len(gate.ins)), 2):
+        yield with_fields(gate, ins=exchanged(gate.ins, one, two))
+    if gate.kind in ("fredkin", "cswap"):
+        yield with_fields(gate, kind="cswap" if gate.kind == "fredkin" else "fredkin")
 
 
-def exchanged(names: list[str], one: int, two: int) -> list[str]:
+def exchanged(names: tuple[str, ...], one: int, two: int) -> tuple[str, ...]:
     """Returns names with two of them exchanged."""
     result = list(names)
     result[one], result[two] = names[two], names[one]
-    return result
-
-
-def gate_text(gate: Gate, ins: list[str], outs: list[str], word: str, parameter: int | None) -> str:
-    """Writes a gate line."""
-    number = [] if parameter is None else [str(parameter)]
-    return " ".join([word, *number, *ins, "->", *outs])
-
-
-def with_gate(circuit: Circuit, gate: Gate) -> Circuit:
-    """Returns a circuit with another gate in the place of the one of that number."""
-    gates = [gate if other.number == gate.number else other for other in circuit.gates]
-    return with_fields(circuit, gates=gates, maker={name: other for other in gates for name in other.outs})
+    return tuple(result)
 
 
 def port_changes(bench: Bench, reach: int | None, is_exchange: bool = False) -> Iterator[Change]:
@@ -247,7 +222,7 @@ def left_over(bench: Bench, cell: Cell, table: Table) -> Part:
     name = next((part.name for part in bench.layout.of_kind("out")
                  if abs(part.x - cell[0]) == abs(part.y - cell[1]) == 2
                  and bench.values.tables[part.name or ""] == table), None)
-    return Part("waste" if name is None else "out", name, *cell, 1, 1, 0)
+    return Part("waste" if name is None else "out", name, *cell)
 
 
 def missing_port_changes(bench: Bench) -> Iterator[Change]:
@@ -261,7 +236,7 @@ def missing_port_changes(bench: Bench) -> Iterator[Change]:
     for name in (name for name in bench.circuit.outputs if name not in named):
         cells = [cell_of(key) for key in sorted(wrong) if bench.last.get(key) == bench.values.tables[name]
                  and bench.layout.has(cell_of(key))]
-        new += [Part("out", name, *cell, 1, 1, 0) for cell in cells if cell not in {part.cell for part in new}]
+        new += [Part("out", name, *cell) for cell in cells if cell not in {part.cell for part in new}]
     if new and len(new) <= MAX_LINES:
         change = bench.changed({}, new)
         if change:
@@ -277,7 +252,7 @@ def exchange_changes(bench: Bench) -> Iterator[Change]:
     names = sorted({part.name or "" for part in outs if key_of(part.cell) in wrong})
     for index, one in enumerate(names):
         for two in names[index + 1:]:
-            swaps = {part: with_fields(part, name=two if part.name == one else one) for part in outs
+            swaps = {part: part._replace(name=two if part.name == one else one) for part in outs
                      if part.name in (one, two)}
             if len(swaps) <= MAX_LINES:
                 change = bench.changed(swaps)
@@ -286,7 +261,7 @@ def exchange_changes(bench: Bench) -> Iterator[Change]:
     for one in names:
         for two in bench.circuit.outputs:
             for part in (part for part in outs if part.name == one and two != one):
-                change = bench.changed({part: with_fields(part, name=two)})
+                change = bench.changed({part: part._replace(name=two)})
                 if change:
                     yield change
 
@@ -318,9 +293,9 @@ def larger_changes(bench: Bench) -> Iterator[Change]:
         return
     header = next(number for number, line in enumerate(bench.lines, 1) if line.startswith("layout "))
     parts = [shifted(part, 2, 2) for part in layout.parts]
-    wide = with_fields(layout, width=layout.width + 4, height=layout.height + 4, parts=parts)
+    wide = with_fields(layout, width=layout.width + 4, height=layout.height + 4).with_parts(parts)
     edits = [replace(header, f"layout {wide.width} {wide.height} {wide.steps}"),
-             *(replace(part.line, part_text(part)) for part in parts)]
+             *(replace(part.line, str(part)) for part in parts)]
     yield Change(tuple(edits), bench.circuit, wide)
 
 
@@ -345,7 +320,7 @@ def start_changes(bench: Bench) -> Iterator[Change]:
         kind = "ball" if start[key] == full else "in"
         if kind == "in" and start[key] not in names:
             return
-        new.append(Part(kind, None if kind == "ball" else names[start[key]], *cell_of(key), 1, 1, 0))
+        new.append(Part(kind, None if kind == "ball" else names[start[key]], *cell_of(key)))
     yield from paired_changes(bench, [parts[key] for key in differing if key in parts], new)
 
 
@@ -366,7 +341,7 @@ def paired_changes(bench: Bench, gone: list[Part], new: list[Part]) -> Iterator[
 def move_changes(bench: Bench, kinds: tuple[str, ...], reach: int = 2) -> Iterator[Change]:
     """Yields moves of one part by at most `reach` cells, and of both cells of a ball of two cells together, those near
     the fault first."""
-    parts = sorted((part for part in bench.layout.parts if part.kind in kinds), key=bench.distance)
+    parts = sorted((part for part in bench.layout.parts if part.kind in kinds), key=bench.distance_to_fault)
     offsets = [(dx, dy) for dx in range(-reach, reach + 1) for dy in range(-reach, reach + 1) if dx or dy]
     offsets.sort(key=lambda offset: abs(offset[0]) + abs(offset[1]))
     for part in parts:
@@ -389,7 +364,7 @@ def has_mirror_parity(part: Part) -> bool:
 def drop_changes(bench: Bench) -> Iterator[Change]:
     """Yields the layout without one `ball`, one mirror or one of several cells of a port."""
     ports = [part for part in bench.layout.parts if part.kind in ("in", "out")]
-    for part in sorted(bench.layout.parts, key=bench.distance):
+    for part in sorted(bench.layout.parts, key=bench.distance_to_fault):
         is_port = part.kind in ("in", "out")
         if part.kind in ("ball", "mirror") or is_port and sum((other.kind, other.name) == (part.kind, part.name)
                                                               for other in ports) > 1:
@@ -401,12 +376,12 @@ def drop_changes(bench: Bench) -> Iterator[Change]:
 def ball_changes(bench: Bench) -> Iterator[Change]:
     """Yields the layout with one more `ball`: first the second cell of a ball of two cells, then each cell if they are
     few."""
-    parts = sorted(bench.layout.of_kind("ball") + bench.layout.of_kind("in"), key=bench.distance)
+    parts = sorted(bench.layout.of_kind("ball") + bench.layout.of_kind("in"), key=bench.distance_to_fault)
     cells = [(part.x + dx, part.y + dy) for part in parts for dx in (-2, 2) for dy in (-2, 2)]
     if bench.layout.width * bench.layout.height <= 1600:
         cells += [(x, y) for y in range(bench.layout.height) for x in range(bench.layout.width)]
     for cell in dict.fromkeys(cells):
-        change = bench.changed({}, [Part("ball", None, *cell, 1, 1, 0)])
+        change = bench.changed({}, [Part("ball", None, *cell)])
         if change:
             yield change
 
@@ -426,7 +401,7 @@ def mirror_changes(bench: Bench, is_near: bool) -> Iterator[Change]:
     for x, y in map(cell_of, keys):
         for width, height in sizes:
             for u, v in cells_of(x - width + 1, y - height + 1, width, height):
-                part = Part("mirror", None, u, v, width, height, 0)
+                part = Part("mirror", None, u, v, width, height)
                 if part not in seen and has_mirror_parity(part):
                     seen.add(part)
                     change = bench.changed({}, [part])

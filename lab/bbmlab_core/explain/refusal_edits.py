@@ -3,10 +3,11 @@
 import difflib
 from typing import Any, Callable, Iterable, Iterator
 
+from ..texts.certificates import Module, local_wires
 from ..texts.circuits import Circuit
 from ..texts.documents import Document
 from ..texts.limits import FIRST, LINE
-from ..texts.lines import match_form
+from ..texts.lines import match_line
 from ..texts.spelling import spelled
 from .edits import Edit, add, delete, edits_between, place_in_module, replace
 
@@ -39,8 +40,9 @@ def shape_edits(document: Document, number: int, facts: dict[str, Any]) -> Itera
     if line and line != document.line(number):
         yield (replace(number, line),)
     for words in near_lines(line.split(" "), forms):
-        if match_form(words, forms):
-            yield (replace(number, " ".join(words)),)
+        near = " ".join(words)
+        if match_line(near, forms):
+            yield (replace(number, near),)
     yield (delete(number),)
 
 
@@ -63,7 +65,7 @@ def header_edits(_document: Document, number: int, facts: dict[str, Any]) -> Ite
     yield (delete(number),)
 
 
-def left_out(_document: Document, number: int, _facts: dict[str, Any]) -> Iterator[Edits]:
+def line_deletion(_document: Document, number: int, _facts: dict[str, Any]) -> Iterator[Edits]:
     """Yields the text without the line."""
     yield (delete(number),)
 
@@ -73,13 +75,12 @@ def consumed_edits(_document: Document, number: int, facts: dict[str, Any]) -> I
     yield tuple(add(number - 1, f"spill {name}") for name in facts["names"])
 
 
-def local_edits(lines: list[str], circuit: Circuit, first: int, local: Iterable[str], name: str) -> Iterator[Edit]:
+def local_edits(lines: list[str], circuit: Circuit, module: Module, name: str) -> Iterator[Edit]:
     """Yields lines by which a module comes to know a wire: the gate that makes it, if the module knows what it uses,
     and a cut."""
-    gate = circuit.maker.get(name)
-    for text in ([f"use {gate.number}"] if gate and all(wire in set(local) for wire in gate.ins)
-                 else []) + [f"cut {name}"]:
-        yield add(place_in_module(lines, first, text), text)
+    gate, local = circuit.maker.get(name), local_wires(circuit, module)
+    for text in ([f"use {gate.number}"] if gate and all(wire in local for wire in gate.ins) else []) + [f"cut {name}"]:
+        yield add(place_in_module(lines, module.line, text), text)
 
 
 def module_line(document: Document, number: int) -> int:
@@ -93,11 +94,11 @@ def unknown_wire_edits(document: Document, number: int, facts: dict[str, Any]) -
     assert document.circuit and document.certificate
     lines, module = document.text.split("\n"), document.certificate.modules[facts["module"]]
     for name in [facts["name"]] if "name" in facts else facts["names"]:
-        for edit in local_edits(lines, document.circuit, module.line, module.local, name):
+        for edit in local_edits(lines, document.circuit, module, name):
             yield (edit,)
         gate = document.circuit.maker.get(name)
         if gate:
-            missing = [wire for wire in gate.ins if wire not in module.local]
+            missing = [wire for wire in gate.ins if wire not in local_wires(document.circuit, module)]
             new = [f"cut {wire}" for wire in missing] + [f"use {gate.number}"]
             yield tuple(add(place_in_module(lines, module.line, text), text) for text in new)
     yield (delete(number),)
@@ -117,7 +118,7 @@ def port_edits(document: Document, _number: int, facts: dict[str, Any]) -> Itera
     assert document.certificate and document.circuit
     lines, module = document.text.split("\n"), document.certificate.modules[facts["module"]]
     names = list(dict.fromkeys(port.name for port in facts["ports"]))
-    choices = [list(local_edits(lines, document.circuit, module.line, module.local, name)) for name in names]
+    choices = [list(local_edits(lines, document.circuit, module, name)) for name in names]
     yield tuple(dict.fromkeys(choice[0] for choice in choices))
     yield tuple(dict.fromkeys(choice[-1] for choice in choices))
 
@@ -127,13 +128,12 @@ def heard_edits(document: Document, _number: int, facts: dict[str, Any]) -> Iter
     lines."""
     assert document.certificate and document.circuit
     lines = document.text.split("\n")
-    wanted = dict.fromkeys((number, line.signal) for number, line, _ in facts["missing"])
+    wanted = dict.fromkeys((number, line.signal) for number, line, _, _ in facts["missing"])
     modules = document.certificate.modules
-    choices = [list(local_edits(lines, document.circuit, modules[number].line, modules[number].local, name)) for number,
-               name in wanted]
+    choices = [list(local_edits(lines, document.circuit, modules[number], name)) for number, name in wanted]
     yield tuple(dict.fromkeys(choice[0] for choice in choices))
     yield tuple(dict.fromkeys(choice[-1] for choice in choices))
-    yield tuple(dict.fromkeys(delete(line.line) for _, line, _ in facts["missing"]))
+    yield tuple(dict.fromkeys(delete(at) for *_, at in facts["missing"]))
 
 
 def name_edits(document: Document, number: int, facts: dict[str, Any]) -> Iterator[Edits]:
@@ -174,7 +174,9 @@ def place_edits(document: Document, number: int, facts: dict[str, Any]) -> Itera
 def consumer_edits(document: Document, number: int, facts: dict[str, Any]) -> Iterator[Edits]:
     """Yields the line with wires that nothing consumes in the place of one that is consumed already."""
     assert document.circuit
-    free = [name for name in document.circuit.defined if name not in document.circuit.consumed]
+    circuit = document.circuit
+    consumed = {*circuit.outputs, *circuit.spills, *(name for gate in circuit.gates for name in gate.ins)}
+    free = [name for name in circuit.wires if name not in consumed]
     yield from name_edits(document, number, {"name": facts["name"], "known": free})
 
 
@@ -188,7 +190,7 @@ def ended_edits(document: Document, _number: int, _facts: dict[str, Any]) -> Ite
         yield (add(len(lines), "end"), add(len(lines), ""))
 
 
-def rest_edits(document: Document, number: int, _facts: dict[str, Any]) -> Iterator[Edits]:
+def rest_deletion(document: Document, number: int, _facts: dict[str, Any]) -> Iterator[Edits]:
     """Yields the text up to its last section."""
     lines = document.text.split("\n")
     count = len(lines) if lines[-1] else len(lines) - 1
@@ -198,7 +200,7 @@ def rest_edits(document: Document, number: int, _facts: dict[str, Any]) -> Itera
 def gap_edits(document: Document, number: int, facts: dict[str, Any]) -> Iterator[Edits]:
     """Yields a module for each part of a gap that is small enough."""
     if all(max(gap.width, gap.height) <= 64 for gap in facts["gaps"]):
-        yield tuple(add(number - 1, f"module {gap}") for gap in facts["gaps"])
+        yield tuple(add(number - 1, f"module {gap.words}") for gap in facts["gaps"])
 
 
 def no_module_edits(document: Document, number: int, facts: dict[str, Any]) -> Iterator[Edits]:
@@ -219,22 +221,27 @@ def limit_edits(document: Document, number: int, facts: dict[str, Any]) -> Itera
         yield from number_edits(document, number, facts)
 
 
-FINDERS: dict[str, Finder] = {
-    "shape": shape_edits, "kind_after_later_kind": left_out, "gate_not_rising": left_out, "border_not_rising": left_out,
-    "before_first_module": left_out, "first_not_header": header_edits, "second_header": left_out,
-    "wire_not_consumed": consumed_edits, "port_not_local": port_edits, "heard_not_local": heard_edits, "gap": gap_edits,
-    "no_module": no_module_edits, "wire_not_local": unknown_wire_edits, "use_input_not_local": many_wires_edits,
-    "keep_not_used": left_out,
-    "wire_not_defined": name_edits, "wire_unknown": name_edits, "port_unknown": name_edits,
-    "gate_unknown": number_edits,
-    "keep_not_inverse": number_edits, "wire_defined": left_out, "wire_consumed": consumer_edits, "cut_twice": left_out,
-    "use_output_local": left_out, "border_place": number_edits, "box_odd": number_edits, "box_outside": number_edits,
-    "box_overlap": number_edits, "layout_side": limit_edits, "box_side": number_edits,
-    "certificate_version": number_edits,
-    "delay_limit": number_edits, "cell_outside": place_edits, "cell_taken": place_edits, "mirror_side": limit_edits,
-    "layout_steps": limit_edits, "wire_count": limit_edits, "gate_count": limit_edits, "module_count": limit_edits,
-    "cut_count": left_out, "text_ended": ended_edits, "line_not_ended": ended_edits, "text_goes_on": rest_edits,
-}
+FINDERS: dict[str, Finder] = {cause: finder for finder, causes in (
+    (shape_edits, "shape"),
+    (line_deletion, "kind_after_later_kind gate_not_rising border_not_rising before_first_module second_header "
+                    "keep_not_used wire_defined cut_twice use_output_local cut_count"),
+    (header_edits, "first_not_header"),
+    (consumed_edits, "wire_not_consumed"),
+    (port_edits, "port_not_local"),
+    (heard_edits, "heard_not_local"),
+    (gap_edits, "gap"),
+    (no_module_edits, "no_module"),
+    (unknown_wire_edits, "wire_not_local"),
+    (many_wires_edits, "use_input_not_local"),
+    (name_edits, "wire_not_defined wire_unknown port_unknown"),
+    (number_edits, "gate_unknown keep_not_inverse border_place box_odd box_outside box_overlap box_side "
+                   "certificate_version delay_limit"),
+    (consumer_edits, "wire_consumed"),
+    (limit_edits, "layout_side mirror_side layout_steps wire_count gate_count module_count"),
+    (place_edits, "cell_outside cell_taken"),
+    (ended_edits, "text_ended line_not_ended"),
+    (rest_deletion, "text_goes_on"),
+) for cause in causes.split()}
 
 
 def refusal_edits(document: Document) -> Iterator[Edits]:

@@ -6,10 +6,10 @@ from dataclasses import dataclass
 
 from ..farm.answering import STATUS_OF
 from ..host.processor import processor_seconds
-from ..host.program import Executable, ProgramError, ProgramTimeout, ask, opened
+from ..host.program import Executable, BadProgramError, ProgramTimeout, ask, opened
 from ..physics.own_report import own_report
 from ..texts.documents import read_document
-from ..texts.reports import Finding, Report, ReportError, parse_report
+from ..texts.reports import ReportLine, ReportOrRefusal, ReportError, parse_report
 
 # The most seconds for one run of the program.
 MAX_RUN_SECONDS = 60.0
@@ -38,7 +38,7 @@ class Trial:
         self.budget = budget
         self.tries = 0
         self.started = processor_seconds()
-        self._known: dict[str, Report | None] = {}
+        self._known: dict[str, ReportOrRefusal | None] = {}
 
     @property
     def judge(self) -> str:
@@ -58,7 +58,7 @@ class Trial:
         """Whether the tries or the seconds are used up."""
         return self.tries >= self.budget.tries or self.seconds_left() <= 0
 
-    def report(self, text: str) -> Report | None:
+    def report(self, text: str) -> ReportOrRefusal | None:
         """Returns the report of a text, or None if there is none: the budget is used up, or the program did not answer.
         """
         if text not in self._known:
@@ -68,7 +68,7 @@ class Trial:
             self._known[text] = self.answer(text)
         return self._known[text]
 
-    def answer(self, text: str) -> Report | None:
+    def answer(self, text: str) -> ReportOrRefusal | None:
         """Asks about one text."""
         if self.program is None:
             return self.own_answer(text)
@@ -78,10 +78,10 @@ class Trial:
                          min(MAX_RUN_SECONDS, max(1.0, self.seconds_left())))
             report = parse_report(answer.output)
             return report if answer.status == STATUS_OF["refused" if report.refused else report.verdict] else None
-        except (ProgramError, ProgramTimeout, ReportError):
+        except (BadProgramError, ProgramTimeout, ReportError):
             return None
 
-    def own_answer(self, text: str) -> Report | None:
+    def own_answer(self, text: str) -> ReportOrRefusal | None:
         """Returns the lab's own report, or None if the runs of its modules would take too long."""
         document = read_document(text, "check")
         layout, certificate = document.layout, document.certificate
@@ -90,23 +90,23 @@ class Trial:
         return own_report(document)
 
 
-def is_yes(report: Report | None) -> bool:
+def is_yes(report: ReportOrRefusal | None) -> bool:
     """Whether a report says yes."""
     return report is not None and report.verdict == "yes"
 
 
-def fault_times(report: Report) -> dict[int, int]:
+def fault_times(report: ReportOrRefusal) -> dict[int, int]:
     """Returns the time of the local fault of each module that has one."""
     return {finding.number("module"): finding.number("time") for finding in report.findings if finding.word == "local"}
 
 
-def others(report: Report) -> set[str]:
+def others(report: ReportOrRefusal) -> set[str]:
     """Returns the lines against the text that are not about a module's own run, without the numbers that later edits
     move."""
     return {finding.text for finding in report.faults if finding.word != "local"}
 
 
-def removes(before: Report, after: Report | None, finding: Finding | None) -> bool:
+def removes(before: ReportOrRefusal, after: ReportOrRefusal | None, finding: ReportLine | None) -> bool:
     """Whether a fault is gone and nothing new is against the text: it is taken, and no module is worse off than before.
 
     Without a finding, some fault is to be gone. A module is worse off if its own run has a fault that it did not have,

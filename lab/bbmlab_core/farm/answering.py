@@ -3,7 +3,7 @@
 import time
 from dataclasses import dataclass
 
-from ..host.program import Answer, Executable, ProgramError, ProgramTimeout, Running, ask
+from ..host.program import Answer, Executable, BadProgramError, ProgramTimeout, Running, ask
 from ..texts.reports import ReportError, parse_report
 
 # The results, from best to worst, with the word that is shown.
@@ -62,7 +62,7 @@ def answer(program: Executable, file: str, text: bytes, timeout: float | None, r
         said = ask(program, "check", text, timeout, running)
     except ProgramTimeout as error:
         return Result(file, "timeout", str(error), 0)
-    except ProgramError as error:
+    except BadProgramError as error:
         return Result(file, "error", str(error), 0)
     if said.status >= 4:
         return Result(file, "error", said.errors or f"status {said.status}", 0)

@@ -18,7 +18,7 @@ from ..host.signals import beat
 from ..host.terminal import LabError, read_bytes
 from .answering import WORDS, Result, timed_answer
 
-__all__ = ["WORDS", "Checker", "Keeper", "Result", "counted", "exit_status", "summary", "text_files"]
+__all__ = ["WORDS", "Checker", "ResultKeeper", "Result", "counted", "exit_status", "summary", "text_files"]
 
 # Seconds between two looks whether a worker has a result, and how long a worker may take to end.
 LOOK_SECONDS, END_SECONDS = 0.2, 2.0
@@ -70,10 +70,10 @@ class Contradiction(LabError):
     """One program gave two answers to one text. The message has both."""
 
 
-class Keeper(Protocol):
+class ResultKeeper(Protocol):
     """What keeps results from one run to the next."""
 
-    def held(self, file: str) -> Result | None:
+    def known_result(self, file: str) -> Result | None:
         """Returns the result that is kept for a file, or None if the file is to be checked."""
 
     def keep(self, text: bytes, result: Result, seconds: float) -> None:
@@ -86,7 +86,7 @@ class Order:
 
     program: Executable
     timeout: float | None
-    keeper: Keeper | None = None
+    keeper: ResultKeeper | None = None
 
     def check(self, file: str, given: bytes | None, running: Running) -> Result:
         """Returns what the program says of a file, or of a text that was read already."""
@@ -99,7 +99,7 @@ class Order:
         before = children_seconds()
         result = timed_answer(self.program, file, text, self.timeout, running)
         if self.keeper and result.result in KEPT:
-            return kept(self.keeper, text, result, children_seconds() - before)
+            return keep_result(self.keeper, text, result, children_seconds() - before)
         return result
 
 
@@ -121,7 +121,7 @@ def read_in_time(file: str, timeout: float | None) -> bytes:
         beat()
 
 
-def kept(keeper: Keeper, text: bytes, result: Result, seconds: float) -> Result:
+def keep_result(keeper: ResultKeeper, text: bytes, result: Result, seconds: float) -> Result:
     """Keeps a result, and returns it, or an error if it was not kept."""
     try:
         keeper.keep(text, result, seconds)
@@ -196,7 +196,7 @@ class Checker:
     """Checks files, some at a time. `stop` ends all that runs."""
 
     def __init__(self, program: Executable, jobs: int = 1, timeout: float | None = None,
-                 keeper: Keeper | None = None) -> None:
+                 keeper: ResultKeeper | None = None) -> None:
         self.order, self.jobs = Order(program, timeout, keeper), jobs
         self.workers: list[CheckWorker] = []
 
@@ -206,7 +206,7 @@ class Checker:
         busy: dict[Connection, CheckWorker] = {}
         keeper = self.order.keeper
         for file in files:
-            held = keeper.held(file) if keeper else None
+            held = keeper.known_result(file) if keeper else None
             if held:
                 yield held
                 continue

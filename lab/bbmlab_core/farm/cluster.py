@@ -15,7 +15,7 @@ from ..host.program import Executable, ProgramTimeout
 from ..host.terminal import LabError
 from . import remote
 from .answering import Result, result_of_report
-from .checking import KEPT, Checker, kept, read_in_time
+from .checking import KEPT, Checker, keep_result, read_in_time
 from .receipts import ReceiptFolder, sha256
 
 # How many groups of texts are on their way for each thread of the workers, and seconds between two looks.
@@ -99,7 +99,7 @@ class ClusterChecker(Checker):
         """Yields the result of each file as soon as it is there, and None about each fifth of a second without one."""
         group = FileGroup()
         for file in files:
-            ready = (self.order.keeper.held(file) if self.order.keeper else None) or self.added(file, group)
+            ready = (self.order.keeper.known_result(file) if self.order.keeper else None) or self.added(file, group)
             if ready:
                 yield ready
             elif self.is_full(group):
@@ -180,7 +180,8 @@ class ClusterChecker(Checker):
         if other != output:
             return Result(file, "error", f"two answers to {file} by one program: {other!r} and {output!r} (on {host})",
                           0, is_fatal=True)
-        return kept(self.order.keeper, text, result, seconds) if self.order.keeper and result.result in KEPT else result
+        keeper = self.order.keeper
+        return keep_result(keeper, text, result, seconds) if keeper and result.result in KEPT else result
 
     def stop(self) -> None:
         """Lets the cluster go: one that was started here ends."""

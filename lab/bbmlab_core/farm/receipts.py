@@ -186,7 +186,7 @@ class ReceiptFolder:
         except (LabError, ReceiptError):
             return None
 
-    def held(self, file: str) -> Result | None:
+    def known_result(self, file: str) -> Result | None:
         """Returns the result of a file if its receipt is of the same bytes and the same program."""
         if self.again or not os.path.isfile(file):
             return None

@@ -193,7 +193,7 @@ class JunitWriter(WholeWriter):
         return "\n".join([*lines, "</testsuite>"]) + "\n"
 
 
-class OnlyWriter:
+class FilteredWriter:
     """Lists only some kinds of results. The summary and the status are those of all files."""
 
     def __init__(self, writer: ResultWriter, words: list[str]) -> None:

@@ -18,7 +18,7 @@ from .signals import held, let_in
 HERE = Path(__file__).resolve().parent.parent
 
 
-class ProgramError(Exception):
+class BadProgramError(Exception):
     """The program is not there, or it can't be run."""
 
 
@@ -65,7 +65,7 @@ class Executable:
 
 
 def opened(program: Executable | str) -> Executable:
-    """Opens the program at a path, unless it is open already. Raises ProgramError if it cannot be read."""
+    """Opens the program at a path, unless it is open already. Raises BadProgramError if it cannot be read."""
     if isinstance(program, Executable):
         return program
     try:
@@ -73,7 +73,7 @@ def opened(program: Executable | str) -> Executable:
         data = Path(path).read_bytes()
         return Executable(path, sealed_copy(data), hashlib.sha256(data).hexdigest())
     except OSError as error:
-        raise ProgramError(f"{program} can't be run: {error.strerror or error}") from error
+        raise BadProgramError(f"{program} can't be run: {error.strerror or error}") from error
 
 
 def candidates(given: str | None) -> list[str]:
@@ -100,7 +100,7 @@ def behind_wrapper(found: str) -> str:
     asked = subprocess.run([os.path.abspath(found), "--wrapper-program"], stdin=subprocess.DEVNULL,
                            stdout=subprocess.PIPE, check=False)
     if asked.returncode:
-        raise ProgramError(f"{found} ended with status {asked.returncode}")
+        raise BadProgramError(f"{found} ended with status {asked.returncode}")
     return os.fsdecode(asked.stdout.removesuffix(b"\n"))
 
 
@@ -117,7 +117,7 @@ def find_program(given: str | None = None) -> Executable:
     is_named = given or os.environ.get("BBMCHECK")
     where = (f"there is no program at {tried[0]}" if is_named
              else "no program was found in the clone, next to bbmlab or on PATH")
-    raise ProgramError(f"{where}; name it with --program PATH or set BBMCHECK. The checker has a Debian package and "
+    raise BadProgramError(f"{where}; name it with --program PATH or set BBMCHECK. The checker has a Debian package and "
                        "archives of its own: the Python package "
                        "does not contain it")
 
@@ -138,14 +138,14 @@ class Running:
         """Starts a command of a program in a session of its own."""
         with self.lock:
             if self.is_stopped:
-                raise ProgramError("stopped")
+                raise BadProgramError("stopped")
             process = program.start(command)
             self.processes.add(process)
             is_stopped = self.is_stopped
         if is_stopped:
             # It was stopped while it started.
             self.end(process)
-            raise ProgramError("stopped")
+            raise BadProgramError("stopped")
         return process
 
     def end(self, process: "subprocess.Popen[bytes]") -> None:
@@ -190,7 +190,7 @@ def told(program: Executable, command: str, text: bytes, timeout: float | None, 
         try:
             process = running.start(program, command)
         except OSError as error:
-            raise ProgramError(f"{program} can't be run: {error.strerror or error}") from error
+            raise BadProgramError(f"{program} can't be run: {error.strerror or error}") from error
         try:
             with let_in():
                 output, written = process.communicate(text, timeout)
@@ -207,9 +207,9 @@ def ask(program: Executable | str, command: str, text: bytes, timeout: float | N
     program = opened(program)
     answer = told(program, command, text, timeout, running or SHARED or Running())
     if answer.status not in (0, 1, 3, 4, 5):
-        raise ProgramError(f"{program} ended with status {answer.status}: "
+        raise BadProgramError(f"{program} ended with status {answer.status}: "
                            f"{answer.errors.splitlines()[0] if answer.errors else 'no message'}")
     why = foreign_report(text, answer.output) if command == "check" else None
     if why:
-        raise ProgramError(f"{program} gave the report of another text: {why}")
+        raise BadProgramError(f"{program} gave the report of another text: {why}")
     return answer

@@ -3,7 +3,7 @@
 import subprocess
 from dataclasses import dataclass
 
-from .program import HERE, Executable, ProgramError, kill_session
+from .program import HERE, Executable, BadProgramError, kill_session
 from .terminal import LabError, read_bytes
 
 # Where a MANIFEST may be: in the repository, and in an installation.
@@ -55,13 +55,13 @@ def version_of(program: Executable) -> str | None:
     try:
         asked = program.start("--version")
     except OSError as error:
-        raise ProgramError(f"{program} can't be run: {error.strerror or error}") from error
+        raise BadProgramError(f"{program} can't be run: {error.strerror or error}") from error
     try:
         output, _ = asked.communicate(timeout=VERSION_SECONDS)
     except subprocess.TimeoutExpired as error:
         kill_session(asked)
         asked.communicate()
-        raise ProgramError(
+        raise BadProgramError(
             f"{program} can't be run: `--version` gave no answer within {VERSION_SECONDS:g} seconds") from error
     lines = output.decode("utf-8", "replace").splitlines()
     return lines[0] if lines and not asked.returncode else None

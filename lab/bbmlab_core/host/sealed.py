@@ -24,7 +24,7 @@ def memory_file() -> int:
         return os.memfd_create("bbmcheck", flags)
 
 
-def above_streams(descriptor: int) -> int:
+def descriptor_above_streams(descriptor: int) -> int:
     """Returns another descriptor of a file that is none of the standard streams', which a child process gets pipes for.
     """
     if descriptor > 2:
@@ -39,7 +39,7 @@ def sealed_copy(data: bytes) -> int:
     """Returns the descriptor of a file with some bytes that cannot be changed: in memory, else a file without a name.
     """
     try:
-        descriptor = above_streams(memory_file())
+        descriptor = descriptor_above_streams(memory_file())
     except OSError:
         return nameless_copy(data)
     with open(descriptor, "wb", closefd=False) as file:
@@ -54,7 +54,7 @@ def nameless_copy(data: bytes) -> int:
         path = os.path.join(folder, "bbmcheck")
         with open(os.open(path, os.O_WRONLY | os.O_CREAT | os.O_EXCL, 0o700), "wb") as file:
             file.write(data)
-        return above_streams(os.open(path, os.O_RDONLY | os.O_CLOEXEC))
+        return descriptor_above_streams(os.open(path, os.O_RDONLY | os.O_CLOEXEC))
 
 
 def path_of(descriptor: int) -> str:

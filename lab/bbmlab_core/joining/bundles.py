@@ -2,7 +2,6 @@
 
 from typing import Iterator
 
-from ..certify.certifier import certificate_text
 from ..route.certificate import rectangles
 from ..route.design import corner_numbers
 from ..route.netlist import Netlist
@@ -105,8 +104,8 @@ def joined_bundle(composed: Composed, plan: Plan, modules: JoinedModules, paths:
     certificate = modules.certificate(paths, layout.ports())
     lines, circuit = "\n".join(layout.lines()) + "\n", composed.circuit
     side, count = max(plan.width, plan.height), len(certificate.modules)
-    limits = limits_for(side, plan.end, count, len(circuit.gates), len(circuit.defined))
-    text = with_line(composed.section + lines + certificate_text(certificate), limits)
-    gates = sum(gate.word not in ("source", "delay") for gate in circuit.gates)
+    limits = limits_for(side, plan.end, count, len(circuit.gates), len(circuit.wires))
+    text = with_line(composed.section + lines + str(certificate), limits)
+    gates = sum(gate.kind not in ("source", "delay") for gate in circuit.gates)
     most_cuts = max(len(module.cuts) for module in certificate.modules)
     return Routed(text, "", plan.width, plan.height, plan.end, len(layout.mirrors()), count, most_cuts, gates)

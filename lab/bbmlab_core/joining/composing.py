@@ -6,9 +6,9 @@ from ..circuits.gate_lines import read_circuit
 from ..circuits.netlists.naming import MAX_NAME
 from ..host.terminal import LabError
 from ..route.netlist import Netlist
-from ..texts import sections
-from ..texts.circuits import Circuit
+from ..texts.circuits import Circuit, Gate
 from ..texts.limits import sections_after_line
+from ..texts.sections import text_of
 from .parts import ALWAYS, PartText
 
 
@@ -60,11 +60,11 @@ def composed(parts: dict[str, PartText], connections: list[Connection]) -> Compo
     count = 0
     for part in named:
         part.first_gate, count = count, count + len(part.text.circuit.gates)
-        for wire in part.text.circuit.defined:
+        for wire in part.text.circuit.wires:
             own = fed.get((part.name, wire))
             part.wires[wire] = by_name[own.source].wires[own.output] if own else joined_name(part.name, wire)
     lines = circuit_lines(named, connections)
-    return Composed(named, connections, sections_after_line(sections.text_of(lines)), read_circuit(lines))
+    return Composed(named, connections, sections_after_line(text_of(lines)), read_circuit(lines))
 
 
 def joined_name(part: str, wire: str) -> str:
@@ -109,16 +109,16 @@ def ordered(names: list[str], connections: list[Connection]) -> list[str]:
     return order
 
 
-def circuit_lines(parts: list[Named], connections: list[Connection]) -> sections.Circuit:
+def circuit_lines(parts: list[Named], connections: list[Connection]) -> Circuit:
     """Returns the lines of the circuit of the join. Connected ports are neither inputs nor outputs."""
     given = {(own.source, own.output) for own in connections}
     taken = {(own.target, own.input) for own in connections}
-    inputs, gates, outputs, spills = list[str](), list[sections.Gate](), list[str](), list[str]()
+    inputs, gates, outputs, spills = list[str](), list[Gate](), list[str](), list[str]()
     for part in parts:
         circuit, wire = part.text.circuit, part.wire
         inputs += [wire(own) for own in circuit.inputs if (part.name, own) not in taken]
-        gates += [sections.Gate(gate.word, tuple(map(wire, gate.ins)), tuple(map(wire, gate.outs)), gate.parameter)
+        gates += [Gate(gate.kind, tuple(map(wire, gate.ins)), tuple(map(wire, gate.outs)), gate.parameter)
                   for gate in circuit.gates]
         outputs += [wire(own) for own in circuit.outputs if (part.name, own) not in given]
         spills += [wire(own) for own in circuit.spills]
-    return sections.Circuit(tuple(inputs), tuple(gates), tuple(outputs), tuple(spills))
+    return Circuit(tuple(inputs), tuple(gates), tuple(outputs), tuple(spills))

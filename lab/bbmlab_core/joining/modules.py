@@ -1,7 +1,6 @@
 """The modules of a join: those of the parts, and tiles between them, with the wires that paths bring to them."""
 
 from collections import Counter, defaultdict
-from dataclasses import replace
 from typing import Iterable, Iterator
 
 from ..circuits.cones import fewest_cuts
@@ -11,10 +10,8 @@ from ..route.board import Bound, NoRouteError
 from ..route.netlist import Netlist
 from ..route.paths import Path
 from ..route.world import TILE, number_cell
-from ..texts.boxes import Box
-from ..texts.certificates import MAX_CUTS, MAX_USES, BorderLine, Certificate, Module
-from ..texts.circuits import Circuit
-from ..texts.layouts import Cell, row_order
+from ..texts.certificates import MAX_CUTS, MAX_USES, Border, Certificate, ModuleDraft, Stop, local_wires
+from ..texts.layouts import Box, Cell, row_order
 from ..texts.limits import SECOND
 from ..texts.owners import NOBODY, Owners
 from .composing import Composed
@@ -31,16 +28,16 @@ class JoinedModules:
     def __init__(self, composed: Composed, plan: Plan) -> None:
         self.circuit, self.netlist, self.plan = composed.circuit, Netlist(composed.circuit), plan
         self.owners = Owners(plan.side, plan.side)
-        self.modules: list[Module] = []
+        self.modules: list[ModuleDraft] = []
         for placed in plan.placed:
             self.add_part(placed)
         self.part_count = len(self.modules)
         for box in self.tiles_between():
-            self.add(Module(0, box, 0))
-        self.local = [local_wires(self.circuit, module) for module in self.modules]
+            self.add(ModuleDraft(box))
+        self.local = [set(local_wires(self.circuit, module)) for module in self.modules]
         self.extra: dict[int, Counter[str]] = defaultdict(Counter)
 
-    def add(self, module: Module) -> None:
+    def add(self, module: ModuleDraft) -> None:
         """Adds a module."""
         module.number = len(self.modules)
         self.owners.take(module.box, module.number)
@@ -51,13 +48,12 @@ class JoinedModules:
         part, x, y, time = placed.part, placed.x, placed.y, placed.time
         for own in part.text.certificate.modules:
             box = Box(own.box.x + x, own.box.y + y, own.box.width, own.box.height)
-            module = Module(0, box, 0, [part.wires[wire] for wire in own.cuts])
-            module.uses = {part.first_gate + number: 0 for number in own.uses}
-            module.keeps = {part.first_gate + number: 0 for number in own.keeps}
-            module.edges = [BorderLine("edge", None if line.time is None else line.time + time, line.x + x, line.y + y,
-                                       part.wire(line.signal), 0) for line in own.edges]
-            module.stops = [replace(line, time=line.time + time, name=part.wires[line.name], x=line.x + x, y=line.y + y)
-                            for line in own.stops]
+            module = ModuleDraft(box, cuts=[part.wires[wire] for wire in own.cuts])
+            module.uses = [part.first_gate + number for number in own.uses]
+            module.keeps = [part.first_gate + number for number in own.keeps]
+            module.edges = [Border(None if line.time is None else line.time + time, line.x + x, line.y + y,
+                                   part.wire(line.signal)) for line in own.edges]
+            module.stops = [Stop(stop.time + time, part.wires[stop.name], stop.x + x, stop.y + y) for stop in own.stops]
             self.add(module)
 
     def tiles_between(self) -> Iterator[Box]:
@@ -86,7 +82,7 @@ class JoinedModules:
         x, y = cell
         return {self.owners.owner_at((x + i, y + j)) for i in (-1, 1) for j in (-1, 1)} - {NOBODY}
 
-    def edge_cells(self, path: Path) -> Iterator[tuple[int, Cell, Module]]:
+    def edge_cells(self, path: Path) -> Iterator[tuple[int, Cell, ModuleDraft]]:
         """Yields the cells of a path on rings at odd times, with their modules."""
         for time, cells in moving_cells(path.start, path.legs, 1):
             for cell in cells:
@@ -129,7 +125,7 @@ class JoinedModules:
         cuts, uses = fewest_cuts(self.circuit, {*module.cuts, *extra}, used)
         return sorted(cuts, key=self.circuit.rank), sorted(uses)
 
-    def follows(self, wire: str, module: Module) -> bool:
+    def follows(self, wire: str, module: ModuleDraft) -> bool:
         """Whether a wire is on one ball with a wire that a module knows, by delays: then it must not be free."""
         root = self.netlist.root(wire)
         return root != wire and any(self.netlist.root(own) == root for own in self.local[module.number])
@@ -144,20 +140,20 @@ class JoinedModules:
             signal = self.signal(path.wire)
             for time, cell, module in self.edge_cells(path):
                 if time < self.plan.end:
-                    module.edges.append(BorderLine("edge", time, *cell, signal, 0))
+                    module.edges.append(Border(time, *cell, signal))
             for number in path.item.mirrors:
                 cell = number_cell(number)
                 module = self.modules[self.owners.owner_at(cell)]
                 if module.box.has_in_ring(cell):
-                    module.edges.append(BorderLine("edge", None, *cell, ALWAYS, 0))
+                    module.edges.append(Border(None, *cell, ALWAYS))
         for module in self.modules:
             cuts, uses = self.wiring(module.number)
             if len(cuts) > MAX_CUTS or len(uses) > MAX_USES:
                 raise NoRouteError(f"the box at ({module.box.x}, {module.box.y}) needs {len(cuts)} wires; "
                                    f"{MAX_CUTS} is the most", Bound.WIRES)
-            module.cuts, module.uses = cuts, dict.fromkeys(uses, 0)
+            module.cuts, module.uses = cuts, uses
             module.edges.sort(key=lambda line: line.place)
-        return Certificate(2, self.with_large_boxes())
+        return Certificate(2, tuple(module.module() for module in self.with_large_boxes()))
 
     def require_meetings(self) -> None:
         """Raises LabError if a gate gets wires with stops at different times: the program would say no."""
@@ -169,7 +165,7 @@ class JoinedModules:
             times = {wire: latest[wire] for wire in gate.ins if wire in latest}
             if len(set(times.values())) > 1:
                 words = " and ".join(f"{wire} at time {time}" for wire, time in times.items())
-                what = f"gate {gate.number} ({gate.word}) would get inputs with stops at different times, {words}"
+                what = f"gate {gate.number} ({gate.kind}) would get inputs with stops at different times, {words}"
                 raise LabError(f"{what}: an output with a delay is led to a gate with another delayed input", 1)
 
     def need(self, wire: str, number: int) -> None:
@@ -177,16 +173,16 @@ class JoinedModules:
         if wire not in self.local[number]:
             self.extra[number][wire] += 1
 
-    def with_large_boxes(self) -> list[Module]:
+    def with_large_boxes(self) -> list[ModuleDraft]:
         """Returns the modules with one box in place of many where no box has any line."""
         quiet = {(module.box.x, module.box.y) for module in self.modules[self.part_count:] if is_quiet(module)}
-        large, side = dict[Cell, Module](), QUIET_TILES * TILE
+        large, side = dict[Cell, ModuleDraft](), QUIET_TILES * TILE
         for x, y in sorted(quiet, key=row_order):
             group = [(x + i, y + j) for i in range(0, side, TILE) for j in range(0, side, TILE)]
             is_inside = x + side <= self.plan.width and y + side <= self.plan.height
             if x % side == 0 and y % side == 0 and is_inside and quiet.issuperset(group):
-                large |= dict.fromkeys(group, Module(0, Box(x, y, side, side), 0))
-        width, height, found = self.plan.width, self.plan.height, dict[int, Module]()
+                large |= dict.fromkeys(group, ModuleDraft(Box(x, y, side, side)))
+        width, height, found = self.plan.width, self.plan.height, dict[int, ModuleDraft]()
         for number, module in enumerate(self.modules):
             own = large.get((module.box.x, module.box.y), module) if number >= self.part_count else module
             if own.box.x < width and own.box.y < height:
@@ -197,11 +193,6 @@ class JoinedModules:
         return modules
 
 
-def is_quiet(module: Module) -> bool:
+def is_quiet(module: ModuleDraft) -> bool:
     """Whether a module is a tile that nothing reaches."""
     return module.box.width == module.box.height == TILE and not module.cuts and not module.uses and not module.edges
-
-
-def local_wires(circuit: Circuit, module: Module) -> set[str]:
-    """Returns the wires that a module knows."""
-    return {*module.cuts, *(wire for number in module.uses for wire in circuit.gates[number].outs)}

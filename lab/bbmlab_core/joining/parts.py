@@ -132,7 +132,7 @@ class PartRun:
 
     def __init__(self, circuit: Circuit, layout: Layout, certificate: Certificate) -> None:
         self.circuit, self.layout, self.certificate = circuit, layout, certificate
-        self.owners: Owners = certificate.owners()
+        self.owners: Owners = certificate.owners
         self.mirrors = layout.mirror_cells()
         self.claims: set[int] = set()
         self.starts: dict[int, dict[Cell, str]] = defaultdict(dict)

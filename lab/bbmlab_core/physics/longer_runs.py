@@ -5,7 +5,7 @@ A lone live cell flies to larger x if x + t is even, and else to smaller x; y li
 These are runs of the lab under all inputs at once, and nothing here is proved.
 """
 
-from ..texts.circuits import Circuit, evaluate
+from ..texts.circuits import Circuit, evaluate_all
 from ..texts.layouts import Cell, Layout
 from .simulation import Field, Table, cell_of, end_tables, key_of, start_tables
 
@@ -51,7 +51,7 @@ def longer_runs(circuit: Circuit, layout: Layout) -> tuple[int | None, int | Non
     Balls that fly straight on for as many steps as the longer side meet neither each other nor a mirror after that. The
     layout's own run has to end as it asks.
     """
-    values = evaluate(circuit, circuit.inputs, [gate.number for gate in circuit.gates])
+    values = evaluate_all(circuit)
     mirrors, tried = set(layout.mirror_cells()), max(layout.width, layout.height)
     field = Field(start_tables(layout, values.tables, values.full))
     start = {cell_of(key): table for key, table in field.live.items()}

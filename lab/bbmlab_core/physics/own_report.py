@@ -9,7 +9,7 @@ from ..texts.certificates import Certificate, Module
 from ..texts.circuits import Circuit
 from ..texts.documents import Document
 from ..texts.layouts import Layout
-from ..texts.reports import Finding, Report, parse_finding
+from ..texts.reports import ReportLine, ReportOrRefusal, parse_finding
 from ..texts.skimming import certificate_digest
 from .simulation import ModuleRun, local_values, lowest_bit
 
@@ -30,7 +30,7 @@ def keep_lines(circuit: Circuit, module: Module) -> Iterator[str]:
     """Yields the least keep fault of a module."""
     values = local_values(circuit, module)
     before = values.full
-    for number in sorted(module.uses):
+    for number in module.uses:
         missing = before & ~values.rows[number]
         if number in module.keeps and missing:
             yield f"keep {module.number} {number} {lowest_bit(missing)}"
@@ -63,7 +63,7 @@ def gate_lines(circuit: Circuit, certificate: Certificate) -> Iterator[str]:
     times: dict[str, list[int]] = {}
     for stop in (stop for module in certificate.modules for stop in module.stops):
         times.setdefault(stop.name, []).append(stop.time)
-    for gate in (gate for gate in circuit.gates if gate.word == "delay"):
+    for gate in (gate for gate in circuit.gates if gate.kind == "delay"):
         used, made = times.get(gate.ins[0]), times.get(gate.outs[0])
         found = "missing" if not used or not made else "before" if min(made) < max(used) else str(min(made) - max(used))
         yield f"delay {gate.number} {gate.parameter} {found}"
@@ -73,13 +73,13 @@ def gate_lines(circuit: Circuit, certificate: Certificate) -> Iterator[str]:
             yield f"meet {gate.number} {last[0] if len(set(last)) == 1 else 'differ'}"
 
 
-def own_report(document: Document) -> Report:
+def own_report(document: Document) -> ReportOrRefusal:
     """Returns the report of a bundle as the lab finds it by running each module, or its own refusal."""
     if document.refusal:
-        return Report(refused=(document.refusal.line, document.refusal.code))
+        return ReportOrRefusal(refused=(document.refusal.line, document.refusal.code))
     circuit, layout, certificate = document.circuit, document.layout, document.certificate
     assert circuit and layout and certificate
     lines = [*local_lines(circuit, layout, certificate), *gate_lines(circuit, certificate)]
-    findings: list[Finding] = [parse_finding(line) for line in lines]
+    findings: list[ReportLine] = [parse_finding(line) for line in lines]
     verdict = "no" if any(finding.is_against for finding in findings) else "yes"
-    return Report(verdict, certificate_digest(document.text), len(certificate.modules), findings)
+    return ReportOrRefusal(verdict, certificate_digest(document.text), len(certificate.modules), findings)

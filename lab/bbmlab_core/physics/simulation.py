@@ -9,10 +9,9 @@ from bisect import bisect_left
 from dataclasses import dataclass, field
 from typing import Iterable, Iterator
 
-from ..texts.boxes import Box, clipped
-from ..texts.certificates import BorderLine, Certificate, Module
+from ..texts.certificates import Border, Certificate, Module
 from ..texts.circuits import Circuit, Valuation, evaluate
-from ..texts.layouts import Cell, Layout
+from ..texts.layouts import Box, Cell, Layout
 
 Table = int
 # A cell as one number: y + 2 above the lowest 13 bits, x + 2 in them, which is enough for the largest side. So a
@@ -87,8 +86,8 @@ class Field:
 
 def start_tables(layout: Layout, tables: dict[str, Table], full: Table) -> dict[int, Table]:
     """Returns the start of a layout, where the wires of `in` cells have these tables."""
-    live = {key_of(cell): full for part in layout.parts if part.kind in ("mirror", "ball") for cell in part.cells()}
-    live.update((key_of(part.cell), tables.get(part.name or "", 0)) for part in layout.of_kind("in"))
+    live = {key_of(cell): full for cell in (*layout.mirror_cells(), *layout.balls)}
+    live.update((key_of(port.cell), tables.get(port.name, 0)) for port in layout.ins)
     return live
 
 
@@ -175,7 +174,7 @@ class ModuleRun:
     """The run of a module by itself, under all assignments of its cuts or under some of them."""
 
     def __init__(self, circuit: Circuit, layout: Layout, certificate: Certificate, module: Module) -> None:
-        self.layout, self.module, self.certificate = clipped(layout, module.box), module, certificate
+        self.layout, self.module, self.certificate = layout.clipped(module.box), module, certificate
         self.values = local_values(circuit, module)
         # The assignments that count: those under which each used gate has a row.
         self.full = self.values.full
@@ -200,7 +199,7 @@ class ModuleRun:
         self.edges = self.borders(self.module.edges)
         self.halos = self.borders(self.certificate.halo_lines(self.module))
 
-    def borders(self, lines: list[BorderLine]) -> Borders:
+    def borders(self, lines: Iterable[Border]) -> Borders:
         """Returns what edge or halo lines say, by the tables of the wires that are local here."""
         said = Borders()
         for line in lines:
@@ -284,7 +283,7 @@ class ModuleRun:
 
 def local_values(circuit: Circuit, module: Module) -> Valuation:
     """Returns the tables of a module's local wires over all assignments of its cuts."""
-    return evaluate(circuit, module.cuts, sorted(module.uses))
+    return evaluate(circuit, module.cuts, module.uses)
 
 
 def end_tables(layout: Layout, tables: dict[str, Table], full: Table) -> dict[Cell, Table | None]:
@@ -293,6 +292,6 @@ def end_tables(layout: Layout, tables: dict[str, Table], full: Table) -> dict[Ce
     Other cells are to be dead.
     """
     wanted: dict[Cell, Table | None] = {cell: full for cell in layout.mirror_cells()}
-    wanted.update((part.cell, tables.get(part.name or "", 0)) for part in layout.of_kind("out"))
-    wanted.update((part.cell, None) for part in layout.of_kind("waste"))
+    wanted.update((port.cell, tables.get(port.name, 0)) for port in layout.outs)
+    wanted.update((cell, None) for cell in layout.wastes)
     return wanted

@@ -79,7 +79,7 @@ class StandardCell:
     def text(self) -> str:
         """Returns what `bbmlab cells` lists of the cell."""
         layout, circuit = parts_of(self.document)
-        gates = ", ".join(gate.word for gate in circuit.gates) or "none"
+        gates = ", ".join(gate.kind for gate in circuit.gates) or "none"
         width, height = self.mirror_box
         mirrors = f"mirrors within {width} by {height} cells" if width else "no mirrors"
         lines = [f"{self.name} {ABOUT.get(self.name, 'has no description')}",
@@ -149,7 +149,7 @@ def standard_cell(name: str, text: str) -> StandardCell:
     mirrors = layout.mirror_cells()
     columns, rows = [x for x, _ in mirrors], [y for _, y in mirrors]
     box = (max(columns) - min(columns) + 1, max(rows) - min(rows) + 1) if mirrors else (0, 0)
-    return StandardCell(name, document, ports_of(document), len(layout.of_kind("ball")) // 2, len(circuit.spills), box)
+    return StandardCell(name, document, ports_of(document), len(layout.balls) // 2, len(circuit.spills), box)
 
 
 def cell_path(name: str) -> Path:

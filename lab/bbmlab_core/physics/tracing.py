@@ -5,7 +5,6 @@ from dataclasses import dataclass, field
 from typing import Any
 
 from ..host.terminal import LabError
-from ..texts.boxes import clipped
 from ..texts.cell_pictures import text_picture
 from ..texts.documents import Document
 from ..texts.layouts import Cell, Layout, row_order
@@ -75,7 +74,7 @@ class MirrorWatch:
 
 def port_names(layout: Layout) -> list[str]:
     """Returns the names of `in` cells, each once."""
-    return list(dict.fromkeys(part.name or "" for part in layout.of_kind("in")))
+    return list(dict.fromkeys(port.name for port in layout.ins))
 
 
 def chosen_inputs(document: Document, words: str | None) -> list[str]:
@@ -137,7 +136,7 @@ def trace_module(document: Document, number: int, assignment: int, first: int, l
                        f"{(1 << len(module.cuts)) - 1}", 2)
     run, box = ModuleRun(circuit, layout, certificate, module), module.box
     values = " ".join(f"{name}={value}" for name, value in module.assignment_names(assignment).items()) or "no cuts"
-    mirrors = {cell for cell in clipped(layout, box).mirror_cells() if box.has(cell)}
+    mirrors = {cell for cell in layout.clipped(box).mirror_cells() if box.has(cell)}
     trace = Trace(f"module {number} by itself with {values}", (box.x, box.y, box.width, box.height), first, mirrors)
     for time in range(min(last, layout.steps) + 1):
         if time >= first:

@@ -2,14 +2,14 @@
 
 from dataclasses import dataclass, field
 from html import escape
+from typing import Sequence
 
 from ..physics.simulation import Table
-from ..texts.boxes import Box, clipped
 from ..texts.certificates import Module
-from ..texts.circuits import Circuit, evaluate, evaluate_samples, sampled_tables
+from ..texts.circuits import Circuit, evaluate_all, evaluate_samples, sampled_tables
 from ..texts.documents import Document
 from ..texts.gates import input_tables
-from ..texts.layouts import Cell, Layout, Part
+from ..texts.layouts import Box, Cell, Layout, Part
 from .label_places import Name, Rect, leader, place_names
 from .picture_parts import OTHERS, chevrons, pieces_within
 from .ways import Piece, directed_ways, joined_pieces, ways_of
@@ -65,7 +65,7 @@ class Drawing:
     live: set[Cell] = field(default_factory=set)
     ways: dict[str, list[Piece]] = field(default_factory=dict)
     labels: dict[str, str] = field(default_factory=dict)
-    modules: list[Module] = field(default_factory=list)
+    modules: Sequence[Module] = ()
     # The boxes of modules that use gates, with what is said of them: in a large layout in place of all modules.
     gates: list[tuple[Box, list[str]]] = field(default_factory=list)
     faults: list[tuple[Cell, str]] = field(default_factory=list)
@@ -228,7 +228,7 @@ def waste_sign(part: Part) -> str:
     return f'<path class="waste" d="M{x} {y}l{side} {side}m0-{side}l-{side} {side}"/>'
 
 
-def module_parts(modules: list[Module]) -> list[str]:
+def module_parts(modules: Sequence[Module]) -> list[str]:
     """Returns the borders of modules, with their numbers if they are few."""
     is_numbered, parts = len(modules) <= MAX_NUMBERED, []
     for module in modules:
@@ -343,7 +343,7 @@ def shown_part(layout: Layout, drawing: Drawing) -> Layout:
     drawing.faults = [fault for fault in drawing.faults if view.has(fault[0])]
     drawing.modules = [module for module in drawing.modules if overlaps(module.box, view)]
     drawing.gates = [gate for gate in drawing.gates if overlaps(gate[0], view)]
-    return clipped(layout, view)
+    return layout.clipped(view)
 
 
 def overlaps(one: Box, other: Box) -> bool:
@@ -414,7 +414,7 @@ def wire_tables(document: Document, on: list[str]) -> tuple[dict[str, Table], Ta
         return evaluate_samples(circuit, SAMPLES,
                                 on).tables if circuit else sampled_tables(inputs, SAMPLES, on), full, 0
     if circuit:
-        values = evaluate(circuit, inputs, [gate.number for gate in circuit.gates])
+        values = evaluate_all(circuit)
         return values.tables, values.full, chosen
     return dict(zip(inputs, input_tables(len(inputs)))), (1 << (1 << len(inputs))) - 1, chosen
 
@@ -457,7 +457,7 @@ def by_levels(drawing: Drawing, circuit: Circuit, most_wires: int = MAX_LEGEND) 
     """
     levels = dict.fromkeys(circuit.inputs, 0)
     for gate in circuit.gates:
-        level = max((levels[wire] for wire in gate.ins), default=0) + (gate.word not in ("source", "delay"))
+        level = max((levels[wire] for wire in gate.ins), default=0) + (gate.kind not in ("source", "delay"))
         levels.update((wire, level) for wire in gate.outs)
     present = [wire for wire in drawing.ways if wire in levels]
     if len(present) <= most_wires:

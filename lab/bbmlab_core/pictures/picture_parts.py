@@ -4,8 +4,8 @@ from dataclasses import dataclass
 from typing import Iterable
 
 from ..host.terminal import LabError
-from ..texts.boxes import Box
 from ..texts.circuits import Circuit
+from ..texts.layouts import Box
 from .ways import Piece
 
 # The name of the ways that are faint.

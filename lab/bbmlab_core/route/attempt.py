@@ -69,7 +69,7 @@ class Attempt:
                 self.take_back(NO_GATE, why)
                 continue
             gate = self.next_gate()
-            self.doing = f"gate {gate.number} ({gate.word} {' '.join(gate.ins)}) was placed"
+            self.doing = f"gate {gate.number} ({gate.kind} {' '.join(gate.ins)}) was placed"
             step = self.placed(gate)
             if step is not None:
                 self.board.commit(step)
@@ -128,7 +128,7 @@ class Attempt:
         """Returns a sentence on why a gate could not be placed."""
         reasons = self.placer.reasons
         main = max((name for name in reasons if name != "tries"), key=lambda name: reasons[name], default="no room")
-        return f"gate {gate.number} ({gate.word} {' '.join(gate.ins)}) found no place: {main}"
+        return f"gate {gate.number} ({gate.kind} {' '.join(gate.ins)}) found no place: {main}"
 
     def bound(self, number: int) -> Bound:
         """Returns what kept a gate from its place, or a ball from the end if the number is that of no gate."""

@@ -94,7 +94,7 @@ def gate_frames(crowding: Crowding, circuit: Circuit) -> Iterator[str]:
     for placed in crowding.gates:
         left, top, width, height = placed.box
         gate = circuit.gates[placed.number]
-        name = escape(f"gate {placed.number}: {gate.word} {' '.join(gate.ins)} -> {' '.join(gate.outs)}")
+        name = escape(f"gate {placed.number}: {gate.kind} {' '.join(gate.ins)} -> {' '.join(gate.outs)}")
         yield f'<rect x="{left}" y="{top}" width="{width}" height="{height}" {STEADY}><title>{name}</title></rect>'
 
 

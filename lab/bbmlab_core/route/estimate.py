@@ -54,7 +54,7 @@ def estimate_of(netlist: Netlist, side: int) -> Estimate:
     """Returns the estimate for a circuit that is tried first with a side."""
     levels: dict[str, int] = {}
     for gate in netlist.circuit.gates:
-        own = 0 if gate.word in ("source", "delay") else 1
+        own = 0 if gate.kind in ("source", "delay") else 1
         level = max((levels.get(wire, 0) for wire in gate.ins), default=0) + own
         levels.update((wire, level) for wire in gate.outs)
     ends = [wire for wire in (*netlist.circuit.outputs, *netlist.circuit.spills) if not netlist.is_zero(wire)]

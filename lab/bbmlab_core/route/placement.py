@@ -71,7 +71,7 @@ class Placer:
     def inlets(self, gate: Gate) -> list[Inlet]:
         """Returns the inputs of a gate that have a ball."""
         netlist, found = self.board.netlist, []
-        for port, wire in zip(PORTS[gate.word][0], gate.ins):
+        for port, wire in zip(PORTS[gate.kind][0], gate.ins):
             if not netlist.is_zero(wire):
                 root = netlist.root(wire)
                 found.append(Inlet(port, root, self.board.waiting[root].ball, netlist.least_steps(wire)))
@@ -268,7 +268,7 @@ class Placer:
 
     def reserve_outs(self, step: Step, gate: Gate) -> bool:
         """Lets a gate's outputs wait, if their ways out are free."""
-        for port, wire in zip(PORTS[gate.word][1], gate.outs):
+        for port, wire in zip(PORTS[gate.kind][1], gate.outs):
             if self.board.netlist.is_zero(wire):
                 continue
             waiting = self.board.waiting_ball(step.gate.out(port))

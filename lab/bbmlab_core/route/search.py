@@ -195,7 +195,7 @@ def routed_bundle(circuit_text: str, design: Design, is_cropped: bool = True) ->
 def bundle_of(circuit_text: str, design: Design) -> Routed:
     """Returns the bundle of a design as it is."""
     certifier, circuit = Certifier(design), design.circuit
-    text, gates, wires = bundle_text(circuit_text, certifier), len(circuit.gates), len(circuit.defined)
+    text, gates, wires = bundle_text(circuit_text, certifier), len(circuit.gates), len(circuit.wires)
     layout = circuit_section(circuit_text) + "\n".join(certifier.layout) + "\n"
     side = max(design.width, design.height)
     return Routed(with_line(text, limits_for(side, design.end, len(certifier.modules), gates, wires)),

@@ -5,14 +5,14 @@ from functools import lru_cache
 from pathlib import Path
 from typing import Any, Callable
 
-from ..host.program import HERE, ProgramError
+from ..host.program import HERE, BadProgramError
 from ..host.releases import program_of
 from ..host.terminal import LabError
 from ..physics import standard_cells
 from ..texts import json_form
 from ..texts.documents import read_document
 from ..texts.refusals import explain_refusal
-from ..texts.skimming import head_of
+from ..texts.skimming import design_text
 from ..texts.spelling import source_line, spelled
 from .folder import ChangedError, Folder, FolderError, bytes_of, digest_of, text_of
 from .guard import Denied
@@ -83,11 +83,11 @@ class Answers:
         """Returns the opened file, the program and the templates."""
         try:
             if self.jobs is None:
-                raise ProgramError("it was not found")
+                raise BadProgramError("it was not found")
             asked = program_of(self.jobs.program)
             program = {"path": self.jobs.program.path, "version": asked.version, "sha256": asked.sha256,
                        "is_release": asked.kit is not None}
-        except ProgramError as error:
+        except BadProgramError as error:
             program = {"path": None, "why": str(error)}
         opened = self.open({"name": self.folder.name})
         return {"program": program, "folder": str(self.folder.place),
@@ -120,7 +120,7 @@ class Answers:
         """Returns where the lab's reader refuses the circuit and the layout, or null."""
         source = bytes_of(word(body, "text")).decode("latin-1")
         text = spelled(source).text
-        document = read_document(head_of(text) or text, "design")
+        document = read_document(design_text(text) or text, "design")
         if document.refusal is None:
             return {"refusal": None}
         told = explain_refusal(document, document.refusal)

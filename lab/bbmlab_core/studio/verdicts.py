@@ -4,24 +4,23 @@ Only the program gives a verdict. The lab makes the certificates, the words and 
 """
 
 from dataclasses import dataclass, field
-from typing import Any
+from typing import Any, Sequence
 
-from ..certify.certifier import CertificatePlan, certificate_text, certified
+from ..certify.certifier import CertificatePlan, certified
 from ..explain.diagnosis import Diagnosis, Truth
 from ..explain.explaining import explain_report, tried_words
 from ..explain.fixing import Fix, Fixer, outcome_words
 from ..explain.trials import Budget, Trial
 from ..host.processor import processor_seconds
-from ..host.program import Answer, Executable, ProgramError, ProgramTimeout, ask
+from ..host.program import Answer, Executable, BadProgramError, ProgramTimeout, ask
 from ..host.terminal import LabError
-from ..texts.boxes import Box
-from ..texts.certificates import MAX_BOX_SIDE, MAX_CUTS, MAX_USES, Certificate, Module
+from ..texts.certificates import MAX_BOX_SIDE, MAX_CUTS, MAX_USES, Certificate, whole_module
 from ..texts.circuits import Circuit, values_under
 from ..texts.documents import Document, read_document
 from ..texts.layouts import Cell, Layout
 from ..texts.refusals import explain_code, explain_refusal
-from ..texts.reports import Finding, Report, ReportError, parse_report
-from ..texts.skimming import cuts_of, head_of
+from ..texts.reports import ReportLine, ReportOrRefusal, ReportError, parse_report
+from ..texts.skimming import cuts_of, design_text
 from ..texts.spelling import source_line, spelled
 
 # The most lines of a report for which fixes are looked for one by one, and the most lines that are sent to the page.
@@ -64,9 +63,9 @@ class Judge:
     def __init__(self, text: str, program: Executable, seconds: float, earlier: str = "") -> None:
         self.source, self.program, self.seconds, self.earlier = text, program, seconds, earlier
         self.text = spelled(text).text
-        self.head = head_of(self.text)
+        self.head = design_text(self.text)
         self.until = processor_seconds() + seconds
-        self.inputs: list[str] = []
+        self.inputs: Sequence[str] = ()
 
     def ask(self, bundle: str) -> Answer:
         """Returns what the program answers to a bundle."""
@@ -86,7 +85,7 @@ class Judge:
             return found if found.is_last or stage == "first" else self.made(found)
         except ProgramTimeout:
             return Verdict("unknown", [f"The program gave no answer within {self.seconds:g} seconds."])
-        except (ProgramError, ReportError) as error:
+        except (BadProgramError, ReportError) as error:
             return Verdict("unknown", [f"There is no verdict: {error}."])
         except MemoryError:
             return Verdict("unknown", ["There is no verdict: the memory limit was reached."])
@@ -119,7 +118,7 @@ class Judge:
         circuit, layout = design.circuit, design.layout
         if circuit is None or layout is None:
             return None
-        choices: list[tuple[str, list[str]]] = [("all inputs", circuit.inputs), ("no input", [])]
+        choices: list[tuple[str, Sequence[str]]] = [("all inputs", circuit.inputs), ("no input", [])]
         for words, on in choices:
             lines = [self.head[self.head.find("\nlayout ") + 1:].rstrip("\n"), "assign", *(f"on {name}" for name in on),
                      "end", ""]
@@ -137,7 +136,7 @@ class Judge:
     def made(self, first: Verdict) -> Verdict:
         """Returns the verdict with a certificate that the lab makes, or the first no if it makes none."""
         design = read_document(self.head, "design")
-        self.inputs = design.circuit.inputs if design.circuit else []
+        self.inputs = design.circuit.inputs if design.circuit else ()
         made = self.certified(design)
         if made.verdict == "none" and first.verdict == "no":
             first.words += [NO_OTHER_FOUND[first.by], *made.words]
@@ -165,7 +164,7 @@ class Judge:
         """Returns what the program says of a bundle."""
         answer = self.ask(bundle)
         if answer.status not in (0, 1, 3):
-            raise ProgramError(f"the program ended with status {answer.status}: {answer.errors}")
+            raise BadProgramError(f"the program ended with status {answer.status}: {answer.errors}")
         report = parse_report(answer.output)
         if report.refused:
             return self.refused(bundle, report.refused, answer.output)
@@ -204,7 +203,7 @@ def wrong_cell(circuit: Circuit, layout: Layout, on: set[str], live: set[Cell]) 
 
 def has_delay(circuit: Circuit) -> bool:
     """Whether a circuit has a gate whose steps only stops can show."""
-    return any(gate.word == "delay" for gate in circuit.gates)
+    return any(gate.kind == "delay" for gate in circuit.gates)
 
 
 def plain_certificate(circuit: Circuit, layout: Layout) -> str | None:
@@ -216,13 +215,10 @@ def plain_certificate(circuit: Circuit, layout: Layout) -> str | None:
     if max(layout.width,
            layout.height) > MAX_BOX_SIDE or len(circuit.inputs) > MAX_CUTS or len(circuit.gates) > MAX_USES:
         return None
-    module = Module(0, Box(0, 0, layout.width, layout.height), 0)
-    module.cuts, module.uses = list(circuit.inputs), {gate.number: 0 for gate in circuit.gates}
-    module.keeps = {gate.number: 0 for gate in circuit.gates if gate.is_inverse}
-    return certificate_text(Certificate(2, [module]))
+    return str(Certificate(2, (whole_module(circuit, layout),)))
 
 
-def fault_form(cuts: list[list[str]], inputs: list[str], finding: Finding) -> dict[str, Any]:
+def fault_form(cuts: list[list[str]], inputs: Sequence[str], finding: ReportLine) -> dict[str, Any]:
     """Returns a line of a report for the page: its words, its cell and time, and the inputs that are on if the module
     cuts inputs alone."""
     form: dict[str, Any] = {"text": finding.text}
@@ -243,11 +239,11 @@ def explained(text: str, bundle: str, output: str, program: Executable, seconds:
 
     `text` is the page's, `bundle` is what the program read.
     """
-    trial, has_own = Trial(program, Budget(200, seconds)), head_of(spelled(text).text) != spelled(text).text
+    trial, has_own = Trial(program, Budget(200, seconds)), design_text(spelled(text).text) != spelled(text).text
     report = parse_report(output)
     document = read_document(bundle, "check")
     made = explain_report(document, report, "", None)
-    fixer = Fixer(bundle if has_own or not report.refused else head_of(bundle), report, trial)
+    fixer = Fixer(bundle if has_own or not report.refused else design_text(bundle), report, trial)
     entries: list[dict[str, Any]] = [{"line": entry.report_line, "what": entry.what, "fix": None}
                                      for entry in made.entries if entry.is_against][:MAX_LINES]
     whole = fixer.find()
@@ -258,7 +254,7 @@ def explained(text: str, bundle: str, output: str, program: Executable, seconds:
             "tried": [] if whole else tried_words(fixer, trial)}
 
 
-def add_line_fixes(forms: dict[str, dict[str, Any]], fixer: Fixer, diagnosis: Diagnosis, report: Report,
+def add_line_fixes(forms: dict[str, dict[str, Any]], fixer: Fixer, diagnosis: Diagnosis, report: ReportOrRefusal,
                    has_own: bool) -> None:
     """Adds fixes of single lines of a report.
 
@@ -272,20 +268,20 @@ def add_line_fixes(forms: dict[str, dict[str, Any]], fixer: Fixer, diagnosis: Di
             forms[finding.text]["fix"] = fix_form(fix, report, has_own)
 
 
-def fix_form(fix: Fix | None, report: Report, has_own: bool) -> dict[str, Any] | None:
+def fix_form(fix: Fix | None, report: ReportOrRefusal, has_own: bool) -> dict[str, Any] | None:
     """Returns a fix for the page: its sentences, the verdict, and the text after it.
 
     A text without a certificate stays without one.
     """
     if fix is None:
         return None
-    text = fix.text if has_own else head_of(fix.text)
+    text = fix.text if has_own else design_text(fix.text)
     return {"words": [*fix.words, outcome_words(report, fix)], "verdict": fix.report.verdict, "text": text}
 
 
 def fixes_of_design(text: str, program: Executable, seconds: float) -> dict[str, Any]:
     """Returns fixes of a text for which no certificate was found."""
-    trial, head = Trial(program, Budget(200, seconds)), head_of(spelled(text).text)
+    trial, head = Trial(program, Budget(200, seconds)), design_text(spelled(text).text)
     report = trial.report(head)
     fixer = Fixer(head, report, trial) if report else None
     whole = fixer.find() if fixer else None

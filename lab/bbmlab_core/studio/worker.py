@@ -103,7 +103,7 @@ def answer(line: str, asked: Executable, seconds: float) -> dict[str, Any]:
         return {"error": "The text is too deeply nested."}
     except (LabError, FolderError) as error:
         return {"error": str(error)}
-    except (program.ProgramError, program.ProgramTimeout, ReportError) as error:
+    except (program.BadProgramError, program.ProgramTimeout, ReportError) as error:
         return {"error": f"The program gave no answer: {error}."}
 
 

@@ -1,5 +1,7 @@
 """The assign section and its reader."""
 
+from typing import Iterable
+
 from .lines import Lines, SectionReader, forms_of
 
 
@@ -7,7 +9,7 @@ class AssignReader(SectionReader):
     """Reads an assign section."""
 
     name = "assign"
-    def __init__(self, lines: Lines, known: list[str], command: str) -> None:
+    def __init__(self, lines: Lines, known: Iterable[str], command: str) -> None:
         super().__init__(lines)
         self.known = dict.fromkeys(known)
         self.command = command

@@ -1,12 +1,12 @@
-"""The circuit section: its model, its reader, and the values of its wires."""
+"""The circuit section: its values, its reader, and the tables of its wires."""
 
 import random
-from dataclasses import dataclass, field
+from dataclasses import dataclass, field, replace
 from functools import cached_property, partial
-from typing import Any, Iterable
+from typing import Any, Iterable, Sequence
 
 from .gates import GATE_SIZES, INVERSE_GATES, Table, gate_row, input_tables
-from .lines import Lines, SectionReader, forms_of, order_of
+from .lines import Lines, SectionReader, forms_of, match_line, order_of, section_text
 
 MAX_DELAY = 4096
 # The gates whose line has a number: the bit of a source, or the steps of a delay.
@@ -15,36 +15,89 @@ ORDER = ["input", "gate", "output", "spill"]
 LATER = order_of(ORDER)
 
 
-@dataclass
+@dataclass(frozen=True)
 class Gate:
-    """A gate line: its word, its bit or its number of steps, the wires that it uses and those that it defines."""
+    """A gate line. The parameter is the bit of a `source` or the steps of a `delay`.
 
-    number: int
-    word: str
-    parameter: int | None
-    ins: list[str]
-    outs: list[str]
-    line: int
+    `number` is its place among the gates of its circuit, and `line` that in the text from which it was read, or 0.
+    """
+
+    kind: str
+    ins: tuple[str, ...]
+    outs: tuple[str, ...]
+    parameter: int | None = None
+    number: int = field(default=0, compare=False, repr=False)
+    line: int = field(default=0, compare=False, repr=False)
 
     @property
     def is_inverse(self) -> bool:
         """Whether the gate turns back another one, and so has no row at some values."""
-        return self.word in INVERSE_GATES
+        return self.kind in INVERSE_GATES
+
+    def __str__(self) -> str:
+        """Writes the line."""
+        parameter = () if self.parameter is None else (str(self.parameter),)
+        return " ".join((self.kind, *parameter, *self.ins, "->", *self.outs))
 
 
-@dataclass
+def gate_of(kind: str, values: Sequence[Any], number: int = 0, line: int = 0) -> Gate:
+    """Returns the gate of a line, by the values of the placeholders of its form."""
+    parameter, names = (values[0], values[1:]) if kind in WITH_PARAMETER else (None, values)
+    count = GATE_SIZES[kind][0]
+    return Gate(kind, tuple(names[:count]), tuple(names[count:]), parameter, number, line)
+
+
+@dataclass(frozen=True)
 class Circuit:
-    """The wires and gates of a circuit, each with the line that it comes from."""
+    """A circuit section."""
 
-    inputs: list[str] = field(default_factory=list)
-    gates: list[Gate] = field(default_factory=list)
-    outputs: list[str] = field(default_factory=list)
-    spills: list[str] = field(default_factory=list)
-    defined: dict[str, int] = field(default_factory=dict)
-    consumed: dict[str, int] = field(default_factory=dict)
-    maker: dict[str, Gate] = field(default_factory=dict)
+    inputs: tuple[str, ...] = ()
+    gates: tuple[Gate, ...] = ()
+    outputs: tuple[str, ...] = ()
+    spills: tuple[str, ...] = ()
 
-    def cone(self, wires: list[str], stop_at: frozenset[str] = frozenset()) -> tuple[list[str], list[int]]:
+    def __post_init__(self) -> None:
+        """Numbers the gates."""
+        if any(gate.number != number for number, gate in enumerate(self.gates)):
+            numbered = tuple(replace(gate, number=number) for number, gate in enumerate(self.gates))
+            object.__setattr__(self, "gates", numbered)
+
+    def input(self, *names: str) -> "Circuit":
+        """Returns the circuit with more inputs."""
+        return replace(self, inputs=(*self.inputs, *names))
+
+    def gate(self, line: str) -> "Circuit":
+        """Returns the circuit with one more gate, written as its line. Raises ValueError if it is no gate line."""
+        found = match_line(line, CircuitReader.forms)
+        if found is None or found[0] not in GATE_SIZES:
+            raise ValueError(f"{line!r} is no line of a gate")
+        return replace(self, gates=(*self.gates, gate_of(*found)))
+
+    def output(self, *names: str) -> "Circuit":
+        """Returns the circuit with more outputs."""
+        return replace(self, outputs=(*self.outputs, *names))
+
+    def spill(self, *names: str) -> "Circuit":
+        """Returns the circuit with more spills."""
+        return replace(self, spills=(*self.spills, *names))
+
+    def __str__(self) -> str:
+        """Writes the section."""
+        return section_text(["circuit", *(f"input {name}" for name in self.inputs), *map(str, self.gates),
+                             *(f"output {name}" for name in self.outputs), *(f"spill {name}" for name in self.spills)])
+
+    @cached_property
+    def wires(self) -> dict[str, int]:
+        """The wires in order of definition, each with its place among them."""
+        return {name: place for place, name in enumerate([*self.inputs, *(name for gate in self.gates
+                                                                          for name in gate.outs)])}
+
+    @cached_property
+    def maker(self) -> dict[str, Gate]:
+        """The gate that makes each wire but the inputs."""
+        return {name: gate for gate in self.gates for name in gate.outs}
+
+    def cone(self, wires: Iterable[str], stop_at: frozenset[str] = frozenset()) -> tuple[list[str], list[int]]:
         """Returns the free wires and the gates from which `wires` follow. Free are inputs and the wires of `stop_at`.
         """
         todo, free, used = list(wires), set(), set()
@@ -58,10 +111,9 @@ class Circuit:
                 todo += gate.ins
         return sorted(free, key=self.rank), sorted(used)
 
-    def rank(self, wire: str) -> tuple[int, int]:
+    def rank(self, wire: str) -> int:
         """Returns a key that sorts wires in order of definition."""
-        gate = self.maker.get(wire)
-        return self.defined[wire], gate.outs.index(wire) if gate else 0
+        return self.wires[wire]
 
 
 @dataclass
@@ -100,13 +152,23 @@ class Valuation:
         return f"in {count} sampled choices of the inputs"
 
 
-def evaluate(circuit: Circuit, free: list[str], gates: list[int]) -> Valuation:
+def evaluate(circuit: Circuit, free: Sequence[str], gates: Iterable[int]) -> Valuation:
     """Returns the tables of the free wires and of the outputs of `gates`, in order of gates, over all assignments."""
     full = (1 << (1 << len(free))) - 1
     return evaluate_under(circuit, dict(zip(free, input_tables(len(free)))), full, gates)
 
 
-def sampled_tables(names: list[str], count: int, first: Iterable[str] = (), seed: int = 1) -> dict[str, Table]:
+def evaluate_all(circuit: Circuit) -> Valuation:
+    """Returns the tables of all wires in all choices of the inputs."""
+    return evaluate(circuit, circuit.inputs, range(len(circuit.gates)))
+
+
+def evaluate_choices(circuit: Circuit, most_inputs: int, samples: int) -> Valuation:
+    """Returns the tables of all wires in all choices of up to `most_inputs` inputs, or in samples if they are more."""
+    return evaluate_all(circuit) if len(circuit.inputs) <= most_inputs else evaluate_samples(circuit, samples)
+
+
+def sampled_tables(names: Sequence[str], count: int, first: Iterable[str] = (), seed: int = 1) -> dict[str, Table]:
     """Returns a table for each of some free wires in `count` sampled choices of them. In the first choice those of
     `first` are on.
 
@@ -137,12 +199,12 @@ def evaluate_samples(circuit: Circuit, count: int, first: Iterable[str] = ()) ->
     In the first choice the inputs of `first` are on.
     """
     tables = sampled_tables(circuit.inputs, count, first)
-    values = evaluate_under(circuit, tables, (1 << count) - 1, [gate.number for gate in circuit.gates])
+    values = evaluate_under(circuit, tables, (1 << count) - 1, range(len(circuit.gates)))
     values.is_all = False
     return values
 
 
-def evaluate_under(circuit: Circuit, free: dict[str, Table], full: Table, gates: list[int]) -> Valuation:
+def evaluate_under(circuit: Circuit, free: dict[str, Table], full: Table, gates: Iterable[int]) -> Valuation:
     """Returns the tables of wires that follow from those of the free wires by `gates`, in order of gates.
 
     `full` has all columns.
@@ -151,7 +213,7 @@ def evaluate_under(circuit: Circuit, free: dict[str, Table], full: Table, gates:
     defined, rows = full, {}
     for number in gates:
         gate = circuit.gates[number]
-        outs, has_row = gate_row(gate.word, gate.parameter, [tables[name] for name in gate.ins], full)
+        outs, has_row = gate_row(gate.kind, gate.parameter, [tables[name] for name in gate.ins], full)
         defined &= has_row
         rows[number] = defined
         tables.update((name, table & defined) for name, table in zip(gate.outs, outs))
@@ -163,7 +225,7 @@ def values_under(circuit: Circuit, on: set[str]) -> tuple[dict[str, bool], int |
     none."""
     values = {name: name in on for name in circuit.inputs}
     for gate in circuit.gates:
-        outs, has_row = gate_row(gate.word, gate.parameter, [int(values[name]) for name in gate.ins], 1)
+        outs, has_row = gate_row(gate.kind, gate.parameter, [int(values[name]) for name in gate.ins], 1)
         if not has_row:
             return values, gate.number
         values.update((name, bool(table)) for name, table in zip(gate.outs, outs))
@@ -174,82 +236,89 @@ class CircuitReader(SectionReader):
     """Reads a circuit section."""
 
     name = "circuit"
+
     def __init__(self, lines: Lines) -> None:
         super().__init__(lines)
-        self.circuit = Circuit()
+        self.inputs: list[str] = []
+        self.gates: list[Gate] = []
+        self.outputs: list[str] = []
+        self.spills: list[str] = []
+        # The line at which each wire is defined, and the one at which it is consumed.
+        self.defined: dict[str, int] = {}
+        self.consumed: dict[str, int] = {}
+
+    def section(self) -> Circuit:
+        """Returns the circuit, of a text that is refused what came before."""
+        return Circuit(tuple(self.inputs), tuple(self.gates), tuple(self.outputs), tuple(self.spills))
 
     def read_input(self, name: str) -> None:
         """Reads a line `input`."""
         self.require_kind_order("input", LATER)
         self.require_room([name])
         self.define([name])
-        self.circuit.inputs.append(name)
+        self.inputs.append(name)
 
     def read_output(self, name: str) -> None:
         """Reads a line `output`."""
         self.require_kind_order("output", LATER)
         self.consume([name])
-        self.circuit.outputs.append(name)
+        self.outputs.append(name)
 
     def read_spill(self, name: str) -> None:
         """Reads a line `spill`."""
         self.consume([name])
-        self.circuit.spills.append(name)
+        self.spills.append(name)
 
-    def read_gate(self, *values: Any, word: str) -> None:
+    def read_gate(self, *values: Any, kind: str) -> None:
         """Reads a gate line of any kind."""
         self.require_kind_order("gate", LATER)
-        parameter, names = (values[0], list(values[1:])) if word in WITH_PARAMETER else (None, list(values))
-        uses = GATE_SIZES[word][0]
-        ins, outs = names[:uses], names[uses:]
-        if word == "delay" and not 1 <= (parameter or 0) <= MAX_DELAY:
-            self.lines.refuse(2, "delay_limit", number=parameter)
-        self.require_room(outs)
-        if len(self.circuit.gates) == self.lines.limits.max_gates:
+        gate = gate_of(kind, values, len(self.gates), self.lines.taken)
+        if kind == "delay" and not 1 <= (gate.parameter or 0) <= MAX_DELAY:
+            self.lines.refuse(2, "delay_limit", number=gate.parameter)
+        self.require_room(gate.outs)
+        if len(self.gates) == self.lines.limits.max_gates:
             self.lines.refuse(2, "gate_count", limits=self.lines.limits)
-        self.consume(ins)
-        gate = Gate(len(self.circuit.gates), word, parameter, ins, outs, self.lines.taken)
-        self.define(outs)
-        self.circuit.gates.append(gate)
-        self.circuit.maker.update((name, gate) for name in outs)
+        self.consume(gate.ins)
+        self.define(gate.outs)
+        self.gates.append(gate)
         self.kind_lines["gate"] = self.lines.taken
 
     def read_end(self) -> None:
         """Reads the line `end`, at which each wire is consumed."""
-        unused = [name for name in self.circuit.defined if name not in self.circuit.consumed]
+        unused = [name for name in self.defined if name not in self.consumed]
         if unused:
-            self.lines.refuse(11, "wire_not_consumed", names=unused, defined=dict(self.circuit.defined))
+            self.lines.refuse(11, "wire_not_consumed", names=unused, defined=dict(self.defined))
 
-    def require_room(self, outs: list[str]) -> None:
+    def require_room(self, outs: Sequence[str]) -> None:
         """Refuses the line that would pass the limit of wires."""
-        if len(self.circuit.defined) + len(outs) > self.lines.limits.max_wires:
+        if len(self.defined) + len(outs) > self.lines.limits.max_wires:
             self.lines.refuse(2, "wire_count", limits=self.lines.limits)
 
-    def consume(self, names: list[str]) -> None:
+    def consume(self, names: Iterable[str]) -> None:
         """Consumes wires from the left, each of which is defined and not yet consumed."""
         for name in names:
-            if name not in self.circuit.defined:
-                self.lines.refuse(3, "wire_not_defined", name=name, known=list(self.circuit.defined))
-            if name in self.circuit.consumed:
-                self.lines.refuse(5, "wire_consumed", name=name, at=self.circuit.consumed[name])
-            self.circuit.consumed[name] = self.lines.taken
+            if name not in self.defined:
+                self.lines.refuse(3, "wire_not_defined", name=name, known=list(self.defined))
+            if name in self.consumed:
+                self.lines.refuse(5, "wire_consumed", name=name, at=self.consumed[name])
+            self.consumed[name] = self.lines.taken
 
-    def define(self, names: list[str]) -> None:
+    def define(self, names: Iterable[str]) -> None:
         """Defines wires from the left, none of which is defined yet."""
         for name in names:
-            if name in self.circuit.defined:
-                self.lines.refuse(4, "wire_defined", name=name, at=self.circuit.defined[name])
-            self.circuit.defined[name] = self.lines.taken
+            if name in self.defined:
+                self.lines.refuse(4, "wire_defined", name=name, at=self.defined[name])
+            self.defined[name] = self.lines.taken
 
     readers = {
         "circuit": SectionReader.read_nothing, "input NAME": read_input,
-        "source BIT -> NAME": partial(read_gate, word="source"),
-        "fredkin A B C -> D E F": partial(read_gate, word="fredkin"),
-        "cswap A B C -> D E F": partial(read_gate, word="cswap"),
-        "interact A B -> C D E F": partial(read_gate, word="interact"),
-        "switch A B -> C D E": partial(read_gate, word="switch"),
-        "delay N A -> B": partial(read_gate, word="delay"),
-        "unswitch A B C -> D E": partial(read_gate, word="unswitch"),
-        "uninteract A B C D -> E F": partial(read_gate, word="uninteract"),
+        "source BIT -> NAME": partial(read_gate, kind="source"),
+        "fredkin A B C -> D E F": partial(read_gate, kind="fredkin"),
+        "cswap A B C -> D E F": partial(read_gate, kind="cswap"),
+        "interact A B -> C D E F": partial(read_gate, kind="interact"),
+        "switch A B -> C D E": partial(read_gate, kind="switch"),
+        "delay N A -> B": partial(read_gate, kind="delay"),
+        "unswitch A B C -> D E": partial(read_gate, kind="unswitch"),
+        "uninteract A B C D -> E F": partial(read_gate, kind="uninteract"),
         "output NAME": read_output, "spill NAME": read_spill, "end": read_end}
     forms = forms_of(*readers)

@@ -6,7 +6,7 @@ from ..host.terminal import LabError, read_text
 from .documents import Document, read_document
 from .layouts import Layout
 from .refusals import refusal_words
-from .reports import Finding, Report, ReportError, parse_report
+from .reports import ReportLine, ReportOrRefusal, ReportError, parse_report
 from .skimming import certificate_digest, certificate_place
 from .spelling import source_line, spelled
 
@@ -51,7 +51,7 @@ def read_design(name: str, has_certificate: bool = True) -> tuple[Document, Layo
     return document, document.layout
 
 
-def require_report_of(document: Document, report: Report) -> None:
+def require_report_of(document: Document, report: ReportOrRefusal) -> None:
     """Refuses a report whose digest is not that of the text's certificate, or whose lines are not of things that the
     text has."""
     digest = certificate_digest(document.text)
@@ -66,7 +66,7 @@ def require_report_of(document: Document, report: Report) -> None:
             raise ReportError(f"the report is not of this text: the text gives no line `{finding.text}`")
 
 
-def is_of(document: Document, finding: Finding) -> bool:
+def is_of(document: Document, finding: ReportLine) -> bool:
     """Whether the numbers of a line of a report are those of things that a text has."""
     values = {name: value for name, value in finding.values.items() if isinstance(value, int)}
     if finding.word in ("local", "keep", "border"):
@@ -77,10 +77,10 @@ def is_of(document: Document, finding: Finding) -> bool:
     gate = circuit.gates[values["gate"]]
     if finding.word == "meet":
         return any(stop.name in gate.ins for module in certificate.modules for stop in module.stops)
-    return gate.word == "delay" if finding.word == "delay" else gate.is_inverse
+    return gate.kind == "delay" if finding.word == "delay" else gate.is_inverse
 
 
-def is_of_module(document: Document, finding: Finding, values: dict[str, int]) -> bool:
+def is_of_module(document: Document, finding: ReportLine, values: dict[str, int]) -> bool:
     """Whether the numbers of a line on a module are those of things that a text has."""
     layout, certificate = document.layout, document.certificate
     if layout is None or certificate is None or values["module"] >= len(certificate.modules):
@@ -97,7 +97,7 @@ def is_of_module(document: Document, finding: Finding, values: dict[str, int]) -
     return time <= layout.steps and module.box.has(cell) and (finding.values["kind"] != "stop" or is_stop)
 
 
-def report_for(options: argparse.Namespace, document: Document) -> Report | None:
+def report_for(options: argparse.Namespace, document: Document) -> ReportOrRefusal | None:
     """Returns the report of the option `--report`, if it is given.
 
     Raises ReportError if it is a verdict on another text.

@@ -28,7 +28,7 @@ class Document:
     circuit: Circuit | None = None
     layout: Layout | None = None
     certificate: Certificate | None = None
-    on: list[str] | None = None
+    on: tuple[str, ...] | None = None
     refusal: Refusal | None = None
 
     @property
@@ -81,25 +81,30 @@ def read_sections(document: Document, lines: Lines) -> str:
     """Reads the sections of the document's command, and returns the name of the last one."""
     command = document.command
     if command not in ("run", "layout"):
-        circuit = CircuitReader(lines)
-        document.circuit = circuit.circuit
-        circuit.read()
+        circuits = CircuitReader(lines)
+        try:
+            circuits.read()
+        finally:
+            document.circuit = circuits.section()
     if command not in ("value", "circuit"):
-        layout = LayoutReader(lines, document.circuit)
-        document.layout = layout.layout
-        layout.read()
+        layouts = LayoutReader(lines, document.circuit)
+        try:
+            layouts.read()
+        finally:
+            document.layout = layouts.section()
     if command in ("run", "value"):
-        known = document.circuit.inputs if document.circuit else [part.name or ""
-                                                                  for part in layout.layout.of_kind("in")]
+        known = document.circuit.inputs if document.circuit else [name for name, _, _ in layouts.ports["in"]]
         assign = AssignReader(lines, known, command)
         assign.read()
-        document.on = list(assign.on)
+        document.on = tuple(assign.on)
         return "assign"
     if command in BUNDLE_COMMANDS:
-        assert document.circuit is not None
-        certificate = CertificateReader(lines, document.circuit, layout.layout)
-        document.certificate = certificate.certificate
-        certificate.read()
+        assert document.circuit is not None and document.layout is not None
+        certificates = CertificateReader(lines, document.circuit, document.layout)
+        try:
+            certificates.read()
+        finally:
+            document.certificate = certificates.section()
         return "certificate"
     return "circuit" if command == "circuit" else "layout"
 

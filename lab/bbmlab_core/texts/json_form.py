@@ -13,7 +13,7 @@ from .layouts import Layout
 from .limits import FIRST, SECOND
 from .lines import NAME
 from .refusals import refusal_words
-from .reports import Report
+from .reports import ReportOrRefusal
 
 FORMAT = "bbmlab bundle 1"
 # Writes a text as JSON. `json.dumps` takes four times as long.
@@ -22,32 +22,25 @@ written_text = json.JSONEncoder().encode
 
 def circuit_json(circuit: Circuit) -> dict[str, Any]:
     """Returns a circuit as JSON values."""
-    gates = [{"gate": gate.word, "parameter": gate.parameter, "ins": gate.ins, "outs": gate.outs}
+    gates = [{"gate": gate.kind, "parameter": gate.parameter, "ins": gate.ins, "outs": gate.outs}
              for gate in circuit.gates]
     return {"inputs": circuit.inputs, "gates": gates, "outputs": circuit.outputs, "spills": circuit.spills}
 
 
 def layout_json(layout: Layout) -> dict[str, Any]:
     """Returns a layout as JSON values."""
-    return {"width": layout.width, "height": layout.height, "steps": layout.steps,
-            "mirrors": [[part.x, part.y, part.width, part.height] for part in layout.of_kind("mirror")],
-            "balls": [list(part.cell) for part in layout.of_kind("ball")],
-            "ins": [{"name": part.name, "cell": list(part.cell)} for part in layout.of_kind("in")],
-            "outs": [{"name": part.name, "cell": list(part.cell)} for part in layout.of_kind("out")],
-            "wastes": [list(part.cell) for part in layout.of_kind("waste")]}
+    ins, outs = ([{"name": port.name, "cell": port.cell} for port in ports] for ports in (layout.ins, layout.outs))
+    return {"width": layout.width, "height": layout.height, "steps": layout.steps, "mirrors": layout.mirrors,
+            "balls": layout.balls, "ins": ins, "outs": outs, "wastes": layout.wastes}
 
 
 def module_json(module: Module) -> dict[str, Any]:
     """Returns a module as JSON values. The time `*` is null."""
-    box = module.box
-    return {"box": list(box), "cuts": module.cuts, "uses": list(module.uses),
-            "keeps": list(module.keeps),
-            "edges": [[line.time, line.x, line.y, line.signal] for line in module.edges],
-            "halos": [[line.time, line.x, line.y, line.signal] for line in module.halos],
-            "stops": [[stop.time, stop.name, stop.x, stop.y] for stop in module.stops]}
+    return {"box": module.box, "cuts": module.cuts, "uses": module.uses, "keeps": module.keeps, "edges": module.edges,
+            "halos": module.halos, "stops": module.stops}
 
 
-def report_json(report: Report) -> dict[str, Any]:
+def report_json(report: ReportOrRefusal) -> dict[str, Any]:
     """Returns a report as JSON values."""
     if report.refused:
         return {"refused": {"line": report.refused[0], "code": report.refused[1]}}
@@ -55,7 +48,7 @@ def report_json(report: Report) -> dict[str, Any]:
             "findings": [{"kind_of_line": finding.word, **finding.values} for finding in report.findings]}
 
 
-def document_json(document: Document, report: Report | None) -> str:
+def document_json(document: Document, report: ReportOrRefusal | None) -> str:
     """Writes the sections of a text, and a report if there is one, as one JSON document."""
     if document.refusal:
         raise LabError(f"the text is refused: {refusal_words(document)}", 1)
@@ -89,7 +82,7 @@ def indented(value: Any, begin: str) -> str:
         return str(value)
     if kind is str:
         return written_text(value)
-    if kind is list and value:
+    if value and isinstance(value, (tuple, list)):
         members = f",{inner}".join([str(member) if type(member) is int else indented(member, inner)
                                     for member in value])
         return f"[{inner}{members}{begin}]"

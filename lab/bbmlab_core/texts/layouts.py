@@ -1,11 +1,11 @@
-"""The layout section: its model and its reader."""
+"""The layout section: its values and its reader, and boxes of cells."""
 
-from dataclasses import dataclass, field
-from functools import partial
-from typing import Iterator
+from dataclasses import dataclass, field, replace
+from functools import cached_property, partial
+from typing import Iterable, Iterator, NamedTuple
 
 from .circuits import Circuit
-from .lines import Lines, SectionReader, forms_of, order_of
+from .lines import Lines, SectionReader, forms_of, order_of, section_text
 
 ORDER = ["mirror", "ball", "in", "out", "waste"]
 LATER = order_of(ORDER)
@@ -30,23 +30,79 @@ def cells_of(x: int, y: int, width: int, height: int) -> Iterator[Cell]:
             yield u, v
 
 
+class Box(NamedTuple):
+    """A rectangle of cells with its upper left cell at (x, y)."""
+
+    x: int
+    y: int
+    width: int
+    height: int
+
+    def has(self, cell: Cell) -> bool:
+        """Whether a cell lies in the box."""
+        return self.x <= cell[0] < self.x + self.width and self.y <= cell[1] < self.y + self.height
+
+    def has_in_ring(self, cell: Cell) -> bool:
+        """Whether a cell is one of the outermost of the box."""
+        x, y = cell[0] - self.x, cell[1] - self.y
+        is_inner = 0 < x < self.width - 1 and 0 < y < self.height - 1
+        return 0 <= x < self.width and 0 <= y < self.height and not is_inner
+
+    def has_in_halo(self, cell: Cell) -> bool:
+        """Whether a cell lies outside the box and touches it at a side or a corner."""
+        x, y = cell[0] - self.x, cell[1] - self.y
+        is_inside = 0 <= x < self.width and 0 <= y < self.height
+        return -1 <= x <= self.width and -1 <= y <= self.height and not is_inside
+
+    def cells(self) -> Iterator[Cell]:
+        """Yields the cells of the box, row by row."""
+        return cells_of(self.x, self.y, self.width, self.height)
+
+    def ring(self) -> set[Cell]:
+        """Returns the outermost cells of the box."""
+        columns, rows = range(self.x, self.x + self.width), range(self.y, self.y + self.height)
+        return {(x, y) for x in columns for y in (rows[0], rows[-1])} | {(x, y) for y in rows
+                                                                         for x in (columns[0], columns[-1])}
+
+    def halo(self) -> set[Cell]:
+        """Returns the cells around the box."""
+        return Box(self.x - 1, self.y - 1, self.width + 2, self.height + 2).ring()
+
+    @property
+    def words(self) -> str:
+        """The box as its line has it."""
+        return f"{self.x} {self.y} {self.width} {self.height}"
+
+
 def tiles_of(x: int, y: int, width: int, height: int) -> Iterator[Cell]:
     """Yields the tiles that a rectangle touches, by their column and row."""
     return cells_of(x // TILE, y // TILE, (x + width - 1) // TILE - x // TILE + 1,
                     (y + height - 1) // TILE - y // TILE + 1)
 
 
-@dataclass(frozen=True)
-class Part:
-    """A line of a layout: its kind, its name if it has one, its rectangle, and its number."""
+class Port(NamedTuple):
+    """An `in` or an `out` cell."""
+
+    name: str
+    x: int
+    y: int
+
+    @property
+    def cell(self) -> Cell:
+        """The cell."""
+        return self.x, self.y
+
+
+class Part(NamedTuple):
+    """A line of a layout of any kind: its name if it has one, its rectangle, and its place in the text, or 0."""
 
     kind: str
     name: str | None
     x: int
     y: int
-    width: int
-    height: int
-    line: int
+    width: int = 1
+    height: int = 1
+    line: int = 0
 
     @property
     def cell(self) -> Cell:
@@ -57,28 +113,93 @@ class Part:
         """Yields the cells of the part, row by row."""
         return cells_of(self.x, self.y, self.width, self.height)
 
+    def __str__(self) -> str:
+        """Writes the line."""
+        sides = f" {self.width} {self.height}" if self.kind == "mirror" else ""
+        return f"{self.kind}{f' {self.name}' if self.name else ''} {self.x} {self.y}{sides}"
 
-@dataclass
+
+@dataclass(frozen=True)
 class Layout:
-    """A rectangle of cells with its mirrors, balls, ports and waste cells."""
+    """A layout section. `line` is that of its header in the text from which it was read, or 0."""
 
-    width: int = 0
-    height: int = 0
-    steps: int = 0
-    parts: list[Part] = field(default_factory=list)
-    # Which parts have cells in each tile, and how many parts there were when this was found out.
-    _tiles: dict[Cell, list[int]] = field(default_factory=dict, repr=False, compare=False)
-    _tiled_count: int = field(default=0, repr=False, compare=False)
+    width: int
+    height: int
+    steps: int
+    mirrors: tuple[Box, ...] = ()
+    balls: tuple[Cell, ...] = ()
+    ins: tuple[Port, ...] = ()
+    outs: tuple[Port, ...] = ()
+    wastes: tuple[Cell, ...] = ()
+    line: int = field(default=0, compare=False, repr=False)
 
-    def parts_near(self, x: int, y: int, width: int, height: int) -> list[Part]:
-        """Returns the parts that may have a cell in a rectangle, in order, without a look at all others."""
-        for number in range(self._tiled_count, len(self.parts)):
-            part = self.parts[number]
+    def mirror(self, x: int, y: int, width: int, height: int) -> "Layout":
+        """Returns the layout with one more mirror."""
+        return replace(self, mirrors=(*self.mirrors, Box(x, y, width, height)))
+
+    def ball(self, x: int, y: int) -> "Layout":
+        """Returns the layout with one more `ball` cell."""
+        return replace(self, balls=(*self.balls, (x, y)))
+
+    def in_cell(self, name: str, x: int, y: int) -> "Layout":
+        """Returns the layout with one more `in` cell."""
+        return replace(self, ins=(*self.ins, Port(name, x, y)))
+
+    def out_cell(self, name: str, x: int, y: int) -> "Layout":
+        """Returns the layout with one more `out` cell."""
+        return replace(self, outs=(*self.outs, Port(name, x, y)))
+
+    def waste(self, x: int, y: int) -> "Layout":
+        """Returns the layout with one more waste cell."""
+        return replace(self, wastes=(*self.wastes, (x, y)))
+
+    def __str__(self) -> str:
+        """Writes the section."""
+        return section_text([f"layout {self.width} {self.height} {self.steps}", *map(str, self.parts)])
+
+    @cached_property
+    def parts(self) -> tuple[Part, ...]:
+        """The lines of the section between its header and its `end`."""
+        rows: list[tuple[str, str | None, int, int, int, int]] = [("mirror", None, *box) for box in self.mirrors]
+        rows += [("ball", None, x, y, 1, 1) for x, y in self.balls]
+        rows += [("in", name, x, y, 1, 1) for name, x, y in self.ins]
+        rows += [("out", name, x, y, 1, 1) for name, x, y in self.outs]
+        rows += [("waste", None, x, y, 1, 1) for x, y in self.wastes]
+        return tuple(Part(*row, self.line + place) for place, row in enumerate(rows, 1))
+
+    def with_parts(self, parts: Iterable[Part]) -> "Layout":
+        """Returns the layout with other parts, those of each kind in the given order."""
+        of_kind: dict[str, list[Part]] = {kind: [] for kind in ORDER}
+        for part in parts:
+            of_kind[part.kind].append(part)
+        mirrors = tuple(Box(part.x, part.y, part.width, part.height) for part in of_kind["mirror"])
+        balls, wastes = (tuple(part.cell for part in of_kind[kind]) for kind in ("ball", "waste"))
+        ins, outs = (tuple(Port(part.name or "", part.x, part.y) for part in of_kind[kind]) for kind in ("in", "out"))
+        return Layout(self.width, self.height, self.steps, mirrors, balls, ins, outs, wastes)
+
+    @cached_property
+    def tiles(self) -> dict[Cell, list[int]]:
+        """The numbers of the parts that have cells in each tile."""
+        tiles: dict[Cell, list[int]] = {}
+        for number, part in enumerate(self.parts):
             for tile in tiles_of(part.x, part.y, part.width, part.height):
-                self._tiles.setdefault(tile, []).append(number)
-        self._tiled_count = len(self.parts)
-        near = {number for tile in tiles_of(x, y, width, height) for number in self._tiles.get(tile, ())}
+                tiles.setdefault(tile, []).append(number)
+        return tiles
+
+    def parts_near(self, box: Box) -> list[Part]:
+        """Returns the parts that may have a cell in a box, in order, without a look at all others."""
+        near = {number for tile in tiles_of(*box) for number in self.tiles.get(tile, ())}
         return [self.parts[number] for number in sorted(near)]
+
+    def clipped(self, box: Box) -> "Layout":
+        """Returns the layout with the parts that lie in the box, and of mirrors what lies in it."""
+        parts = []
+        for part in self.parts_near(box):
+            left, top = max(part.x, box.x), max(part.y, box.y)
+            right, bottom = min(part.x + part.width, box.x + box.width), min(part.y + part.height, box.y + box.height)
+            if left < right and top < bottom:
+                parts.append(Part(part.kind, part.name, left, top, right - left, bottom - top))
+        return self.with_parts(parts)
 
     def of_kind(self, kind: str) -> list[Part]:
         """Returns the parts of a kind, in order."""
@@ -94,7 +215,7 @@ class Layout:
 
     def mirror_cells(self) -> set[Cell]:
         """Returns the cells of all mirrors."""
-        return {cell for part in self.of_kind("mirror") for cell in part.cells()}
+        return {cell for box in self.mirrors for cell in box.cells()}
 
     def part_at(self, cell: Cell, kinds: tuple[str, ...]) -> Part | None:
         """Returns the first part of some kinds that has the cell."""
@@ -110,16 +231,24 @@ class LayoutReader(SectionReader):
     def __init__(self, lines: Lines, circuit: Circuit | None = None) -> None:
         super().__init__(lines)
         self.circuit = circuit
-        self.layout = Layout()
         self.known = {"in": set(circuit.inputs), "out": set(circuit.outputs)} if circuit else {}
+        self.width = self.height = self.steps = 0
+        self.mirrors: list[Box] = []
+        self.cells: dict[str, list[Cell]] = {"ball": [], "waste": []}
+        self.ports: dict[str, list[Port]] = {"in": [], "out": []}
         # The cells of each row that parts take at the start, and those that they take at the end: bit x is the cell in
         # column x.
         self.starts: list[int] = []
         self.ends: list[int] = []
 
+    def section(self) -> Layout:
+        """Returns the layout, of a text that is refused what came before."""
+        return Layout(self.width, self.height, self.steps, tuple(self.mirrors), tuple(self.cells["ball"]),
+                      tuple(self.ports["in"]), tuple(self.ports["out"]), tuple(self.cells["waste"]), self.first_line)
+
     def read_layout(self, width: int, height: int, steps: int) -> None:
         """Reads the header."""
-        self.layout.width, self.layout.height, self.layout.steps = width, height, steps
+        self.width, self.height, self.steps = width, height, steps
         for what, side in (("width", width), ("height", height)):
             if side % 2 or not 2 <= side <= self.lines.limits.max_side:
                 self.lines.refuse(2, "layout_side", what=what, number=side, limits=self.lines.limits)
@@ -129,32 +258,33 @@ class LayoutReader(SectionReader):
 
     def read_mirror(self, x: int, y: int, width: int, height: int) -> None:
         """Reads a line `mirror`."""
-        self.read_part("mirror", None, (x, y, width, height))
+        box = Box(x, y, width, height)
+        self.require_place("mirror", box)
+        self.mirrors.append(box)
 
     def read_cell(self, x: int, y: int, kind: str) -> None:
         """Reads a line `ball` or `waste`."""
-        self.read_part(kind, None, (x, y, 1, 1))
+        self.require_place(kind, Box(x, y, 1, 1))
+        self.cells[kind].append((x, y))
 
     def read_port(self, name: str, x: int, y: int, kind: str) -> None:
         """Reads a line `in` or `out`."""
-        self.read_part(kind, name, (x, y, 1, 1))
+        self.require_place(kind, Box(x, y, 1, 1), name)
+        self.ports[kind].append(Port(name, x, y))
 
-    def read_part(self, kind: str, name: str | None, box: tuple[int, int, int, int]) -> None:
-        """Reads a line of any kind but header and end."""
+    def require_place(self, kind: str, box: Box, name: str | None = None) -> None:
+        """Refuses a line of any kind but header and end that is out of order, or whose cells it may not take."""
         self.require_kind_order(kind, LATER)
-        x, y, width, height = box
-        for what, side in (("width", width), ("height", height)):
+        for what, side in (("width", box.width), ("height", box.height)):
             if not 1 <= side <= self.lines.limits.max_side:
                 self.lines.refuse(2, "mirror_side", what=what, number=side, limits=self.lines.limits)
         self.require_port(kind, name)
-        if x + width > self.layout.width or y + height > self.layout.height:
-            self.lines.refuse(7, "cell_outside", kind=kind, box=box, size=(self.layout.width, self.layout.height))
-        part = Part(kind, name, x, y, width, height, self.lines.taken)
+        if box.x + box.width > self.width or box.y + box.height > self.height:
+            self.lines.refuse(7, "cell_outside", kind=kind, box=box, size=(self.width, self.height))
         if kind not in LATE_KINDS:
-            self.take_cells(part, self.starts, EARLY_KINDS)
+            self.take_cells(kind, box, self.starts, EARLY_KINDS)
         if kind not in EARLY_KINDS:
-            self.take_cells(part, self.ends, LATE_KINDS)
-        self.layout.parts.append(part)
+            self.take_cells(kind, box, self.ends, LATE_KINDS)
 
     def require_port(self, kind: str, name: str | None) -> None:
         """Refuses an `in` that is no input and an `out` that is no output of the circuit."""
@@ -162,18 +292,18 @@ class LayoutReader(SectionReader):
             return
         known = self.circuit.inputs if kind == "in" else self.circuit.outputs
         self.lines.refuse(3, "port_unknown", kind=kind, name=name, known=list(known),
-                          is_wire=name in self.circuit.defined)
+                          is_wire=name in self.circuit.wires)
 
-    def take_cells(self, part: Part, rows: list[int], kinds: tuple[str, ...]) -> None:
+    def take_cells(self, kind: str, box: Box, rows: list[int], kinds: tuple[str, ...]) -> None:
         """Takes the cells of a part, none of which a part of these kinds or a mirror takes yet."""
-        mask = (1 << part.width) - 1 << part.x
-        for y in range(part.y, part.y + part.height):
+        mask = (1 << box.width) - 1 << box.x
+        for y in range(box.y, box.y + box.height):
             if rows[y] & mask:
                 taken = rows[y] & mask
                 cell = (taken & -taken).bit_length() - 1, y
-                other = self.layout.part_at(cell, ("mirror", *kinds))
+                other = self.section().part_at(cell, ("mirror", *kinds))
                 assert other is not None
-                self.lines.refuse(7, "cell_taken", kind=part.kind, cell=cell, other=other.kind, other_name=other.name,
+                self.lines.refuse(7, "cell_taken", kind=kind, cell=cell, other=other.kind, other_name=other.name,
                                   at=other.line)
             rows[y] |= mask
 
@@ -181,8 +311,7 @@ class LayoutReader(SectionReader):
         """Reads the line `end`, at which each input and output of the circuit has a cell."""
         if self.circuit is None:
             return
-        ins = {part.name for part in self.layout.of_kind("in")}
-        outs = {part.name for part in self.layout.of_kind("out")}
+        ins, outs = ({port.name for port in self.ports[kind]} for kind in ("in", "out"))
         no_in = [name for name in self.circuit.inputs if name not in ins]
         no_out = [name for name in self.circuit.outputs if name not in outs]
         if no_in or no_out:

@@ -108,9 +108,9 @@ def match_line(line: str, forms: dict[str, Form]) -> tuple[str, Values] | None:
     return (keyword, [reader(word) for reader, word in zip(readers, found.groups())]) if found else None
 
 
-def match_form(words: list[str], forms: dict[str, Form]) -> tuple[str, Values] | None:
-    """Returns the keyword of a line and the values of its placeholders, or None where no form fits."""
-    return match_line(" ".join(words), forms)
+def section_text(lines: Iterable[str]) -> str:
+    """Returns the text of a section, without its `end`."""
+    return "".join(f"{line}\n" for line in [*lines, "end"])
 
 
 class Lines:

@@ -3,8 +3,7 @@
 from array import array
 from typing import Iterator
 
-from .boxes import Box
-from .layouts import Cell
+from .layouts import Box, Cell
 
 NOBODY = -1
 

@@ -4,8 +4,9 @@ hint.
 
 import difflib
 from dataclasses import dataclass, field
-from typing import Any, Callable
+from typing import Any, Callable, NamedTuple, Sequence
 
+from .certificates import line_words
 from .documents import Document
 from .limits import needs_line
 from .lines import Refusal
@@ -53,7 +54,7 @@ def tells(cause: str) -> Callable[[Teller], Teller]:
     return register
 
 
-def listed(names: list[str], most: int = 8) -> str:
+def listed(names: Sequence[str], most: int = 8) -> str:
     """Returns names in backticks with commas, at most `most` of them."""
     shown = ", ".join(f"`{name}`" for name in names[:most])
     return shown + (f" and {len(names) - most} more" if len(names) > most else "")
@@ -75,6 +76,101 @@ def box_words(box: Any) -> str:
     return f"columns {box.x} to {box.x + box.width - 1}, rows {box.y} to {box.y + box.height - 1}"
 
 
+class Sentences(NamedTuple):
+    """What is wrong, and a hint, as format strings over the facts of a cause.
+
+    `names` and `lines` are the facts with the names and lines that are meant. The hint goes on with how the line is
+    called for which `limits 2` is needed, if that is given.
+    """
+
+    what: str
+    hint: str
+    names: str = ""
+    lines: str = ""
+    large: str = ""
+
+
+SENTENCES = {
+    "line_not_ended": Sentences("The last line, `{rest:.60}`, does not end with a line feed.",
+                                "Add a line feed at the end of the file. `bbmlab fmt` does."),
+    "second_header": Sentences("The {section} section has a second header; the first is line {first}.",
+                               "Remove this header, or write `end` before it.", lines="first"),
+    "before_first_module": Sentences(
+        "This `{kind}` line comes before the first `module` line, so it belongs to no module.",
+        "Write a line `module X Y W H` before it."),
+    "layout_steps": Sentences("The layout runs {number} steps; {limits.max_steps} is the most.", "Take fewer steps.",
+                              large="A layout of more than {limits.max_steps} steps"),
+    "delay_limit": Sentences("The delay has {number} steps; it has 1 to 4096.",
+                             "Take a number from 1 to 4096, or several delays in a row."),
+    "wire_count": Sentences("With this line the circuit has more than {limits.max_wires} wires.",
+                            "Split the design into smaller circuits.",
+                            large="A circuit of more than {limits.max_wires} wires"),
+    "gate_count": Sentences("With this line the circuit has more than {limits.max_gates} gates, sources among them.",
+                            "Split the design into smaller circuits.",
+                            large="A circuit of more than {limits.max_gates} gates"),
+    "certificate_version": Sentences("There is no certificate version {number}.",
+                                     "Write `certificate 2`, or `certificate 1` with `halo` lines."),
+    "module_count": Sentences(
+        "This is module {limits.max_modules} from 0; a certificate has at most {limits.max_modules} modules.",
+        "Take larger boxes.", large="A certificate of more than {limits.max_modules} modules"),
+    "cut_count": Sentences("Module {module} has 12 `cut` lines already; `{name}` would be the thirteenth.",
+                           "Use gates in place of cutting their outputs, or take a smaller box."),
+    "use_count": Sentences("Module {module} has 64 `use` lines already.",
+                           "Cut a wire in place of using the gates before it, or take a smaller box."),
+    "border_count": Sentences("Module {module} has 65536 `edge`, `halo` and `stop` lines already.",
+                              "Take a smaller box, or a border that fewer balls cross."),
+    "wire_not_defined": Sentences(
+        "The wire `{name}` is not defined before this line.{near}",
+        "Define `{name}` first, by an `input` or behind the arrow of an earlier gate. A circuit has no loops.",
+        names="name"),
+    "wire_unknown": Sentences("The circuit has no wire `{name}`.{near}", "Write the name as the circuit has it.",
+                              names="name"),
+    "on_twice": Sentences("`{name}` is on already (line {at}).", "Remove one of the two lines.", "name", "at"),
+    "wire_defined": Sentences("The wire `{name}` is defined already ({earlier}).",
+                              "Give one of the two another name.", "name", "at"),
+    "wire_consumed": Sentences(
+        "The wire `{name}` is consumed already ({earlier}): no wire branches.",
+        "To use a wire twice, copy it: the standard cell `fan_out` does, by a `switch` and a `source` (`bbmlab cells "
+        "fan_out`).", "name", "at"),
+    "cut_twice": Sentences("Module {module} cuts `{name}` already (line {at}).", "Remove one of the two lines.",
+                           "name", "at"),
+    "use_output_local": Sentences(
+        "Gate {gate.number} (`{gate.kind}`, line {gate.line}) makes {listed}, which module {module} cuts already "
+        "(line {at[0]}).", "Remove `cut {names[0]}`: a wire is cut, or made by a used gate, and not both.",
+        "names", "at"),
+    "box_outside": Sentences(
+        "The box ({box_words}) is not inside the rectangle of {size[0]} by {size[1]} cells.",
+        "Make the box smaller, or move it."),
+    "box_overlap": Sentences(
+        "The box ({box_words}) overlaps that of module {other} ({other_box_words}, line {at}): the cell ({cell[0]}, "
+        "{cell[1]}) is in both.", "Move one of the boxes, or make it smaller.", lines="at"),
+}
+# What the sentences say of the facts in other words.
+DERIVED: dict[str, Callable[[Facts], str]] = {
+    "near": lambda facts: near(facts["name"], facts["known"]), "earlier": lambda facts: earlier(facts),
+    "listed": lambda facts: listed(facts["names"]), "box_words": lambda facts: box_words(facts["box"]),
+    "other_box_words": lambda facts: box_words(facts["other_box"]),
+}
+
+
+class FactWords(dict[str, Any]):
+    """The facts of a cause, and what is derived of them, by name."""
+
+    def __missing__(self, name: str) -> str:
+        """Returns what is derived of the facts."""
+        return DERIVED[name](self)
+
+
+def told(sentences: Sentences, facts: Facts) -> Explained:
+    """Returns a refusal in the sentences of its cause."""
+    words = FactWords(facts)
+    names, lines = (value if isinstance(value, list) else [value]
+                    for value in (facts.get(sentences.names, []), facts.get(sentences.lines, [])))
+    more = needs_line(sentences.large.format_map(words), facts["limits"]) if sentences.large else ""
+    return Explained([sentences.what.format_map(words)], [sentences.hint.format_map(words) + more], names=names,
+                     lines=lines)
+
+
 # ---- code 12
 
 @tells("text_ended")
@@ -84,13 +180,6 @@ def _text_ended(facts: Facts) -> Explained:
     return Explained([f"The text ends before the {section} section is complete: no line is left."],
                      [f"Write the {section} section up to its line `end`. The file may have been cut off.",
                       *(["`bbmlab certify` makes a certificate."] if section == "certificate" else [])])
-
-
-@tells("line_not_ended")
-def _line_not_ended(facts: Facts) -> Explained:
-    """Explains a last line without a line feed."""
-    return Explained([f"The last line, `{facts['rest'][:60]}`, does not end with a line feed."],
-                     ["Add a line feed at the end of the file. `bbmlab fmt` does."])
 
 
 @tells("text_goes_on")
@@ -113,13 +202,6 @@ def _first_not_header(facts: Facts) -> Explained:
                      [f"Write the header `{header}` first."])
 
 
-@tells("second_header")
-def _second_header(facts: Facts) -> Explained:
-    """Explains a second header in a section."""
-    return Explained([f"The {facts['section']} section has a second header; the first is line {facts['first']}."],
-                     ["Remove this header, or write `end` before it."], lines=[facts["first"]])
-
-
 @tells("kind_after_later_kind")
 def _kind_after_later_kind(facts: Facts) -> Explained:
     """Explains a kind of line that comes too late in its section or module."""
@@ -127,13 +209,6 @@ def _kind_after_later_kind(facts: Facts) -> Explained:
     return Explained([f"This {kind} line comes after the {other} line {facts['at']}; it belongs before all {other} "
                       "lines."],
                      ["Move the line up. `bbmlab fmt` sorts the kinds."], lines=[facts["at"]])
-
-
-@tells("before_first_module")
-def _before_first_module(facts: Facts) -> Explained:
-    """Explains a line before the first `module` line."""
-    return Explained([f"This `{facts['kind']}` line comes before the first `module` line, so it belongs to no module."],
-                     ["Write a line `module X Y W H` before it."])
 
 
 @tells("gate_not_rising")
@@ -150,7 +225,7 @@ def _gate_not_rising(facts: Facts) -> Explained:
 @tells("border_not_rising")
 def _border_not_rising(facts: Facts) -> Explained:
     """Explains an `edge`, `halo` or `stop` line that is out of order."""
-    new, last = facts["new"], facts["last"]
+    kind, new, last = facts["kind"], facts["new"], facts["last"]
     if new.place == last.place:
         what, hint = "names the same time and cell as", "Keep one of the two lines."
     elif new.place[0] == -1:
@@ -159,8 +234,8 @@ def _border_not_rising(facts: Facts) -> Explained:
     else:
         part = next(name for name, a, b in zip(("time", "y", "x"), new.place, last.place) if a != b)
         what, hint = f"has a smaller {part} than", "Sort by time, then y, then x. `bbmlab fmt` does."
-    return Explained([f"`{new}` {what} the line before it in the list, `{last}` (line {last.line})."], [hint],
-                     lines=[last.line])
+    return Explained([f"`{line_words(kind, new)}` {what} the line before it in the list, `{line_words(kind, last)}` "
+                      f"(line {facts['at']})."], [hint], lines=[facts["at"]])
 
 
 # ---- code 11
@@ -208,7 +283,7 @@ def make_local(name: str, gate: Any) -> str:
         return f"Add `cut {name}` to the module."
     if not gate.ins:
         return f"Add `use {gate.number}` to the module: that source makes `{name}`."
-    return (f"Add `use {gate.number}` to the module: that {gate.word} makes `{name}` from {listed(gate.ins)}, which "
+    return (f"Add `use {gate.number}` to the module: that {gate.kind} makes `{name}` from {listed(gate.ins)}, which "
             "the module then knows too. "
             f"Or add `cut {name}` if the module lies away from that gate.")
 
@@ -239,15 +314,14 @@ def _gap(facts: Facts) -> Explained:
 def _heard_not_local(facts: Facts) -> Explained:
     """Explains an edge line beside a module that does not know its wire."""
     missing = facts["missing"]
-    what = [f"Module {module} does not know the wire `{line.signal}`: line {line.line} (`{line}`, of module {other}) "
-            "speaks of a cell "
-            f"beside its box." for module, line, other in missing[:4]]
+    what = [f"Module {module} does not know the wire `{line.signal}`: line {at} (`{line_words('edge', line)}`, of "
+            f"module {other}) speaks of a cell beside its box." for module, line, other, at in missing[:4]]
     more = [f"There are {len(missing) - 4} more lines of that kind."] if len(missing) > 4 else []
-    hints = [f"Add `cut {line.signal}` to module {module}, or `use` the gate that makes it." for module, line,
-             _ in missing[:4]]
+    hints = [f"Add `cut {line.signal}` to module {module}, or `use` the gate that makes it."
+             for module, line, _, _ in missing[:4]]
     return Explained(what + more, list(dict.fromkeys(hints)),
-                     names=list(dict.fromkeys(line.signal for _, line, _ in missing)),
-                     lines=[line.line for _, line, _ in missing])
+                     names=list(dict.fromkeys(line.signal for _, line, _, _ in missing)),
+                     lines=[at for *_, at in missing])
 
 
 # ---- code 2
@@ -270,14 +344,6 @@ def _layout_side(facts: Facts) -> Explained:
                  + (needs_line(f"A layout {size} than {most}", limits) if number > most else ""))
 
 
-@tells("layout_steps")
-def _layout_steps(facts: Facts) -> Explained:
-    """Explains too many steps."""
-    most = facts["limits"].max_steps
-    return limit(f"The layout runs {facts['number']} steps; {most} is the most.",
-                 f"Take fewer steps.{needs_line(f'A layout of more than {most} steps', facts['limits'])}")
-
-
 @tells("mirror_side")
 def _mirror_side(facts: Facts) -> Explained:
     """Explains a side of a mirror outside its limits."""
@@ -285,38 +351,6 @@ def _mirror_side(facts: Facts) -> Explained:
     more = needs_line(f"A side of more than {most}", facts["limits"]) if facts["number"] > most else ""
     return limit(f"The {facts['what']} of the mirror is {facts['number']}; it is 1 to {most}.",
                  f"A `mirror` line is `mirror X Y W H`: the cell, then width and height.{more}")
-
-
-@tells("delay_limit")
-def _delay_limit(facts: Facts) -> Explained:
-    """Explains the number of a delay outside its limits."""
-    return limit(f"The delay has {facts['number']} steps; it has 1 to 4096.",
-                 "Take a number from 1 to 4096, or several delays in a row.")
-
-
-@tells("wire_count")
-def _wire_count(facts: Facts) -> Explained:
-    """Explains the line that makes too many wires."""
-    most = facts["limits"].max_wires
-    return limit(f"With this line the circuit has more than {most} wires.",
-                 "Split the design into smaller "
-                 f"circuits.{needs_line(f'A circuit of more than {most} wires', facts['limits'])}")
-
-
-@tells("gate_count")
-def _gate_count(facts: Facts) -> Explained:
-    """Explains the line that makes too many gates."""
-    most = facts["limits"].max_gates
-    return limit(f"With this line the circuit has more than {most} gates, sources among them.",
-                 "Split the design into smaller "
-                 f"circuits.{needs_line(f'A circuit of more than {most} gates', facts['limits'])}")
-
-
-@tells("certificate_version")
-def _certificate_version(facts: Facts) -> Explained:
-    """Explains an unknown version."""
-    return limit(f"There is no certificate version {facts['number']}.",
-                 "Write `certificate 2`, or `certificate 1` with `halo` lines.")
 
 
 @tells("box_side")
@@ -328,53 +362,7 @@ def _box_side(facts: Facts) -> Explained:
                  f"Take an even {facts['what']} from 2 to 64.")
 
 
-@tells("module_count")
-def _module_count(facts: Facts) -> Explained:
-    """Explains one module too many."""
-    most = facts["limits"].max_modules
-    return limit(f"This is module {most} from 0; a certificate has at most {most} modules.",
-                 f"Take larger boxes.{needs_line(f'A certificate of more than {most} modules', facts['limits'])}")
-
-
-@tells("cut_count")
-def _cut_count(facts: Facts) -> Explained:
-    """Explains one `cut` line too many."""
-    return limit(f"Module {facts['module']} has 12 `cut` lines already; `{facts['name']}` would be the thirteenth.",
-                 "Use gates in place of cutting their outputs, or take a smaller box.")
-
-
-@tells("use_count")
-def _use_count(facts: Facts) -> Explained:
-    """Explains one `use` line too many."""
-    return limit(f"Module {facts['module']} has 64 `use` lines already.",
-                 "Cut a wire in place of using the gates before it, or take a smaller box.")
-
-
-@tells("border_count")
-def _border_count(facts: Facts) -> Explained:
-    """Explains one edge, halo or stop line too many."""
-    return limit(f"Module {facts['module']} has 65536 `edge`, `halo` and `stop` lines already.",
-                 "Take a smaller box, or a border that fewer balls cross.")
-
-
 # ---- codes 3, 4 and 5
-
-@tells("wire_not_defined")
-def _wire_not_defined(facts: Facts) -> Explained:
-    """Explains a wire that no line before defines."""
-    name = facts["name"]
-    return Explained([f"The wire `{name}` is not defined before this line.{near(name, facts['known'])}"],
-                     [f"Define `{name}` first, by an `input` or behind the arrow of an earlier gate. A circuit has no "
-                      "loops."], names=[name])
-
-
-@tells("wire_unknown")
-def _wire_unknown(facts: Facts) -> Explained:
-    """Explains a name in a certificate that is no wire."""
-    name = facts["name"]
-    return Explained([f"The circuit has no wire `{name}`.{near(name, facts['known'])}"],
-                     ["Write the name as the circuit has it."], names=[name])
-
 
 @tells("gate_unknown")
 def _gate_unknown(facts: Facts) -> Explained:
@@ -391,7 +379,7 @@ def _keep_not_inverse(facts: Facts) -> Explained:
     """Explains a `keep` line for a gate that is no inverse gate."""
     gate, inverse = facts["gate"], facts["inverse"]
     has = f"Its inverse gates are {', '.join(map(str, inverse))}." if inverse else "The circuit has no inverse gate."
-    return Explained([f"Gate {facts['number']} is `{gate.word}` (line {gate.line}), which is no inverse gate. {has}"],
+    return Explained([f"Gate {facts['number']} is `{gate.kind}` (line {gate.line}), which is no inverse gate. {has}"],
                      ["Remove the line, or give the number of an `unswitch` or `uninteract`."],
                      names=[str(facts["number"])], lines=[gate.line])
 
@@ -415,48 +403,6 @@ def _on_unknown(facts: Facts) -> Explained:
     return Explained([f"`{name}` can't be turned on: {what}.{near(name, known)}"],
                      [f"The names are {listed(known)}." if known else "There is none: remove the `on` line."],
                      names=[name])
-
-
-@tells("on_twice")
-def _on_twice(facts: Facts) -> Explained:
-    """Explains an `on` line whose name is on already."""
-    return Explained([f"`{facts['name']}` is on already (line {facts['at']})."], ["Remove one of the two lines."],
-                     names=[facts["name"]], lines=[facts["at"]])
-
-
-@tells("wire_defined")
-def _wire_defined(facts: Facts) -> Explained:
-    """Explains a wire that is defined already."""
-    return Explained([f"The wire `{facts['name']}` is defined already ({earlier(facts)})."],
-                     ["Give one of the two another name."],
-                     names=[facts["name"]], lines=[facts["at"]])
-
-
-@tells("wire_consumed")
-def _wire_consumed(facts: Facts) -> Explained:
-    """Explains a wire that is consumed already."""
-    return Explained([f"The wire `{facts['name']}` is consumed already ({earlier(facts)}): no wire branches."],
-                     ["To use a wire twice, copy it: the standard cell `fan_out` does, by a `switch` and a `source` "
-                      "(`bbmlab cells fan_out`)."], names=[facts["name"]], lines=[facts["at"]])
-
-
-@tells("cut_twice")
-def _cut_twice(facts: Facts) -> Explained:
-    """Explains a wire that is cut already."""
-    return Explained([f"Module {facts['module']} cuts `{facts['name']}` already (line {facts['at']})."],
-                     ["Remove one of the two lines."],
-                     names=[facts["name"]], lines=[facts["at"]])
-
-
-@tells("use_output_local")
-def _use_output_local(facts: Facts) -> Explained:
-    """Explains a gate whose output is local already."""
-    gate, names = facts["gate"], facts["names"]
-    return Explained([f"Gate {gate.number} (`{gate.word}`, line {gate.line}) makes {listed(names)}, which module "
-                      f"{facts['module']} "
-                      f"cuts already (line {facts['at'][0]})."],
-                     [f"Remove `cut {names[0]}`: a wire is cut, or made by a used gate, and not both."], names=names,
-                     lines=facts["at"])
 
 
 # ---- codes 7 and 8
@@ -489,24 +435,6 @@ def _box_odd(facts: Facts) -> Explained:
     return Explained([f"The corner of the box is odd: {odd}."], ["Move the box so that X and Y are even."])
 
 
-@tells("box_outside")
-def _box_outside(facts: Facts) -> Explained:
-    """Explains a box outside the rectangle."""
-    return Explained([f"The box ({box_words(facts['box'])}) is not inside the rectangle of {facts['size'][0]} by "
-                      f"{facts['size'][1]} cells."],
-                     ["Make the box smaller, or move it."])
-
-
-@tells("box_overlap")
-def _box_overlap(facts: Facts) -> Explained:
-    """Explains a box over an earlier one."""
-    x, y = facts["cell"]
-    return Explained([f"The box ({box_words(facts['box'])}) overlaps that of module {facts['other']} "
-                      f"({box_words(facts['other_box'])}, "
-                      f"line {facts['at']}): the cell ({x}, {y}) is in both."],
-                     ["Move one of the boxes, or make it smaller."], lines=[facts["at"]])
-
-
 # ---- codes 9 and 10
 
 @tells("use_input_not_local")
@@ -514,7 +442,7 @@ def _use_input_not_local(facts: Facts) -> Explained:
     """Explains a gate whose input is not local."""
     gate, names = facts["gate"], facts["names"]
     is_are = "are" if len(names) > 1 else "is"
-    return Explained([f"Gate {gate.number} (`{gate.word}`, line {gate.line}) uses {listed(names)}, which {is_are} not "
+    return Explained([f"Gate {gate.number} (`{gate.kind}`, line {gate.line}) uses {listed(names)}, which {is_are} not "
                       "local in module "
                       f"{facts['module']}."],
                      [f"Add `cut {names[0]}`, or `use` the gate that makes `{names[0]}`, before this line."],
@@ -534,7 +462,7 @@ def _wire_not_local(facts: Facts) -> Explained:
 def _keep_not_used(facts: Facts) -> Explained:
     """Explains a `keep` line for a gate that the module does not use."""
     gate = facts["gate"]
-    return Explained([f"Module {facts['module']} keeps gate {gate.number} (`{gate.word}`, line {gate.line}) and does "
+    return Explained([f"Module {facts['module']} keeps gate {gate.number} (`{gate.kind}`, line {gate.line}) and does "
                       "not use it."],
                      [f"Add `use {gate.number}` before it, with the wires {listed(gate.ins)} local."],
                      names=[str(gate.number)], lines=[gate.line])
@@ -593,7 +521,9 @@ def explain_refusal(document: Document, refusal: Refusal) -> Explained:
         hints = shape_hints(line, refusal.facts["section"], refusal.facts["begun"], refusal.facts["forms"])
         explained = Explained([what for what, _ in hints], list(dict.fromkeys(hint for _, hint in hints)))
     else:
-        explained = TELLERS[refusal.cause]({"here": refusal.line, **refusal.facts})
+        facts = {"here": refusal.line, **refusal.facts}
+        sentences = SENTENCES.get(refusal.cause)
+        explained = told(sentences, facts) if sentences else TELLERS[refusal.cause](facts)
     explained.rule = RULES[refusal.code]
     return explained
 

@@ -17,7 +17,7 @@ PATTERNS = {word: re.compile(form + r"\Z") for word, form in FORMS.items()}
 
 
 @dataclass(frozen=True)
-class Finding:
+class ReportLine:
     """A line of a report behind the verdict: its word, its numbers by name, and the line itself."""
 
     word: str
@@ -37,17 +37,17 @@ class Finding:
 
 
 @dataclass
-class Report:
+class ReportOrRefusal:
     """A report, or a refusal where `refused` is set."""
 
     verdict: str = ""
     digest: str = ""
     modules: int = 0
-    findings: list[Finding] = field(default_factory=list)
+    findings: list[ReportLine] = field(default_factory=list)
     refused: tuple[int, int] | None = None
 
     @property
-    def faults(self) -> list[Finding]:
+    def faults(self) -> list[ReportLine]:
         """The lines that are reasons for a no."""
         return [finding for finding in self.findings if finding.is_against]
 
@@ -56,24 +56,24 @@ class ReportError(Exception):
     """A text that is neither a report nor a refusal."""
 
 
-def parse_finding(line: str) -> Finding:
+def parse_finding(line: str) -> ReportLine:
     """Returns a line of a report behind the verdict."""
     pattern = PATTERNS.get(line.split(" ")[0])
     found = pattern.match(line) if pattern else None
     if not found:
         raise ReportError(f"no line of a report: {line!r}")
     values = {name: int(word) if word.isdigit() else word for name, word in found.groupdict().items()}
-    return Finding(line.split(" ")[0], values, line)
+    return ReportLine(line.split(" ")[0], values, line)
 
 
-def parse_report(text: str) -> Report:
+def parse_report(text: str) -> ReportOrRefusal:
     """Reads what `check` wrote."""
     # Only LF ends a line: a report that other characters break into lines is none.
     lines = text.removesuffix("\n").split("\n")
     refused = re.match(r"refused (\d+) (\d+)\Z", lines[0]) if len(lines) == 1 else None
     if refused:
-        return Report(refused=(int(refused[1]), int(refused[2])))
+        return ReportOrRefusal(refused=(int(refused[1]), int(refused[2])))
     head = re.match(r"bbmcheck 1\ncertificate ([0-9a-f]{64})\nmodules (\d+)\nverdict (yes|no)\Z", "\n".join(lines[:4]))
     if not head:
         raise ReportError("this is no report of `bbmcheck check`: it does not begin with `bbmcheck 1`")
-    return Report(head[3], head[1], int(head[2]), [parse_finding(line) for line in lines[4:]])
+    return ReportOrRefusal(head[3], head[1], int(head[2]), [parse_finding(line) for line in lines[4:]])

@@ -3,17 +3,17 @@
 import difflib
 import re
 
+from .assigns import AssignReader
+from .certificates import CertificateReader
+from .circuits import CircuitReader
 from .gates import GATE_SIZES
+from .layouts import LayoutReader
 from .limits import LINE
-from .lines import Form, NAME, NUMBER, word_value
+from .lines import Form, NAME, NUMBER, SectionReader, word_value
 
 Hint = tuple[str, str]
-SECTION_OF = {
-    "circuit": "input source fredkin cswap interact switch delay unswitch uninteract output spill".split(),
-    "layout": "mirror ball in out waste".split(),
-    "assign": ["on"],
-    "certificate": "module cut use keep edge halo stop".split(),
-}
+READERS: tuple[type[SectionReader], ...] = (CircuitReader, LayoutReader, AssignReader, CertificateReader)
+SECTION_OF = {reader.name: [word for word in reader.forms if word not in (reader.name, "end")] for reader in READERS}
 SEVERAL = "`bbmlab fmt` fixes this."
 # How gates of ordinary logic are made. The standard cells named here have circuits of their own.
 LOGIC = {

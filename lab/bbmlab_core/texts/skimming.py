@@ -6,8 +6,8 @@ import hashlib
 import re
 from typing import Iterator
 
-from .boxes import Box
 from .certificates import MAX_CUTS
+from .layouts import Box
 
 HEADER = "certificate "
 # The numbers of a line `use` or `module`.
@@ -21,7 +21,7 @@ def certificate_place(text: str) -> int:
     return text.find(f"\n{HEADER}") + 1 or len(text)
 
 
-def head_of(text: str) -> str:
+def design_text(text: str) -> str:
     """Returns the circuit and the layout of a text."""
     return text[:certificate_place(text)]
 

@@ -23,7 +23,7 @@ def levels_of(circuit: Circuit) -> dict[str, int]:
     """Returns how many gates lie between the inputs and each wire, at most. Sources and delays do not count."""
     levels = dict.fromkeys(circuit.inputs, 0)
     for gate in circuit.gates:
-        level = max((levels.get(wire, 0) for wire in gate.ins), default=0) + (gate.word not in ("source", "delay"))
+        level = max((levels.get(wire, 0) for wire in gate.ins), default=0) + (gate.kind not in ("source", "delay"))
         levels.update((wire, level) for wire in gate.outs)
     return levels
 

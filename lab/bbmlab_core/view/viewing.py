@@ -8,7 +8,7 @@ from dataclasses import asdict
 from html import escape
 from pathlib import Path
 
-from ..explain.explaining import Explanation
+from ..explain.explaining import ExplainedAnswer
 from ..host.terminal import escape_controls
 from ..texts import json_form
 from ..texts.documents import Document
@@ -22,7 +22,7 @@ EXPORT = re.compile(r"^export (\{[^}]*\});$", re.MULTILINE)
 RENAMED = re.compile(r"(\w+) as (\w+)")
 
 
-def page_data(document: Document, explanation: Explanation | None) -> str:
+def page_data(document: Document, explanation: ExplainedAnswer | None) -> str:
     """Returns what the page shows, as JSON that may stand in a script element."""
     parts = json.loads(json_form.document_json(document, None))
     parts["explanation"] = asdict(explanation) if explanation else None
@@ -74,7 +74,7 @@ def policy(style: str, script: str) -> str:
             "base-uri 'none'; form-action 'none'")
 
 
-def page(document: Document, explanation: Explanation | None, title: str) -> str:
+def page(document: Document, explanation: ExplainedAnswer | None, title: str) -> str:
     """Writes the page: the template with its style, its script and its data in place."""
     assert document.layout
     before, after = source("page.html").split("DATA")

@@ -10,8 +10,10 @@ from bbmlab_core import VERSION as __version__
 # Only for the types: nothing of it is imported when the package is.
 TYPE_CHECKING = False
 if TYPE_CHECKING:
-    from bbmlab_core.texts.boxes import Box
-    from bbmlab_core.texts.sections import Border, Bundle, Certificate, Circuit, Gate, Layout, Module, Port, Stop
+    from bbmlab_core.texts.certificates import Border, Certificate, Module, Stop
+    from bbmlab_core.texts.circuits import Circuit, Gate
+    from bbmlab_core.texts.layouts import Box, Layout, Port
+    from bbmlab_core.texts.sections import Bundle
 
     from ._asking import Explanation, Finding, Report, check, explain
     from ._circuits import (Comparison, Netlist, Row, clean, equivalent, inverse, read_netlist, simplify, stats, table,
@@ -37,9 +39,10 @@ _HOMES = {
     "_making": ("certify", "route"),
     "_reading": ("read",),
     "_running": ("State", "local_run", "simulate"),
-    "bbmlab_core.texts.boxes": ("Box",),
-    "bbmlab_core.texts.sections": ("Border", "Bundle", "Certificate", "Circuit", "Gate", "Layout", "Module", "Port",
-                                   "Stop"),
+    "bbmlab_core.texts.certificates": ("Border", "Certificate", "Module", "Stop"),
+    "bbmlab_core.texts.circuits": ("Circuit", "Gate"),
+    "bbmlab_core.texts.layouts": ("Box", "Layout", "Port"),
+    "bbmlab_core.texts.sections": ("Bundle",),
 }
 
 # A type checker takes the imports above, so that it finds misspelt names.

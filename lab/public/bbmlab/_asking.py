@@ -88,7 +88,7 @@ def opened_program(program: str | None) -> programs.Executable:
     """Opens the program. Raises ProgramError if there is none."""
     try:
         return programs.find_program(program)
-    except programs.ProgramError as error:
+    except programs.BadProgramError as error:
         raise ProgramError(str(error)) from error
 
 
@@ -98,7 +98,7 @@ def answer_of(program: programs.Executable, command: str, text: str, timeout: fl
         answer = programs.ask(program, command, text.encode("latin-1"), timeout)
     except programs.ProgramTimeout as error:
         raise TimeoutError(str(error)) from error
-    except programs.ProgramError as error:
+    except programs.BadProgramError as error:
         raise ProgramError(str(error)) from error
     if answer.status >= 4:
         raise ProgramError(f"status {answer.status}: {answer.errors or 'no message'}")

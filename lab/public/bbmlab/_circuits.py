@@ -13,8 +13,8 @@ from bbmlab_core.circuits.inverting import inverse as inverse_lines
 from bbmlab_core.circuits.netlists.model import LogicNetlist as CoreNetlist
 from bbmlab_core.circuits.simplifying import simplify as simple_lines
 from bbmlab_core.host.terminal import LabError
-from bbmlab_core.texts import circuits
-from bbmlab_core.texts.sections import Bundle, Circuit, circuit_of, text_of
+from bbmlab_core.texts.circuits import Circuit, values_under
+from bbmlab_core.texts.sections import Bundle, text_of
 
 from ._errors import NotFoundError
 from ._reading import characters, document_of
@@ -76,17 +76,17 @@ def to_conservative(netlist: Netlist | str, *, cycles: int | None = None, state:
         mapped = core.map_read_netlist(read._core, core.Reading(None, cycles, state == "ports"))
     except LabError as error:
         raise ValueError(str(error)) from error
-    return circuit_of(model_of(mapped.text))
+    return mapped.circuit
 
 
-def model_of(circuit: Circuit | str) -> circuits.Circuit:
-    """Returns a circuit as `bbmlab_core` has it. Raises RefusedError if it is refused."""
+def model_of(circuit: Circuit | str) -> Circuit:
+    """Returns a circuit that the lab's reader takes. Raises RefusedError if it refuses it."""
     found = document_of(text_of(circuit) if isinstance(circuit, Circuit) else circuit, "circuit").circuit
     assert found is not None
     return found
 
 
-def changed(circuit: Circuit, change: Callable[[circuits.Circuit], Circuit]) -> Circuit:
+def changed(circuit: Circuit, change: Callable[[Circuit], Circuit]) -> Circuit:
     """Returns what a change makes of a circuit."""
     try:
         found = change(model_of(circuit))
@@ -130,7 +130,7 @@ def table(circuit: Circuit) -> tuple[Row, ...]:
         raise ValueError(str(error)) from error
     rows = []
     for on in choices:
-        values, gate = circuits.values_under(model, on)
+        values, gate = values_under(model, on)
         true = frozenset(name for name in model.outputs if values[name]) if gate is None else None
         rows.append(Row(frozenset(on), true, gate))
     return tuple(rows)

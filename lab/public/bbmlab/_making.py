@@ -16,11 +16,12 @@ from bbmlab_core.route.certificate import circuit_section
 from bbmlab_core.route.command import check_side, require_all_keeps
 from bbmlab_core.route.search import Options, Search
 from bbmlab_core.route.settings import Settings
-from bbmlab_core.texts.boxes import Box
-from bbmlab_core.texts.certificates import StopLine
+from bbmlab_core.texts.certificates import Stop
+from bbmlab_core.texts.circuits import Circuit
 from bbmlab_core.texts.documents import read_document
+from bbmlab_core.texts.layouts import Box
 from bbmlab_core.texts.limits import sections_after_line
-from bbmlab_core.texts.sections import Bundle, Circuit, text_of
+from bbmlab_core.texts.sections import Bundle, text_of
 from bbmlab_core.texts.spelling import spelled
 
 from ._errors import NotFoundError, RefusedError
@@ -35,13 +36,11 @@ def own_error(error: LabError) -> Exception:
     return ValueError(str(error)) if error.status == WRONG_ARGUMENTS else NotFoundError(str(error))
 
 
-def known_stops(bundle: Bundle) -> list[StopLine]:
+def known_stops(bundle: Bundle) -> list[Stop]:
     """Returns the stops of a bundle's certificate, if the bundle is not refused."""
     if bundle.certificate is None or read_document(str(bundle), "check").refusal:
         return []
-    stops = [StopLine(stop.time, stop.name, stop.x, stop.y, 0) for module in bundle.certificate.modules
-             for stop in module.stops]
-    return sorted(stops, key=lambda stop: stop.place)
+    return sorted((stop for module in bundle.certificate.modules for stop in module.stops), key=lambda stop: stop.place)
 
 
 def certify(bundle: Bundle, *, grid: tuple[int, int] | None = None,

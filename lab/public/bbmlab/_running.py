@@ -5,8 +5,8 @@ from __future__ import annotations
 from typing import Iterable, Iterator, NamedTuple
 
 from bbmlab_core.physics.simulation import ModuleRun, WholeRun, run_layout
-from bbmlab_core.texts.layouts import Cell
-from bbmlab_core.texts.sections import Bundle, Layout, text_of
+from bbmlab_core.texts.layouts import Cell, Layout
+from bbmlab_core.texts.sections import Bundle, text_of
 
 from ._reading import document_of
 

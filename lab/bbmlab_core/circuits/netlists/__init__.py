@@ -9,8 +9,10 @@ import re
 from dataclasses import dataclass
 from typing import Any, Callable
 
+from ...texts.circuits import Circuit
 from ...texts.documents import read_document
 from ...texts.gates import input_tables
+from ...texts.sections import text_of
 from .aiger import read_aiger
 from .blif import read_blif
 from .circuit_text import NamedCircuit
@@ -75,7 +77,7 @@ class MappedNetlist:
 
     text: str
     notes: list[str]
-    circuit: NamedCircuit
+    circuit: Circuit
 
 
 def netlist_format(text: str) -> NetlistFormat | None:
@@ -131,16 +133,16 @@ def map_read_netlist(netlist: LogicNetlist, reading: Reading = Reading()) -> Map
     """Maps a netlist that was read, as `map_netlist` does."""
     netlist = unrolled(netlist, reading.cycles, reading.has_state_ports)
     if isinstance(netlist, LineNetlist) and netlist.exchanges is not None:
-        circuit = map_exchanges(netlist)
+        found = map_exchanges(netlist)
     else:
-        circuit = cheapest_circuit(netlist)
-    document = read_document(circuit.text(), "circuit")
+        found = cheapest_circuit(netlist)
+    text = text_of(found.circuit)
+    document = read_document(text, "circuit")
     if document.circuit is None or document.refusal is not None:
         raise NetlistError(f"The mapped circuit is wrong: {document.refusal}.")
     scope = compared(netlist, document.circuit)
-    return MappedNetlist(circuit.text(),
-                         [*netlist.notes, *circuit.notes, f"The circuit has the outputs of the netlist in {scope}."],
-                         circuit)
+    notes = [*netlist.notes, *found.notes, f"The circuit has the outputs of the netlist in {scope}."]
+    return MappedNetlist(text, notes, document.circuit)
 
 
 def cheapest_circuit(netlist: LogicNetlist) -> NamedCircuit:
@@ -149,17 +151,17 @@ def cheapest_circuit(netlist: LogicNetlist) -> NamedCircuit:
 
     Networks of reversible gates often make values that no output needs, so that their tables are simpler than they are.
     """
-    circuit = map_graph(graph_of(netlist))
+    found = map_graph(graph_of(netlist))
     if len(netlist.inputs) > MAX_TABLE_INPUTS or len(netlist.outputs) > MAX_TABLE_OUTPUTS:
-        return circuit
+        return found
     full = (1 << (1 << len(netlist.inputs))) - 1
     tables = netlist_tables(netlist, dict(zip(netlist.inputs, input_tables(len(netlist.inputs)))), full)
     graph = Graph(netlist.inputs)
     literals = [2 * at + 2 for at in range(len(netlist.inputs))]
     graph.outputs = [(name, table_literal(graph, tables[net], literals)) for name, net in netlist.outputs]
-    if len(graph.needed()) > 2 * len(circuit.gates):
-        return circuit
-    return min(circuit, map_graph(graph), key=NamedCircuit.cost)
+    if len(graph.needed()) > 2 * len(found.circuit.gates):
+        return found
+    return min(found, map_graph(graph), key=NamedCircuit.cost)
 
 
 def circuit_from_netlist(text: str) -> str:

@@ -60,7 +60,7 @@ def compared(netlist: LogicNetlist, circuit: Circuit) -> str:
         columns = sampled_tables(netlist.inputs, SAMPLES)
     theirs = netlist_tables(netlist, columns, full)
     mine = {name: columns[net] for name, net in zip(circuit.inputs, netlist.inputs)}
-    own = evaluate_under(circuit, mine, full, [gate.number for gate in circuit.gates])
+    own = evaluate_under(circuit, mine, full, range(len(circuit.gates)))
     for name, (port, net) in zip(circuit.outputs, netlist.outputs):
         if own.defined != full or own.tables[name] != theirs[net]:
             raise NetlistError(f"The mapped circuit is wrong: its output `{name}` is not always `{port}` of the "

@@ -2,7 +2,7 @@
 
 from .circuit_text import NamedCircuit, named
 from .graph import Graph
-from .mapping import MappedGate, Wire, Wiring
+from .mapping import MappedGate, Wire, MappedGates
 from .reversible import LineNetlist
 
 
@@ -12,7 +12,7 @@ def map_exchanges(netlist: LineNetlist) -> NamedCircuit:
 
     `fredkin c x y` exchanges x and y if c is false, so the two lines come in exchanged.
     """
-    wiring = Wiring()
+    wiring = MappedGates()
     wires: dict[str, Wire] = {}
     made = 0
     for line in netlist.lines:

@@ -85,11 +85,11 @@ class Graph:
                 return FALSE
             if left in (TRUE, right):
                 return right
-            simpler = self._absorbed(left, right) or self._absorbed(right, left)
+            simpler = self._absorption(left, right) or self._absorption(right, left)
         joined = self._join_literal(left, right) if left & 1 and right & 1 else None
         return self.literal(Kind.AND, left, right) if joined is None else joined ^ 1
 
-    def _absorbed(self, one: Literal, other: Literal) -> tuple[Literal, Literal] | None:
+    def _absorption(self, one: Literal, other: Literal) -> tuple[Literal, Literal] | None:
         """Returns two literals whose AND is a simpler form of "one and other" where `other` depends on the value of
         `one`."""
         factors, inverse_factors = self.product(other), self.product(other ^ 1)

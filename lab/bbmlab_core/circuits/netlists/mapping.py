@@ -40,7 +40,7 @@ class MappedGate:
 
 
 @dataclass
-class Wiring:
+class MappedGates:
     """Gates in order, the wires of the outputs, and the wires that nothing uses."""
 
     gates: list[MappedGate] = field(default_factory=list)
@@ -92,7 +92,7 @@ class Mapper:
 
     def __init__(self, graph: Graph, separate: frozenset[int], preferences: Preferences) -> None:
         self.graph, self.separate, self.preferences = graph, separate, preferences
-        self.wiring = Wiring()
+        self.wiring = MappedGates()
         self.wire_count = len(graph.input_names)
         self.pool: dict[Literal, list[Wire]] = {}
         self.needed = graph.needed()
@@ -106,7 +106,7 @@ class Mapper:
             self.uses[literal >> 1] = self.uses.get(literal >> 1, 0) + 1
             self.true_uses[literal >> 1] = self.true_uses.get(literal >> 1, 0) + 1 - (literal & 1)
 
-    def run(self) -> Wiring:
+    def run(self) -> MappedGates:
         """Maps all needed nodes and the outputs."""
         for number in self.order():
             if number not in self.mapped:
@@ -192,7 +192,7 @@ class Mapper:
         else:
             self.wires(literal).append(wire)
 
-    def promise(self, left: Literal, right: Literal) -> Literal | None:
+    def claim_product(self, left: Literal, right: Literal) -> Literal | None:
         """Returns the literal of a product that the next gate makes.
 
         A needed node is mapped by it, so it no longer uses its inputs.
@@ -235,7 +235,7 @@ class Mapper:
 
     def map_product(self, number: int, control: Literal, other: Literal) -> None:
         """Maps "control and other" by a switch. The control may be inverted."""
-        second = self.promise(control ^ 1, other)
+        second = self.claim_product(control ^ 1, other)
         wire = self.take(other)
         found, select = self.read(control)
         again, high, low = self.gate("switch", None, [select, wire], 3)
@@ -246,7 +246,7 @@ class Mapper:
 
     def map_meeting(self, number: int, left: Literal, right: Literal) -> None:
         """Maps "left and right" by an interaction, which makes it twice."""
-        second, third = self.promise(left ^ 1, right), self.promise(left, right ^ 1)
+        second, third = self.claim_product(left ^ 1, right), self.claim_product(left, right ^ 1)
         both, right_alone, left_alone, again = self.gate("interact", None, [self.take(left), self.take(right)], 4)
         self.wires(2 * number).extend((both, again))
         self.give(second, right_alone)
@@ -254,7 +254,7 @@ class Mapper:
 
     def map_sum(self, number: int, control: Literal, other: Literal) -> None:
         """Maps the inverse of an AND node, "control or other", by a switch and a join."""
-        product = self.promise(control, other)
+        product = self.claim_product(control, other)
         if self.total(control) < 2 or not self.wires(control):
             self.copy(control if self.wires(control) else control ^ 1)
         wire, first = self.take(other), self.pool[control].pop()
@@ -291,7 +291,7 @@ class Mapper:
     def map_meeting_join(self, number: int, left: Literal, right: Literal) -> None:
         """Maps a XOR node by an interaction and a join. A wire of `left` is consumed, and another one is the control.
         """
-        product = self.promise(left, right)
+        product = self.claim_product(left, right)
         if self.total(left) < 2:
             self.copy(left)
         wire, other = self.pool[left].pop(), self.take(right)
@@ -307,7 +307,7 @@ class Mapper:
     def map_switch_join(self, number: int, left: Literal, right: Literal) -> None:
         """Maps a XOR node by two switches, over a wire and its inverse, and a join."""
         found, select = self.read(left)
-        product, second = self.promise(found, right), self.promise(found ^ 1, right ^ 1)
+        product, second = self.claim_product(found, right), self.claim_product(found ^ 1, right ^ 1)
         select, both, right_alone = self.gate("switch", None, [select, self.pool[right].pop()], 3)
         select, left_alone, neither = self.gate("switch", None, [select, self.pool[right ^ 1].pop()], 3)
         select, result = self.gate("unswitch", None, [select, left_alone, right_alone], 2, number)
@@ -348,7 +348,7 @@ class Mapper:
 
     def map_inverse_product(self, number: int, _select: Literal, high: Literal, low: Literal) -> None:
         """Maps a join as "not (not high and not low)"."""
-        second = self.promise(high, low ^ 1)
+        second = self.claim_product(high, low ^ 1)
         wire = self.take(low ^ 1)
         found, control = self.read(high)
         control, one, two = self.gate("switch", None, [control, wire], 3)

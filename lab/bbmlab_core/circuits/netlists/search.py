@@ -4,12 +4,11 @@
 import random
 
 from ...texts.circuits import Circuit
-from ...texts.documents import read_document
 from ...texts.limits import SECOND
 from ..cones import keeping_cone
 from .circuit_text import NamedCircuit, named
 from .graph import Graph
-from .mapping import Mapper, Preferences, Wiring
+from .mapping import Mapper, Preferences, MappedGates
 from .model import NetlistError
 
 FIRST_TRIES = 20
@@ -27,14 +26,14 @@ def require_room(gate_count: int, wire_count: int) -> None:
             raise NetlistError(f"The circuit would need {count} {what}. A circuit has at most {most}.")
 
 
-def cheapest(graph: Graph, separate: frozenset[int], size: int) -> Wiring:
+def cheapest(graph: Graph, separate: frozenset[int], size: int) -> MappedGates:
     """Returns the cheapest of some wirings: the best of some at random, improved by small changes of its preferences.
 
     The same graph gets the same wiring each time.
     """
     chooser, tries = random.Random(1), max(2, min(MAX_TRIES, TRY_BUDGET // max(1, size)))
 
-    def tried(preferences: Preferences) -> tuple[float, Preferences, Wiring]:
+    def tried(preferences: Preferences) -> tuple[float, Preferences, MappedGates]:
         """Returns the cost, the preferences and the wiring of a try."""
         wiring = Mapper(graph, separate, preferences).run()
         return wiring.cost(), preferences, wiring
@@ -50,7 +49,7 @@ def cheapest(graph: Graph, separate: frozenset[int], size: int) -> Wiring:
     return wiring
 
 
-def nodes_not_kept(circuit: Circuit, wiring: Wiring) -> frozenset[int]:
+def nodes_not_kept(circuit: Circuit, wiring: MappedGates) -> frozenset[int]:
     """Returns the nodes whose inverse gate has no cone that shows that it always has a row."""
     return frozenset(gate.node for number, gate in enumerate(wiring.gates)
                      if gate.word == "unswitch" and gate.node is not None and keeping_cone(circuit, number) is None)
@@ -66,13 +65,9 @@ def map_graph(graph: Graph) -> NamedCircuit:
     separate: frozenset[int] = frozenset()
     while True:
         wiring = cheapest(graph, separate, len(needed) + len(graph.outputs))
-        circuit = named(graph, wiring)
-        require_room(len(circuit.gates),
-                     len(circuit.inputs) + sum(len(line.split(" -> ")[1].split()) for line in circuit.gates))
-        document = read_document(circuit.text(), "circuit")
-        if document.refusal or document.circuit is None:
-            raise NetlistError(f"The mapped circuit is wrong: {document.refusal}.")
-        failed = nodes_not_kept(document.circuit, wiring)
+        found = named(graph, wiring)
+        require_room(len(found.circuit.gates), len(found.circuit.wires))
+        failed = nodes_not_kept(found.circuit, wiring)
         if not failed:
-            return circuit
+            return found
         separate |= failed

@@ -135,7 +135,7 @@ class ModuleReader:
                 names[wire] = before[0], {"0": False, "1": True}.get(signs[position:position + 1], before[1])
         found = ((latch, *names.get(latch.output, (latch.name, None))) for latch in latches)
         self.netlist.latches = sorted((replace(latch, name=name, start=start) for latch, name, start in found),
-                                      key=lambda latch: number_order(latch.name))
+                                      key=lambda latch: natural_key(latch.name))
 
     def cell_net(self, cell: Cell, *inputs: str) -> str:
         """Returns the net of a new cell."""
@@ -196,7 +196,7 @@ def bit_index(port: Any, position: int, width: int) -> int:
     return (offset if isinstance(offset, int) else 0) + (width - 1 - position if port.get("upto") else position)
 
 
-def number_order(name: str) -> list[tuple[int, str]]:
+def natural_key(name: str) -> list[tuple[int, str]]:
     """Returns a key that sorts `q[2]` before `q[10]`."""
     return [(int(digits or 0), rest) for digits, rest in re.findall(r"([0-9]{0,9})([^0-9]*)", name)]
 
