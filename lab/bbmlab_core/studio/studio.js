@@ -103,7 +103,8 @@ function showTime() {
 
 function showCell() {
   const cell = sketch.cursor || sketch.pointed;
-  element("cell").textContent = cell ? sketch.wordsOf(cell) : "";
+  const words = cell ? sketch.wordsOf(cell) : "";
+  if (element("cell").textContent !== words) element("cell").textContent = words;
 }
 
 /** Shows what follows from the run's end. */
