@@ -16,6 +16,7 @@ from browse_page import open_browser, shown, wait
 from selenium.webdriver.common.by import By
 from selenium.webdriver.common.keys import Keys
 from studio_driver import Studio
+from test_connecting import two_nots
 
 TOP = Path(__file__).resolve().parents[2]
 COLLISION = "circuit\ninput p\ninput q\ninteract p q -> a b c d\noutput a\noutput b\noutput c\noutput d\nend"
@@ -940,6 +941,33 @@ def route_circuit(studio: Studio) -> None:
     assert studio.layout_text() == text, "undo brings the old text back"
 
 
+def connect_ports(studio: Studio) -> None:
+    """Presses an output and then an input: mirrors lead the ball there, the verdict is yes, and undo takes it back. A
+    loop is said, and changes nothing."""
+    text = two_nots(200, 160, (20, 60), (120, 70))
+    studio.begin("connected.txt", text)
+    studio.verdict("yes", 60)
+    studio.click("#tool-connect")
+    studio.press(124, 96)
+    studio.await_text("status", "This is no output")
+    studio.press(61, 62)
+    studio.await_text("status", "Press the input to which the ball of z is to fly")
+    studio.browser.save_screenshot(str(studio.folder / "connecting.png"))
+    studio.press(124, 96)
+    studio.wait(lambda: "the program says yes" in studio.text("status"), "the ball is led", 120)
+    studio.verdict("yes", 60)
+    made = studio.layout_text()
+    assert "switch z l -> e x q" in made and "in b" not in made and "out z" not in made, made
+    studio.rest()
+    studio.browser.save_screenshot(str(studio.folder / "connected.png"))
+    studio.click("#undo")
+    assert studio.layout_text() == text, "undo brings the old text back"
+    studio.press(61, 62)
+    studio.press(24, 86)
+    studio.wait(lambda: "loop" in studio.text("status"), "the loop is said", 60)
+    assert studio.layout_text() == text, "a loop changes nothing"
+
+
 def see_large(studio: Studio) -> None:
     """A machine of 832 by 832 cells: the fit shows all of it with its ways, the small picture leads elsewhere, and an
     edit changes the picture there."""
@@ -986,7 +1014,7 @@ USES = [draw_collision, drag_mirror, draw_by_keyboard, refuse_circuit, place_mir
         ask_twice, use_two_tabs, let_in_once, see_other_picture,
         forget_old_draft, ask_about_draft, duplicate_tab, say_what_is_kept, see_nothing_yet, undo_numbers, follow_turns,
         see_kind_of_no,
-        enlarge_for_cell, enlarge_at_sides, route_circuit, see_large]
+        enlarge_for_cell, enlarge_at_sides, route_circuit, connect_ports, see_large]
 
 
 def run_uses(studio: Studio, wanted: list[str]) -> list[str]:

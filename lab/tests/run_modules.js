@@ -7,7 +7,7 @@ import { placeNames } from "../bbmlab_core/view/labels.js";
 import * as painting from "../bbmlab_core/view/painting.js";
 import { Player } from "../bbmlab_core/view/player.js";
 import { SvgPen } from "../bbmlab_core/view/svg_pen.js";
-import { Buckets, Tiles } from "../bbmlab_core/view/tiles.js";
+import { Buckets, Tiles, visitModules } from "../bbmlab_core/view/tiles.js";
 import * as waveform from "../bbmlab_core/view/waveform.js";
 import { Wires } from "../bbmlab_core/view/wires.js";
 
@@ -106,6 +106,27 @@ function tiles(size, place, milliseconds) {
     first, firstCopies, drawn: drawn.length, frames };
 }
 
-const functions = { different, filed, wireAt, tiles, trail, waves, scene, results, read, write, places };
+/** Returns for each time the lines that speak of it, and whether edge and halo lines are filed then. */
+function linesAt(data, times) {
+  const player = new Player(data);
+  player.restart(0);
+  return times.map((time) => {
+    player.run.seek(time);
+    return [player.linesNow(null).map(({ kind, number, x, y, signal }) => [kind, number, x, y, signal]),
+      player.borders !== null];
+  });
+}
+
+/** Returns the modules that have each of some cells. */
+const modulesAt = (modules, cells) => cells.map(([x, y]) => {
+  const found = [];
+  visitModules(modules, [x, y, x, y], (number, [u, v, w, h]) => {
+    if (x >= u && y >= v && x < u + w && y < v + h) found.push(number);
+  });
+  return found;
+});
+
+const functions = { different, filed, linesAt, modulesAt,
+  wireAt, tiles, trail, waves, scene, results, read, write, places };
 const jobs = JSON.parse(fs.readFileSync(0, "utf8"));
 console.log(JSON.stringify(jobs.map(([name, ...words]) => functions[name](...words))));

@@ -18,6 +18,7 @@ from typing import Any
 
 import support
 from bbmlab_core.studio import routes
+from test_connecting import two_nots
 from bbmlab_core.studio.answers import EMPTY, Answers
 from bbmlab_core.studio.folder import Folder
 from bbmlab_core.studio.guard import MAX_REQUEST_BYTES
@@ -440,6 +441,21 @@ class Searches(Served):
         self.assertEqual(subprocess.run([support.program(), "check"], input=told["text"].encode(),
                                         stdout=subprocess.DEVNULL, check=False).returncode, 0)
         self.assertEqual(self.ask("routed", tab="a")["state"], "none")
+
+    def test_ports_are_connected(self) -> None:
+        """An output is led to an input, which the program says yes to; what cannot be is said in words."""
+        text = two_nots(200, 160, (20, 60), (120, 70))
+        words = {"tab": "a", "text": text, "seconds": 60, "seed": 1, "output": "z"}
+        self.assertEqual(self.ask("connect", **words, input="b")["state"], "runs")
+        told = self.ended("a")
+        self.assertEqual(told["state"], "found", told)
+        self.assertIn("the program says yes", told["said"][-1])
+        self.assertIn("switch z l -> e x q", told["text"])
+        self.ask("connect", **words, input="a")
+        told = self.ended("a")
+        self.assertEqual((told["state"], "text" in told), ("failed", False))
+        self.assertIn("loop", told["said"][-1])
+        self.assertEqual(self.send("POST", "api/connect", json.dumps(words).encode())[0], 400)
 
     def test_a_search_is_cancelled(self) -> None:
         """A cancelled search ends with its processes, and another one can begin then; while it runs, no other one can.

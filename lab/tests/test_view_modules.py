@@ -288,6 +288,35 @@ class Large(unittest.TestCase):
         self.assertEqual((quick["isFirst"], quick["drawn"], quick["frames"]), (True, 7, 1))
 
 
+class ModuleLines(unittest.TestCase):
+    """What the modules of a certificate say, and where they are."""
+
+    def test_lines_of_a_time(self) -> None:
+        """At each time the lines are those of the certificate; those of borders are filed at the first odd time."""
+        for name in ("four_modules", "timed_modules", "machine_full_adder"):
+            document = example(name)
+            assert document.layout and document.certificate
+            steps, modules = document.layout.steps, document.certificate.modules
+            times = [*range(0, steps + 1, 2), *range(1, steps + 1, 2)]
+            found = node([["linesAt", data_of(document), times]])[0]
+            for time, (lines, is_filed) in zip(times, found):
+                wanted = [["stop", module.number, *stop.cell, stop.name] for module in modules for stop in module.stops
+                          if stop.time == time]
+                wanted += [["edge", module.number, *line.cell, line.signal] for module in modules
+                           for line in module.edges
+                           if line.time == time or line.time is None and time % 2 and time < steps]
+                self.assertEqual(sorted(line for line in lines if line[0] != "halo"), sorted(wanted), (name, time))
+                self.assertEqual(is_filed, time % 2 == 1)
+
+    def test_modules_of_cells(self) -> None:
+        """The module of a cell is found among those near it."""
+        boxes = [(x, y, 16, 16) for y in range(0, 320, 16) for x in range(0, 320, 16)] + [(320, 0, 200, 320)]
+        cells = [(0, 0), (15, 15), (16, 0), (127, 128), (319, 319), (320, 0), (519, 319), (520, 0)]
+        found = node([["modulesAt", [{"box": box} for box in boxes], cells]])[0]
+        self.assertEqual(found, [[number for number, (u, v, w, h) in enumerate(boxes)
+                                  if u <= x < u + w and v <= y < v + h] for x, y in cells])
+
+
 class Sources(unittest.TestCase):
     """The sources of the page."""
 

@@ -65,6 +65,25 @@ def random_layout(chance: random.Random, side: int = 48) -> str:
     return "\n".join([f"layout {side} {side} {chance.randint(1, side + 12)}", *lines, "end"]) + "\n"
 
 
+def crowded_layout(chance: random.Random, mirror_count: int, side: int = 96) -> str:
+    """Returns a layout of many balls, and of mirrors that no ball can change."""
+    cells: set[Cell] = set()
+    mirrors: list[str] = []
+    balls: list[str] = []
+    for _ in range(mirror_count):
+        x, y = chance.randrange(8, side - 8), chance.randrange(4, side // 2 - 4) * 2
+        own = {(x + i, y + 1 - x % 2 + j) for i in range(-2, 6) for j in range(-2, 4)}
+        if cells.isdisjoint(own):
+            cells |= own
+            mirrors.append(f"mirror {x} {y + 1 - x % 2} 4 2")
+    for _ in range(40):
+        cell = chance.randrange(8, side - 8), chance.randrange(8, side - 8)
+        if cell not in cells:
+            cells.add(cell)
+            balls.append(f"{chance.choice(('ball', 'in a', 'in b'))} {cell[0]} {cell[1]}")
+    return "\n".join([f"layout {side} {side} 60", *mirrors, *balls, "end"]) + "\n"
+
+
 class Ways(unittest.TestCase):
     """The pieces of ways."""
 
@@ -113,17 +132,51 @@ class Ways(unittest.TestCase):
         self.assertGreater(flown, 500)
         self.assertGreater(stepped, flown)
 
+    def test_crowded_layouts(self) -> None:
+        """The ways of layouts in which many balls that fly meet each other, and mirrors that no ball can change."""
+        seed = random.randrange(10**6)
+        chance = random.Random(seed)
+        for _ in range(30):
+            text = crowded_layout(chance, chance.choice((0, 12, 40)))
+            with self.subTest(seed=seed, text=text):
+                document = read_document(text)
+                assert document.layout
+                self.assertTrue(WayRun(document.layout, {}, 1).is_firm)
+                self.assert_same(document)
+
+    def test_a_flight_is_one_move(self) -> None:
+        """Balls that meet nothing cost no steps, however far they fly."""
+        crossed: list[int] = []
+
+        class Counted(WayRun):
+            """A run that counts single moves."""
+
+            def cross(self, start: int, end: int, direction: int, left: list[int]) -> None:
+                crossed.append(start)
+                super().cross(start, end, direction, left)
+
+        balls = [f"ball {4 * number} {4 * number % 60}" for number in range(20)]
+        document = read_document("\n".join(["layout 512 512 400", "mirror 490 1 4 2", *balls, "end"]) + "\n")
+        assert document.layout
+        run = Counted(document.layout, {}, 1)
+        self.assertTrue(run.fly(400))
+        self.assertEqual(crossed, [])
+        self.assertEqual(run.move_count, 20 * 400)
+        self.assertEqual(len(list(run.pieces())), 20)
+
     def flown_steps(self, document: Document) -> int:
-        """Returns how many steps balls of a layout fly at once with others."""
+        """Returns how many steps balls of a layout fly at once."""
         layout, counts = document.layout, list[int]()
         assert layout
 
         class Counted(WayRun):
             """A run that counts steps of flights."""
 
-            def land(self, flying: list[tuple[int, int, Table]], count: int) -> None:
-                counts.append(len(flying) * count)
-                super().land(flying, count)
+            def land(self, number: int) -> int:
+                before = self.move_count
+                key = super().land(number)
+                counts.append(self.move_count - before)
+                return key
 
         tables, full, _ = drawing.wire_tables(document, [])
         Counted(layout, tables, full).fly(layout.steps)

@@ -16,6 +16,8 @@ from .ways import Piece, directed_ways, joined_pieces, ways_of
 
 CELL = 12
 MARGIN = 30
+# The middle of the first cell.
+MIDDLE = MARGIN + CELL // 2
 NAME_SIZE = 8
 # Up to this many inputs all choices are tried, and else so many samples of them.
 MAX_INPUTS = 12
@@ -89,12 +91,6 @@ def centre(cell: Cell) -> tuple[float, float]:
 def short(number: float) -> str:
     """Writes a coordinate with as few digits as it needs."""
     return f"{number:.1f}".rstrip("0").rstrip(".")
-
-
-def point(cell: Cell) -> str:
-    """Writes the middle of a cell for a path."""
-    x, y = centre(cell)
-    return f"{short(x)} {short(y)}"
 
 
 def rectangle(kind: str, x: int, y: int, width: int, height: int) -> str:
@@ -301,7 +297,8 @@ def way_parts(drawing: Drawing, wires: list[str], widening: float) -> list[str]:
         # seen itself.
         thinnest = 1.6 if widening == 1 else 2.6
         width = (5 - (5 - thinnest) * index / max(1, len(order) - 1)) * widening
-        path = "".join(f"M{point(first)}L{point(last)}" for first, last in joined_pieces(drawing.ways[wire]))
+        path = "".join([f"M{MIDDLE + CELL * x} {MIDDLE + CELL * y}L{MIDDLE + CELL * u} {MIDDLE + CELL * v}"
+                        for (x, y), (u, v) in joined_pieces(drawing.ways[wire])])
         dashes = f' stroke-dasharray="{" ".join(short(int(part) * widening) for part in dash.split())}"' if dash else ""
         title = escape(label_of(drawing, wire))
         parts.append(f'<path class="way w{colour}" style="stroke-width:{short(width)}"{dashes} '

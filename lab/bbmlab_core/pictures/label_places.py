@@ -11,7 +11,7 @@ COVERING_COST = 100.0
 # How many lines of text a name may be away from its cell. Further than `MAX_BARE` it gets a line to its cell.
 MAX_AWAY = 6
 MAX_BARE = 1
-# The side of the squares in which rectangles are filed.
+# The least side of the squares in which rectangles are filed. Higher names get larger squares: each touches few.
 BUCKET = 64.0
 
 Point = tuple[float, float]
@@ -54,14 +54,15 @@ class Place:
 class Obstacles:
     """Rectangles with the cost of covering them, filed by squares of the picture."""
 
-    def __init__(self) -> None:
+    def __init__(self, side: float = BUCKET) -> None:
+        self.side = side
         self.filed: dict[tuple[int, int], list[int]] = {}
         self.rects: list[tuple[Rect, float]] = []
 
     def squares(self, rect: Rect) -> Iterator[tuple[int, int]]:
         """Yields the squares that a rectangle touches."""
-        for row in range(int(rect.y // BUCKET), int((rect.y + rect.height) // BUCKET) + 1):
-            for column in range(int(rect.x // BUCKET), int((rect.x + rect.width) // BUCKET) + 1):
+        for row in range(int(rect.y // self.side), int((rect.y + rect.height) // self.side) + 1):
+            for column in range(int(rect.x // self.side), int((rect.x + rect.width) // self.side) + 1):
                 yield column, row
 
     def add(self, rect: Rect, cost: float) -> None:
@@ -97,7 +98,7 @@ def place_names(names: list[Name], signs: list[Rect], ports: list[Rect], bounds:
 
     `ports` are the cells of ports that have no name of their own, and `signs` what a name should leave free if it can.
     """
-    obstacles = Obstacles()
+    obstacles = Obstacles(max([BUCKET, *(name.height for name in names)]))
     for rect in signs:
         obstacles.add(rect, 1.0)
     for rect in [*ports, *(name.cell for name in names)]:

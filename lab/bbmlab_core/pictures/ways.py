@@ -1,29 +1,21 @@
 """The ways of the balls of a layout over all times, as straight pieces.
 
-A run of a large layout makes millions of moves, and most of them are of a ball that flies by itself: it moves to the
-opposite cell of its block. Such a move costs a microsecond here, and nothing where a ball flies for many steps at once.
-All other blocks follow the block rule in full (Margolus 1984).
+A run of a large layout makes millions of moves, and most of them are of a ball that flies by itself. Such a ball costs
+nothing until it can meet something (`flights`). All other blocks follow the block rule in full (Margolus 1984).
 """
 
 from typing import Iterable, Iterator
 
-from ..physics.simulation import DIAGONAL, ROW, Table, cell_of, key_of, start_tables
+from ..physics.simulation import DIAGONAL, ROW, Table, cell_of, key_of
 from ..texts.layouts import Cell, Layout, cells_of
+from .flights import (BACK_FALLING, BACK_RISING, DIRECTIONS, FALLING, FLYING, RISING, ROW_BITS, SIDES, Flights, Walls,
+                      are_firm, mirror_cells)
 
 # A straight piece of a way: its first and its last cell.
 Piece = tuple[Cell, Cell]
-# The directions of moves by the differences of their cells' numbers: along the diagonals, and to the sides after a
-# collision.
-DIRECTIONS = (DIAGONAL, -DIAGONAL, ROW - 1, 1 - ROW, 1, -1)
-FALLING, BACK_FALLING, RISING, BACK_RISING = range(4)
+# A piece that is not complete: its first cell, its table, and when it begins.
+Begun = tuple[int, Table, int]
 DIRECTION_OF = {step: number for number, step in enumerate(DIRECTIONS)}
-# By whether x and y of a ball differ from the parity of the time, the direction in which it flies.
-FLYING = ((FALLING, BACK_RISING), (RISING, BACK_FALLING))
-# How many steps a ball may fly at once, and the bits of the side of squares: 2 * steps + 2 cells. If no ball of another
-# direction is in the square of a ball or next to it, they do not meet in these steps, since nothing spreads by more
-# than a cell a step.
-FLIGHTS = ((31, 6), (7, 4))
-ROW_BITS = ROW.bit_length() - 1
 
 
 def block_moves(before: dict[int, Table], corner: int) -> list[tuple[int, int, Table]]:
@@ -43,111 +35,110 @@ class WayRun:
     """A run of a layout that notes each move of a ball, joined to the move before it in its direction."""
 
     def __init__(self, layout: Layout, tables: dict[str, Table], full: Table) -> None:
-        self.live = {key: table for key, table in start_tables(layout, tables, full).items() if table}
-        # Cells of mirrors that never changed, the cells at which a mirror could stand in the same block, and those next
-        # to the rectangle.
-        self.steady = {key_of(cell) for part in layout.of_kind("mirror") for cell in part.cells()}
-        self.near = {key + side + across for key in self.steady for side in (-1, 0, 1) for across in (-ROW, 0, ROW)}
+        # Cells of mirrors that never changed.
+        self.steady = mirror_cells(layout)
+        # Whether no mirror ever changes.
+        self.is_firm = are_firm(self.steady)
+        # What does not fly.
+        self.live = dict.fromkeys(self.steady, full) | start_of_balls(layout, tables, full)
+        # The cells whose blocks the next step looks at: moving ones, and ones that were left in the last two steps, if
+        # a mirror can change once they are gone.
+        self.moving: list[int] = [key for key in self.live if not self.is_firm or key not in self.steady]
+        self.left: tuple[list[int], list[int]] = ([] if self.is_firm else list(self.moving), [])
         self.outside = {key_of(cell) for cell in border_of(layout)}
-        # Where no ball flies for many steps at once.
-        self.stops = self.near | self.outside
-        # The cells whose blocks the next step looks at: moving ones, and ones that were left near a mirror in the last
-        # two steps.
-        self.moving: list[int] = list(self.live)
-        self.left: tuple[list[int], list[int]] = (list(self.live), [])
-        self.time = 0
-        # By the number of its last cell and its direction, the first cell of a piece, its table and when it begins; and
-        # pieces that ended.
-        self.open: dict[int, tuple[int, Table, int]] = {}
+        self.flights = Flights(Walls(layout, self.steady))
+        # The pieces of balls that fly, by their numbers, and cells that they left since the last step.
+        self.flown: dict[int, Begun] = {}
+        self.vacated: list[int] = []
+        self.time = self.move_count = 0
+        # By the number of its last cell and its direction, a piece that may go on; and pieces that ended.
+        self.open: dict[int, Begun] = {}
         self.ended: list[tuple[int, int, Table, int]] = []
 
-    def step(self) -> bool:
-        """Makes a step, and returns whether everything stays in the rectangle."""
-        live, near, steady, get = self.live, self.near, self.steady, self.live.get
-        # The corner of a cell's block, as `block_of` has it: a call for each cell would take a third of the time.
-        odd = DIAGONAL if self.time & 1 else 0
-        corners = {(key - odd & ~DIAGONAL) + odd for keys in (self.moving, *self.left) for key in keys}
-        moving: list[int] = []
-        left: list[int] = []
-        for corner in corners:
-            last = corner + DIAGONAL
-            a, d = get(corner, 0), get(last, 0)
-            b, c = get(corner + 1, 0), get(corner + ROW, 0)
-            if b or c:
-                if a or d or b and c:
-                    self.turn(corner, moving, left)
-                    continue
-                start, end, direction = (corner + 1, corner + ROW,
-                                         RISING) if b else (corner + ROW, corner + 1, BACK_RISING)
-            elif a:
-                if d:
-                    self.turn(corner, moving, left)
-                    continue
-                start, end, direction = corner, last, FALLING
-            elif d:
-                start, end, direction = last, corner, BACK_FALLING
-            else:
-                continue
-            live[end] = table = live.pop(start)
-            moving.append(end)
-            if start in near:
-                left.append(start)
-                steady.discard(start)
-            self.note(start, end, direction, table, self.time)
-        self.moving, self.left, self.time = moving, (left, self.left[0]), self.time + 1
-        return self.outside.isdisjoint(moving)
+    def fly(self, count: int) -> bool:
+        """Makes steps up to a number of them, and returns whether everything stays in the rectangle."""
+        until, is_inside, flights = self.time + count, True, self.flights
+        while self.time < until and is_inside:
+            self.take_off(until)
+            is_inside = self.step()
+            # A ball that landed before its time may fly again, and lands now once more.
+            self.moving += [self.land(number) for number in flights.due.pop(self.time, ()) if number in self.flown]
+        self.moving += [self.land(number) for number in list(self.flown)]
+        flights.due.clear()
+        return is_inside
 
-    def fly(self, count: int, level: int = 0) -> bool:
-        """Makes steps up to a number of them, and returns whether everything stays in the rectangle: as `step`, but in
-        fewer moves."""
-        if level == len(FLIGHTS):
-            return all(self.step() for _ in range(count))
-        until, (most, bits) = self.time + count, FLIGHTS[level]
-        while self.time < until:
-            start, steps = self.time, min(most, until - self.time)
-            flying = self.taken_off(steps, bits)
-            is_inside = self.fly(steps, level + 1)
-            self.land(flying, self.time - start)
-            if not is_inside:
-                return False
-        return True
-
-    def taken_off(self, steps: int, bits: int) -> list[tuple[int, int, Table]]:
-        """Takes the balls away that meet nothing in some steps, and returns them with their directions and tables."""
-        odd, stops, masks = self.time & 1, self.stops, dict[int, int]()
-        found, rest = list[tuple[int, int, int]](), list[int]()
+    def take_off(self, until: int) -> None:
+        """Lets balls fly that can, at most until a time."""
+        live, flights, time, odd, stay = self.live, self.flights, self.time, self.time & 1, list[int]()
         for key in self.moving:
             direction = FLYING[key & 1 ^ odd][key >> ROW_BITS & 1 ^ odd]
-            step, square = DIRECTIONS[direction], key >> ROW_BITS + bits << ROW_BITS | (key & ROW - 1) >> bits
-            if stops.isdisjoint(range(key, key + step * (steps + 1), step)):
-                found.append((key, direction, square))
-                masks[square] = masks.get(square, 0) | 1 << direction
-            else:
-                rest.append(key)
-                masks[square] = 15
-        wide: dict[int, int] = {}
-        for square in masks:
-            mask = 0
-            for near in (square - ROW, square, square + ROW):
-                mask |= masks.get(near - 1, 0) | masks.get(near, 0) | masks.get(near + 1, 0)
-            wide[square] = mask
-        rest += [key for key, direction, square in found if wide[square] != 1 << direction]
-        self.moving = rest
-        return [(key, direction, self.live.pop(key)) for key, direction,
-                square in found if wide[square] == 1 << direction]
+            one, other = SIDES[direction]
+            is_free = not (key + DIRECTIONS[direction] in live or key + one in live or key + other in live)
+            number = flights.take_off(key, direction, time, until) if is_free else None
+            if number is None:
+                stay.append(key)
+                continue
+            self.flown[number] = self.piece_to(key, direction, live.pop(key), time)
+            if not self.is_firm:
+                self.vacated.append(key)
+        self.moving = stay
 
-    def land(self, flying: list[tuple[int, int, Table]], count: int) -> None:
-        """Puts balls back that flew for a number of steps."""
-        for key, direction, table in flying:
-            end = key + DIRECTIONS[direction] * count
-            self.live[end] = table
-            self.moving.append(end)
-            self.note(key, end, direction, table, self.time - count)
+    def land(self, number: int) -> int:
+        """Puts a ball back that flew, and returns its cell."""
+        key, steps = self.flights.land(number, self.time)
+        begun = self.flown.pop(number)
+        self.live[key] = begun[1]
+        self.move_count += steps
+        self.keep_open(key * 8 + (number & 3), begun)
+        return key
 
-    def turn(self, corner: int, moving: list[int], left: list[int]) -> None:
+    def land_in(self, corner: int) -> None:
+        """Puts the balls back that fly through a block."""
+        for offset in self.flights.offsets(self.time):
+            if corner * 4 + offset in self.flown:
+                self.land(corner * 4 + offset)
+
+    def step(self) -> bool:
+        """Makes a step of what does not fly, and returns whether everything stays in the rectangle."""
+        get, flown, moving, left = self.live.get, self.flown, list[int](), self.vacated
+        # The corner of a cell's block, as `block_of` has it: a call for each cell would take a third of the time.
+        odd = DIAGONAL if self.time & 1 else 0
+        a_number, d_number, b_number, c_number = self.flights.offsets(self.time)
+        for corner in {(key - odd & ~DIAGONAL) + odd for keys in (self.moving, *self.left) for key in keys}:
+            first = corner * 4
+            if (first + a_number in flown or first + b_number in flown or first + c_number in flown
+                    or first + d_number in flown):
+                self.land_in(corner)
+            a, d = get(corner, 0), get(corner + DIAGONAL, 0)
+            b, c = get(corner + 1, 0), get(corner + ROW, 0)
+            if (b or c) and (a or d or b and c) or a and d:
+                self.turn(corner, (a, b, c, d), moving, left)
+            elif b:
+                self.cross(corner + 1, corner + ROW, RISING, left)
+                moving.append(corner + ROW)
+            elif c:
+                self.cross(corner + ROW, corner + 1, BACK_RISING, left)
+                moving.append(corner + 1)
+            elif a:
+                self.cross(corner, corner + DIAGONAL, FALLING, left)
+                moving.append(corner + DIAGONAL)
+            elif d:
+                self.cross(corner + DIAGONAL, corner, BACK_FALLING, left)
+                moving.append(corner)
+        self.moving, self.left, self.vacated, self.time = moving, (left, self.left[0]), [], self.time + 1
+        return self.outside.isdisjoint(moving)
+
+    def cross(self, start: int, end: int, direction: int, left: list[int]) -> None:
+        """Moves the only live cell of a block."""
+        table = self.live[end] = self.live.pop(start)
+        if not self.is_firm:
+            left.append(start)
+            self.steady.discard(start)
+        self.note(start, end, direction, table, self.time)
+
+    def turn(self, corner: int, before: tuple[Table, Table, Table, Table], moving: list[int], left: list[int]) -> None:
         """Applies the block rule to a block with more than one live cell."""
-        keys, live = (corner, corner + 1, corner + ROW, corner + DIAGONAL), self.live
-        before = [live.get(key, 0) for key in keys]
+        keys, live, steady = (corner, corner + 1, corner + ROW, corner + DIAGONAL), self.live, self.steady
         a, b, c, d = before
         one, other = a | d, b | c
         both, both_other = a & d & ~other, b & c & ~one
@@ -155,29 +146,38 @@ class WayRun:
         if flip or flip_other:
             for start, end, table in block_moves(dict(zip(keys, before)), corner):
                 self.note(start, end, DIRECTION_OF[end - start], table, self.time)
-        for key, old, change in zip(keys, before, (flip, flip_other, flip_other, flip)):
-            if change:
-                self.steady.discard(key)
-                left.append(key)
-                live[key] = old ^ change
-                if not live[key]:
-                    del live[key]
-            if key in live and key not in self.steady:
-                moving.append(key)
+            for key, old, change in zip(keys, before, (flip, flip_other, flip_other, flip)):
+                if change:
+                    if not self.is_firm:
+                        steady.discard(key)
+                        left.append(key)
+                    live[key] = old ^ change
+                    if not live[key]:
+                        del live[key]
+        moving += [key for key in keys if key in live and key not in steady]
 
     def note(self, start: int, end: int, direction: int, table: Table, time: int) -> None:
-        """Notes moves in a direction that begin at a time.
+        """Notes moves in a direction that begin at a time."""
+        begun = self.piece_to(start, direction, table, time)
+        self.move_count += 1
+        self.keep_open(end * 8 + direction, begun)
 
-        They go on with a piece only if it comes to their start just then.
-        """
-        piece, number = self.open.pop(start * 8 + direction, None), end * 8 + direction
-        if piece is not None and (piece[1] != table or piece[2] + (start - piece[0]) // DIRECTIONS[direction] != time):
-            self.ended.append((piece[0], start, piece[1], piece[2]))
-            piece = None
+    def piece_to(self, start: int, direction: int, table: Table, time: int) -> Begun:
+        """Returns the piece that a move from a cell goes on with: the one that comes there just then, or a new one."""
+        piece = self.open.pop(start * 8 + direction, None)
+        if piece is None:
+            return start, table, time
+        if piece[1] == table and piece[2] + (start - piece[0]) // DIRECTIONS[direction] == time:
+            return piece
+        self.ended.append((piece[0], start, piece[1], piece[2]))
+        return start, table, time
+
+    def keep_open(self, number: int, begun: Begun) -> None:
+        """Notes the last cell and the direction of a piece that may go on."""
         old = self.open.get(number)
         if old is not None:
-            self.ended.append((old[0], end, old[1], old[2]))
-        self.open[number] = piece or (start, table, time)
+            self.ended.append((old[0], number >> 3, old[1], old[2]))
+        self.open[number] = begun
 
     def pieces(self) -> Iterator[tuple[int, int, Table, int]]:
         """Returns all pieces: the first and the last cell, under which assignments a ball takes them, and when.
@@ -188,6 +188,13 @@ class WayRun:
             end, direction = divmod(number, 8)
             yield start, end - DIRECTIONS[direction] if end in self.outside else end, table, time
         yield from self.ended
+
+
+def start_of_balls(layout: Layout, tables: dict[str, Table], full: Table) -> dict[int, Table]:
+    """Returns the balls at the start, with their tables."""
+    balls = dict.fromkeys([key_of(part.cell) for part in layout.of_kind("ball")], full)
+    ins = {key_of(part.cell): table for part in layout.of_kind("in") if (table := tables.get(part.name or "", 0))}
+    return balls | ins
 
 
 def border_of(layout: Layout) -> Iterable[Cell]:
@@ -227,16 +234,20 @@ def all_pieces(layout: Layout, tables: dict[str, Table], full: Table, until: int
     found: dict[Table, list[Piece]] = {}
     for start, end, table, _ in run.pieces():
         found.setdefault(table, []).append((cell_of(start), cell_of(end)))
-    return found
+    return dict(sorted(found.items()))
 
 
 def ways_of(layout: Layout, tables: dict[str, Table], full: Table, until: int) -> dict[Table, list[Piece]]:
-    """Returns the pieces of the ways of balls up to a time by the assignments under which a ball takes them, joined."""
-    return {table: joined_pieces(pieces) for table, pieces in all_pieces(layout, tables, full, until).items()}
+    """Returns the pieces of the ways of balls up to a time by the assignments under which a ball takes them.
+
+    Each goes from its left end to its right end. Pieces of one line may share cells.
+    """
+    return {table: [(one, two) if one < two else (two, one) for one, two in pieces]
+            for table, pieces in all_pieces(layout, tables, full, until).items()}
 
 
 def directed_ways(layout: Layout, tables: dict[str, Table], full: Table, until: int) -> dict[Table, list[Piece]]:
-    """Returns the same ways with their directions: each piece goes as its ball flies."""
+    """Returns the same ways with their directions, joined: each piece goes as its ball flies."""
     found = {}
     for table, pieces in all_pieces(layout, tables, full, until).items():
         on = joined_pieces(piece for piece in pieces if piece[0] < piece[1])

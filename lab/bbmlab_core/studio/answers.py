@@ -70,7 +70,7 @@ class Answers:
             "start": self.start, "open": self.open, "save": self.save, "files": self.files, "refusal": self.refusal,
             "spelling": self.spelling,
             "cells": self.cells, "template": self.template, "verdict": self.job, "explain": self.job,
-            "export": self.job, "route": self.route,
+            "export": self.job, "route": self.route, "connect": self.connect,
             "routed": self.routed, "unroute": self.unroute}
         if name not in known:
             raise Denied(404, "there is no such request")
@@ -151,13 +151,21 @@ class Answers:
 
     def route(self, body: Answer) -> Answer:
         """Begins a search for a layout of the circuit of a text."""
+        return self.begun(body, None)
+
+    def connect(self, body: Answer) -> Answer:
+        """Begins to lead the ball of an output of a text to an input."""
+        return self.begun(body, (word(body, "output"), word(body, "input")))
+
+    def begun(self, body: Answer, ports: tuple[str, str] | None) -> Answer:
+        """Begins a search."""
         seconds, seed = body.get("seconds"), body.get("seed")
         if isinstance(seconds, bool) or not isinstance(seconds,
                                                        (int, float)) or isinstance(seed,
                                                                                    bool) or not isinstance(seed, int):
             raise Denied(400, "the request has no numbers `seconds` and `seed`")
         text, tab = word(body, "text"), word(body, "tab")
-        return self.routes.begin(tab, text, seconds, seed) if self.routes else NO_PROGRAM
+        return self.routes.begin(tab, text, seconds, seed, ports) if self.routes else NO_PROGRAM
 
     def routed(self, body: Answer) -> Answer:
         """Returns what became of the search of a tab."""

@@ -20,8 +20,10 @@ class Tools {
   wire = "a";
   isPair = true;
   cell = null;
+  source = null;
   hasWires = true;
   askLarger;
+  onConnect;
   selection = new Set();
   clipboard = [];
   pressed = null;
@@ -34,6 +36,7 @@ class Tools {
     this.sketch = sketch;
     this.say = say;
     this.askLarger = async () => false;
+    this.onConnect = () => {};
   }
 
   get model() { return this.desk.model; }
@@ -43,6 +46,7 @@ class Tools {
   /** Takes another tool. */
   choose(name) {
     this.cancel();
+    this.source = null;
     this.name = name;
     if (name !== "select") this.select([]);
     this.hover(this.at);
@@ -124,6 +128,7 @@ class Tools {
     if (this.name === "mirror") this.showMirror(cell, cell);
     else if (this.name === "cell" && this.cell) this.showCell(cell);
     else if (this.name === "paste") this.show(this.pasteAt(cell));
+    else if (this.name === "connect") this.showConnection(cell);
     else {
       const parts = this.partsFor(cell);
       this.show(parts && { parts, reason: this.model.whyNot(parts), time: this.steps, words: this.wordsFor(parts) });
@@ -167,6 +172,39 @@ class Tools {
       : `The cell ${name} takes ${layout.width} by ${layout.height} cells. Press to make the layout larger.`;
     const shown = ports.map((port) => ({ ...port, cell: [port.cell[0] + x, port.cell[1] + y] }));
     this.show({ parts, reason, ports: shown, words: `${name} ${this.cell.about}; ${layout.steps} steps.` });
+  }
+
+  /** Returns the port at a cell that the tool `connect` takes next: an output, and then an input. */
+  nextPort(cell) {
+    const kind = this.source ? "in" : "out";
+    return this.model.partsOn(...cell).find((part) => part.kind === kind) ?? null;
+  }
+
+  /** Shows the port that would be taken, and a line to it from the output that was pressed. */
+  showConnection(cell) {
+    const port = this.nextPort(cell), { source } = this;
+    const isTaken = ({ kind, name }) => (source && kind === "out" && name === source.name)
+      || (port && kind === port.kind && name === port.name);
+    const parts = port || source ? this.model.parts.filter(isTaken) : [];
+    const words = source
+      ? port ? `Press to lead the ball of ${source.name} here: it takes the place of the input ${port.name}.`
+        : `Press the input to which the ball of ${source.name} is to fly, or Escape.`
+      : port ? `Press to lead the ball of ${port.name} on to an input.` : "Press an output.";
+    this.show({ parts, words, time: this.steps, link: source ? [source.cell, cell] : null });
+  }
+
+  /** Takes an output, or has its ball led to an input. */
+  connectAt(cell) {
+    const port = this.nextPort(cell), { source } = this;
+    if (!port) {
+      this.say(source ? "This is no input." : "This is no output: press an `out` cell first.", true);
+      return;
+    }
+    this.source = source ? null : { name: port.name, cell };
+    if (source) {
+      this.show(null);
+      this.onConnect(source.name, port.name);
+    } else this.showConnection(cell);
   }
 
   /** Returns the ghost of the copied parts with their frame near a cell. */
@@ -214,7 +252,10 @@ class Tools {
     else if (mode === "frame") this.endFrame(between(start, end), isMore);
     else if (mode === "cell") this.placeCell(end);
     else if (mode === "paste") this.placeCopies(end);
-    else if (CELL_KINDS.includes(mode)) this.attempt(() => this.model.addCells(this.partsFor(end)));
+    else if (mode === "connect") {
+      this.connectAt(end);
+      return;
+    } else if (CELL_KINDS.includes(mode)) this.attempt(() => this.model.addCells(this.partsFor(end)));
     this.sketch.ghost = null;
     this.sketch.frame2 = null;
     this.sketch.requestOver();

@@ -1,9 +1,12 @@
-/** The button that routes the circuit of the text: a search in the background, with its progress, and with cancel. */
+/**
+ * What searches in the background, with its progress and with cancel: the button that routes the circuit of the text,
+ * and the tool that leads the ball of an output to an input.
+ */
 import { counted } from "../view/stage.js";
 import { ask, button, element, made } from "./page_parts.js";
 import { server } from "./server_link.js";
 
-const SECONDS = 60;
+const SECONDS = 60, CONNECT_SECONDS = 60;
 
 /** Returns a field for a number with its words. */
 function numberField(words, value, least, most) {
@@ -45,21 +48,40 @@ class RouterPanel {
     if (wanted) this.begin(...wanted);
   }
 
-  /** Begins a search, and shows what it does until it ends. */
+  /** Begins a search for a layout. */
   async begin(seconds, seed) {
-    const { model } = this.desk, head = model.headText;
+    this.seed = seed + 1;
+    const head = this.desk.model.headText;
+    const answer = await this.search("route", { text: `${head}\n`, seconds, seed }, "Routing");
+    this.take(answer, () => this.desk.model.headText === head, { label: "route", none: "There is no route.",
+      done: () => "Routed. The verdict is asked for the text as it is now." });
+  }
+
+  /** Begins to lead the ball of an output to an input. What is found was checked by the program. */
+  async connect(output, input) {
+    if (this.isRunning) {
+      this.say("A search is running.");
+      return;
+    }
+    const { text } = this.desk.model, wanted = { text, seconds: CONNECT_SECONDS, seed: 1, output, input };
+    const answer = await this.search("connect", wanted, `Leading the ball of ${output} to ${input}`);
+    this.take(answer, () => this.desk.model.text === text,
+      { label: "connect", none: "Nothing is changed.", done: (said) => said.at(-1) });
+  }
+
+  /** Begins a search, and shows what it does until it ends. Returns its last answer. */
+  async search(name, wanted, words) {
     this.isRunning = true;
     this.show("Begins…");
-    let answer = await server.request("route", { text: `${head}\n`, seconds, seed });
+    let answer = await server.request(name, wanted);
     while (answer.state === "runs") {
       const [about = ""] = answer.said;
-      this.show(`Routing since ${Math.floor(answer.seconds)} of ${seconds} s. ${about}`);
+      this.show(`${words} since ${Math.floor(answer.seconds)} of ${wanted.seconds} s. ${about}`);
       answer = await server.request("routed");
     }
     this.isRunning = false;
-    this.seed = seed + 1;
     this.hide();
-    this.take(answer, head);
+    return answer;
   }
 
   /** Shows the progress, with a button that ends the search. */
@@ -72,22 +94,22 @@ class RouterPanel {
 
   hide() { element("routing").hidden = true; }
 
-  /** Takes the layout that was found, or says why there is none. If the circuit is another one now, the text stays. */
-  async take({ state, text, said = [], error }, head) {
+  /** Takes the text that was found, or says why there is none. If the text is another one now, it asks first. */
+  async take({ state, text, said = [], error }, isCurrent, { label, none, done }) {
     if (state !== "found") {
       const why = error || (state === "cancelled" ? "The search was cancelled."
-        : `There is no route. ${said.filter((line) => !/first side|verdict/.test(line)).join(" ")}`);
+        : `${none} ${said.filter((line) => !/first side|verdict yes/.test(line)).join(" ")}`);
       this.say(why, state !== "cancelled");
       return;
     }
-    if (this.desk.model.headText !== head) {
-      const isTaken = await ask("The circuit has changed",
-        [made("p", "The layout is of the circuit as it was when the search began.")],
-        [["take it with that circuit", () => true], ["keep the text", () => false]]);
+    if (!isCurrent()) {
+      const isTaken = await ask("The text has changed",
+        [made("p", "What was found is of the circuit and the layout as they were when the search began.")],
+        [["take it in place of the text", () => true], ["keep the text", () => false]]);
       if (!isTaken) return;
     }
-    this.desk.model.setText(text, "route");
-    this.say("Routed. The verdict is asked for the text as it is now.");
+    this.desk.model.setText(text, label);
+    this.say(done(said));
   }
 }
 

@@ -1,4 +1,4 @@
-"""Routes for the studio: each is a `bbmlab route` of its own process, which goes on while the page is used, and can be
+"""Routes and connections for the studio: each is a process of its own, which goes on while the page is used, and can be
 ended at any time.
 """
 
@@ -19,7 +19,7 @@ from .folder import bytes_of, text_of
 
 # The package, which the process imports.
 PACKAGE_PARENT = Path(__file__).resolve().parent.parent.parent
-RUN = "import sys; from bbmlab_core.cli import main; sys.exit(main())"
+RUN = "import sys; from bbmlab_core.{} import main; sys.exit(main())"
 MAX_SECONDS, MAX_SEED = 3600, 2 ** 31
 # A page that asks no longer is gone: its search is ended after so many seconds. An ended search gets a moment to stop
 # the program that it runs.
@@ -67,30 +67,35 @@ class Routes:
         self.found: dict[str, Route] = {}
         self.is_closed = False
 
-    def begin(self, tab: str, text: str, seconds: float, seed: int) -> dict[str, Any]:
-        """Begins a search for the circuit of a text. Raises LabError if another one runs, or a number is not allowed.
+    def begin(self, tab: str, text: str, seconds: float, seed: int,
+              ports: tuple[str, str] | None = None) -> dict[str, Any]:
+        """Begins a search for the circuit of a text, or for a way from an output to an input of the text. Raises
+        LabError if another one runs, or a number is not allowed.
         """
         if not 1 <= seconds <= MAX_SECONDS or not 0 <= seed < MAX_SEED:
             raise LabError(f"A search takes 1 to {MAX_SECONDS} seconds, and its seed is from 0 to {MAX_SEED - 1}.")
+        if ports:
+            words = [RUN.format("studio.connecting"), "text.txt", "bundle.txt", *ports, f"{seconds:g}", str(seed),
+                     self.program]
+        else:
+            words = [RUN.format("cli"), "route", "text.txt", "-o", "bundle.txt", "--seed", str(seed), "--effort",
+                     f"{seconds:g}", "--program", self.program]
         with self.lock:
             if any(route.process.poll() is None for route in self.found.values()) or self.is_closed:
                 raise LabError("Another search is running. It can be cancelled in its tab.")
             self.drop(tab)
-            route = self.found[tab] = self.started(bytes_of(text), seconds, seed)
+            route = self.found[tab] = self.started(bytes_of(text), words, seconds)
         threading.Thread(target=self.watch, args=(route,), daemon=True).start()
         return {"state": "runs", "seconds": 0.0, "said": []}
 
-    def started(self, text: bytes, seconds: float, seed: int) -> Route:
-        """Returns a new search."""
+    def started(self, text: bytes, words: list[str], seconds: float) -> Route:
+        """Returns a new search: Python with some words, in a folder with the text."""
         room = tempfile.TemporaryDirectory(prefix="bbmlab-route-")
-        Path(room.name, "circuit.txt").write_bytes(text)
-        words = [sys.executable, "-B", "-c", RUN, "route", "circuit.txt", "-o", "bundle.txt", "--seed", str(seed),
-                 "--effort", f"{seconds:g}",
-                 "--program", self.program]
+        Path(room.name, "text.txt").write_bytes(text)
         path = os.pathsep.join([str(PACKAGE_PARENT), *filter(None, [os.environ.get("PYTHONPATH")])])
         with open(Path(room.name, "said"), "wb") as said:
-            process = subprocess.Popen(words, cwd=room.name, stdin=subprocess.DEVNULL, stdout=said, stderr=said,
-                                       start_new_session=True,
+            process = subprocess.Popen([sys.executable, "-B", "-c", *words], cwd=room.name, stdin=subprocess.DEVNULL,
+                                       stdout=said, stderr=said, start_new_session=True,
                                        env={**os.environ, "PYTHONPATH": path, "NO_COLOR": "1"})
         limit = self.memory * 2 ** 20
         try:

@@ -181,8 +181,9 @@ class Sketch extends Stage {
   }
 
   /** Draws what a tool would do: in red if it cannot. */
-  paintGhost(place, { parts, reason, ports = [], wanted = null, time = 0 }) {
+  paintGhost(place, { parts, reason, ports = [], wanted = null, time = 0, link = null }) {
     const { pen, scale } = place, ink = reason ? place.inks.bad : place.inks.good;
+    if (link) this.paintLink(place, link, ink);
     if (wanted) painting.outline(place, wanted, place.inks.bad, [3, 3], 0, 1.5);
     for (const { kind, name, box } of parts) {
       pen.globalAlpha = 0.3;
@@ -219,6 +220,18 @@ class Sketch extends Stage {
       }
       this.paintText(place, words[index], box.x + 2, box.y + 11, inks.box);
     });
+  }
+
+  /** Draws a dashed line between the middles of two cells. */
+  paintLink({ pen, scale, left, top }, [from, to], ink) {
+    pen.strokeStyle = ink;
+    pen.lineWidth = 2;
+    pen.setLineDash([6, 4]);
+    pen.beginPath();
+    pen.moveTo((from[0] + 0.5 - left) * scale, (from[1] + 0.5 - top) * scale);
+    pen.lineTo((to[0] + 0.5 - left) * scale, (to[1] + 0.5 - top) * scale);
+    pen.stroke();
+    pen.setLineDash([]);
   }
 
   /** Draws an arrow from a cell in the direction of its ball. */

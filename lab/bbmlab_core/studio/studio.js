@@ -18,6 +18,7 @@ const TOOLS = { select: ["select", "v", "Press a part, or drag a frame. Drag the
   out: ["out", "o", "Press where the output's ball is at the last time."], waste: ["waste", "w",
     "Press where a left-over ball is at the last time."],
   erase: ["erase", "e", "Press or drag over parts."], cell: ["cell", "c", "Press to put a standard cell."],
+  connect: ["connect", "j", "Press an output and then an input: mirrors lead the ball there."],
     hand: ["hand", "h", "Drag to move the picture."] };
 const KEYS =
   "Letters choose tools. On the picture: arrows move the cursor, Enter uses the tool (twice for a mirror or a frame), "
@@ -102,7 +103,8 @@ function showTime() {
 
 function showCell() {
   const cell = sketch.cursor || sketch.pointed;
-  element("cell").textContent = cell ? sketch.wordsOf(cell) : "";
+  const words = cell ? sketch.wordsOf(cell) : "";
+  if (element("cell").textContent !== words) element("cell").textContent = words;
 }
 
 /** Shows what follows from the run's end. */
@@ -348,6 +350,7 @@ function listenToChanges() {
   tools.onTool = showTool;
   tools.askLarger = (words, size) => ask("The cell is larger than the layout", [made("p", words)],
     [[`make the layout ${size.join(" by ")}`, () => true], ["cancel", () => null]]);
+  tools.onConnect = (output, input) => router.connect(output, input);
   verdicts.onInputs = () => panels.showInputs();
   new ResizeObserver(() => (sketch.isFit ? sketch.fit() : sketch.requestPaint())).observe(canvasParts.whole);
   new ResizeObserver(() => sketch.paintWave()).observe(canvasParts.waveBox);

@@ -103,7 +103,8 @@ function showEnd() {
 /** Shows the cell under the pointer with what there is. */
 function showCell() {
   stage.pointed = pageState.place ? stage.cellAt(...pageState.place) : stage.mark;
-  element("cell").textContent = stage.pointed ? stage.wordsOf(stage.pointed) : "";
+  const words = stage.pointed ? stage.wordsOf(stage.pointed) : "";
+  if (element("cell").textContent !== words) element("cell").textContent = words;
 }
 
 /** Lets the wire under the pointer stand out, or none while the picture moves. */

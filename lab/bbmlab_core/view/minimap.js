@@ -33,8 +33,10 @@ class Minimap {
     const { stage, canvas, scale } = this, { layout } = stage, [x0, y0, x1, y1] = stage.seen();
     canvas.hidden = x0 <= 0 && y0 <= 0 && x1 >= layout.width && y1 >= layout.height;
     if (canvas.hidden) return;
-    canvas.style.width = `${Math.ceil(layout.width * scale)}px`;
-    canvas.style.height = `${Math.ceil(layout.height * scale)}px`;
+    const wide = `${Math.ceil(layout.width * scale)}px`, high = `${Math.ceil(layout.height * scale)}px`;
+    // A style that is written, even its own, has the page laid out again.
+    if (canvas.style.width !== wide || canvas.style.height !== high) Object.assign(canvas.style, { width: wide,
+      height: high });
     const place = painting.clearCanvas(canvas, scale, 0, 0), { pen, inks } = place;
     stage.tiles.paint(place);
     pen.strokeStyle = inks.box;

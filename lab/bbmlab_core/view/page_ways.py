@@ -10,11 +10,10 @@ from ..pictures.ways import WayRun
 from ..texts.circuits import Circuit
 from ..texts.documents import Document
 
-# A run with more moves has no ways on the page: they take some 2 microseconds each here, and a page of them would be
-# too large.
+# A run with more moves has no ways on the page, which would be too large.
 MAX_MOVES = 3_000_000
 # After so many steps the moves are counted.
-CHUNK = 31
+CHUNK = 256
 # In place of the table of assignments that are no wire's.
 NO_WIRE = -1
 
@@ -32,15 +31,10 @@ def timed_run(document: Document, tables: dict[str, Table], full: Table) -> WayR
     """Returns the run of a layout to its end, or None if it has too many moves."""
     layout = document.layout
     assert layout
-    run, moves = WayRun(layout, tables, full), 0
-    while run.time < layout.steps:
-        before = run.time
-        is_inside = run.fly(min(CHUNK, layout.steps - before))
-        moves += len(run.moving) * (run.time - before)
-        if moves > MAX_MOVES:
+    run = WayRun(layout, tables, full)
+    while run.time < layout.steps and run.fly(min(CHUNK, layout.steps - run.time)):
+        if run.move_count > MAX_MOVES:
             return None
-        if not is_inside:
-            break
     return run
 
 

@@ -6,7 +6,7 @@
  * pixels for a cell
  */
 import { placeNames } from "./labels.js";
-import { Buckets } from "./tiles.js";
+import { Buckets, visitModules } from "./tiles.js";
 
 const INKS = ["ink", "soft", "paper", "plane", "grid", "border", "mirror", "ball", "box", "good", "bad", "edge", "halo",
   "stop", "wave"];
@@ -15,16 +15,24 @@ const RULER = { wide: 32, high: 18 }, WIRE_INKS = 8;
 // Below this scale tiles show what is still. Where modules are more than a few, borders that are closer, or more, hide
 // what is in them.
 const TILE_SCALE = 4, CLOSE_BORDERS = 20, FEW_MODULES = 64, MANY_BORDERS = 3000, MAX_MODULE_SIDE = 64;
+// Below this scale no lines of modules are drawn.
+const LINES_SCALE = 4;
 // A mirror so many cells from all ports does not matter for the places of their names.
 const NEAR_PORT = 48;
 // How many lines of text a name may be away from its cell, and the scales from which a few and many ports have names:
 // 2,520 names take 200 ms to place at scale 6, and 15 ms at scale 10.
 const MAX_AWAY = 2, NAMED_SCALE = 6, MANY_PORTS = 400, MANY_SCALE = 10;
 
+// Whether the page is dark, and the colours that were read then: to read them takes a millisecond of a frame.
+const dark = globalThis.matchMedia?.("(prefers-color-scheme: dark)"), read = { isDark: null, inks: {} };
+
 /** Returns the colours of the page as it is shown now. */
 function inksNow() {
+  if (read.isDark === dark.matches) return read.inks;
   const style = getComputedStyle(document.documentElement);
-  return Object.fromEntries(INKS.map((name) => [name, style.getPropertyValue(`--${name}`).trim()]));
+  read.inks = Object.fromEntries(INKS.map((name) => [name, style.getPropertyValue(`--${name}`).trim()]));
+  read.isDark = dark.matches;
+  return read.inks;
 }
 
 /** Returns the colours of wires as the page is shown now, and that of what is no wire's. */
@@ -337,7 +345,7 @@ function seenModules(place, found) {
   const [x0, y0, x1, y1] = [place.left, place.top, place.left + place.wide / place.scale,
     place.top + place.high / place.scale], numbers = [];
   const least = found.length > FEW_MODULES ? CLOSE_BORDERS / place.scale : 0;
-  found.forEach(({ box: [x, y, w, h] }, number) => {
+  visitModules(found, [Math.floor(x0), Math.floor(y0), x1, y1], (number, [x, y, w, h]) => {
     if (Math.min(w, h) >= least && x <= x1 && y <= y1 && x + w >= x0 && y + h >= y0) numbers.push(number);
   });
   return numbers.length > MANY_BORDERS ? [] : numbers;
@@ -370,7 +378,7 @@ function modules(place, found, chosen) {
 /** Draws the cells of lines of the certificate, with a letter for the kind and the wire where there is room. */
 function lines(place, found) {
   const { pen, inks, scale } = place, offsets = { edge: 2, halo: 4, stop: 6 };
-  if (scale < 4) return;
+  if (scale < LINES_SCALE) return;
   pen.font = "600 10px ui-monospace, monospace";
   for (const { kind, x, y, signal } of found) {
     if (!isSeen(place, x, y)) continue;
@@ -434,9 +442,12 @@ function rulers(place, { width, height }, pointed) {
   pen.stroke();
   pen.font = "11px system-ui, sans-serif";
   const [x0, y0, x1, y1] = seenRange(place, { width, height });
-  const numbers = (first, last, size, distance) =>
-    [...Array(Math.max(0, Math.min(last, size) - Math.max(0, first))).keys()]
-    .map((index) => index + Math.max(0, first)).filter((number) => number % rulerStep(scale, distance) === 0);
+  const numbers = (first, last, size, distance) => {
+    const step = rulerStep(scale, distance), found = [];
+    for (let number = Math.ceil(Math.max(0, first) / step) * step; number < Math.min(last, size); number += step)
+        found.push(number);
+    return found;
+  };
   const columns = numbers(x0, x1, width, 30), rows = numbers(y0, y1, height, 18);
   const column = (x, isPointed) => { if (px(place, x + 0.5) > RULER.wide + 8) rulerNumber(place, x, px(place, x + 0.5),
     RULER.high - 5, isPointed); };
@@ -484,5 +495,5 @@ function scene(place, shown) {
 export {
   clearCanvas, inksNow, scene, outline, grid, cells, ports, modules, lines, ring, differences, rulers, rulerStep,
     trails,
-  bars, wireInks, seenRange, RULER,
+  bars, wireInks, seenRange, RULER, LINES_SCALE,
 };

@@ -9,18 +9,29 @@ const AHEAD_SLICE = 25, SEEK_SLICE = 40;
 // then.
 const NOTED = 32;
 
-/** Returns the edge, halo and stop lines of modules by their times; lines for all odd times are at "*". */
-function linesByTime(modules) {
+/** Adds a line to those of a time. */
+function addLine(found, time, line) {
+  if (!found.has(time)) found.set(time, []);
+  found.get(time).push(line);
+}
+
+/** Returns the edge and halo lines of modules by their times; lines for all odd times are at "*". */
+function bordersByTime(modules) {
   const found = new Map();
-  const add = (time, line) => {
-    if (!found.has(time)) found.set(time, []);
-    found.get(time).push(line);
-  };
   modules.forEach((module, number) => {
     for (const [kind, lines] of [["edge", module.edges], ["halo", module.halos]]) {
-      for (const [time, x, y, signal] of lines) add(time === null ? "*" : time, { kind, number, time, x, y, signal });
+      for (const [time, x, y, signal] of lines) addLine(found, time === null ? "*" : time,
+          { kind, number, time, x, y, signal });
     }
-    for (const [time, signal, x, y] of module.stops) add(time, { kind: "stop", number, time, x, y, signal });
+  });
+  return found;
+}
+
+/** Returns the stop lines of modules by their times. */
+function stopsByTime(modules) {
+  const found = new Map();
+  modules.forEach((module, number) => {
+    for (const [time, signal, x, y] of module.stops) addLine(found, time, { kind: "stop", number, time, x, y, signal });
   });
   return found;
 }
@@ -37,7 +48,8 @@ class Player {
   first;
   on;
   probes;
-  said;
+  stops;
+  borders = null;
   own;
   listeners;
   values;
@@ -63,7 +75,7 @@ class Player {
     this.on = new Set(this.first);
     // `data.isQuiet` says that nobody looks at the waveform.
     this.probes = data.isQuiet ? [] : waveform.probesOf(data);
-    this.said = linesByTime(this.modules);
+    this.stops = stopsByTime(this.modules);
     this.own = null;
     this.listeners = { time: [], progress: [], end: [], play: [], inputs: [] };
   }
@@ -183,10 +195,21 @@ class Player {
     this.own = new ModuleRun(this.data, number, bits);
   }
 
+  /**
+   * Returns the edge and halo lines that speak of the present time: at odd times only. They are filed at the first such
+   * time, since a large layout has hundreds of thousands, for which the first picture would wait.
+   */
+  bordersNow() {
+    const { time } = this.run;
+    if (time % 2 === 0) return [];
+    this.borders ??= bordersByTime(this.modules);
+    const timed = this.borders.get(time) || [];
+    return time < this.layout.steps ? timed.concat(this.borders.get("*") || []) : timed;
+  }
+
   /** Returns the lines that speak of the present time, those of a module first. */
   linesNow(module) {
-    const time = this.run.time, timed = this.said.get(time) || [];
-    const found = time % 2 === 1 && time < this.layout.steps ? [...timed, ...(this.said.get("*") || [])] : timed;
+    const time = this.run.time, found = [...(this.stops.get(time) || []), ...this.bordersNow()];
     if (module === null) return found;
     return [...found.filter((line) => line.number === module), ...found.filter((line) => line.number !== module)];
   }

@@ -3,7 +3,7 @@ import * as address from "./address.js";
 import { mirrorsOf, trail } from "./automaton.js";
 import * as painting from "./painting.js";
 import { SvgPen } from "./svg_pen.js";
-import { Buckets, changedPlaces, Tiles } from "./tiles.js";
+import { Buckets, changedPlaces, Tiles, visitModules } from "./tiles.js";
 import * as waveform from "./waveform.js";
 import { Wires } from "./wires.js";
 
@@ -206,7 +206,10 @@ class Stage {
     for (const [kind, found] of [["in", layout.ins], ["out", layout.outs]])
         words.push(...found.filter(isHere).map(({ name }) => `${kind} ${name}`));
     if (layout.wastes.some(([u, v]) => u === x && v === y)) words.push("waste");
-    const module = player.modules.findIndex(({ box: [u, v, w, h] }) => x >= u && y >= v && x < u + w && y < v + h);
+    let module = -1;
+    visitModules(player.modules, [x, y, x, y], (number, [u, v, w, h]) => {
+      if (x >= u && y >= v && x < u + w && y < v + h) module = number;
+    });
     if (module >= 0 && player.modules.length > 1) words.push(`module ${module}`);
     return `(${x}, ${y})${words.length ? `: ${words.join(", ")}` : ""}`;
   }
@@ -242,7 +245,8 @@ class Stage {
     const wire = this.pointedWire || this.wire;
     painting.scene(place, { layout, modules, live: run.live, mirrors, odd: run.time % 2, trail: this.trails(),
       chosen: module,
-      lines: this.player.linesNow(module), fault, mark, good: run.time === layout.steps ? this.good : null, pointed,
+      lines: place.scale < painting.LINES_SCALE ? [] : this.player.linesNow(module), fault, mark,
+      good: run.time === layout.steps ? this.good : null, pointed,
       ways: (where, range) => this.drawWays(where, range), still: place.pen instanceof SvgPen ? null
         : (where) => this.drawStill(where),
       different: () => run.different(), over: wire ? (where) => this.wires.bring(where, wire) : null });

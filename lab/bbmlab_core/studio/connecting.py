@@ -1,0 +1,275 @@
+"""Leads the ball of an output to an input of the same layout by mirrors, and checks the result by the program.
+
+The machine of the input begins later, when the output's ball can be there. Its other balls are led to their places from
+time 0, and the balls of all other machines are led on to the new last time. `bbmlab join` leads balls in the same way.
+The studio runs this in a process of its own:
+
+    python3 -c '..' text.txt made.txt OUTPUT INPUT SECONDS SEED PROGRAM
+"""
+
+import sys
+import time
+from pathlib import Path
+from typing import Iterable, Iterator
+
+from ..host.program import opened
+from ..host.terminal import LabError
+from ..joining.command import SETTINGS
+from ..joining.composing import Named
+from ..joining.modules import JoinedModules
+from ..joining.parts import ALWAYS, PartText
+from ..joining.planning import DETOUR, Job, Placed, Plan
+from ..joining.wiring import Wiring
+from ..route.balls import Ball, Leg
+from ..route.board import NoRouteError
+from ..route.certificate import rectangles
+from ..route.paths import Path as BallPath
+from ..route.world import RIM, ROW, number_cell
+from ..texts import sections
+from ..texts.certificates import Certificate
+from ..texts.circuits import Circuit
+from ..texts.documents import Document, read_document
+from ..texts.layouts import Cell, Layout
+from ..texts.limits import SECOND, limits_for, with_line
+from ..texts.skimming import head_of
+from ..texts.spelling import spelled
+from .machines import End, MachineRun
+from .verdicts import Judge
+
+# The columns and rows around the layout that may be used, and the steps to spare of the ball, by the attempts.
+ROOMS = (0, 32, 64, 128, 256, 512)
+SLACKS = (60, 150, 250)
+# The seconds in which the program and the lab's search for a certificate must end.
+CHECK_SECONDS = 20.0
+
+
+class NoModules(JoinedModules):
+    """The modules of a layout whose certificate is made later: each has room."""
+
+    def __init__(self) -> None:
+        """There is nothing to keep."""
+
+    def modules_of(self, path: BallPath) -> set[int]:
+        """Returns no modules."""
+        return set()
+
+    def has_room_for(self, wire: str, numbers: Iterable[int]) -> bool:
+        """Whether there is room for a wire."""
+        return True
+
+    def count(self, wire: str, numbers: Iterable[int], change: int) -> None:
+        """Notes nothing."""
+
+
+class Leading(Wiring):
+    """The paths of a connection: between its ports straight or by a few bounces, if that can be."""
+
+    def connected(self, wire: str, start: Ball, goal: Ball) -> BallPath | None:
+        """Returns a path between two balls."""
+        steps = goal.time - start.time
+        straight = [Leg(steps, None)] if start.flown(steps) == goal else None
+        legs = straight or self.finder.connect_short(start, goal, self.settings.path_tries)
+        path = self.finder.complete(wire, start, goal, legs) if legs else None
+        return path or super().connected(wire, start, goal)
+
+
+class Connection:
+    """An output and an input of a text that are to be one wire. Raises LabError if they cannot be."""
+
+    def __init__(self, document: Document, output: str, given: str) -> None:
+        assert document.circuit and document.layout
+        self.circuit, self.layout, self.output, self.input = document.circuit, document.layout, output, given
+        require_ports(self.circuit, output, given)
+        self.run = MachineRun(document)
+        goals = [port.ball for port in self.run.starts if port.wire == given]
+        outs = [end for end in self.run.ends if (end.kind, end.name) == ("out", output)]
+        for what, count in ((f"the output {output}", len(outs)), (f"the input {given}", len(goals))):
+            if count != 1:
+                raise LabError(f"{what[:1].upper()}{what[1:]} has {count or 'no'} {'balls' if count > 1 else 'ball'}: "
+                               "just one can be connected.")
+        self.out, self.goal = outs[0], goals[0]
+        self.late = self.run.find(next(number for number, port in enumerate(self.run.starts) if port.wire == given))
+        if self.run.machine_of(self.out.ball) == self.late:
+            raise LabError(f"The times do not fit: the ball of {given} meets balls that {output} comes from, so it "
+                           f"cannot start after {output} has come out.")
+
+    def delays(self) -> list[int]:
+        """Returns when the machine of the input may begin: first so that the ball flies straight on, if it can."""
+        ball, goal = self.out.ball, self.goal
+        far = max(abs(ball.x - goal.x), abs(ball.y - goal.y))
+        straight = [goal_time for goal_time in (ball.time + far,) if ball.flown(far) == goal.moved(0, 0, goal_time)]
+        return straight + [(ball.time + int((1 + DETOUR) * far) + slack + 1) // 2 * 2 for slack in SLACKS]
+
+    def plan(self, delay: int, room: int) -> Plan:
+        """Returns which balls are led on the layout with some columns and rows around it."""
+        layout, run, end = self.layout, self.run, self.layout.steps + delay
+        side = max(layout.width, layout.height) + 2 * room
+        if side > SECOND.max_side or end > SECOND.max_steps:
+            raise LabError(f"The layout would take {side} columns or rows and {end} steps, which is not allowed.")
+        late = {self.late}
+        soon = {run.find(number) for number in range(len(run.starts))} - late
+        placed = []
+        for numbers, own_time in ((soon, 0), (late, delay)):
+            text = PartText(self.circuit, Layout(0, 0, layout.steps), Certificate(2, []), [], [],
+                            run.item(numbers, own_time == 0))
+            placed.append(Placed(Named("", text), room, room, own_time))
+        jobs = [Job(self.output, placed[0].ball(self.out.ball), placed[1].ball(self.goal), delay)]
+        jobs += [Job(port.wire, None, placed[1].ball(port.ball), delay) for number, port in enumerate(run.starts)
+                 if run.find(number) == self.late and port.ball != self.goal]
+        jobs += [Job(end_ball.name or "", placed[0].ball(end_ball.ball), None, end) for end_ball in self.moved_ends()]
+        return Plan(side, end, placed, jobs, side, side)
+
+    def moved_ends(self) -> list[End]:
+        """Returns the balls that are led on to the new last time."""
+        return [end for end in self.run.ends
+                if self.run.machine_of(end.ball) != self.late and end.ball != self.out.ball]
+
+    def wire(self, name: str) -> str:
+        """Returns what a wire is called afterwards."""
+        return self.output if name == self.input else name
+
+    def section(self) -> str:
+        """Returns the circuit. Gates that follow from the input come after all others."""
+        circuit, late = self.circuit, {self.input}
+        gates: tuple[list[sections.Gate], list[sections.Gate]] = ([], [])
+        for gate in circuit.gates:
+            is_late = not late.isdisjoint(gate.ins)
+            late.update(gate.outs if is_late else ())
+            gates[is_late].append(sections.Gate(gate.word, tuple(map(self.wire, gate.ins)), tuple(gate.outs),
+                                                gate.parameter))
+        inputs = tuple(name for name in circuit.inputs if name != self.input)
+        outputs = tuple(self.wire(name) for name in circuit.outputs if name != self.output)
+        return sections.text_of(sections.Circuit(inputs, (*gates[0], *gates[1]), outputs,
+                                                 tuple(map(self.wire, circuit.spills))))
+
+
+def require_ports(circuit: Circuit, output: str, given: str) -> None:
+    """Raises LabError if the names are no ports, or if a loop would come about."""
+    if output not in circuit.outputs or given not in circuit.inputs:
+        raise LabError(f"There is no output {output} or no input {given}.")
+    free, _ = circuit.cone([output])
+    if given in free:
+        raise LabError(f"The output {output} follows from the input {given}: they would make a loop.")
+
+
+class Made:
+    """The text of a connection whose balls were led."""
+
+    def __init__(self, connection: Connection, plan: Plan, paths: list[BallPath]) -> None:
+        self.connection, self.plan, self.paths = connection, plan, paths
+        self.room = plan.placed[0].x
+        self.left, self.top, self.width, self.height = self.frame()
+
+    def frame(self) -> tuple[int, int, int, int]:
+        """Returns the part of the plane that has the layout and all paths: its corner, its width and its height."""
+        layout, room = self.connection.layout, self.room
+        xs, ys = [room + layout.width // 2], [room + layout.height // 2]
+        for path in self.paths:
+            for number in (*path.item.mirrors, *path.item.touched):
+                xs.append(number % ROW)
+                ys.append(number // ROW)
+        left, top = min(room, max(0, min(xs) - RIM) & ~1), min(room, max(0, min(ys) - RIM) & ~1)
+        right = max(room + layout.width, min(self.plan.side, max(xs) + RIM + 2 & ~1))
+        bottom = max(room + layout.height, min(self.plan.side, max(ys) + RIM + 2 & ~1))
+        return left, top, right - left, bottom - top
+
+    def moved(self, cell: Cell) -> Cell:
+        """Returns a cell of the plane in the new layout."""
+        return cell[0] - self.left, cell[1] - self.top
+
+    def old(self, cell: Cell) -> Cell:
+        """Returns a cell of the old layout in the new one."""
+        return self.moved((cell[0] + self.room, cell[1] + self.room))
+
+    def text(self) -> str:
+        """Returns the circuit and the layout."""
+        circuit = self.connection.circuit
+        limits = limits_for(max(self.width, self.height), self.plan.end, 1, len(circuit.gates), len(circuit.defined))
+        return with_line(self.connection.section() + "\n".join(self.lines()) + "\n", limits)
+
+    def lines(self) -> Iterator[str]:
+        """Yields the lines of the layout: mirrors, those of the paths last, and then the ports."""
+        own = self.connection
+        yield f"layout {self.width} {self.height} {self.plan.end}"
+        for part in own.layout.of_kind("mirror"):
+            x, y = self.old(part.cell)
+            yield f"mirror {x} {y} {part.width} {part.height}"
+        new = {self.moved(number_cell(number)) for path in self.paths for number in path.item.mirrors}
+        for x, y, width, height in rectangles(new):
+            yield f"mirror {x} {y} {width} {height}"
+        ports = sorted(self.ports(), key=lambda port: ("ball", "in", "out", "waste").index(port[0]))
+        for kind, name, (x, y) in ports:
+            yield f"{kind} {name} {x} {y}" if name else f"{kind} {x} {y}"
+        yield "end"
+
+    def ports(self) -> Iterator[tuple[str, str | None, Cell]]:
+        """Yields the kind, the name and the cell of each port."""
+        own, run = self.connection, self.connection.run
+        led = {cell for number, port in enumerate(run.starts) if run.find(number) == own.late
+               for cell in port.ball.cells()}
+        ended = {cell for end in (*own.moved_ends(), own.out) for cell in end.ball.cells()}
+        for part in own.layout.parts:
+            is_led = part.cell in (led if part.kind in ("ball", "in") else ended)
+            if part.kind != "mirror" and not is_led:
+                yield part.kind, part.name and own.wire(part.name), self.old(part.cell)
+        for job, path in zip(self.plan.jobs, self.paths):
+            if job.start is None:
+                for cell in path.start.cells():
+                    yield ("ball", None, self.moved(cell)) if job.wire == ALWAYS else ("in", job.wire, self.moved(cell))
+        moved = self.paths[len(self.paths) - len(own.moved_ends()):]
+        for end, path in zip(own.moved_ends(), moved):
+            for cell in path.end.cells():
+                yield end.kind, end.name and own.wire(end.name), self.moved(cell)
+
+
+def led(connection: Connection, deadline: float, seed: int) -> Made:
+    """Leads all balls, on ever larger planes. Raises LabError if that was not done in time."""
+    why = ""
+    for room in ROOMS:
+        for delay in connection.delays():
+            plan = connection.plan(delay, room)
+            wiring = Leading(plan, NoModules(), seed, SETTINGS, deadline)
+            why = wiring.closed_end()
+            if why:
+                break
+            try:
+                return Made(connection, plan, wiring.run(lambda done, total: None))
+            except NoRouteError as error:
+                why = str(error)
+            if time.monotonic() > deadline:
+                break
+    raise LabError(f"There is no room for the ball's way: {why}.")
+
+
+def connect(text: str, ports: tuple[str, str], deadline: float, seed: int) -> Made:
+    """Returns the connection of an output and an input of a text."""
+    head = head_of(spelled(text).text)
+    document = read_document(head, "design")
+    if document.refusal or not document.circuit or not document.layout:
+        raise LabError("The circuit and the layout cannot be read: fix this first.")
+    return led(Connection(document, *ports), deadline, seed)
+
+
+def main() -> int:
+    """Connects two ports of a file, and writes the text if the program says yes to it."""
+    source, target, output, given, seconds, seed, program = sys.argv[1:]
+    deadline = time.monotonic() + float(seconds)
+    try:
+        made = connect(Path(source).read_bytes().decode("latin-1"), (output, given), deadline, int(seed))
+        text = made.text()
+        print(f"Led in {made.plan.end} steps. The program checks.", file=sys.stderr, flush=True)
+        verdict = Judge(text, opened(program), CHECK_SECONDS).verdict()
+        if verdict.verdict != "yes":
+            words = " ".join(verdict.words)
+            raise LabError(f"The balls could be led, but the verdict would be {verdict.verdict}. {words}")
+    except LabError as error:
+        print(error, file=sys.stderr)
+        return 1
+    except KeyboardInterrupt:
+        return 130
+    Path(target).write_bytes((verdict.bundle if verdict.by == "certify" else text).encode("latin-1"))
+    grown = (made.width, made.height) != (made.connection.layout.width, made.connection.layout.height)
+    words = f" The layout grew to {made.width} by {made.height} cells." if grown else ""
+    print(f"The ball flies from {output} to the place of {given}, and the program says yes.{words} "
+          f"The layout has {made.plan.end} steps now.", file=sys.stderr)
+    return 0

@@ -1,0 +1,107 @@
+"""The machines of a layout: balls that meet others, one after another, belong to one. A whole machine can begin later.
+
+The run is that under all choices of up to 12 inputs, else under samples. Two balls that come into one block at one time
+count as meeting, under whichever choices each is there.
+"""
+
+from array import array
+from dataclasses import dataclass
+
+from ..host.terminal import LabError
+from ..joining.parts import Port, balls_of, start_ports
+from ..pictures.drawing import wire_tables
+from ..route.balls import Ball, block_corner, start_state, stepped
+from ..route.world import ROW, STEP, Item, cell_number
+from ..texts.documents import Document
+from ..texts.layouts import Cell
+
+# A longer run takes minutes.
+MAX_MOVES = 2_000_000
+
+
+@dataclass(frozen=True)
+class End:
+    """A ball at the last time, with the kind and the name of its port."""
+
+    kind: str
+    name: str | None
+    ball: Ball
+
+
+class MachineRun:
+    """The run of a layout that finds its machines. Each ball at the start is a machine until it meets another one."""
+
+    def __init__(self, document: Document) -> None:
+        layout = document.layout
+        assert layout
+        self.layout, self.mirrors = layout, layout.mirror_cells()
+        self.tables, self.full, _ = wire_tables(document, [])
+        self.starts, fault = start_ports(layout)
+        if fault:
+            raise LabError(f"{fault[:1].upper()}{fault[1:]}, and only these can be led.")
+        self.root = list(range(len(self.starts)))
+        self.machine = {cell: number for number, port in enumerate(self.starts) for cell in port.ball.cells()}
+        # The blocks in which balls move, at their times, by the balls they were when they were noted.
+        self.claims: list[array[int]] = [array("q") for _ in self.starts]
+        self.run()
+        self.ends = self.found_ends()
+
+    def find(self, number: int) -> int:
+        """Returns the machine of a ball."""
+        while self.root[number] != number:
+            self.root[number] = number = self.root[self.root[number]]
+        return number
+
+    def start_table(self, port: Port) -> int:
+        """Returns under which choices a ball is there at the start."""
+        return self.full if port.wire == "1" else self.tables.get(port.wire, 0)
+
+    def run(self) -> None:
+        """Runs the layout. Raises LabError if a mirror breaks or a ball leaves."""
+        live, moves = start_state([(port.ball, self.start_table(port)) for port in self.starts]), 0
+        for time in range(self.layout.steps):
+            blocks: dict[Cell, int] = {}
+            for cell in live:
+                corner, own = block_corner(cell, time), self.find(self.machine[cell])
+                other = blocks.setdefault(corner, own)
+                if other != own:
+                    self.root[own] = self.find(other)
+            following = stepped(self.mirrors, live, self.full, set(blocks))
+            moves += len(live)
+            if following is None or not all(map(self.layout.has, following)):
+                raise LabError(f"At time {time} a mirror breaks or a ball leaves the layout: fix this first.")
+            if moves > MAX_MOVES:
+                raise LabError(f"The layout makes more than {MAX_MOVES} moves, which takes too long here.")
+            for (x, y), number in blocks.items():
+                self.claims[number].append(time * STEP + y * ROW + x)
+            self.machine = {cell: blocks[block_corner(cell, time)] for cell in following}
+            live = following
+
+    def found_ends(self) -> list[End]:
+        """Returns the balls at the last time. Raises LabError if cells there are none."""
+        groups: dict[tuple[str, str | None], list[Cell]] = {}
+        for part in self.layout.parts:
+            if part.kind in ("out", "waste") and part.cell in self.machine:
+                groups.setdefault((part.kind, part.name), []).append(part.cell)
+        found = []
+        for (kind, name), cells in groups.items():
+            balls = balls_of(cells, self.layout.steps)
+            if balls is None:
+                raise LabError(f"The cells of {name or 'waste'} at the end, such as {cells[0]}, are not balls of two "
+                               "cells, and only these can be led.")
+            found += [End(kind, name, ball) for ball in balls]
+        return found
+
+    def machine_of(self, ball: Ball) -> int:
+        """Returns the machine of a ball at the last time."""
+        return self.find(self.machine[ball.cells()[0]])
+
+    def item(self, numbers: set[int], is_for_mirrors: bool) -> Item:
+        """Returns what some machines take. Mirrors, which are nobody's, are in one of the items."""
+        claims = array("q", (claim for number, own in enumerate(self.claims) if self.find(number) in numbers
+                             for claim in own))
+        mirrors = frozenset(map(cell_number, self.mirrors))
+        corners = {claim % STEP for claim in claims}
+        touched = {corner + offset for corner in corners for offset in (0, 1, ROW, ROW + 1)} - mirrors
+        return Item(mirrors if is_for_mirrors else frozenset(), (array("q", sorted(touched)),),
+                    (array("q", sorted(claims)),))
