@@ -335,12 +335,16 @@ def certificate_text(certificate: Certificate) -> str:
     """Writes a certificate section."""
     lines = [f"certificate {certificate.version}"]
     for module in certificate.modules:
-        lines.append(f"module {module.box.words}")
-        lines += [f"cut {name}" for name in module.cuts]
-        lines += [f"use {number}" for number in sorted(module.uses)]
-        lines += [f"keep {number}" for number in sorted(module.keeps)]
-        lines += [str(line) for line in (*module.edges, *module.halos, *module.stops)]
+        lines += module_lines(module)
     return "\n".join([*lines, "end"]) + "\n"
+
+
+def module_lines(module: Module) -> list[str]:
+    """Returns the lines of a module."""
+    return [f"module {module.box.words}", *(f"cut {name}" for name in module.cuts),
+            *(f"use {number}" for number in sorted(module.uses)),
+            *(f"keep {number}" for number in sorted(module.keeps)),
+            *(str(line) for line in (*module.edges, *module.halos, *module.stops))]
 
 
 def certified(document: Document, boxes: list[Box] | None, plan: CertificatePlan,

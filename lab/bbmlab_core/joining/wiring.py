@@ -7,13 +7,15 @@ free cells. If a ball finds no way, the paths across its straight way make room 
 import random
 import time
 from itertools import chain
-from typing import Callable
+from typing import Callable, Collection, Iterator
 
-from ..route.balls import Ball, Leg
+from ..route.balls import Ball, Leg, follow, reversed_legs
 from ..route.board import Bound, NoRouteError
 from ..route.paths import Path, PathFinder, Trail
 from ..route.settings import Settings
-from ..route.world import Item, World, path_item
+from ..route.world import TILE, Item, World, path_item
+from ..texts.boxes import Box
+from .coils import coils_of, is_free
 from .modules import JoinedModules
 from .parts import ALWAYS
 from .planning import Job, Placed, Plan
@@ -31,7 +33,7 @@ JOIN_STEPS = (80, 260)
 LEAVING_STEPS = 80
 # The paths that are tried for a ball before others make room, and how often that may happen for each ball.
 TRIES = 4
-RIPS = 6
+RIPS = 2
 # The cost of a step inside a part, in cells, and that of a step away from its border. Outside a step touches at most
 # three new cells.
 INSIDE_CELLS = 5
@@ -42,6 +44,24 @@ NEAR = 70
 WAY_STEPS = 76
 
 
+# A ball with at least so many steps to wait goes to a coil, if one has room. A coil keeps so many cells off parts. It
+# is between the next two numbers of steps behind a wander of some steps, which is tried a few times.
+LEAST_COILED = 400
+CLEAR = 80
+COIL_AHEAD = 12
+COIL_REACH = 200
+AWAY_STEPS = (40, 500)
+COIL_TRIES = 5
+
+
+class TightError(NoRouteError):
+    """Some balls between two parts could not be led in the time that they got. `connections` has their numbers."""
+
+    def __init__(self, message: str, connections: list[int]) -> None:
+        super().__init__(message, Bound.PATH)
+        self.connections = connections
+
+
 class JoinWorld(World):
     """A world with parts, in which cells inside a part are dear: balls leave parts, so that they enclose no other port.
 
@@ -50,11 +70,25 @@ class JoinWorld(World):
 
     def __init__(self, plan: Plan) -> None:
         super().__init__(plan.side)
-        self.boxes = [(own.x, own.y, own.x + own.width, own.y + own.height) for own in plan.placed]
+        self.boxes = [(own.x, own.y, own.x + own.area.width, own.y + own.area.height) for own in plan.placed]
+        # Parts are at whole tiles, and take whole tiles.
+        self.box_of_tile = {(column, row): box for box in self.boxes
+                            for column in range(box[0] // TILE, box[2] // TILE)
+                            for row in range(box[1] // TILE, box[3] // TILE)}
+
+    def is_clear_of_parts(self, box: Box) -> bool:
+        """Whether a box is so far from all parts that balls can still leave them."""
+        right, bottom = box.x + box.width + CLEAR, box.y + box.height + CLEAR
+        return not any(left < right and box.x - CLEAR < far and top < bottom and box.y - CLEAR < low
+                       for left, top, far, low in self.boxes)
 
     def depth(self, x: int, y: int) -> int:
         """Returns how far a cell is from the border of the part that it is in, or 0."""
-        return max(0, *(min(x - left, right - x, y - top, bottom - y) for left, top, right, bottom in self.boxes))
+        box = self.box_of_tile.get((x // TILE, y // TILE))
+        if box is None:
+            return 0
+        left, top, right, bottom = box
+        return min(x - left, right - x, y - top, bottom - y)
 
     def new_cells(self, ball: Ball, steps: int) -> int:
         """Returns the cost of a straight flight: the cells that it newly touches, but more inside a part."""
@@ -83,9 +117,12 @@ class Wiring:
         if time.monotonic() > self.deadline:
             raise NoRouteError("the time was over", Bound.TIME)
 
-    def run(self, progress: Callable[[int, int], None]) -> list[Path]:
-        """Returns the paths of all balls; raises NoRouteError."""
-        jobs = self.plan.jobs
+    def run(self, progress: Callable[[int, int], None], can_loosen: Collection[int] = ()) -> list[Path]:
+        """Returns the paths of all balls; raises NoRouteError.
+
+        Of balls between two parts that can get more time, all are tried before the search ends with a TightError.
+        """
+        jobs, tight = self.plan.jobs, list[int]()
         for index in range(len(jobs)):
             self.reserve(index)
         queue = sorted(range(len(jobs)), key=lambda index: (not jobs[index].is_between, -jobs[index].steps))
@@ -93,8 +130,13 @@ class Wiring:
         while queue:
             self.check_time()
             index = queue.pop(0)
+            if tight and not jobs[index].is_between:
+                break
             if self.lead(index) or self.lead_first(index):
                 progress(len(self.paths), len(jobs))
+                continue
+            if index in can_loosen:
+                tight.append(index)
                 continue
             crossing = self.paths_across(index)
             left -= 1 + len(crossing)
@@ -103,6 +145,8 @@ class Wiring:
             for other in crossing:
                 self.take_back(other)
             queue = [index, *queue, *crossing]
+        if tight:
+            raise TightError(self.words(tight[0]), tight)
         return [self.paths[index] for index in range(len(jobs))]
 
     def words(self, index: int) -> str:
@@ -112,15 +156,13 @@ class Wiring:
                 for what, ball in (("from", job.start), ("to", job.goal)) if ball]
         return f"{ball_words(job)} could not be led {' '.join(ends)}"
 
-    def closed_end(self) -> str:
-        """Says which open end no ball can leave even if no other ball is led, or returns nothing."""
-        for job in self.plan.jobs:
+    def closed_ends(self) -> Iterator[tuple[int, Ball, int]]:
+        """Yields the open ends that no ball can leave even if no other ball is led: the number of the job, the ball,
+        and 1 behind it or -1 before it."""
+        for index, job in enumerate(self.plan.jobs):
             for ball, sign in ((job.start, 1), (job.goal, -1)):
                 if ball is not None and not any(self.can_leave(ball, sign) for _ in range(TRIES)):
-                    where = "behind it" if sign > 0 else "before it"
-                    return (f"{ball_words(job)} at ({ball.x}, {ball.y}) at time {ball.time} has no room for a bounce "
-                            f"{where}")
-        return ""
+                    yield index, ball, sign
 
     def can_leave(self, ball: Ball, sign: int) -> bool:
         """Whether a ball can fly some steps on, or some steps come before it if `sign` is -1."""
@@ -196,10 +238,41 @@ class Wiring:
         self.finder.known_departures.clear()
         if job.goal is None:
             assert job.start is not None
-            return self.finder.lead_on(job.wire, job.start, job.end)
+            return self.coiled(job, job.start, job.end) or self.finder.lead_on(job.wire, job.start, job.end)
         if job.start is None:
-            return self.finder.lead_here(job.wire, job.goal)
+            return self.coiled(job, job.goal, 0) or self.finder.lead_here(job.wire, job.goal)
         return self.connected(job.wire, job.start, job.goal)
+
+    def coiled(self, job: Job, ball: Ball, end: int) -> Path | None:
+        """Returns a path that wanders away from its part, to a coil in which the ball waits, or None.
+
+        Without a start the ball comes from a coil.
+        """
+        if job.steps < LEAST_COILED:
+            return None
+        for _ in range(COIL_TRIES):
+            trail = Trail(self.world, ball, is_backward=job.start is None)
+            stop = min(trail.ball.time + self.chance.randint(*AWAY_STEPS), end)
+            more = self.coil_legs(trail, end) if self.finder.wander(trail, stop) else None
+            legs = trail.legs() if trail.steps else []
+            trail.clear()
+            if more is not None:
+                legs = linked(reversed_legs(more), legs) if job.start is None else linked(legs, more)
+                start, goal = (self.finder.before(ball, legs), ball) if job.start is None else (
+                    ball, follow(ball, legs)[0])
+                path = self.finder.complete(job.wire, start, goal, legs)
+                if path is not None:
+                    return path
+        return None
+
+    def coil_legs(self, trail: Trail, end: int) -> list[Leg] | None:
+        """Returns legs from the end of a trail to a coil that has room, and in it up to a time; or None."""
+        left = end - trail.ball.time
+        for ahead in range(COIL_AHEAD, min(left, trail.room(COIL_REACH)) + 1, 4):
+            for coil in coils_of(trail.ball.flown(ahead), left - ahead):
+                if self.world.is_clear_of_parts(coil.box) and is_free(self.world, coil.box):
+                    return linked([Leg(ahead, None)], list(coil.legs(left - ahead)))
+        return None
 
     def connected(self, wire: str, start: Ball, goal: Ball) -> Path | None:
         """Returns a path between two parts: it wanders back from the goal and on from the start, and joins the two."""
@@ -269,4 +342,4 @@ def linked(legs: list[Leg], more: list[Leg]) -> list[Leg]:
 
 def moved_item(placed: Placed) -> Item:
     """Returns what a part takes where and when it is in the join."""
-    return placed.part.text.item.moved(placed.x, placed.y, placed.time)
+    return placed.part.item.moved(placed.x, placed.y, placed.time)

@@ -110,15 +110,17 @@ class Attempt:
     def next_gate(self) -> Gate:
         """Returns the gate to place next: its inputs are there early, and its results are needed early.
 
-        Gates whose inputs may all begin anywhere wait until no other gate is ready.
+        Gates whose inputs may all begin anywhere wait until no other gate is ready. Those that depend on late inputs
+        come last.
         """
         netlist, waiting = self.netlist, self.board.waiting
 
-        def rank(gate: Gate) -> tuple[bool, bool, float, int]:
+        def rank(gate: Gate) -> tuple[bool, bool, bool, float, int]:
             balls = [waiting[netlist.root(wire)].ball for wire in gate.ins if not netlist.is_zero(wire)]
             times = [ball.time for ball in balls if ball is not None]
             is_alone = not times and self.placer.partner(gate, []) is None
-            return not times, is_alone, max(times, default=0) - self.weight * netlist.tails[gate.number], gate.number
+            need = max(times, default=0) - self.weight * netlist.tails[gate.number]
+            return gate.number in netlist.late_gates, not times, is_alone, need, gate.number
 
         ready = [gate for gate in self.todo.values()
                  if all(netlist.is_zero(wire) or netlist.root(wire) in waiting for wire in gate.ins)]

@@ -63,7 +63,8 @@ class Placer:
         # Waiting balls that cannot turn, and the ball that the last step or path would have enclosed.
         self.stuck: set[str] = set()
         self.enclosed = ""
-        # The earliest time for the gate that is being placed, by its delayed inputs that are never true.
+        # The earliest time for the gate that is being placed, by its delayed inputs that are never true, and by late
+        # inputs.
         self.least_time = 0
         # The estimated time at which all gates are done.
         self.horizon = 0
@@ -84,8 +85,9 @@ class Placer:
         self.stuck.clear()
         self.finder.known_departures.clear()
         netlist = self.board.netlist
-        self.least_time = max((netlist.least_steps(wire) for wire in gate.ins if netlist.is_zero(wire)), default=0)
         inlets = self.inlets(gate)
+        self.least_time = max([self.late_time(inlets), *(netlist.least_steps(wire) for wire in gate.ins
+                                                         if netlist.is_zero(wire))])
         for spot in self.spots(gate, inlets) if spots is None else spots:
             self.reasons["tries"] += 1
             step = self.try_spot(gate, spot, inlets)
@@ -95,6 +97,14 @@ class Placer:
             if max(self.blame.values(), default=0) > self.settings.most_blame:
                 break
         return None
+
+    def late_time(self, inlets: list[Inlet]) -> int:
+        """Returns the earliest time for a gate with some inputs: a late one comes after all balls that wait for it."""
+        netlist = self.board.netlist
+        if not any(inlet.ball is None and inlet.root in netlist.late for inlet in inlets):
+            return 0
+        return max((own.ball.time for root, own in self.board.waiting.items() if own.ball and netlist.is_awaited(root)),
+                   default=0)
 
     # --- where and when -----------------------------------------------------------------------------------------------
 

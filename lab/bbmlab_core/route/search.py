@@ -53,8 +53,8 @@ COMPACT_LANE = 10
 
 @dataclass(frozen=True)
 class Options:
-    """What a search is asked for: a seed, a side or None, seconds, processes, and whether small layouts, a part or a
-    map are wanted."""
+    """What a search is asked for: a seed, a side or None, seconds, processes, whether small layouts, a part or a map
+    are wanted, and late inputs."""
 
     seed: int = 1
     side: int | None = None
@@ -63,6 +63,7 @@ class Options:
     is_compact: bool = False
     keeps_partial: bool = False
     has_map: bool = False
+    late: tuple[str, ...] = ()
 
     @property
     def most_side(self) -> int:
@@ -137,10 +138,10 @@ def netlists_of(circuit: Circuit, options: Options) -> list[Netlist]:
     circuit is shallow.
 
     Balls that begin at any place are led more easily than balls to one last time. Parts are kept of forward netlists
-    alone.
+    alone, and only they have late inputs.
     """
-    forward, backward = Netlist(circuit), Netlist(circuit, is_backward=True)
-    if len(backward.free_roots()) - len(forward.free_roots()) <= MOST_GROWTH:
+    forward, backward = Netlist(circuit, late=options.late), Netlist(circuit, is_backward=True)
+    if options.late or len(backward.free_roots()) - len(forward.free_roots()) <= MOST_GROWTH:
         return [forward]
     is_shallow = max(forward.tails.values(), default=0) <= SHALLOW_STEPS
     return [backward, forward] if is_shallow and not options.keeps_partial else [forward, backward]
