@@ -18,7 +18,7 @@ from unittest import mock
 
 import support
 from bbmlab_core.joining import coils, command, lone_ways, modules, planning, wiring
-from bbmlab_core.joining.composing import Composed, Connection, Named, composed
+from bbmlab_core.joining.composing import Composed, Connection, NamedPart, composed
 from bbmlab_core.joining.lone_ways import balls_of
 from bbmlab_core.joining.parts import read_part
 from bbmlab_core.joining.places import GAP, Area, all_places
@@ -185,7 +185,7 @@ class Joining(unittest.TestCase):
     def verdict_with(self, change: mock._patch) -> str: # type: ignore[type-arg]
         """Returns the first lines that the program says of a join with a mistake."""
         with change, contextlib.redirect_stderr(io.StringIO()):
-            found = command.JoinSearch(self.made(), command.Asked(1, None, 60), ProgressLine(60)).run()[0]
+            found = command.JoinSearch(self.made(), command.JoinOptions(1, None, 60), ProgressLine(60)).run()[0]
         assert found
         said = subprocess.run([support.program(), "check"], input=found.text.encode(), capture_output=True, check=False)
         return "\n".join(said.stdout.decode().splitlines()[:4])
@@ -208,8 +208,8 @@ class Joining(unittest.TestCase):
 
     def test_paths_that_ignore_a_part(self) -> None:
         """Paths through the parts get a no if the world has only their mirrors."""
-        right = wiring.moved_item
-        change = mock.patch.object(wiring, "moved_item", lambda placed: Item(right(placed).mirrors))
+        right = wiring.item_in_join
+        change = mock.patch.object(wiring, "item_in_join", lambda placed: Item(right(placed).mirrors))
         self.assertIn("verdict no", self.verdict_with(change))
 
     def test_a_lost_wire(self) -> None:
@@ -219,7 +219,7 @@ class Joining(unittest.TestCase):
 
     def test_lines_of_a_lone_way(self) -> None:
         """A part that keeps the lines of a ball that comes another way gets no yes."""
-        change = mock.patch.object(Named, "missing", set[object]())
+        change = mock.patch.object(NamedPart, "missing", set[object]())
         self.assertRegex(self.verdict_with(change), "verdict no|^refused")
 
     # --- time and room between parts ----------------------------------------------------------------------------------
@@ -242,9 +242,9 @@ class Joining(unittest.TestCase):
 
     def test_more_time_for_one_ball(self) -> None:
         """A ball between two parts that cannot be led in its time gets more, and no other one does."""
-        search = command.JoinSearch(self.made(), command.Asked(1, None, 60), ProgressLine(60))
+        search = command.JoinSearch(self.made(), command.JoinOptions(1, None, 60), ProgressLine(60))
         _, _, own = search.prepared()
-        with mock.patch.object(wiring.Wiring, "lead", lambda *words: False):
+        with mock.patch.object(wiring.JoinWiring, "lead", lambda *words: False):
             with self.assertRaises(wiring.TightError) as caught:
                 own.run(lambda *words: None, [0])
         self.assertEqual(caught.exception.connections, [0])
@@ -268,8 +268,8 @@ class Joining(unittest.TestCase):
 
     def test_balls_wait_in_coils(self) -> None:
         """A ball that waits long goes to a coil, or comes from one, and is there at its time."""
-        plan = planning.Plan(1024, 4000, [], [], 1024, 1024)
-        own = wiring.Wiring(plan, mock.Mock(), 1, command.SETTINGS, float("inf"))
+        plan = planning.JoinPlan(1024, 4000, [], [], 1024, 1024)
+        own = wiring.JoinWiring(plan, mock.Mock(), 1, command.SETTINGS, float("inf"))
         for number in range(8):
             ball = Ball(440 + 16 * number, 500, 1, 1, 1000)
             job = planning.Job("w", None, ball, 1000) if number % 2 else planning.Job("w", ball, None, 4000)
@@ -306,7 +306,7 @@ class Joining(unittest.TestCase):
         made = self.made()
         plan = planning.made_plan(made, planning.estimated_side(made, [3]), [3])
         assert plan
-        own = wiring.Wiring(plan, modules.JoinedModules(made, plan), 1, command.SETTINGS, float("inf"))
+        own = wiring.JoinWiring(plan, modules.JoinedModules(made, plan), 1, command.SETTINGS, float("inf"))
         for job in plan.jobs:
             self.assertIsNotNone(next((path for path in (own.found(job) for _ in range(4)) if path), None), job)
 

@@ -366,8 +366,8 @@ class Delays(Routing):
         self.assertIn("the delays need 1052672 steps; a layout has at most 1048576", said)
 
 
-LATE = ("circuit\ninput a\ninput b\ninput c\nswitch c a -> d e f\nswitch b e -> g h i\nswitch h d -> j k l\n"
-        + "".join(f"output {wire}\n" for wire in "fgijkl") + "end\n")
+LATE = ("circuit\ninput a\ninput b\ninput c\nsource 1 -> one\nswitch c a -> d e f\nswitch b one -> g h i\n"
+        "switch h d -> j k l\n" + "".join(f"output {wire}\n" for wire in "efgijkl") + "end\n")
 
 
 class LateInputs(Routing):
@@ -378,7 +378,7 @@ class LateInputs(Routing):
         circuit = read_document(LATE, "circuit").circuit
         assert circuit
         design = Attempt(Netlist(circuit, late=late), 256, 1, Settings()).run()
-        gate = next(gate for gate in design.gates if gate.number == 0)
+        gate = next(gate for gate in design.gates if gate.number == 1)
         return next(path.end.time for path in design.paths if path.wire == "b"), gate.time + gate.cell.length
 
     def test_late_input(self) -> None:
@@ -392,8 +392,8 @@ class LateInputs(Routing):
         circuit = read_document(LATE, "circuit").circuit
         assert circuit
         netlist = Netlist(circuit, late=("b",))
-        self.assertEqual(netlist.late_gates, {1, 2})
-        self.assertEqual([wire for wire in "abcdefghk" if netlist.is_awaited(wire)], ["a", "c", "d", "e"])
+        self.assertEqual(netlist.late_gates, {2, 3})
+        self.assertEqual([wire for wire in "abcdefghk" if netlist.is_awaited(wire)], ["a", "c", "d"])
 
     def test_no_input(self) -> None:
         """A late input that the circuit does not have is refused."""

@@ -14,13 +14,13 @@ from ..texts.limits import limits_for, with_line
 from .composing import Composed
 from .modules import JoinedModules
 from .parts import ALWAYS
-from .planning import Placed, Plan
+from .planning import JoinPlan, PlacedPart
 
 
 class JoinedLayout:
     """The layout of a join. `wires` has the wire of each `in` and `out` cell."""
 
-    def __init__(self, composed: Composed, plan: Plan, paths: list[Path]) -> None:
+    def __init__(self, composed: Composed, plan: JoinPlan, paths: list[Path]) -> None:
         self.composed, self.plan, self.paths = composed, plan, paths
         self.netlist = Netlist(composed.circuit)
         self.starts: dict[str, list[Cell]] = {}
@@ -34,7 +34,7 @@ class JoinedLayout:
                 self.ends.setdefault(job.wire, []).extend(path.end.cells())
         self.add_dead_ends()
 
-    def add_part(self, placed: Placed) -> None:
+    def add_part(self, placed: PlacedPart) -> None:
         """Adds the ports of a part that begin at time 0 or end at the last time: they stay where they are."""
         part, layout = placed.part, placed.part.text.layout
         taken = {own.input for own in self.composed.connections if own.target == part.name}
@@ -91,7 +91,7 @@ class JoinedLayout:
                     yield cell, wire
 
 
-def crop(plan: Plan, paths: list[Path]) -> None:
+def crop(plan: JoinPlan, paths: list[Path]) -> None:
     """Leaves out whole tiles of a plane at the right and below that nothing reaches."""
     numbers = [number for path in paths for number in corner_numbers(path.item)]
     right = max([0, *(number % ROW + RIM for number in numbers), *(own.x + own.area.width for own in plan.placed)])
@@ -100,7 +100,7 @@ def crop(plan: Plan, paths: list[Path]) -> None:
     plan.height = min(plan.side, (bottom // TILE + 1) * TILE)
 
 
-def joined_bundle(composed: Composed, plan: Plan, modules: JoinedModules, paths: list[Path]) -> Routed:
+def joined_bundle(composed: Composed, plan: JoinPlan, modules: JoinedModules, paths: list[Path]) -> Routed:
     """Returns the bundle of a join whose balls are all led; raises NoRouteError if a module needs too many wires."""
     crop(plan, paths)
     layout = JoinedLayout(composed, plan, paths)

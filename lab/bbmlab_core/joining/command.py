@@ -23,8 +23,8 @@ from .bundles import joined_bundle
 from .composing import Composed, Connection, composed
 from .modules import JoinedModules
 from .parts import PartText, read_part
-from .planning import SPARES, Plan, estimated_side, made_plan
-from .wiring import TightError, Wiring, ball_words
+from .planning import SPARES, JoinPlan, estimated_side, made_plan
+from .wiring import JoinWiring, TightError, ball_words
 
 NAME = re.compile(r"[a-z][a-z0-9_]{0,15}")
 CONNECTION = re.compile(r"(\w+)\.(\w+)=(\w+)\.(\w+)")
@@ -34,7 +34,7 @@ GROWTH = 1.12
 
 
 @dataclass(frozen=True)
-class Asked:
+class JoinOptions:
     """What a join is asked for: a seed, a side or None, and seconds."""
 
     seed: int
@@ -107,7 +107,7 @@ def require_balls(made: Composed) -> None:
                 raise LabError(f"{own}: {why}: `join` leads one ball of two cells", 1)
 
 
-def require_open(plan: Plan) -> None:
+def require_open(plan: JoinPlan) -> None:
     """Raises LabError if a part that begins after time 0, or ends before the last time, has no whole balls there."""
     for placed in plan.placed:
         text, name = placed.part.text, placed.part.name
@@ -123,7 +123,7 @@ class JoinSearch:
     """
 
     made: Composed
-    asked: Asked
+    asked: JoinOptions
     line: ProgressLine
     attempts: int = 0
 
@@ -161,7 +161,7 @@ class JoinSearch:
         del wiring
         return joined_bundle(self.made, plan, modules, paths)
 
-    def prepared(self) -> tuple[Plan, JoinedModules, Wiring]:
+    def prepared(self) -> tuple[JoinPlan, JoinedModules, JoinWiring]:
         """Returns what an attempt begins with. At first ports whose inner balls cannot leave get their lone ways back.
         """
         while True:
@@ -173,14 +173,14 @@ class JoinSearch:
             modules = JoinedModules(self.made, plan)
             modules.require_meetings()
             seed = self.asked.seed * 1_000_003 + self.attempts + 1
-            wiring = Wiring(plan, modules, seed, SETTINGS, self.deadline)
+            wiring = JoinWiring(plan, modules, seed, SETTINGS, self.deadline)
             closed = [] if self.attempts else list(wiring.closed_ends())
             if not closed:
                 return plan, modules, wiring
             self.made = with_whole_ports(self.made, plan, closed)
 
 
-def with_whole_ports(made: Composed, plan: Plan, closed: list[tuple[int, Ball, int]]) -> Composed:
+def with_whole_ports(made: Composed, plan: JoinPlan, closed: list[tuple[int, Ball, int]]) -> Composed:
     """Returns a join in which ports with a closed inner end keep their lone ways; raises LabError if another end is
     closed."""
     whole: set[tuple[str, str]] = set()
@@ -217,7 +217,7 @@ def join_command(options: argparse.Namespace) -> int:
         connected = {wire for own in connections for wire in (own.output, own.input)}
         made = composed(read_parts(files, connected, program, options.timeout), connections)
         require_balls(made)
-        search = JoinSearch(made, Asked(options.seed, options.size, options.effort), line)
+        search = JoinSearch(made, JoinOptions(options.seed, options.size, options.effort), line)
         routed, why = search.run()
     attempts = search.attempts
     line.clear()

@@ -15,7 +15,7 @@ from ..texts.circuits import Circuit
 from ..texts.layouts import Cell
 from ..texts.limits import sections_after_line
 from .lone_ways import LoneWay
-from .parts import ALWAYS, PartText, Port, part_item
+from .parts import ALWAYS, PartText, PartPort, part_item
 
 
 @dataclass(frozen=True)
@@ -33,7 +33,7 @@ class Connection:
 
 
 @dataclass
-class Named:
+class NamedPart:
     """A part with its name, its wires as the join calls them, and the number of its first gate there.
 
     `ways` has the lone ways of its connected ports by their own wires. The join leaves them out.
@@ -45,7 +45,7 @@ class Named:
     first_gate: int = 0
     ways: dict[str, LoneWay] = field(default_factory=dict)
 
-    def inner_ball(self, ports: list[Port], wire: str) -> Ball:
+    def inner_ball(self, ports: list[PartPort], wire: str) -> Ball:
         """Returns the ball of a port, the first one if there are many, without a lone way that is left out."""
         way = self.ways.get(wire)
         return way.ball if way else next(port.ball for port in ports if port.wire == wire)
@@ -78,7 +78,7 @@ class Named:
 class Composed:
     """The circuit of a join, with its parts in an order in which each comes after those that feed it."""
 
-    parts: list[Named]
+    parts: list[NamedPart]
     connections: list[Connection]
     section: str
     circuit: Circuit
@@ -92,7 +92,7 @@ def composed(parts: dict[str, PartText], connections: list[Connection],
     """
     require_connections(parts, connections)
     order = ordered(list(parts), connections)
-    named = [Named(name, parts[name]) for name in order]
+    named = [NamedPart(name, parts[name]) for name in order]
     fed = {(own.target, own.input): own for own in connections}
     by_name = {part.name: part for part in named}
     count = 0
@@ -106,7 +106,7 @@ def composed(parts: dict[str, PartText], connections: list[Connection],
     return Composed(named, connections, sections_after_line(sections.text_of(lines)), read_circuit(lines))
 
 
-def connected_ways(part: Named, connections: list[Connection]) -> Iterator[tuple[str, LoneWay]]:
+def connected_ways(part: NamedPart, connections: list[Connection]) -> Iterator[tuple[str, LoneWay]]:
     """Yields the lone ways of the connected ports of a part, with their wires."""
     taken = {own.input for own in connections if own.target == part.name}
     given = {own.output for own in connections if own.source == part.name}
@@ -158,7 +158,7 @@ def ordered(names: list[str], connections: list[Connection]) -> list[str]:
     return order
 
 
-def circuit_lines(parts: list[Named], connections: list[Connection]) -> sections.Circuit:
+def circuit_lines(parts: list[NamedPart], connections: list[Connection]) -> sections.Circuit:
     """Returns the lines of the circuit of the join. Connected ports are neither inputs nor outputs."""
     given = {(own.source, own.output) for own in connections}
     taken = {(own.target, own.input) for own in connections}

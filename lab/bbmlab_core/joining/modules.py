@@ -24,7 +24,7 @@ from ..texts.limits import SECOND
 from ..texts.owners import NOBODY, Owners
 from .composing import Composed
 from .parts import ALWAYS
-from .planning import Placed, Plan
+from .planning import JoinPlan, PlacedPart
 
 # Tiles that nothing reaches become boxes of so many tiles in each direction.
 QUIET_TILES = 4
@@ -41,11 +41,11 @@ class JoinedModules:
     The first modules are those of the parts, and `origins` has them with their parts. The others are tiles.
     """
 
-    def __init__(self, composed: Composed, plan: Plan) -> None:
+    def __init__(self, composed: Composed, plan: JoinPlan) -> None:
         self.circuit, self.netlist, self.plan = composed.circuit, Netlist(composed.circuit), plan
         self.owners = Owners(plan.side, plan.side)
         self.boxes: list[Box] = []
-        self.origins: list[tuple[Placed, Module]] = []
+        self.origins: list[tuple[PlacedPart, Module]] = []
         for placed in plan.placed:
             for own in placed.part.text.certificate.modules:
                 self.add(Box(own.box.x + placed.x, own.box.y + placed.y, own.box.width, own.box.height))

@@ -23,7 +23,7 @@ ALWAYS = "1"
 
 
 @dataclass(frozen=True)
-class Port:
+class PartPort:
     """A ball at the start or at the end of a part, at its time there, with the wire that it carries.
 
     If the port is connected, `way` is its lone way.
@@ -44,8 +44,8 @@ class PartText:
     circuit: Circuit
     layout: Layout
     certificate: Certificate
-    starts: list[Port]
-    ends: list[Port]
+    starts: list[PartPort]
+    ends: list[PartPort]
     item: Item
     start_fault: str = ""
     end_fault: str = ""
@@ -100,7 +100,7 @@ def lone_runs(circuit: Circuit, layout: Layout, certificate: Certificate,
     return runs
 
 
-def start_ports(layout: Layout) -> tuple[list[Port], str]:
+def start_ports(layout: Layout) -> tuple[list[PartPort], str]:
     """Returns the balls at time 0, and why they are none if that is so."""
     cells: dict[str, list[Cell]] = defaultdict(list)
     for part in layout.parts:
@@ -109,7 +109,7 @@ def start_ports(layout: Layout) -> tuple[list[Port], str]:
     return ports_of(cells, 0, "start")
 
 
-def end_ports(circuit: Circuit, layout: Layout, wastes: dict[Cell, str | None]) -> tuple[list[Port], str]:
+def end_ports(circuit: Circuit, layout: Layout, wastes: dict[Cell, str | None]) -> tuple[list[PartPort], str]:
     """Returns the balls at the last time, without cells that are never live, and why they are none if that is so."""
     cells: dict[str, list[Cell]] = defaultdict(list)
     netlist = Netlist(circuit)
@@ -123,16 +123,16 @@ def end_ports(circuit: Circuit, layout: Layout, wastes: dict[Cell, str | None]) 
     return ports_of(cells, layout.steps, "end")
 
 
-def ports_of(cells: dict[str, list[Cell]], time: int, what: str) -> tuple[list[Port], str]:
+def ports_of(cells: dict[str, list[Cell]], time: int, what: str) -> tuple[list[PartPort], str]:
     """Returns the balls of the cells of each wire, and why they are none if that is so."""
-    ports: list[Port] = []
+    ports: list[PartPort] = []
     for wire, own in cells.items():
         balls = balls_of(own, time)
         if balls is None:
             x, y = own[0]
             name = "constants" if wire == ALWAYS else wire
             return [], f"the cells of {name} at its {what}, such as ({x}, {y}), are not balls of two cells"
-        ports += [Port(wire, ball) for ball in balls]
+        ports += [PartPort(wire, ball) for ball in balls]
     return ports, ""
 
 

@@ -10,7 +10,7 @@ from ..route.balls import Ball
 from ..route.world import TILE
 from ..texts.layouts import Cell
 from ..texts.limits import SECOND
-from .composing import Composed, Named
+from .composing import Composed, NamedPart
 from .places import GAP, Area, Place, all_places
 
 # The part of the plane between the parts that may be taken by estimate, and the cells that a ball newly touches in a
@@ -42,10 +42,10 @@ Spares = list[int]
 
 
 @dataclass
-class Placed:
+class PlacedPart:
     """A part at a place and a time."""
 
-    part: Named
+    part: NamedPart
     x: int = 0
     y: int = 0
     time: int = 0
@@ -94,7 +94,7 @@ class Job:
 
 
 @dataclass
-class Plan:
+class JoinPlan:
     """Places and times of all parts, the side of the plane and the last time.
 
     The layout is the plane up to `width` and `height`.
@@ -102,19 +102,19 @@ class Plan:
 
     side: int
     end: int
-    placed: list[Placed]
+    placed: list[PlacedPart]
     jobs: list[Job]
     width: int
     height: int
 
 
-def made_plan(composed: Composed, side: int, spares: Spares) -> Plan | None:
+def made_plan(composed: Composed, side: int, spares: Spares) -> JoinPlan | None:
     """Returns a plan on a plane with a side that takes few steps, or None if the parts have no room there.
 
     Balls between parts get some steps to spare. A part that feeds no other one begins as late as it can, if fewer balls
     come to it than leave it.
     """
-    areas = [Placed(part).area for part in composed.parts]
+    areas = [PlacedPart(part).area for part in composed.parts]
     found = [placed_at(composed, places, spares) for places in all_places(areas, side)]
     if not found:
         return None
@@ -124,17 +124,17 @@ def made_plan(composed: Composed, side: int, spares: Spares) -> Plan | None:
         feeds_none = not any(connection.source == own.part.name for connection in composed.connections)
         if feeds_none and own.part.text.can_wait:
             own.time += (end - own.end) // 2 * 2
-    return Plan(side, end, placed, jobs_of(composed, {own.part.name: own for own in placed}, end), side, side)
+    return JoinPlan(side, end, placed, jobs_of(composed, {own.part.name: own for own in placed}, end), side, side)
 
 
-def last_time(placed: list[Placed]) -> int:
+def last_time(placed: list[PlacedPart]) -> int:
     """Returns the time at which the last part ends."""
     return max(own.end for own in placed)
 
 
-def placed_at(composed: Composed, places: list[Place], spares: Spares) -> list[Placed]:
+def placed_at(composed: Composed, places: list[Place], spares: Spares) -> list[PlacedPart]:
     """Returns the parts at some places, each as early as its balls can come."""
-    placed = [Placed(part, x, y) for part, (x, y) in zip(composed.parts, places)]
+    placed = [PlacedPart(part, x, y) for part, (x, y) in zip(composed.parts, places)]
     by_name = {own.part.name: own for own in placed}
     for own in placed:
         for connection, spare in zip(composed.connections, spares):
@@ -146,17 +146,17 @@ def placed_at(composed: Composed, places: list[Place], spares: Spares) -> list[P
     return placed
 
 
-def end_ball(placed: Placed, wire: str) -> Ball:
+def end_ball(placed: PlacedPart, wire: str) -> Ball:
     """Returns the ball of an output where the join takes it over from a part."""
     return placed.ball(placed.part.inner_ball(placed.part.text.ends, wire))
 
 
-def start_ball(placed: Placed, wire: str) -> Ball:
+def start_ball(placed: PlacedPart, wire: str) -> Ball:
     """Returns the ball of an input where the join gives it to a part."""
     return placed.ball(placed.part.inner_ball(placed.part.text.starts, wire))
 
 
-def jobs_of(composed: Composed, placed: dict[str, Placed], end: int) -> list[Job]:
+def jobs_of(composed: Composed, placed: dict[str, PlacedPart], end: int) -> list[Job]:
     """Returns the balls to lead: between parts, to parts that begin later, and from parts that end earlier."""
     given = {(own.source, own.output) for own in composed.connections}
     taken = {(own.target, own.input) for own in composed.connections}

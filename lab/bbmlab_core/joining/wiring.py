@@ -18,7 +18,7 @@ from ..texts.boxes import Box
 from .coils import coils_of, is_free
 from .modules import JoinedModules
 from .parts import ALWAYS
-from .planning import Job, Placed, Plan
+from .planning import Job, JoinPlan, PlacedPart
 
 # The steps at the open ends of balls that wait which are kept free, the first that fit.
 STUB_STEPS = (20, 14, 10, 6, 3)
@@ -68,7 +68,7 @@ class JoinWorld(World):
     Without this, 59 of 85 balls of four joined adders were led before the search ended, and with it all.
     """
 
-    def __init__(self, plan: Plan) -> None:
+    def __init__(self, plan: JoinPlan) -> None:
         super().__init__(plan.side)
         self.boxes = [(own.x, own.y, own.x + own.area.width, own.y + own.area.height) for own in plan.placed]
         # Parts are at whole tiles, and take whole tiles.
@@ -98,14 +98,14 @@ class JoinWorld(World):
         return super().new_cells(ball, steps)
 
 
-class Wiring:
+class JoinWiring:
     """The paths of a join, in a world that has its parts."""
 
-    def __init__(self, plan: Plan, modules: JoinedModules, seed: int, settings: Settings, deadline: float) -> None:
+    def __init__(self, plan: JoinPlan, modules: JoinedModules, seed: int, settings: Settings, deadline: float) -> None:
         self.plan, self.modules, self.settings, self.deadline = plan, modules, settings, deadline
         self.world = JoinWorld(plan)
         for placed in plan.placed:
-            self.world.add(moved_item(placed))
+            self.world.add(item_in_join(placed))
         self.chance = random.Random(seed)
         self.finder = PathFinder(self.world, self.chance, settings)
         self.finder.check_time = self.check_time
@@ -340,6 +340,6 @@ def linked(legs: list[Leg], more: list[Leg]) -> list[Leg]:
     return [*legs[:-1], Leg(legs[-1].steps + more[0].steps, more[0].turn), *more[1:]]
 
 
-def moved_item(placed: Placed) -> Item:
+def item_in_join(placed: PlacedPart) -> Item:
     """Returns what a part takes where and when it is in the join."""
     return placed.part.item.moved(placed.x, placed.y, placed.time)

@@ -8,7 +8,7 @@ from typing import Callable
 
 from ..texts.circuits import Gate
 from .balls import Ball, Leg
-from .board import Board, Bound, NoRouteError, Step, Waiting
+from .board import Board, Bound, NoRouteError, Placement, Waiting
 from .design import Design, forward_design
 from .netlist import Netlist
 from .paths import Path
@@ -50,7 +50,7 @@ class Attempt:
         self.weight = self.chance.choice(settings.weights)
         # The most gates that were placed at a time, and the steps that placed them if time runs forward.
         self.most_placed = 0
-        self.best_steps: list[Step] = []
+        self.best_steps: list[Placement] = []
 
     def check_time(self) -> None:
         """Raises OutOfTimeError when the time is over, with what was done then."""
@@ -85,7 +85,7 @@ class Attempt:
                     self.board.steps)
             progress(total - len(self.todo), total)
 
-    def placed(self, gate: Gate) -> Step | None:
+    def placed(self, gate: Gate) -> Placement | None:
         """Returns a way to place a gate, or None. If it found no room, the plane grows and it is tried again."""
         step = self.placer.place_gate(gate)
         for _ in range(self.settings.growths):
@@ -100,7 +100,7 @@ class Attempt:
         reasons = self.placer.reasons
         return 2 * reasons["no path"] <= reasons["tries"] or 2 * reasons["no room"] > reasons.total()
 
-    def adopt(self, steps: list[Step]) -> str:
+    def adopt(self, steps: list[Placement]) -> str:
         """Adds gates that another attempt placed, maybe with others; returns the wire of a ball that has no room to
         wait, or no name."""
         for step in steps:
