@@ -208,8 +208,10 @@ class Joining(unittest.TestCase):
 
     def test_paths_that_ignore_a_part(self) -> None:
         """Paths through the parts get a no if the world has only their mirrors."""
-        right = wiring.item_in_join
-        change = mock.patch.object(wiring, "item_in_join", lambda placed: Item(right(placed).mirrors))
+        def add_mirrors(own: wiring.JoinWorld, placed: planning.PlacedPart) -> None:
+            own.add(Item(placed.part.item.mirrors).moved(placed.x, placed.y, placed.time))
+
+        change = mock.patch.object(wiring.JoinWorld, "add_part", add_mirrors)
         self.assertIn("verdict no", self.verdict_with(change))
 
     def test_a_lost_wire(self) -> None:
@@ -275,10 +277,17 @@ class Joining(unittest.TestCase):
             job = planning.Job("w", None, ball, 1000) if number % 2 else planning.Job("w", ball, None, 4000)
             path = own.found(job)
             assert path
-            own.world.add(path.item)
+            assert isinstance(path, wiring.CoiledPath)
+            before = len(own.world.claims), len(own.world.mirrors)
+            own.world.add(path.sealed)
             self.assertEqual(follow(path.start, path.legs)[0], path.end)
             self.assertEqual((path.start.time, path.end.time), (0, 1000) if number % 2 else (1000, 4000))
-            self.assertGreater(len(path.legs), 30)
+            self.assertLess(len(path.sealed.claims), len(path.item.claims) // 2)
+            ring = path.sealed.mirrors - path.item.mirrors
+            self.assertTrue(ring and ring <= own.world.mirrors)
+            own.world.remove(path.sealed)
+            self.assertEqual((len(own.world.claims), len(own.world.mirrors)), before)
+            own.world.add(path.sealed)
 
     # --- balls --------------------------------------------------------------------------------------------------------
 

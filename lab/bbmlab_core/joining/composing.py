@@ -52,9 +52,16 @@ class NamedPart:
 
     @cached_property
     def item(self) -> Item:
-        """What the part takes without the lone ways."""
+        """What the part takes without the lone ways. Parts of one text with the same connected ports share it."""
         if not self.ways:
             return self.text.item
+        key = frozenset(self.ways)
+        if key not in self.text.shapes:
+            self.text.shapes[key] = self.shape()
+        return self.text.shapes[key]
+
+    def shape(self) -> Item:
+        """Returns what the part takes without the lone ways."""
         claims = self.text.item.claims.difference(*(way.claims for way in self.ways.values()))
         left = {cell_number(cell) for way in self.ways.values() for cell in way.mirrors}
         return part_item(self.text.item.mirrors - left, claims)

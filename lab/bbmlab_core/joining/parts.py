@@ -2,7 +2,7 @@
 
 from array import array
 from collections import defaultdict
-from dataclasses import dataclass, replace
+from dataclasses import dataclass, field, replace
 from typing import Collection
 from ..host.terminal import LabError
 from ..physics.simulation import local_values
@@ -49,6 +49,8 @@ class PartText:
     item: Item
     start_fault: str = ""
     end_fault: str = ""
+    # What the part takes without the lone ways of some wires.
+    shapes: dict[frozenset[str], Item] = field(default_factory=dict)
 
     @property
     def can_wait(self) -> bool:

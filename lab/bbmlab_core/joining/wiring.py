@@ -6,16 +6,18 @@ free cells. If a ball finds no way, the paths across its straight way make room 
 
 import random
 import time
+from array import array
+from dataclasses import dataclass
 from itertools import chain
-from typing import Callable, Collection, Iterator
+from typing import Callable, Collection, Iterable, Iterator, NamedTuple
 
 from ..route.balls import Ball, Leg, follow, reversed_legs
 from ..route.board import Bound, NoRouteError
 from ..route.paths import Path, PathFinder, Trail
 from ..route.settings import Settings
-from ..route.world import TILE, Item, World, path_item
+from ..route.world import STEP, TILE, Item, World, cell_number, number_cell, path_item
 from ..texts.boxes import Box
-from .coils import coils_of, is_free
+from .coils import Coil, coils_of, is_free
 from .modules import JoinedModules
 from .parts import ALWAYS
 from .planning import Job, JoinPlan, PlacedPart
@@ -62,19 +64,82 @@ class TightError(NoRouteError):
         self.connections = connections
 
 
+@dataclass(frozen=True, eq=False)
+class CoiledPath(Path):
+    """A path that waits in a coil. `sealed` keeps all other balls out of the coil's box, without its claims there."""
+
+    sealed: Item
+
+
+def taken_by(path: Path) -> Item:
+    """Returns what a path takes in the world."""
+    return path.sealed if isinstance(path, CoiledPath) else path.item
+
+
+def sealed_item(item: Item, box: Box) -> Item:
+    """Returns what a path takes whose coil no other ball can enter: the ring of its box is closed as by mirrors."""
+    claims = tuple(part for part in map(compact_part, item.claim_parts)
+                   if not all(box.has(number_cell(number % STEP)) for number in (part[0], part[-1])))
+    return Item(item.mirrors.union(map(cell_number, box.ring())), item.touched_parts, claims)
+
+
+def compact_part(part: Iterable[int]) -> "range | array[int]":
+    """Returns numbers in little memory."""
+    return part if isinstance(part, range) else array("q", part)
+
+
+def compact_item(item: Item) -> Item:
+    """Returns an item in little memory."""
+    return Item(item.mirrors, tuple(map(compact_part, item.touched_parts)), tuple(map(compact_part, item.claim_parts)))
+
+
+class PartClaims(NamedTuple):
+    """The blocks at times that a part claims, by its own numbers, with its corners and the number of its first cell."""
+
+    corners: tuple[int, int, int, int]
+    first: int
+    claims: set[int]
+
+    def meets(self, part: "range | array[int]") -> bool:
+        """Whether some claims on a straight way, or near each other, meet those of the part."""
+        left, top, right, bottom = self.corners
+        (x, y), (far, low) = number_cell(part[0] % STEP), number_cell(part[-1] % STEP)
+        if max(x, far) < left - 8 or min(x, far) > right + 8 or max(y, low) < top - 8 or min(y, low) > bottom + 8:
+            return False
+        if isinstance(part, range):
+            return not self.claims.isdisjoint(range(part.start - self.first, part.stop - self.first, part.step))
+        return not self.claims.isdisjoint(number - self.first for number in part)
+
+
 class JoinWorld(World):
     """A world with parts, in which cells inside a part are dear: balls leave parts, so that they enclose no other port.
 
-    Without this, 59 of 85 balls of four joined adders were led before the search ended, and with it all.
+    Without this, 59 of 85 balls of four joined adders were led before the search ended, and with it all. Parts of one
+    text share the set of their claims.
     """
 
     def __init__(self, plan: JoinPlan) -> None:
         super().__init__(plan.side)
+        self.part_claims: list[PartClaims] = []
+        self.claim_sets: dict[int, set[int]] = {}
         self.boxes = [(own.x, own.y, own.x + own.area.width, own.y + own.area.height) for own in plan.placed]
         # Parts are at whole tiles, and take whole tiles.
         self.box_of_tile = {(column, row): box for box in self.boxes
                             for column in range(box[0] // TILE, box[2] // TILE)
                             for row in range(box[1] // TILE, box[3] // TILE)}
+
+    def add_part(self, placed: PlacedPart) -> None:
+        """Adds a part where and when it is in the join."""
+        item, area = placed.part.item, placed.area
+        self.add(Item(item.mirrors, item.touched_parts).moved(placed.x, placed.y, placed.time))
+        corners = placed.x, placed.y, placed.x + area.width, placed.y + area.height
+        claims = self.claim_sets.setdefault(id(item), item.claims)
+        self.part_claims.append(PartClaims(corners, placed.time * STEP + cell_number((placed.x, placed.y)), claims))
+
+    def fits(self, item: Item) -> bool:
+        """Whether an item may be added: it meets nothing that is there, neither in space nor in time."""
+        return super().fits(item) and not any(own.meets(part) for part in map(compact_part, item.claim_parts)
+                                              for own in self.part_claims)
 
     def is_clear_of_parts(self, box: Box) -> bool:
         """Whether a box is so far from all parts that balls can still leave them."""
@@ -105,7 +170,7 @@ class JoinWiring:
         self.plan, self.modules, self.settings, self.deadline = plan, modules, settings, deadline
         self.world = JoinWorld(plan)
         for placed in plan.placed:
-            self.world.add(item_in_join(placed))
+            self.world.add_part(placed)
         self.chance = random.Random(seed)
         self.finder = PathFinder(self.world, self.chance, settings)
         self.finder.check_time = self.check_time
@@ -208,7 +273,7 @@ class JoinWiring:
             path = self.found(job)
             numbers = self.modules.modules_of(path) if path else set[int]()
             if path is not None and self.modules.has_room_for(job.wire, numbers):
-                self.world.add(path.item)
+                self.world.add(taken_by(path))
                 self.modules.count(job.wire, numbers, 1)
                 self.paths[index] = path
                 return True
@@ -253,25 +318,29 @@ class JoinWiring:
         for _ in range(COIL_TRIES):
             trail = Trail(self.world, ball, is_backward=job.start is None)
             stop = min(trail.ball.time + self.chance.randint(*AWAY_STEPS), end)
-            more = self.coil_legs(trail, end) if self.finder.wander(trail, stop) else None
+            coil = self.coil_of(trail, end) if self.finder.wander(trail, stop) else None
             legs = trail.legs() if trail.steps else []
+            first, left = trail.ball, end - trail.ball.time
             trail.clear()
-            if more is not None:
+            if coil is not None:
+                ahead = coil.entry.time - first.time
+                more = linked([Leg(ahead, None)], list(coil.legs(left - ahead)))
                 legs = linked(reversed_legs(more), legs) if job.start is None else linked(legs, more)
                 start, goal = (self.finder.before(ball, legs), ball) if job.start is None else (
                     ball, follow(ball, legs)[0])
                 path = self.finder.complete(job.wire, start, goal, legs)
                 if path is not None:
-                    return path
+                    item = compact_item(path.item)
+                    return CoiledPath(job.wire, start, goal, path.legs, item, sealed_item(item, coil.box))
         return None
 
-    def coil_legs(self, trail: Trail, end: int) -> list[Leg] | None:
-        """Returns legs from the end of a trail to a coil that has room, and in it up to a time; or None."""
+    def coil_of(self, trail: Trail, end: int) -> Coil | None:
+        """Returns a coil that has room behind the end of a trail, for the steps up to a time; or None."""
         left = end - trail.ball.time
         for ahead in range(COIL_AHEAD, min(left, trail.room(COIL_REACH)) + 1, 4):
             for coil in coils_of(trail.ball.flown(ahead), left - ahead):
                 if self.world.is_clear_of_parts(coil.box) and is_free(self.world, coil.box):
-                    return linked([Leg(ahead, None)], list(coil.legs(left - ahead)))
+                    return coil
         return None
 
     def connected(self, wire: str, start: Ball, goal: Ball) -> Path | None:
@@ -303,7 +372,7 @@ class JoinWiring:
     def take_back(self, index: int) -> None:
         """Takes the path of a ball back, which waits again."""
         path = self.paths.pop(index)
-        self.world.remove(path.item)
+        self.world.remove(taken_by(path))
         self.modules.count(path.wire, self.modules.modules_of(path), -1)
         self.reserve(index)
 
@@ -338,8 +407,3 @@ def ball_words(job: Job) -> str:
 def linked(legs: list[Leg], more: list[Leg]) -> list[Leg]:
     """Returns legs and those that follow them: the last leg goes on as the first one of the others."""
     return [*legs[:-1], Leg(legs[-1].steps + more[0].steps, more[0].turn), *more[1:]]
-
-
-def item_in_join(placed: PlacedPart) -> Item:
-    """Returns what a part takes where and when it is in the join."""
-    return placed.part.item.moved(placed.x, placed.y, placed.time)
