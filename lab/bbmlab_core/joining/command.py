@@ -217,8 +217,9 @@ def join_command(options: argparse.Namespace) -> int:
         connected = {wire for own in connections for wire in (own.output, own.input)}
         made = composed(read_parts(files, connected, program, options.timeout), connections)
         require_balls(made)
-        search = JoinSearch(made, JoinOptions(options.seed, options.size, options.effort), line)
-        routed, why = search.run()
+    # The collector is on while paths are searched, which leaves cycles behind.
+    search = JoinSearch(made, JoinOptions(options.seed, options.size, options.effort), line)
+    routed, why = search.run()
     attempts = search.attempts
     line.clear()
     if routed is None:
