@@ -460,6 +460,8 @@ def add_route(commands: Commands) -> None:
                         help="make attempts on ever smaller planes, and take the smallest layout with the fewest steps")
     parser.add_argument("--no-certificate", action="store_true", help="write the circuit and the layout alone")
     parser.add_argument("--open-ends", action="store_true", help="keep room at each start and end for `bbmlab join`")
+    parser.add_argument("--late", nargs="+", default=[], metavar="INPUT",
+                        help="have these inputs meet the other balls as late as they can, for `bbmlab join`")
     parser.add_argument("--circuit-only", action="store_true",
                         help="write the circuit section to which a netlist is mapped, and route nothing")
     parser.add_argument("--keep-partial", action="store_true",

@@ -2,6 +2,7 @@
 
 import contextlib
 import io
+import itertools
 import os
 import random
 import re
@@ -16,16 +17,19 @@ from pathlib import Path
 from unittest import mock
 
 import support
-from bbmlab_core.joining import command, modules, planning, wiring
-from bbmlab_core.joining.composing import Composed, Connection, composed
-from bbmlab_core.joining.parts import balls_of, read_part
+from bbmlab_core.joining import coils, command, lone_ways, modules, planning, wiring
+from bbmlab_core.joining.composing import Composed, Connection, NamedPart, composed
+from bbmlab_core.joining.lone_ways import balls_of
+from bbmlab_core.joining.parts import read_part
+from bbmlab_core.joining.places import GAP, Area, all_places
 from bbmlab_core.physics.simulation import run_layout
 from bbmlab_core.route.attempt import Attempt
-from bbmlab_core.route.balls import Ball, mirror_cells
+from bbmlab_core.route.balls import Ball, follow, mirror_cells
 from bbmlab_core.route.command import ProgressLine
 from bbmlab_core.route.netlist import Netlist
 from bbmlab_core.route.settings import OPEN_STEPS, Settings
-from bbmlab_core.route.world import Item
+from bbmlab_core.route.world import ROW, STEP, TILE, Item, number_cell, path_item
+from bbmlab_core.texts.certificates import Module
 from bbmlab_core.texts.circuits import values_under
 from bbmlab_core.texts.documents import Document, read_document
 
@@ -124,7 +128,7 @@ class Joining(unittest.TestCase):
         self.assertEqual(document.circuit.outputs, ("p_sum", "p_carry", "q_b"))
         parts = {name: read_part(name, self.parts[name].read_text()) for name in ("half", "block")}
         self.assertEqual(document.layout.steps, max(own.layout.steps for own in parts.values()))
-        plan = planning.made_plan(composed(parts, []), 512, 150)
+        plan = planning.made_plan(composed(parts, []), 512, [])
         assert plan
         self.assertTrue(all(plan.end - own.end < 2 for own in plan.placed), plan.placed)
         self.assert_runs(document)
@@ -145,17 +149,43 @@ class Joining(unittest.TestCase):
         self.assertEqual(one, again)
         self.assertNotEqual(one, other)
 
+    def test_lone_ways(self) -> None:
+        """A connected input meets the other balls late, and a connected output leaves early: the join takes fewer steps
+        than with whole parts.
+        """
+        made = self.made()
+        ways = {(part.name, wire): way for part in made.parts for wire, way in part.ways.items()}
+        self.assertEqual(set(ways), {("a", "sum"), ("b", "a")})
+        self.assertGreater(ways["b", "a"].ball.time, 0)
+        self.assertLess(ways["a", "sum"].ball.time, made.parts[0].text.layout.steps)
+        for way in ways.values():
+            self.assertTrue(way.ball.is_legal)
+            self.assertFalse(way.mirrors - made.parts[0].text.layout.mirror_cells())
+        parts = {part.name: part.text for part in made.parts}
+        whole = planning.made_plan(composed(parts, made.connections, set(ways)), 512, [0])
+        plan = planning.made_plan(made, 512, [0])
+        assert plan and whole
+        self.assertLess(plan.end, whole.end)
+
+    def test_mirrors_of_lone_ways(self) -> None:
+        """A mirror that another ball touches stays, and so do all mirrors that hang together with it."""
+        mirrors = {(x + i, y + j) for x, y in ((10, 10), (30, 30), (34, 31)) for i in range(4) for j in range(2)}
+        beside = {(10, 10), (31, 31)}
+        self.assertEqual(len(lone_ways.free_mirrors(beside, set(), mirrors)), 24)
+        claims = {7 * STEP + 32 * ROW + 37}
+        self.assertEqual(lone_ways.free_mirrors(beside, claims, mirrors), {cell for cell in mirrors if cell[0] < 20})
+
     # --- planted mistakes: the program finds each of them -------------------------------------------------------------
 
     def made(self) -> Composed:
         """Returns two half adders in a row."""
-        part = read_part("half", self.parts["half"].read_text())
+        part = read_part("half", self.parts["half"].read_text(), ["sum", "a"])
         return composed({"a": part, "b": part}, [Connection("a", "sum", "b", "a")])
 
     def verdict_with(self, change: mock._patch) -> str: # type: ignore[type-arg]
         """Returns the first lines that the program says of a join with a mistake."""
         with change, contextlib.redirect_stderr(io.StringIO()):
-            found = command.search(self.made(), command.Asked(1, None, 60), ProgressLine(60))[0]
+            found = command.JoinSearch(self.made(), command.JoinOptions(1, None, 60), ProgressLine(60)).run()[0]
         assert found
         said = subprocess.run([support.program(), "check"], input=found.text.encode(), capture_output=True, check=False)
         return "\n".join(said.stdout.decode().splitlines()[:4])
@@ -166,23 +196,98 @@ class Joining(unittest.TestCase):
 
     def test_a_part_with_early_lines(self) -> None:
         """A part whose lines come two steps before its balls gets a no."""
-        right = modules.JoinedModules.add_part
+        right = modules.JoinedModules.add_own_lines
 
-        def early(own: modules.JoinedModules, placed: planning.Placed) -> None:
-            right(own, replace(placed, time=placed.time - 2) if placed.part.name == "b" else placed)
+        def early(own: modules.JoinedModules, module: Module) -> None:
+            placed, origin = own.origins[module.number]
+            if placed.part.name == "b":
+                own.origins[module.number] = replace(placed, time=placed.time - 2), origin
+            right(own, module)
 
-        self.assertIn("verdict no", self.verdict_with(mock.patch.object(modules.JoinedModules, "add_part", early)))
+        self.assertIn("verdict no", self.verdict_with(mock.patch.object(modules.JoinedModules, "add_own_lines", early)))
 
     def test_paths_that_ignore_a_part(self) -> None:
         """Paths through the parts get a no if the world has only their mirrors."""
-        right = wiring.moved_item
-        change = mock.patch.object(wiring, "moved_item", lambda placed: Item(right(placed).mirrors))
+        def add_mirrors(own: wiring.JoinWorld, placed: planning.PlacedPart) -> None:
+            own.add(Item(placed.part.item.mirrors).moved(placed.x, placed.y, placed.time))
+
+        change = mock.patch.object(wiring.JoinWorld, "add_part", add_mirrors)
         self.assertIn("verdict no", self.verdict_with(change))
 
     def test_a_lost_wire(self) -> None:
         """If no module is told of the wires of paths, the text is refused."""
         change = mock.patch.object(modules.JoinedModules, "count", lambda *words: None)
         self.assertIn("refused", self.verdict_with(change))
+
+    def test_lines_of_a_lone_way(self) -> None:
+        """A part that keeps the lines of a ball that comes another way gets no yes."""
+        change = mock.patch.object(NamedPart, "missing", set[object]())
+        self.assertRegex(self.verdict_with(change), "verdict no|^refused")
+
+    # --- time and room between parts ----------------------------------------------------------------------------------
+
+    def test_places(self) -> None:
+        """Parts have gaps between them and around them, in eight ways, and each is beside the next one."""
+        areas = [Area(160 + 16 * (index % 3), 160) for index in range(7)]
+        found = list(all_places(areas, 800))
+        self.assertEqual(len({tuple(places) for places in found}), 8)
+        for places in found:
+            boxes = [(x, y, x + own.width, y + own.height) for (x, y), own in zip(places, areas)]
+            for number, (left, top, right, bottom) in enumerate(boxes):
+                self.assertTrue(min(left, top) >= GAP and max(right, bottom) <= 800 - GAP)
+                self.assertTrue(left % TILE == top % TILE == 0)
+                for x, y, far, low in boxes[:number]:
+                    self.assertTrue(left >= far + GAP or x >= right + GAP or top >= low + GAP or y >= bottom + GAP)
+            for (x, y), (across, down) in zip(places, places[1:]):
+                self.assertLess(max(abs(x - across), abs(y - down)), 160 + 32 + 8 * GAP)
+        self.assertEqual(list(all_places(areas, 600)), [])
+
+    def test_more_time_for_one_ball(self) -> None:
+        """A ball between two parts that cannot be led in its time gets more, and no other one does."""
+        search = command.JoinSearch(self.made(), command.JoinOptions(1, None, 60), ProgressLine(60))
+        _, _, own = search.prepared()
+        with mock.patch.object(wiring.JoinWiring, "lead", lambda *words: False):
+            with self.assertRaises(wiring.TightError) as caught:
+                own.run(lambda *words: None, [0])
+        self.assertEqual(caught.exception.connections, [0])
+        search.spares = [0, 2]
+        results = [caught.exception, mock.sentinel.bundle]
+        with mock.patch.object(command.JoinSearch, "attempt", side_effect=results):
+            self.assertEqual(search.run(), (mock.sentinel.bundle, ""))
+        self.assertEqual(search.spares, [1, 2])
+
+    def test_coils(self) -> None:
+        """A coil takes its steps: its path meets itself nowhere, and stays in its box behind the entry."""
+        for (dx, dy), steps in itertools.product(itertools.product((1, -1), repeat=2), (90, 327, 328, 2567, 9000)):
+            ball = Ball(1000 + (dx < 0), 1000 + (dy < 0), dx, dy, 0)
+            for coil in coils.coils_of(ball, steps):
+                legs = list(coil.legs(steps))
+                self.assertEqual(sum(leg.steps for leg in legs), steps)
+                item = path_item(ball, legs)
+                assert item
+                cells = {number_cell(number) for number in item.mirrors | item.touched}
+                self.assertTrue(all(coil.box.has(cell) for cell in cells), (ball, steps))
+
+    def test_balls_wait_in_coils(self) -> None:
+        """A ball that waits long goes to a coil, or comes from one, and is there at its time."""
+        plan = planning.JoinPlan(1024, 4000, [], [], 1024, 1024)
+        own = wiring.JoinWiring(plan, mock.Mock(), 1, command.SETTINGS, float("inf"))
+        for number in range(8):
+            ball = Ball(440 + 16 * number, 500, 1, 1, 1000)
+            job = planning.Job("w", None, ball, 1000) if number % 2 else planning.Job("w", ball, None, 4000)
+            path = own.found(job)
+            assert path
+            assert isinstance(path, wiring.CoiledPath)
+            before = len(own.world.claims), len(own.world.mirrors)
+            own.world.add(path.sealed)
+            self.assertEqual(follow(path.start, path.legs)[0], path.end)
+            self.assertEqual((path.start.time, path.end.time), (0, 1000) if number % 2 else (1000, 4000))
+            self.assertLess(len(path.sealed.claims), len(path.item.claims) // 2)
+            ring = path.sealed.mirrors - path.item.mirrors
+            self.assertTrue(ring and ring <= own.world.mirrors)
+            own.world.remove(path.sealed)
+            self.assertEqual((len(own.world.claims), len(own.world.mirrors)), before)
+            own.world.add(path.sealed)
 
     # --- balls --------------------------------------------------------------------------------------------------------
 
@@ -208,9 +313,9 @@ class Joining(unittest.TestCase):
     def test_open_ends_can_be_led(self) -> None:
         """Each ball of a part that is routed with open ends can be led away from it, and to it from elsewhere."""
         made = self.made()
-        plan = planning.made_plan(made, planning.estimated_side(made, 200), 200)
+        plan = planning.made_plan(made, planning.estimated_side(made, [3]), [3])
         assert plan
-        own = wiring.Wiring(plan, modules.JoinedModules(made, plan), 1, command.SETTINGS, float("inf"))
+        own = wiring.JoinWiring(plan, modules.JoinedModules(made, plan), 1, command.SETTINGS, float("inf"))
         for job in plan.jobs:
             self.assertIsNotNone(next((path for path in (own.found(job) for _ in range(4)) if path), None), job)
 

@@ -21,6 +21,7 @@ from bbmlab_core.cli import main
 from bbmlab_core.host.signals import Stopped
 from bbmlab_core.physics.simulation import WholeRun, key_of
 from bbmlab_core.route import certificate, search, world
+from bbmlab_core.route.attempt import Attempt
 from bbmlab_core.route.netlist import Netlist
 from bbmlab_core.route.settings import Settings
 from bbmlab_core.route.world import Item
@@ -363,6 +364,42 @@ class Delays(Routing):
         status, _, said = self.route(f"circuit\ninput w0\n{lines}\noutput w257\nend\n")
         self.assertEqual(status, 1)
         self.assertIn("the delays need 1052672 steps; a layout has at most 1048576", said)
+
+
+LATE = ("circuit\ninput a\ninput b\ninput c\nsource 1 -> one\nswitch c a -> d e f\nswitch b one -> g h i\n"
+        "switch h d -> j k l\n" + "".join(f"output {wire}\n" for wire in "efgijkl") + "end\n")
+
+
+class LateInputs(Routing):
+    """Inputs that meet the other balls as late as they can."""
+
+    def first_meeting(self, *late: str) -> tuple[int, int]:
+        """Returns when the input b meets another ball, and when the gate that does not depend on it ends."""
+        circuit = read_document(LATE, "circuit").circuit
+        assert circuit
+        design = Attempt(Netlist(circuit, late=late), 256, 1, Settings()).run()
+        gate = next(gate for gate in design.gates if gate.number == 1)
+        return next(path.end.time for path in design.paths if path.wire == "b"), gate.time + gate.cell.length
+
+    def test_late_input(self) -> None:
+        """A late input comes after all gates that do not depend on it; without the option it comes earlier."""
+        late, end = self.first_meeting("b")
+        self.assertGreaterEqual(late, end)
+        self.assertLess(self.first_meeting()[0], late)
+
+    def test_gates_of_late_inputs(self) -> None:
+        """The gates that depend on a late input are known, and the balls that wait for it."""
+        circuit = read_document(LATE, "circuit").circuit
+        assert circuit
+        netlist = Netlist(circuit, late=("b",))
+        self.assertEqual(netlist.late_gates, {2, 3})
+        self.assertEqual([wire for wire in "abcdefghk" if netlist.is_awaited(wire)], ["a", "c", "d"])
+
+    def test_no_input(self) -> None:
+        """A late input that the circuit does not have is refused."""
+        status, _, said = self.route(LATE, "--late", "b", "z")
+        self.assertEqual(status, 2)
+        self.assertIn("--late z: the circuit has no such input", said)
 
 
 class Refusals(Routing):

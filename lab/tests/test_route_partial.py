@@ -18,11 +18,11 @@ from bbmlab_core.host.program import find_program
 from bbmlab_core.route import partial
 from bbmlab_core.route.attempt import Attempt, OutOfTimeError
 from bbmlab_core.route.balls import Ball, Leg
-from bbmlab_core.route.board import NoRouteError, Step, Waiting
+from bbmlab_core.route.board import NoRouteError, Placement, Waiting
 from bbmlab_core.route.command import report_failure
 from bbmlab_core.route.design import Design
 from bbmlab_core.route.netlist import Netlist
-from bbmlab_core.route.partial import (Part, affordable_count, partial_circuit, partial_design, partial_text,
+from bbmlab_core.route.partial import (PartialRoute, affordable_count, partial_circuit, partial_design, partial_text,
                                        steps_without)
 from bbmlab_core.route.paths import Path as BallPath
 from bbmlab_core.route.search import Options, Outcome, Search, routed_bundle
@@ -38,7 +38,7 @@ sys.path.insert(0, str(support.TOP / "bench"))
 from random_circuits import made_circuit  # noqa: E402
 
 
-def placed_part(text: str, side: int, seed: int, failures: int = 0) -> Part:
+def placed_part(text: str, side: int, seed: int, failures: int = 0) -> PartialRoute:
     """Returns what an attempt on a plane of one side placed at most."""
     circuit = read_circuit(text)
     attempt = Attempt(Netlist(circuit), side, seed, Settings(failures=failures))
@@ -46,14 +46,14 @@ def placed_part(text: str, side: int, seed: int, failures: int = 0) -> Part:
         attempt.run()
     except NoRouteError:
         pass
-    return Part(circuit, attempt.best_steps, side, side)
+    return PartialRoute(circuit, attempt.best_steps, side, side)
 
 
 def slow_above(most: int) -> Callable[..., Design | str]:
     """Returns a leading to the end whose time is over for more gates than some."""
     right = partial.led_design
 
-    def led(part: Part, steps: list[Step], *words: Any) -> Design | str:
+    def led(part: PartialRoute, steps: list[Placement], *words: Any) -> Design | str:
         if len(steps) > most:
             raise OutOfTimeError("the time was over")
         return right(part, steps, *words)
@@ -64,7 +64,7 @@ def slow_above(most: int) -> Callable[..., Design | str]:
 class Parts(unittest.TestCase):
     """Gates that an attempt placed before it failed."""
 
-    def assert_yes(self, part: Part, count: int) -> None:
+    def assert_yes(self, part: PartialRoute, count: int) -> None:
         """Asserts that so many gates of a part are kept, with a yes."""
         design = partial_design(part, Settings(), 60)
         assert design
@@ -134,7 +134,7 @@ class Adopting(unittest.TestCase):
         way = path_item(ball.flown(2), [Leg(20, None)])
         assert way
         other = BallPath("y", ball.flown(2), ball.flown(22), (Leg(20, None),), way)
-        own = Step(step.gate, step.paths, {"x": step.outs["x"]}, [*step.parked, other])
+        own = Placement(step.gate, step.paths, {"x": step.outs["x"]}, [*step.parked, other])
         attempt = Attempt(Netlist(part.circuit), 384, 1, Settings())
         self.assertEqual(attempt.adopt([own]), "x")
         self.assertIsInstance(attempt.board.waiting["x"], Waiting)

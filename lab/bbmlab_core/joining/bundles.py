@@ -13,13 +13,13 @@ from ..texts.limits import limits_for, with_line
 from .composing import Composed
 from .modules import JoinedModules
 from .parts import ALWAYS
-from .planning import Placed, Plan
+from .planning import JoinPlan, PlacedPart
 
 
 class JoinedLayout:
     """The layout of a join. `wires` has the wire of each `in` and `out` cell."""
 
-    def __init__(self, composed: Composed, plan: Plan, paths: list[Path]) -> None:
+    def __init__(self, composed: Composed, plan: JoinPlan, paths: list[Path]) -> None:
         self.composed, self.plan, self.paths = composed, plan, paths
         self.netlist = Netlist(composed.circuit)
         self.starts: dict[str, list[Cell]] = {}
@@ -33,15 +33,17 @@ class JoinedLayout:
                 self.ends.setdefault(job.wire, []).extend(path.end.cells())
         self.add_dead_ends()
 
-    def add_part(self, placed: Placed) -> None:
+    def add_part(self, placed: PlacedPart) -> None:
         """Adds the ports of a part that begin at time 0 or end at the last time: they stay where they are."""
         part, layout = placed.part, placed.part.text.layout
+        taken = {own.input for own in self.composed.connections if own.target == part.name}
+        given = {own.output for own in self.composed.connections if own.source == part.name}
         if placed.time == 0:
             for own in layout.parts:
-                if own.kind in ("in", "ball"):
+                if own.kind in ("in", "ball") and own.name not in taken:
                     self.starts.setdefault(part.wire(own.name or ALWAYS), []).append(placed.cell(own.cell))
         if placed.end == self.plan.end:
-            for own in layout.of_kind("out"):
+            for own in (own for own in layout.of_kind("out") if own.name not in given):
                 self.ends.setdefault(part.wire(own.name or ""), []).append(placed.cell(own.cell))
             for own in layout.of_kind("waste"):
                 self.ends.setdefault("", []).append(placed.cell(own.cell))
@@ -76,7 +78,7 @@ class JoinedLayout:
 
     def mirrors(self) -> set[Cell]:
         """Returns the cells of all mirrors."""
-        found = {placed.cell(cell) for placed in self.plan.placed for cell in placed.part.text.layout.mirror_cells()}
+        found = {placed.cell(cell) for placed in self.plan.placed for cell in placed.part.mirror_cells()}
         return found | {number_cell(number) for path in self.paths for number in path.item.mirrors}
 
     def ports(self) -> Iterator[tuple[Cell, str]]:
@@ -88,24 +90,26 @@ class JoinedLayout:
                     yield cell, wire
 
 
-def crop(plan: Plan, paths: list[Path]) -> None:
+def crop(plan: JoinPlan, paths: list[Path]) -> None:
     """Leaves out whole tiles of a plane at the right and below that nothing reaches."""
     numbers = [number for path in paths for number in corner_numbers(path.item)]
-    right = max([0, *(number % ROW + RIM for number in numbers), *(own.x + own.width for own in plan.placed)])
-    bottom = max([0, *(number // ROW + RIM for number in numbers), *(own.y + own.height for own in plan.placed)])
+    right = max([0, *(number % ROW + RIM for number in numbers), *(own.x + own.area.width for own in plan.placed)])
+    bottom = max([0, *(number // ROW + RIM for number in numbers), *(own.y + own.area.height for own in plan.placed)])
     plan.width = min(plan.side, (right // TILE + 1) * TILE)
     plan.height = min(plan.side, (bottom // TILE + 1) * TILE)
 
 
-def joined_bundle(composed: Composed, plan: Plan, modules: JoinedModules, paths: list[Path]) -> Routed:
+def joined_bundle(composed: Composed, plan: JoinPlan, modules: JoinedModules, paths: list[Path]) -> Routed:
     """Returns the bundle of a join whose balls are all led; raises NoRouteError if a module needs too many wires."""
     crop(plan, paths)
     layout = JoinedLayout(composed, plan, paths)
-    certificate = modules.certificate(paths, layout.ports())
-    lines, circuit = "\n".join(layout.lines()) + "\n", composed.circuit
-    side, count = max(plan.width, plan.height), len(certificate.modules)
+    modules.note_lines(paths, layout.ports())
+    texts, count, most_cuts = ["certificate 2\n"], 0, 0
+    for module in modules.modules(paths):
+        texts.append(str(module))
+        count, most_cuts = count + 1, max(most_cuts, len(module.cuts))
+    circuit, side = composed.circuit, max(plan.width, plan.height)
     limits = limits_for(side, plan.end, count, len(circuit.gates), len(circuit.wires))
-    text = with_line(composed.section + lines + str(certificate), limits)
+    text = with_line("".join([composed.section, "\n".join(layout.lines()), "\n", *texts, "end\n"]), limits)
     gates = sum(gate.kind not in ("source", "delay") for gate in circuit.gates)
-    most_cuts = max(len(module.cuts) for module in certificate.modules)
     return Routed(text, "", plan.width, plan.height, plan.end, len(layout.mirrors()), count, most_cuts, gates)

@@ -6,9 +6,11 @@ import string
 import sys
 import time
 from dataclasses import dataclass
+from typing import Collection
 
 from ..host.program import Executable, ask, find_program
 from ..host.terminal import LabError, painted, escape_controls, read_bytes, require_output, write_text
+from ..route.balls import Ball
 from ..route.board import NoRouteError
 from ..route.command import ProgressLine, check_side, verdict_of
 from ..route.estimate import counted
@@ -21,20 +23,18 @@ from .bundles import joined_bundle
 from .composing import Composed, Connection, composed
 from .modules import JoinedModules
 from .parts import PartText, read_part
-from .planning import Plan, estimated_side, made_plan
-from .wiring import Wiring
+from .planning import SPARES, JoinPlan, estimated_side, made_plan
+from .wiring import JoinWiring, TightError, ball_words
 
 NAME = re.compile(r"[a-z][a-z0-9_]{0,15}")
 CONNECTION = re.compile(r"(\w+)\.(\w+)=(\w+)\.(\w+)")
-# The steps to spare of a ball between two parts, by the attempts.
-SLACKS = (150, 250, 350)
-SETTINGS = Settings(wander_detour=0.25, wander_options=16)
+SETTINGS = Settings(wander_detour=0.07, wander_options=16)
 # By how much the plane grows after an attempt that failed.
 GROWTH = 1.12
 
 
 @dataclass(frozen=True)
-class Asked:
+class JoinOptions:
     """What a join is asked for: a seed, a side or None, and seconds."""
 
     seed: int
@@ -70,8 +70,12 @@ def connection_of(word: str) -> Connection:
     return Connection(source.lower(), output, target.lower(), given)
 
 
-def read_parts(files: dict[str, str], program: Executable, timeout: float | None) -> dict[str, PartText]:
-    """Returns the parts, each of which the program accepts. A file that is named twice is read once."""
+def read_parts(files: dict[str, str], connected: Collection[str], program: Executable,
+               timeout: float | None) -> dict[str, PartText]:
+    """Returns the parts, each of which the program accepts, with the lone ways of connected wires.
+
+    A file that is named twice is read once.
+    """
     known: dict[bytes, PartText] = {}
     parts: dict[str, PartText] = {}
     for name, file in files.items():
@@ -85,7 +89,7 @@ def read_parts(files: dict[str, str], program: Executable, timeout: float | None
             if answer.status != 0:
                 why, status = answer.output.strip() or answer.errors, 1 if answer.status == 3 else 4
                 raise LabError(f"{file}: {why}: `join` takes bundles with a yes", status)
-            known[data] = read_part(file, data.decode("latin-1"))
+            known[data] = read_part(file, data.decode("latin-1"), connected)
         parts[name] = known[data]
     return parts
 
@@ -103,7 +107,7 @@ def require_balls(made: Composed) -> None:
                 raise LabError(f"{own}: {why}: `join` leads one ball of two cells", 1)
 
 
-def require_open(plan: Plan) -> None:
+def require_open(plan: JoinPlan) -> None:
     """Raises LabError if a part that begins after time 0, or ends before the last time, has no whole balls there."""
     for placed in plan.placed:
         text, name = placed.part.text, placed.part.name
@@ -113,38 +117,86 @@ def require_open(plan: Plan) -> None:
             raise LabError(f"{name} ends at time {placed.end} of the join of {plan.end} steps, but {text.end_fault}", 1)
 
 
-def search(made: Composed, asked: Asked, line: ProgressLine) -> tuple[Routed | None, str, int]:
-    """Returns the bundle of a join, or None with the reason, and the number of attempts."""
-    deadline, why, attempt = time.monotonic() + asked.effort, "", 0
-    side = asked.side or estimated_side(made, SLACKS[0])
-    while attempt == 0 or time.monotonic() < deadline:
-        plan = made_plan(made, side, SLACKS[attempt % len(SLACKS)])
-        if plan is None:
-            raise LabError(f"the parts have no room on a plane of {side} by {side} cells", 1)
-        attempt += 1
-        require_steps(plan.end)
-        require_open(plan)
-        try:
-            modules = JoinedModules(made, plan)
+@dataclass
+class JoinSearch:
+    """The attempts to join parts. `spares` has the spare steps of each connection, and `side` is the next plane's side.
+    """
+
+    made: Composed
+    asked: JoinOptions
+    line: ProgressLine
+    attempts: int = 0
+
+    def __post_init__(self) -> None:
+        self.deadline = time.monotonic() + self.asked.effort
+        self.spares = [0] * len(self.made.connections)
+        self.side = self.asked.side or estimated_side(self.made, self.spares)
+
+    def run(self) -> tuple[Routed | None, str]:
+        """Returns the bundle, or None with the reason."""
+        why = ""
+        while self.attempts == 0 or time.monotonic() < self.deadline:
+            try:
+                return self.attempt(), ""
+            except TightError as error:
+                why = str(error)
+                for index in error.connections:
+                    self.spares[index] += 1
+            except NoRouteError as error:
+                why = str(error)
+                if not self.asked.side:
+                    self.side = min(SECOND.max_side, int(self.side * GROWTH) // (2 * TILE) * 2 * TILE)
+        return None, why
+
+    def attempt(self) -> Routed:
+        """Returns the bundle of one attempt; raises NoRouteError."""
+        plan, modules, wiring = self.prepared()
+        self.attempts += 1
+        if self.attempts == 1:
+            counts = f"{counted(len(plan.placed), 'part')}, {counted(len(plan.jobs), 'ball')} to lead"
+            print(f"bbmlab: {counts}, {plan.end} steps: first side {self.side}.", file=sys.stderr, flush=True)
+        loose = [index for index, spare in enumerate(self.spares) if spare < len(SPARES) - 1]
+        paths = wiring.run(lambda led, total: self.line.show(self.attempts, self.side, led, total), loose)
+        # The world of the paths takes as much memory as the bundle.
+        del wiring
+        return joined_bundle(self.made, plan, modules, paths)
+
+    def prepared(self) -> tuple[JoinPlan, JoinedModules, JoinWiring]:
+        """Returns what an attempt begins with. At first ports whose inner balls cannot leave get their lone ways back.
+        """
+        while True:
+            plan = made_plan(self.made, self.side, self.spares)
+            if plan is None:
+                raise LabError(f"the parts have no room on a plane of {self.side} by {self.side} cells", 1)
+            require_steps(plan.end)
+            require_open(plan)
+            modules = JoinedModules(self.made, plan)
             modules.require_meetings()
-            wiring = Wiring(plan, modules, asked.seed * 1_000_003 + attempt, SETTINGS, deadline)
-            if attempt == 1:
-                require_ways_out(wiring)
-                counts = f"{counted(len(made.parts), 'part')}, {counted(len(plan.jobs), 'ball')} to lead"
-                print(f"bbmlab: {counts}, {plan.end} steps: first side {side}.", file=sys.stderr, flush=True)
-            paths = wiring.run(lambda led, total: line.show(attempt, side, led, total))
-            return joined_bundle(made, plan, modules, paths), "", attempt
-        except NoRouteError as error:
-            why = str(error)
-        side = side if asked.side else min(SECOND.max_side, int(side * GROWTH) // (2 * TILE) * 2 * TILE)
-    return None, why, attempt
+            seed = self.asked.seed * 1_000_003 + self.attempts + 1
+            wiring = JoinWiring(plan, modules, seed, SETTINGS, self.deadline)
+            closed = [] if self.attempts else list(wiring.closed_ends())
+            if not closed:
+                return plan, modules, wiring
+            self.made = with_whole_ports(self.made, plan, closed)
 
 
-def require_ways_out(wiring: Wiring) -> None:
-    """Raises LabError if a ball cannot leave its part even if no other ball is led."""
-    closed = wiring.closed_end()
-    if closed:
-        raise LabError(f"{closed}: route the part with --open-ends", 1)
+def with_whole_ports(made: Composed, plan: JoinPlan, closed: list[tuple[int, Ball, int]]) -> Composed:
+    """Returns a join in which ports with a closed inner end keep their lone ways; raises LabError if another end is
+    closed."""
+    whole: set[tuple[str, str]] = set()
+    ways = {(part.name, wire) for part in made.parts for wire in part.ways}
+    for index, ball, sign in closed:
+        port = ("", "")
+        if index < len(made.connections):
+            own = made.connections[index]
+            port = (own.source, own.output) if sign > 0 else (own.target, own.input)
+        if port not in ways:
+            where = "behind it" if sign > 0 else "before it"
+            raise LabError(f"{ball_words(plan.jobs[index])} at ({ball.x}, {ball.y}) at time {ball.time} has no room "
+                           f"for a bounce {where}: route the part with --open-ends", 1)
+        whole.add(port)
+    missing = {(part.name, port.wire) for part in made.parts for port in (*part.text.starts, *part.text.ends)} - ways
+    return composed({part.name: part.text for part in made.parts}, made.connections, whole | missing)
 
 
 def require_steps(steps: int) -> None:
@@ -162,9 +214,13 @@ def join_command(options: argparse.Namespace) -> int:
     program, begun = find_program(options.program), time.monotonic()
     line = ProgressLine(options.effort, "balls led", "writing the bundle")
     with without_collector():
-        made = composed(read_parts(files, program, options.timeout), connections)
+        connected = {wire for own in connections for wire in (own.output, own.input)}
+        made = composed(read_parts(files, connected, program, options.timeout), connections)
         require_balls(made)
-        routed, why, attempts = search(made, Asked(options.seed, options.size, options.effort), line)
+    # The collector is on while paths are searched, which leaves cycles behind.
+    search = JoinSearch(made, JoinOptions(options.seed, options.size, options.effort), line)
+    routed, why = search.run()
+    attempts = search.attempts
     line.clear()
     if routed is None:
         tried = f"{counted(attempts, 'attempt')} and {options.effort:g} seconds"

@@ -1,15 +1,21 @@
 """The circuit of a join: the parts' circuits one after another, with wires that have the part's name in front."""
 
 from dataclasses import dataclass, field
+from functools import cached_property
+from typing import Collection, Iterator
 
 from ..circuits.gate_lines import read_circuit
 from ..circuits.netlists.naming import MAX_NAME
 from ..host.terminal import LabError
+from ..route.balls import Ball
 from ..route.netlist import Netlist
+from ..route.world import Item, cell_number
 from ..texts.circuits import Circuit, Gate
+from ..texts.layouts import Cell
 from ..texts.limits import sections_after_line
 from ..texts.sections import text_of
-from .parts import ALWAYS, PartText
+from .lone_ways import LoneWay
+from .parts import ALWAYS, PartText, PartPort, part_item
 
 
 @dataclass(frozen=True)
@@ -27,13 +33,48 @@ class Connection:
 
 
 @dataclass
-class Named:
-    """A part with its name, its wires as the join calls them, and the number of its first gate there."""
+class NamedPart:
+    """A part with its name, its wires as the join calls them, and the number of its first gate there.
+
+    `ways` has the lone ways of its connected ports by their own wires. The join leaves them out.
+    """
 
     name: str
     text: PartText
     wires: dict[str, str] = field(default_factory=dict)
     first_gate: int = 0
+    ways: dict[str, LoneWay] = field(default_factory=dict)
+
+    def inner_ball(self, ports: list[PartPort], wire: str) -> Ball:
+        """Returns the ball of a port, the first one if there are many, without a lone way that is left out."""
+        way = self.ways.get(wire)
+        return way.ball if way else next(port.ball for port in ports if port.wire == wire)
+
+    @cached_property
+    def item(self) -> Item:
+        """What the part takes without the lone ways. Parts of one text with the same connected ports share it."""
+        if not self.ways:
+            return self.text.item
+        key = frozenset(self.ways)
+        if key not in self.text.shapes:
+            self.text.shapes[key] = self.shape()
+        return self.text.shapes[key]
+
+    def shape(self) -> Item:
+        """Returns what the part takes without the lone ways."""
+        claims = self.text.item.claims.difference(*(way.claims for way in self.ways.values()))
+        left = {cell_number(cell) for way in self.ways.values() for cell in way.mirrors}
+        return part_item(self.text.item.mirrors - left, claims)
+
+    @cached_property
+    def missing(self) -> set[tuple[int | None, Cell]]:
+        """The times and cells of border lines that are left out with the lone ways; None is the time of a mirror."""
+        found: set[tuple[int | None, Cell]] = {cell for way in self.ways.values() for cell in way.moving}
+        return found | {(None, cell) for way in self.ways.values() for cell in way.mirrors}
+
+    def mirror_cells(self) -> set[Cell]:
+        """Returns the cells of the mirrors that stay."""
+        return self.text.layout.mirror_cells().difference(*(way.mirrors for way in self.ways.values()))
 
     def wire(self, own: str) -> str:
         """Returns what the join calls a wire of the part. A ball that is always there has no wire."""
@@ -44,27 +85,42 @@ class Named:
 class Composed:
     """The circuit of a join, with its parts in an order in which each comes after those that feed it."""
 
-    parts: list[Named]
+    parts: list[NamedPart]
     connections: list[Connection]
     section: str
     circuit: Circuit
 
 
-def composed(parts: dict[str, PartText], connections: list[Connection]) -> Composed:
-    """Returns the circuit of parts whose ports are connected; raises LabError if that is none."""
+def composed(parts: dict[str, PartText], connections: list[Connection],
+             whole: Collection[tuple[str, str]] = ()) -> Composed:
+    """Returns the circuit of parts whose ports are connected; raises LabError if that is none.
+
+    The ports of `whole`, each a part and its own wire, keep their lone ways.
+    """
     require_connections(parts, connections)
     order = ordered(list(parts), connections)
-    named = [Named(name, parts[name]) for name in order]
+    named = [NamedPart(name, parts[name]) for name in order]
     fed = {(own.target, own.input): own for own in connections}
     by_name = {part.name: part for part in named}
     count = 0
     for part in named:
         part.first_gate, count = count, count + len(part.text.circuit.gates)
+        part.ways = {wire: way for wire, way in connected_ways(part, connections) if (part.name, wire) not in whole}
         for wire in part.text.circuit.wires:
             own = fed.get((part.name, wire))
             part.wires[wire] = by_name[own.source].wires[own.output] if own else joined_name(part.name, wire)
     lines = circuit_lines(named, connections)
     return Composed(named, connections, sections_after_line(text_of(lines)), read_circuit(lines))
+
+
+def connected_ways(part: NamedPart, connections: list[Connection]) -> Iterator[tuple[str, LoneWay]]:
+    """Yields the lone ways of the connected ports of a part, with their wires."""
+    taken = {own.input for own in connections if own.target == part.name}
+    given = {own.output for own in connections if own.source == part.name}
+    for ports, wires in ((part.text.starts, taken), (part.text.ends, given)):
+        for port in ports:
+            if port.wire in wires and port.way is not None:
+                yield port.wire, port.way
 
 
 def joined_name(part: str, wire: str) -> str:
@@ -109,7 +165,7 @@ def ordered(names: list[str], connections: list[Connection]) -> list[str]:
     return order
 
 
-def circuit_lines(parts: list[Named], connections: list[Connection]) -> Circuit:
+def circuit_lines(parts: list[NamedPart], connections: list[Connection]) -> Circuit:
     """Returns the lines of the circuit of the join. Connected ports are neither inputs nor outputs."""
     given = {(own.source, own.output) for own in connections}
     taken = {(own.target, own.input) for own in connections}

@@ -1,5 +1,10 @@
-"""The modules of a join: those of the parts, and tiles between them, with the wires that paths bring to them."""
+"""The modules of a join: those of the parts, and tiles between them, with the wires that paths bring to them.
 
+A join has tens of thousands of modules with hundreds of thousands of lines. So a module is made only when its text is
+written. Before that, numbers stand for the lines of paths.
+"""
+
+from array import array
 from collections import Counter, defaultdict
 from typing import Iterable, Iterator
 
@@ -9,52 +14,51 @@ from ..route.balls import moving_cells
 from ..route.board import Bound, NoRouteError
 from ..route.netlist import Netlist
 from ..route.paths import Path
-from ..route.world import TILE, number_cell
-from ..texts.certificates import MAX_CUTS, MAX_USES, Border, Certificate, ModuleDraft, Stop, local_wires
-from ..texts.layouts import Box, Cell, row_order
+from ..route.world import ROW, STEP, TILE, number_cell
+from ..texts.certificates import MAX_CUTS, MAX_USES, Border, Module, ModuleDraft, Stop
+from ..texts.circuits import Circuit
+from ..texts.layouts import Box, Cell
 from ..texts.limits import SECOND
 from ..texts.owners import NOBODY, Owners
 from .composing import Composed
 from .parts import ALWAYS
-from .planning import Placed, Plan
+from .planning import JoinPlan, PlacedPart
 
 # Tiles that nothing reaches become boxes of so many tiles in each direction.
 QUIET_TILES = 4
+# A line of a path is a number: its place by the order of lines, times this number, plus the number of the path. A line
+# of a mirror has the number of no path.
+PATHS = 1 << 14
+NO_PATH = PATHS - 1
+NO_WIRES: frozenset[str] = frozenset()
 
 
 class JoinedModules:
-    """The modules of a join while paths are led. `extra` counts for each module the paths that bring it a wire."""
+    """The modules of a join while paths are led. `extra` counts for each module the paths that bring it a wire.
 
-    def __init__(self, composed: Composed, plan: Plan) -> None:
+    The first modules are those of the parts, and `origins` has them with their parts. The others are tiles.
+    """
+
+    def __init__(self, composed: Composed, plan: JoinPlan) -> None:
         self.circuit, self.netlist, self.plan = composed.circuit, Netlist(composed.circuit), plan
         self.owners = Owners(plan.side, plan.side)
-        self.modules: list[ModuleDraft] = []
+        self.boxes: list[Box] = []
+        self.origins: list[tuple[PlacedPart, Module]] = []
         for placed in plan.placed:
-            self.add_part(placed)
-        self.part_count = len(self.modules)
+            for own in placed.part.text.certificate.modules:
+                self.add(Box(own.box.x + placed.x, own.box.y + placed.y, own.box.width, own.box.height))
+                self.origins.append((placed, own))
         for box in self.tiles_between():
-            self.add(ModuleDraft(box))
-        self.local = [set(local_wires(self.circuit, module)) for module in self.modules]
+            self.add(box)
+        self.known = [frozenset(local_wires(self.circuit, self.cuts(number), self.uses(number)))
+                      for number in range(len(self.origins))]
         self.extra: dict[int, Counter[str]] = defaultdict(Counter)
+        self.lines: dict[int, array[int]] = defaultdict(lambda: array("q"))
 
-    def add(self, module: ModuleDraft) -> None:
-        """Adds a module."""
-        module.number = len(self.modules)
-        self.owners.take(module.box, module.number)
-        self.modules.append(module)
-
-    def add_part(self, placed: Placed) -> None:
-        """Adds the modules of a part, moved and later, with the wires and gates of the join."""
-        part, x, y, time = placed.part, placed.x, placed.y, placed.time
-        for own in part.text.certificate.modules:
-            box = Box(own.box.x + x, own.box.y + y, own.box.width, own.box.height)
-            module = ModuleDraft(box, cuts=[part.wires[wire] for wire in own.cuts])
-            module.uses = [part.first_gate + number for number in own.uses]
-            module.keeps = [part.first_gate + number for number in own.keeps]
-            module.edges = [Border(None if line.time is None else line.time + time, line.x + x, line.y + y,
-                                   part.wire(line.signal)) for line in own.edges]
-            module.stops = [Stop(stop.time + time, part.wires[stop.name], stop.x + x, stop.y + y) for stop in own.stops]
-            self.add(module)
+    def add(self, box: Box) -> None:
+        """Adds the box of a module."""
+        self.owners.take(box, len(self.boxes))
+        self.boxes.append(box)
 
     def tiles_between(self) -> Iterator[Box]:
         """Yields boxes of at most a tile that have all cells outside the parts."""
@@ -71,6 +75,39 @@ class JoinedModules:
                 if high < TILE:
                     yield Box(x, y + high, wide, TILE - high)
 
+    # --- the part's own lines -----------------------------------------------------------------------------------------
+
+    def cuts(self, number: int) -> list[str]:
+        """Returns the cuts that a module brings from its part, as the join calls them."""
+        if number >= len(self.origins):
+            return []
+        placed, own = self.origins[number]
+        return [placed.part.wires[wire] for wire in own.cuts]
+
+    def uses(self, number: int) -> list[int]:
+        """Returns the gates that a module uses in its part, as the join numbers them."""
+        if number >= len(self.origins):
+            return []
+        placed, own = self.origins[number]
+        return [placed.part.first_gate + gate for gate in own.uses]
+
+    def local(self, number: int) -> frozenset[str]:
+        """Returns the wires that a module knows without paths."""
+        return self.known[number] if number < len(self.known) else NO_WIRES
+
+    def add_own_lines(self, module: ModuleDraft) -> None:
+        """Adds the lines of a part's module, moved and later, with the wires and gates of the join.
+
+        Lines of lone ways are left out.
+        """
+        placed, own = self.origins[module.number]
+        part, x, y, time = placed.part, placed.x, placed.y, placed.time
+        module.keeps = [part.first_gate + number for number in own.keeps]
+        module.edges = [Border(None if line.time is None else line.time + time, line.x + x, line.y + y,
+                               part.wire(line.signal))
+                        for line in own.edges if (line.time, line.cell) not in part.missing]
+        module.stops = [Stop(line.time + time, part.wires[line.name], line.x + x, line.y + y) for line in own.stops]
+
     # --- wires --------------------------------------------------------------------------------------------------------
 
     def signal(self, wire: str) -> str:
@@ -82,13 +119,13 @@ class JoinedModules:
         x, y = cell
         return {self.owners.owner_at((x + i, y + j)) for i in (-1, 1) for j in (-1, 1)} - {NOBODY}
 
-    def edge_cells(self, path: Path) -> Iterator[tuple[int, Cell, ModuleDraft]]:
-        """Yields the cells of a path on rings at odd times, with their modules."""
+    def edge_cells(self, path: Path) -> Iterator[tuple[int, Cell, int]]:
+        """Yields the cells of a path on rings at odd times, with the numbers of their modules."""
         for time, cells in moving_cells(path.start, path.legs, 1):
             for cell in cells:
-                module = self.modules[self.owners.owner_at(cell)]
-                if module.box.has_in_ring(cell):
-                    yield time, cell, module
+                number = self.owners.owner_at(cell)
+                if self.boxes[number].has_in_ring(cell):
+                    yield time, cell, number
 
     def modules_of(self, path: Path) -> set[int]:
         """Returns the modules that must know the wire of a path."""
@@ -99,9 +136,10 @@ class JoinedModules:
         if self.signal(wire) == ALWAYS:
             return True
         for number in numbers:
-            if wire in self.local[number] or self.extra[number][wire]:
+            extra = self.extra.get(number, Counter())
+            if wire in self.local(number) or extra[wire]:
                 continue
-            if len(self.modules[number].cuts) + len(+self.extra[number]) >= MAX_CUTS:
+            if len(self.cuts(number)) + len(+extra) >= MAX_CUTS:
                 cuts, uses = self.wiring(number, [wire])
                 if len(cuts) > MAX_CUTS or len(uses) > MAX_USES:
                     return False
@@ -110,57 +148,73 @@ class JoinedModules:
     def count(self, wire: str, numbers: Iterable[int], change: int) -> None:
         """Notes that a path brings a wire to modules, or no longer does."""
         for number in numbers if self.signal(wire) != ALWAYS else ():
-            if wire not in self.local[number]:
+            if wire not in self.local(number):
                 self.extra[number][wire] += change
 
     def wiring(self, number: int, more: Iterable[str] = ()) -> tuple[list[str], list[int]]:
         """Returns the cuts of a module and the gates that it uses. The part's own stay if there is room."""
-        module = self.modules[number]
-        extra = sorted(({*+self.extra[number], *more}) - self.local[number], key=self.circuit.rank)
+        own, own_uses = self.cuts(number), self.uses(number)
+        extra = sorted(({*+self.extra.get(number, Counter()), *more}) - self.local(number), key=self.circuit.rank)
         constants = [wire for wire in extra if self.netlist.root(wire) in self.netlist.constants]
-        used = {*module.uses, *self.circuit.cone(constants)[1]} if constants else set(module.uses)
+        used = {*own_uses, *self.circuit.cone(constants)[1]} if constants else set(own_uses)
         plain = [wire for wire in extra if wire not in constants]
-        if len(module.cuts) + len(plain) <= MAX_CUTS and not any(self.follows(wire, module) for wire in plain):
-            return [*module.cuts, *plain], sorted(used)
-        cuts, uses = fewest_cuts(self.circuit, {*module.cuts, *extra}, used)
+        if len(own) + len(plain) <= MAX_CUTS and not any(self.follows(wire, number) for wire in plain):
+            return [*own, *plain], sorted(used)
+        cuts, uses = fewest_cuts(self.circuit, {*own, *extra}, used)
         return sorted(cuts, key=self.circuit.rank), sorted(uses)
 
-    def follows(self, wire: str, module: ModuleDraft) -> bool:
+    def follows(self, wire: str, number: int) -> bool:
         """Whether a wire is on one ball with a wire that a module knows, by delays: then it must not be free."""
         root = self.netlist.root(wire)
-        return root != wire and any(self.netlist.root(own) == root for own in self.local[module.number])
+        return root != wire and any(self.netlist.root(own) == root for own in self.local(number))
 
     # --- the certificate ----------------------------------------------------------------------------------------------
 
-    def certificate(self, paths: list[Path], ports: Iterable[tuple[Cell, str]]) -> Certificate:
-        """Returns the certificate with the lines of all paths and of their mirrors."""
+    def note_lines(self, paths: list[Path], ports: Iterable[tuple[Cell, str]]) -> None:
+        """Notes the lines of all paths and of their mirrors, and the wires of ports."""
         for cell, wire in ports:
             self.need(wire, self.owners.owner_at(cell))
-        for path in paths:
-            signal = self.signal(path.wire)
-            for time, cell, module in self.edge_cells(path):
+        for index, path in enumerate(paths):
+            for time, (x, y), number in self.edge_cells(path):
                 if time < self.plan.end:
-                    module.edges.append(Border(time, *cell, signal))
-            for number in path.item.mirrors:
-                cell = number_cell(number)
-                module = self.modules[self.owners.owner_at(cell)]
-                if module.box.has_in_ring(cell):
-                    module.edges.append(Border(None, *cell, ALWAYS))
-        for module in self.modules:
-            cuts, uses = self.wiring(module.number)
-            if len(cuts) > MAX_CUTS or len(uses) > MAX_USES:
-                raise NoRouteError(f"the box at ({module.box.x}, {module.box.y}) needs {len(cuts)} wires; "
-                                   f"{MAX_CUTS} is the most", Bound.WIRES)
-            module.cuts, module.uses = cuts, uses
-            module.edges.sort(key=lambda line: line.place)
-        return Certificate(2, tuple(module.module() for module in self.with_large_boxes()))
+                    self.lines[number].append(((time + 1) * STEP + y * ROW + x) * PATHS + index)
+            for cell_number in path.item.mirrors:
+                cell = number_cell(cell_number)
+                number = self.owners.owner_at(cell)
+                if self.boxes[number].has_in_ring(cell):
+                    self.lines[number].append(cell_number * PATHS + NO_PATH)
+
+    def line_of(self, number: int, signals: list[str]) -> Border:
+        """Returns the line of a number, with the signals of all paths."""
+        place, index = divmod(number, PATHS)
+        time, (x, y) = place // STEP - 1, number_cell(place % STEP)
+        return Border(None, x, y, ALWAYS) if index == NO_PATH else Border(time, x, y, signals[index])
+
+    def modules(self, paths: list[Path]) -> Iterator[Module]:
+        """Yields the modules with all their lines, one box in place of many where no box has any line; raises
+        NoRouteError."""
+        signals = [self.signal(path.wire) for path in paths]
+        for number, box in self.kept_boxes():
+            module = ModuleDraft(box)
+            if number is not None:
+                module.number = number
+                if number < len(self.origins):
+                    self.add_own_lines(module)
+                module.edges += [self.line_of(own, signals) for own in self.lines.get(number, ())]
+                module.edges.sort(key=lambda line: line.place)
+                module.cuts, module.uses = self.wiring(number)
+                if len(module.cuts) > MAX_CUTS or len(module.uses) > MAX_USES:
+                    raise NoRouteError(f"the box at ({box.x}, {box.y}) needs {len(module.cuts)} wires; "
+                                       f"{MAX_CUTS} is the most", Bound.WIRES)
+            yield module.module()
 
     def require_meetings(self) -> None:
         """Raises LabError if a gate gets wires with stops at different times: the program would say no."""
         latest: dict[str, int] = {}
-        for module in self.modules:
+        for placed, module in self.origins:
             for stop in module.stops:
-                latest[stop.name] = max(stop.time, latest.get(stop.name, 0))
+                wire = placed.part.wires[stop.name]
+                latest[wire] = max(stop.time + placed.time, latest.get(wire, 0))
         for gate in self.circuit.gates:
             times = {wire: latest[wire] for wire in gate.ins if wire in latest}
             if len(set(times.values())) > 1:
@@ -170,29 +224,37 @@ class JoinedModules:
 
     def need(self, wire: str, number: int) -> None:
         """Has a module know the wire of a port."""
-        if wire not in self.local[number]:
+        if wire not in self.local(number):
             self.extra[number][wire] += 1
 
-    def with_large_boxes(self) -> list[ModuleDraft]:
-        """Returns the modules with one box in place of many where no box has any line."""
-        quiet = {(module.box.x, module.box.y) for module in self.modules[self.part_count:] if is_quiet(module)}
-        large, side = dict[Cell, ModuleDraft](), QUIET_TILES * TILE
-        for x, y in sorted(quiet, key=row_order):
+    def kept_boxes(self) -> list[tuple[int | None, Box]]:
+        """Returns the boxes with the numbers of their modules, and None for a large box in place of many tiles."""
+        tiles = range(len(self.origins), len(self.boxes))
+        quiet = {(self.boxes[number].x, self.boxes[number].y) for number in tiles if self.is_quiet(number)}
+        width, height, side = self.plan.width, self.plan.height, QUIET_TILES * TILE
+        large: dict[Cell, Cell] = {}
+        for x, y in quiet:
             group = [(x + i, y + j) for i in range(0, side, TILE) for j in range(0, side, TILE)]
-            is_inside = x + side <= self.plan.width and y + side <= self.plan.height
+            is_inside = x + side <= width and y + side <= height
             if x % side == 0 and y % side == 0 and is_inside and quiet.issuperset(group):
-                large |= dict.fromkeys(group, ModuleDraft(Box(x, y, side, side)))
-        width, height, found = self.plan.width, self.plan.height, dict[int, ModuleDraft]()
-        for number, module in enumerate(self.modules):
-            own = large.get((module.box.x, module.box.y), module) if number >= self.part_count else module
-            if own.box.x < width and own.box.y < height:
-                found[id(own)] = own
-        modules = list(found.values())
-        if len(modules) > SECOND.max_modules:
-            raise LabError(f"the join takes {len(modules)} modules; {SECOND.max_modules} is the most", 1)
-        return modules
+                large |= dict.fromkeys(group, (x, y))
+        found: list[tuple[int | None, Box]] = []
+        for number, box in enumerate(self.boxes):
+            corner = large.get((box.x, box.y)) if number in tiles else None
+            if corner == (box.x, box.y):
+                found.append((None, Box(*corner, side, side)))
+            elif corner is None and box.x < width and box.y < height:
+                found.append((number, box))
+        if len(found) > SECOND.max_modules:
+            raise LabError(f"the join takes {len(found)} modules; {SECOND.max_modules} is the most", 1)
+        return found
+
+    def is_quiet(self, number: int) -> bool:
+        """Whether a module is a whole tile that nothing reaches."""
+        box = self.boxes[number]
+        return box.width == box.height == TILE and not self.lines.get(number) and not +self.extra.get(number, Counter())
 
 
-def is_quiet(module: ModuleDraft) -> bool:
-    """Whether a module is a tile that nothing reaches."""
-    return module.box.width == module.box.height == TILE and not module.cuts and not module.uses and not module.edges
+def local_wires(circuit: Circuit, cuts: list[str], uses: list[int]) -> set[str]:
+    """Returns the wires that a module with some cuts and gates knows."""
+    return {*cuts, *(wire for number in uses for wire in circuit.gates[number].outs)}

@@ -2,9 +2,8 @@
 
 from array import array
 from collections import defaultdict
-from dataclasses import dataclass
-from typing import Iterable
-
+from dataclasses import dataclass, field, replace
+from typing import Collection
 from ..host.terminal import LabError
 from ..physics.simulation import local_values
 from ..route.balls import Ball, block_corner, stepped
@@ -17,17 +16,22 @@ from ..texts.gates import Table
 from ..texts.layouts import Cell, Layout
 from ..texts.owners import Owners
 from ..texts.refusals import refusal_words
+from .lone_ways import LoneRun, LoneRuns, LoneWay, balls_of, lone_way
 
 # The wire of a ball that is always there.
 ALWAYS = "1"
 
 
 @dataclass(frozen=True)
-class Port:
-    """A ball at the start or at the end of a part, at its time there, with the wire that it carries."""
+class PartPort:
+    """A ball at the start or at the end of a part, at its time there, with the wire that it carries.
+
+    If the port is connected, `way` is its lone way.
+    """
 
     wire: str
     ball: Ball
+    way: LoneWay | None = None
 
 
 @dataclass(frozen=True)
@@ -40,11 +44,13 @@ class PartText:
     circuit: Circuit
     layout: Layout
     certificate: Certificate
-    starts: list[Port]
-    ends: list[Port]
+    starts: list[PartPort]
+    ends: list[PartPort]
     item: Item
     start_fault: str = ""
     end_fault: str = ""
+    # What the part takes without the lone ways of some wires.
+    shapes: dict[frozenset[str], Item] = field(default_factory=dict)
 
     @property
     def can_wait(self) -> bool:
@@ -52,8 +58,11 @@ class PartText:
         return not self.start_fault and len(self.starts) < len(self.ends)
 
 
-def read_part(name: str, text: str) -> PartText:
-    """Returns a bundle with its balls; raises LabError if it is refused or cannot be joined."""
+def read_part(name: str, text: str, connected: Collection[str] = ()) -> PartText:
+    """Returns a bundle with its balls; raises LabError if it is refused or cannot be joined.
+
+    The ports of connected wires get their lone ways.
+    """
     document = read_document(text, "check")
     if document.refusal is not None:
         raise LabError(f"{name}: {refusal_words(document, document.refusal.line)}", 1)
@@ -61,37 +70,39 @@ def read_part(name: str, text: str) -> PartText:
     assert circuit is not None and layout is not None and certificate is not None
     if certificate.version == 1:
         raise LabError(f"{name}: its certificate has version 1: `bbmcheck migrate` writes version 2", 1)
-    run = PartRun(circuit, layout, certificate)
+    lone = {} if not connected else lone_runs(circuit, layout, certificate, connected)
+    run = PartRun(circuit, layout, certificate, LoneRuns(list(lone.values())))
     item, last = run.run()
+    ways = {key: lone_way(own, run.claims, run.mirrors) for key, own in lone.items()}
     starts, start_fault = start_ports(layout)
     ends, end_fault = end_ports(circuit, layout, run.wires_at_end(last))
+    starts = [replace(port, way=ways.get(("in", port.wire))) for port in starts]
+    ends = [replace(port, way=ways.get(("out", port.wire))) for port in ends]
     return PartText(circuit, layout, certificate, starts, ends, item, start_fault, end_fault)
 
 
-def balls_of(cells: Iterable[Cell], time: int) -> list[Ball] | None:
-    """Returns the balls that some cells are at a time, or None if they are not whole balls.
+def lone_runs(circuit: Circuit, layout: Layout, certificate: Certificate,
+              connected: Collection[str]) -> dict[tuple[str, str], LoneRun]:
+    """Returns the lone runs of ports that carry connected wires, each one ball of two cells without delays.
 
-    A cell's place and the time tell its direction.
+    A ball from an input to an output has none.
     """
-    left, found = set(cells), []
-
-    def direction(cell: Cell) -> Cell:
-        """Returns the direction in which a lone cell moves."""
-        return 1 - 2 * ((cell[0] + time) % 2), 1 - 2 * ((cell[1] + time) % 2)
-
-    for x, y in sorted(left, key=lambda cell: (direction(cell), -cell[0] * direction(cell)[0], cell[1])):
-        dx, dy = direction((x, y))
-        tail = x - 2 * dx, y - 2 * dy
-        if (x, y) not in left:
-            continue
-        if tail not in left:
-            return None
-        left -= {(x, y), tail}
-        found.append(Ball(x, y, dx, dy, time))
-    return found
+    netlist, mirrors = Netlist(circuit), layout.mirror_cells()
+    bound = {*netlist.delayed, *netlist.after, *(line.name for module in certificate.modules for line in module.stops)}
+    bound |= set(circuit.inputs).intersection(circuit.outputs)
+    cells: dict[tuple[str, str], list[Cell]] = defaultdict(list)
+    for part in layout.parts:
+        if part.kind in ("in", "out") and part.name in connected and part.name not in bound:
+            cells[part.kind, part.name or ""].append(part.cell)
+    runs = {}
+    for (kind, wire), own in cells.items():
+        balls = balls_of(own, layout.steps if kind == "out" else 0) or []
+        if len(balls) == 1 and not netlist.is_zero(wire):
+            runs[kind, wire] = LoneRun(mirrors, balls[0], layout.steps, kind == "out")
+    return runs
 
 
-def start_ports(layout: Layout) -> tuple[list[Port], str]:
+def start_ports(layout: Layout) -> tuple[list[PartPort], str]:
     """Returns the balls at time 0, and why they are none if that is so."""
     cells: dict[str, list[Cell]] = defaultdict(list)
     for part in layout.parts:
@@ -100,7 +111,7 @@ def start_ports(layout: Layout) -> tuple[list[Port], str]:
     return ports_of(cells, 0, "start")
 
 
-def end_ports(circuit: Circuit, layout: Layout, wastes: dict[Cell, str | None]) -> tuple[list[Port], str]:
+def end_ports(circuit: Circuit, layout: Layout, wastes: dict[Cell, str | None]) -> tuple[list[PartPort], str]:
     """Returns the balls at the last time, without cells that are never live, and why they are none if that is so."""
     cells: dict[str, list[Cell]] = defaultdict(list)
     netlist = Netlist(circuit)
@@ -114,24 +125,31 @@ def end_ports(circuit: Circuit, layout: Layout, wastes: dict[Cell, str | None]) 
     return ports_of(cells, layout.steps, "end")
 
 
-def ports_of(cells: dict[str, list[Cell]], time: int, what: str) -> tuple[list[Port], str]:
+def ports_of(cells: dict[str, list[Cell]], time: int, what: str) -> tuple[list[PartPort], str]:
     """Returns the balls of the cells of each wire, and why they are none if that is so."""
-    ports: list[Port] = []
+    ports: list[PartPort] = []
     for wire, own in cells.items():
         balls = balls_of(own, time)
         if balls is None:
             x, y = own[0]
             name = "constants" if wire == ALWAYS else wire
             return [], f"the cells of {name} at its {what}, such as ({x}, {y}), are not balls of two cells"
-        ports += [Port(wire, ball) for ball in balls]
+        ports += [PartPort(wire, ball) for ball in balls]
     return ports, ""
+
+
+def part_item(mirrors: frozenset[int], claims: set[int]) -> Item:
+    """Returns what a part takes whose balls claim some blocks at times."""
+    corners = {claim % STEP for claim in claims}
+    touched = {corner + offset for corner in corners for offset in (0, 1, ROW, ROW + 1)} - mirrors
+    return Item(mirrors, (array("q", sorted(touched)),), (array("q", sorted(claims)),))
 
 
 class PartRun:
     """The runs of all modules of a bundle with a yes: they have each block in which a ball moves, under any inputs."""
 
-    def __init__(self, circuit: Circuit, layout: Layout, certificate: Certificate) -> None:
-        self.circuit, self.layout, self.certificate = circuit, layout, certificate
+    def __init__(self, circuit: Circuit, layout: Layout, certificate: Certificate, lone: LoneRuns) -> None:
+        self.circuit, self.layout, self.certificate, self.lone = circuit, layout, certificate, lone
         self.owners: Owners = certificate.owners
         self.mirrors = layout.mirror_cells()
         self.claims: set[int] = set()
@@ -159,10 +177,7 @@ class PartRun:
         last: dict[Cell, tuple[Module, Table]] = {}
         for module in self.certificate.modules:
             last.update((cell, (module, table)) for cell, table in self.run_module(module).items())
-        mirrors = frozenset(map(cell_number, self.mirrors))
-        corners = {claim % STEP for claim in self.claims}
-        touched = {corner + offset for corner in corners for offset in (0, 1, ROW, ROW + 1)} - mirrors
-        return Item(mirrors, (array("q", sorted(touched)),), (array("q", sorted(self.claims)),)), last
+        return part_item(frozenset(map(cell_number, self.mirrors)), self.claims), last
 
     def run_module(self, module: Module) -> dict[Cell, Table]:
         """Runs a module, notes the blocks in which something moves, and returns the cells that move at the end."""
@@ -188,7 +203,9 @@ class PartRun:
             if time % 2 and time in heard:
                 now.update((cell, tables[wire]) for cell, wire in heard[time].items() if tables[wire])
             corners = {block_corner(cell, time) for cell in now}
-            self.claims.update(time * STEP + y * ROW + x for x, y in corners)
+            claims = {time * STEP + y * ROW + x for x, y in corners}
+            self.claims |= claims
+            self.lone.compare(time, claims, now.keys())
             following = stepped(self.mirrors, now, full, corners)
             if following is None:
                 raise LabError("a module of a bundle with a yes does not run: this is an error of the lab")

@@ -10,26 +10,42 @@ from ..route.balls import Ball
 from ..route.world import TILE
 from ..texts.layouts import Cell
 from ..texts.limits import SECOND
-from .composing import Composed, Named
-from .parts import Port
+from .composing import Composed, NamedPart
+from .places import GAP, Area, Place, all_places
 
-# The cells between a part and the border, and between two parts, at least.
-GAP = 2 * TILE
 # The part of the plane between the parts that may be taken by estimate, and the cells that a ball newly touches in a
 # step.
-FILL = 0.4
+FILL = 0.2
 STEP_CELLS = 2.6
 
 
-# The further steps for each cell between two parts: balls fly round what is in the way.
-DETOUR = 0.35
+@dataclass(frozen=True)
+class Spare:
+    """The steps to spare of balls between two parts: for each cell of the way, and further ones.
+
+    Balls fly round what is in the way.
+    """
+
+    detour: float
+    steps: int
+
+    def steps_between(self, first: Ball, last: Ball) -> int:
+        """Returns the steps from a ball to another one."""
+        far = max(abs(first.x - last.x), abs(first.y - last.y))
+        return int((1 + self.detour) * far) + self.steps
+
+
+# The steps to spare of each ball between two parts: the next ones if it could not be led.
+SPARES = (Spare(0.1, 60), Spare(0.2, 100), Spare(0.35, 150), Spare(0.35, 250), Spare(0.35, 350))
+# For each connection the place of its spare steps in `SPARES`.
+Spares = list[int]
 
 
 @dataclass
-class Placed:
+class PlacedPart:
     """A part at a place and a time."""
 
-    part: Named
+    part: NamedPart
     x: int = 0
     y: int = 0
     time: int = 0
@@ -43,14 +59,10 @@ class Placed:
         return cell[0] + self.x, cell[1] + self.y
 
     @property
-    def width(self) -> int:
-        """The width in cells, in whole tiles."""
-        return -(-self.part.text.layout.width // TILE) * TILE
-
-    @property
-    def height(self) -> int:
-        """The height in cells, in whole tiles."""
-        return -(-self.part.text.layout.height // TILE) * TILE
+    def area(self) -> Area:
+        """The width and the height in cells, in whole tiles."""
+        layout = self.part.text.layout
+        return Area(-(-layout.width // TILE) * TILE, -(-layout.height // TILE) * TILE)
 
     @property
     def end(self) -> int:
@@ -82,7 +94,7 @@ class Job:
 
 
 @dataclass
-class Plan:
+class JoinPlan:
     """Places and times of all parts, the side of the plane and the last time.
 
     The layout is the plane up to `width` and `height`.
@@ -90,76 +102,61 @@ class Plan:
 
     side: int
     end: int
-    placed: list[Placed]
+    placed: list[PlacedPart]
     jobs: list[Job]
     width: int
     height: int
 
 
-def made_plan(composed: Composed, side: int, slack: int) -> Plan | None:
-    """Returns a plan on a plane with a side, or None if the parts have no room there.
+def made_plan(composed: Composed, side: int, spares: Spares) -> JoinPlan | None:
+    """Returns a plan on a plane with a side that takes few steps, or None if the parts have no room there.
 
     Balls between parts get some steps to spare. A part that feeds no other one begins as late as it can, if fewer balls
     come to it than leave it.
     """
-    placed = [Placed(part) for part in composed.parts]
-    if not set_places(placed, side):
+    areas = [PlacedPart(part).area for part in composed.parts]
+    found = [placed_at(composed, places, spares) for places in all_places(areas, side)]
+    if not found:
         return None
-    by_name = {own.part.name: own for own in placed}
-    for own in placed:
-        for connection in composed.connections:
-            if connection.target == own.part.name:
-                source = by_name[connection.source]
-                first, last = end_ball(source, connection.output), start_ball(own, connection.input)
-                far = max(abs(first.x - last.x), abs(first.y - last.y))
-                own.time = max(own.time, (source.end + int((1 + DETOUR) * far) + slack + 1) // 2 * 2)
-    end = max(own.end for own in placed)
+    placed = min(found, key=last_time)
+    end = last_time(placed)
     for own in placed:
         feeds_none = not any(connection.source == own.part.name for connection in composed.connections)
         if feeds_none and own.part.text.can_wait:
             own.time += (end - own.end) // 2 * 2
-    return Plan(side, end, placed, jobs_of(composed, by_name, end), side, side)
+    return JoinPlan(side, end, placed, jobs_of(composed, {own.part.name: own for own in placed}, end), side, side)
 
 
-def set_places(placed: list[Placed], side: int) -> bool:
-    """Puts parts in rows on a plane, with equal gaps; returns whether they have room."""
-    rows: list[list[Placed]] = []
+def last_time(placed: list[PlacedPart]) -> int:
+    """Returns the time at which the last part ends."""
+    return max(own.end for own in placed)
+
+
+def placed_at(composed: Composed, places: list[Place], spares: Spares) -> list[PlacedPart]:
+    """Returns the parts at some places, each as early as its balls can come."""
+    placed = [PlacedPart(part, x, y) for part, (x, y) in zip(composed.parts, places)]
+    by_name = {own.part.name: own for own in placed}
     for own in placed:
-        if rows and sum(other.width + GAP for other in rows[-1]) + own.width + 2 * GAP <= side:
-            rows[-1].append(own)
-        else:
-            rows.append([own])
-    free = side - sum(max(own.height for own in row) for row in rows)
-    if free < (len(rows) + 1) * GAP or any(own.width + 2 * GAP > side for own in placed):
-        return False
-    down = free // (len(rows) + 1)
-    y = down
-    for row in rows:
-        across = (side - sum(own.width for own in row)) // (len(row) + 1)
-        x = across
-        for own in row:
-            own.x, own.y = x // TILE * TILE, y // TILE * TILE
-            x += own.width + across
-        y += max(own.height for own in row) + down
-    return True
+        for connection, spare in zip(composed.connections, spares):
+            if connection.target == own.part.name:
+                first = end_ball(by_name[connection.source], connection.output)
+                last = start_ball(own, connection.input)
+                after = first.time + SPARES[spare].steps_between(first, last) - (last.time - own.time)
+                own.time = max(own.time, (after + 1) // 2 * 2)
+    return placed
 
 
-def port_ball(ports: list[Port], wire: str) -> Ball:
-    """Returns the ball of a wire among ports: the first one if there are many."""
-    return next(port.ball for port in ports if port.wire == wire)
+def end_ball(placed: PlacedPart, wire: str) -> Ball:
+    """Returns the ball of an output where the join takes it over from a part."""
+    return placed.ball(placed.part.inner_ball(placed.part.text.ends, wire))
 
 
-def end_ball(placed: Placed, wire: str) -> Ball:
-    """Returns the ball of an output at the end of a part."""
-    return placed.ball(port_ball(placed.part.text.ends, wire))
+def start_ball(placed: PlacedPart, wire: str) -> Ball:
+    """Returns the ball of an input where the join gives it to a part."""
+    return placed.ball(placed.part.inner_ball(placed.part.text.starts, wire))
 
 
-def start_ball(placed: Placed, wire: str) -> Ball:
-    """Returns the ball of an input at the start of a part."""
-    return placed.ball(port_ball(placed.part.text.starts, wire))
-
-
-def jobs_of(composed: Composed, placed: dict[str, Placed], end: int) -> list[Job]:
+def jobs_of(composed: Composed, placed: dict[str, PlacedPart], end: int) -> list[Job]:
     """Returns the balls to lead: between parts, to parts that begin later, and from parts that end earlier."""
     given = {(own.source, own.output) for own in composed.connections}
     taken = {(own.target, own.input) for own in composed.connections}
@@ -179,13 +176,13 @@ def jobs_of(composed: Composed, placed: dict[str, Placed], end: int) -> list[Job
     return jobs
 
 
-def estimated_side(composed: Composed, slack: int) -> int:
+def estimated_side(composed: Composed, spares: Spares) -> int:
     """Returns the side of a plane on which all ways have room by estimate, at most the largest one."""
     side = GAP
     while side < SECOND.max_side:
-        plan = made_plan(composed, side, slack)
+        plan = made_plan(composed, side, spares)
         if plan is not None:
-            free = side ** 2 - sum(own.width * own.height for own in plan.placed)
+            free = side ** 2 - sum(own.area.width * own.area.height for own in plan.placed)
             if STEP_CELLS * sum(job.steps for job in plan.jobs) <= FILL * free:
                 break
         side = min(SECOND.max_side, (math.ceil(side * 1.05) + 2 * TILE - 1) // (2 * TILE) * 2 * TILE)

@@ -6,17 +6,21 @@ free cells. If a ball finds no way, the paths across its straight way make room 
 
 import random
 import time
+from array import array
+from dataclasses import dataclass
 from itertools import chain
-from typing import Callable
+from typing import Callable, Collection, Iterable, Iterator, NamedTuple
 
-from ..route.balls import Ball, Leg
+from ..route.balls import Ball, Leg, follow, reversed_legs
 from ..route.board import Bound, NoRouteError
 from ..route.paths import Path, PathFinder, Trail
 from ..route.settings import Settings
-from ..route.world import Item, World, path_item
+from ..route.world import STEP, TILE, Item, World, cell_number, number_cell, path_item
+from ..texts.layouts import Box
+from .coils import Coil, coils_of, is_free
 from .modules import JoinedModules
 from .parts import ALWAYS
-from .planning import Job, Placed, Plan
+from .planning import Job, JoinPlan, PlacedPart
 
 # The steps at the open ends of balls that wait which are kept free, the first that fit.
 STUB_STEPS = (20, 14, 10, 6, 3)
@@ -31,7 +35,7 @@ JOIN_STEPS = (80, 260)
 LEAVING_STEPS = 80
 # The paths that are tried for a ball before others make room, and how often that may happen for each ball.
 TRIES = 4
-RIPS = 6
+RIPS = 2
 # The cost of a step inside a part, in cells, and that of a step away from its border. Outside a step touches at most
 # three new cells.
 INSIDE_CELLS = 5
@@ -42,19 +46,114 @@ NEAR = 70
 WAY_STEPS = 76
 
 
+# A ball with at least so many steps to wait goes to a coil, if one has room. A coil keeps so many cells off parts. It
+# is between the next two numbers of steps behind a wander of some steps, which is tried a few times.
+LEAST_COILED = 400
+CLEAR = 80
+COIL_AHEAD = 12
+COIL_REACH = 200
+AWAY_STEPS = (40, 500)
+COIL_TRIES = 5
+
+
+class TightError(NoRouteError):
+    """Some balls between two parts could not be led in the time that they got. `connections` has their numbers."""
+
+    def __init__(self, message: str, connections: list[int]) -> None:
+        super().__init__(message, Bound.PATH)
+        self.connections = connections
+
+
+@dataclass(frozen=True, eq=False)
+class CoiledPath(Path):
+    """A path that waits in a coil. `sealed` keeps all other balls out of the coil's box, without its claims there."""
+
+    sealed: Item
+
+
+def taken_by(path: Path) -> Item:
+    """Returns what a path takes in the world."""
+    return path.sealed if isinstance(path, CoiledPath) else path.item
+
+
+def sealed_item(item: Item, box: Box) -> Item:
+    """Returns what a path takes whose coil no other ball can enter: the ring of its box is closed as by mirrors."""
+    claims = tuple(part for part in map(compact_part, item.claim_parts)
+                   if not all(box.has(number_cell(number % STEP)) for number in (part[0], part[-1])))
+    return Item(item.mirrors.union(map(cell_number, box.ring())), item.touched_parts, claims)
+
+
+def compact_part(part: Iterable[int]) -> "range | array[int]":
+    """Returns numbers in little memory."""
+    return part if isinstance(part, range) else array("q", part)
+
+
+def compact_item(item: Item) -> Item:
+    """Returns an item in little memory."""
+    return Item(item.mirrors, tuple(map(compact_part, item.touched_parts)), tuple(map(compact_part, item.claim_parts)))
+
+
+class PartClaims(NamedTuple):
+    """The blocks at times that a part claims, by its own numbers, with its corners and the number of its first cell."""
+
+    corners: tuple[int, int, int, int]
+    first: int
+    claims: set[int]
+
+    def meets(self, part: "range | array[int]") -> bool:
+        """Whether some claims on a straight way, or near each other, meet those of the part."""
+        left, top, right, bottom = self.corners
+        (x, y), (far, low) = number_cell(part[0] % STEP), number_cell(part[-1] % STEP)
+        if max(x, far) < left - 8 or min(x, far) > right + 8 or max(y, low) < top - 8 or min(y, low) > bottom + 8:
+            return False
+        if isinstance(part, range):
+            return not self.claims.isdisjoint(range(part.start - self.first, part.stop - self.first, part.step))
+        return not self.claims.isdisjoint(number - self.first for number in part)
+
+
 class JoinWorld(World):
     """A world with parts, in which cells inside a part are dear: balls leave parts, so that they enclose no other port.
 
-    Without this, 59 of 85 balls of four joined adders were led before the search ended, and with it all.
+    Without this, 59 of 85 balls of four joined adders were led before the search ended, and with it all. Parts of one
+    text share the set of their claims.
     """
 
-    def __init__(self, plan: Plan) -> None:
+    def __init__(self, plan: JoinPlan) -> None:
         super().__init__(plan.side)
-        self.boxes = [(own.x, own.y, own.x + own.width, own.y + own.height) for own in plan.placed]
+        self.part_claims: list[PartClaims] = []
+        self.claim_sets: dict[int, set[int]] = {}
+        self.boxes = [(own.x, own.y, own.x + own.area.width, own.y + own.area.height) for own in plan.placed]
+        # Parts are at whole tiles, and take whole tiles.
+        self.box_of_tile = {(column, row): box for box in self.boxes
+                            for column in range(box[0] // TILE, box[2] // TILE)
+                            for row in range(box[1] // TILE, box[3] // TILE)}
+
+    def add_part(self, placed: PlacedPart) -> None:
+        """Adds a part where and when it is in the join."""
+        item, area = placed.part.item, placed.area
+        self.add(Item(item.mirrors, item.touched_parts).moved(placed.x, placed.y, placed.time))
+        corners = placed.x, placed.y, placed.x + area.width, placed.y + area.height
+        claims = self.claim_sets.setdefault(id(item), item.claims)
+        self.part_claims.append(PartClaims(corners, placed.time * STEP + cell_number((placed.x, placed.y)), claims))
+
+    def fits(self, item: Item) -> bool:
+        """Whether an item may be added: it meets nothing that is there, neither in space nor in time."""
+        return super().fits(item) and not any(own.meets(part) for part in map(compact_part, item.claim_parts)
+                                              for own in self.part_claims)
+
+    def is_clear_of_parts(self, box: Box) -> bool:
+        """Whether a box is so far from all parts that balls can still leave them."""
+        right, bottom = box.x + box.width + CLEAR, box.y + box.height + CLEAR
+        return not any(left < right and box.x - CLEAR < far and top < bottom and box.y - CLEAR < low
+                       for left, top, far, low in self.boxes)
 
     def depth(self, x: int, y: int) -> int:
         """Returns how far a cell is from the border of the part that it is in, or 0."""
-        return max(0, *(min(x - left, right - x, y - top, bottom - y) for left, top, right, bottom in self.boxes))
+        box = self.box_of_tile.get((x // TILE, y // TILE))
+        if box is None:
+            return 0
+        left, top, right, bottom = box
+        return min(x - left, right - x, y - top, bottom - y)
 
     def new_cells(self, ball: Ball, steps: int) -> int:
         """Returns the cost of a straight flight: the cells that it newly touches, but more inside a part."""
@@ -64,14 +163,14 @@ class JoinWorld(World):
         return super().new_cells(ball, steps)
 
 
-class Wiring:
+class JoinWiring:
     """The paths of a join, in a world that has its parts."""
 
-    def __init__(self, plan: Plan, modules: JoinedModules, seed: int, settings: Settings, deadline: float) -> None:
+    def __init__(self, plan: JoinPlan, modules: JoinedModules, seed: int, settings: Settings, deadline: float) -> None:
         self.plan, self.modules, self.settings, self.deadline = plan, modules, settings, deadline
         self.world = JoinWorld(plan)
         for placed in plan.placed:
-            self.world.add(moved_item(placed))
+            self.world.add_part(placed)
         self.chance = random.Random(seed)
         self.finder = PathFinder(self.world, self.chance, settings)
         self.finder.check_time = self.check_time
@@ -83,9 +182,12 @@ class Wiring:
         if time.monotonic() > self.deadline:
             raise NoRouteError("the time was over", Bound.TIME)
 
-    def run(self, progress: Callable[[int, int], None]) -> list[Path]:
-        """Returns the paths of all balls; raises NoRouteError."""
-        jobs = self.plan.jobs
+    def run(self, progress: Callable[[int, int], None], can_loosen: Collection[int] = ()) -> list[Path]:
+        """Returns the paths of all balls; raises NoRouteError.
+
+        Of balls between two parts that can get more time, all are tried before the search ends with a TightError.
+        """
+        jobs, tight = self.plan.jobs, list[int]()
         for index in range(len(jobs)):
             self.reserve(index)
         queue = sorted(range(len(jobs)), key=lambda index: (not jobs[index].is_between, -jobs[index].steps))
@@ -93,8 +195,13 @@ class Wiring:
         while queue:
             self.check_time()
             index = queue.pop(0)
+            if tight and not jobs[index].is_between:
+                break
             if self.lead(index) or self.lead_first(index):
                 progress(len(self.paths), len(jobs))
+                continue
+            if index in can_loosen:
+                tight.append(index)
                 continue
             crossing = self.paths_across(index)
             left -= 1 + len(crossing)
@@ -103,6 +210,8 @@ class Wiring:
             for other in crossing:
                 self.take_back(other)
             queue = [index, *queue, *crossing]
+        if tight:
+            raise TightError(self.words(tight[0]), tight)
         return [self.paths[index] for index in range(len(jobs))]
 
     def words(self, index: int) -> str:
@@ -112,15 +221,13 @@ class Wiring:
                 for what, ball in (("from", job.start), ("to", job.goal)) if ball]
         return f"{ball_words(job)} could not be led {' '.join(ends)}"
 
-    def closed_end(self) -> str:
-        """Says which open end no ball can leave even if no other ball is led, or returns nothing."""
-        for job in self.plan.jobs:
+    def closed_ends(self) -> Iterator[tuple[int, Ball, int]]:
+        """Yields the open ends that no ball can leave even if no other ball is led: the number of the job, the ball,
+        and 1 behind it or -1 before it."""
+        for index, job in enumerate(self.plan.jobs):
             for ball, sign in ((job.start, 1), (job.goal, -1)):
                 if ball is not None and not any(self.can_leave(ball, sign) for _ in range(TRIES)):
-                    where = "behind it" if sign > 0 else "before it"
-                    return (f"{ball_words(job)} at ({ball.x}, {ball.y}) at time {ball.time} has no room for a bounce "
-                            f"{where}")
-        return ""
+                    yield index, ball, sign
 
     def can_leave(self, ball: Ball, sign: int) -> bool:
         """Whether a ball can fly some steps on, or some steps come before it if `sign` is -1."""
@@ -166,7 +273,7 @@ class Wiring:
             path = self.found(job)
             numbers = self.modules.modules_of(path) if path else set[int]()
             if path is not None and self.modules.has_room_for(job.wire, numbers):
-                self.world.add(path.item)
+                self.world.add(taken_by(path))
                 self.modules.count(job.wire, numbers, 1)
                 self.paths[index] = path
                 return True
@@ -196,10 +303,45 @@ class Wiring:
         self.finder.known_departures.clear()
         if job.goal is None:
             assert job.start is not None
-            return self.finder.lead_on(job.wire, job.start, job.end)
+            return self.coiled(job, job.start, job.end) or self.finder.lead_on(job.wire, job.start, job.end)
         if job.start is None:
-            return self.finder.lead_here(job.wire, job.goal)
+            return self.coiled(job, job.goal, 0) or self.finder.lead_here(job.wire, job.goal)
         return self.connected(job.wire, job.start, job.goal)
+
+    def coiled(self, job: Job, ball: Ball, end: int) -> Path | None:
+        """Returns a path that wanders away from its part, to a coil in which the ball waits, or None.
+
+        Without a start the ball comes from a coil.
+        """
+        if job.steps < LEAST_COILED:
+            return None
+        for _ in range(COIL_TRIES):
+            trail = Trail(self.world, ball, is_backward=job.start is None)
+            stop = min(trail.ball.time + self.chance.randint(*AWAY_STEPS), end)
+            coil = self.coil_of(trail, end) if self.finder.wander(trail, stop) else None
+            legs = trail.legs() if trail.steps else []
+            first, left = trail.ball, end - trail.ball.time
+            trail.clear()
+            if coil is not None:
+                ahead = coil.entry.time - first.time
+                more = linked([Leg(ahead, None)], list(coil.legs(left - ahead)))
+                legs = linked(reversed_legs(more), legs) if job.start is None else linked(legs, more)
+                start, goal = (self.finder.before(ball, legs), ball) if job.start is None else (
+                    ball, follow(ball, legs)[0])
+                path = self.finder.complete(job.wire, start, goal, legs)
+                if path is not None:
+                    item = compact_item(path.item)
+                    return CoiledPath(job.wire, start, goal, path.legs, item, sealed_item(item, coil.box))
+        return None
+
+    def coil_of(self, trail: Trail, end: int) -> Coil | None:
+        """Returns a coil that has room behind the end of a trail, for the steps up to a time; or None."""
+        left = end - trail.ball.time
+        for ahead in range(COIL_AHEAD, min(left, trail.room(COIL_REACH)) + 1, 4):
+            for coil in coils_of(trail.ball.flown(ahead), left - ahead):
+                if self.world.is_clear_of_parts(coil.box) and is_free(self.world, coil.box):
+                    return coil
+        return None
 
     def connected(self, wire: str, start: Ball, goal: Ball) -> Path | None:
         """Returns a path between two parts: it wanders back from the goal and on from the start, and joins the two."""
@@ -230,7 +372,7 @@ class Wiring:
     def take_back(self, index: int) -> None:
         """Takes the path of a ball back, which waits again."""
         path = self.paths.pop(index)
-        self.world.remove(path.item)
+        self.world.remove(taken_by(path))
         self.modules.count(path.wire, self.modules.modules_of(path), -1)
         self.reserve(index)
 
@@ -265,8 +407,3 @@ def ball_words(job: Job) -> str:
 def linked(legs: list[Leg], more: list[Leg]) -> list[Leg]:
     """Returns legs and those that follow them: the last leg goes on as the first one of the others."""
     return [*legs[:-1], Leg(legs[-1].steps + more[0].steps, more[0].turn), *more[1:]]
-
-
-def moved_item(placed: Placed) -> Item:
-    """Returns what a part takes where and when it is in the join."""
-    return placed.part.text.item.moved(placed.x, placed.y, placed.time)

@@ -8,7 +8,7 @@ from typing import Callable
 
 from ..texts.circuits import Gate
 from .balls import Ball, Leg
-from .board import Board, Bound, NoRouteError, Step, Waiting
+from .board import Board, Bound, NoRouteError, Placement, Waiting
 from .design import Design, forward_design
 from .netlist import Netlist
 from .paths import Path
@@ -50,7 +50,7 @@ class Attempt:
         self.weight = self.chance.choice(settings.weights)
         # The most gates that were placed at a time, and the steps that placed them if time runs forward.
         self.most_placed = 0
-        self.best_steps: list[Step] = []
+        self.best_steps: list[Placement] = []
 
     def check_time(self) -> None:
         """Raises OutOfTimeError when the time is over, with what was done then."""
@@ -85,7 +85,7 @@ class Attempt:
                     self.board.steps)
             progress(total - len(self.todo), total)
 
-    def placed(self, gate: Gate) -> Step | None:
+    def placed(self, gate: Gate) -> Placement | None:
         """Returns a way to place a gate, or None. If it found no room, the plane grows and it is tried again."""
         step = self.placer.place_gate(gate)
         for _ in range(self.settings.growths):
@@ -100,7 +100,7 @@ class Attempt:
         reasons = self.placer.reasons
         return 2 * reasons["no path"] <= reasons["tries"] or 2 * reasons["no room"] > reasons.total()
 
-    def adopt(self, steps: list[Step]) -> str:
+    def adopt(self, steps: list[Placement]) -> str:
         """Adds gates that another attempt placed, maybe with others; returns the wire of a ball that has no room to
         wait, or no name."""
         for step in steps:
@@ -110,15 +110,17 @@ class Attempt:
     def next_gate(self) -> Gate:
         """Returns the gate to place next: its inputs are there early, and its results are needed early.
 
-        Gates whose inputs may all begin anywhere wait until no other gate is ready.
+        Gates whose inputs may all begin anywhere wait until no other gate is ready. Those that depend on late inputs
+        come last.
         """
         netlist, waiting = self.netlist, self.board.waiting
 
-        def rank(gate: Gate) -> tuple[bool, bool, float, int]:
+        def rank(gate: Gate) -> tuple[bool, bool, bool, float, int]:
             balls = [waiting[netlist.root(wire)].ball for wire in gate.ins if not netlist.is_zero(wire)]
             times = [ball.time for ball in balls if ball is not None]
             is_alone = not times and self.placer.partner(gate, []) is None
-            return not times, is_alone, max(times, default=0) - self.weight * netlist.tails[gate.number], gate.number
+            need = max(times, default=0) - self.weight * netlist.tails[gate.number]
+            return gate.number in netlist.late_gates, not times, is_alone, need, gate.number
 
         ready = [gate for gate in self.todo.values()
                  if all(netlist.is_zero(wire) or netlist.root(wire) in waiting for wire in gate.ins)]

@@ -76,7 +76,7 @@ class Waiting:
 
 
 @dataclass(eq=False)
-class Step:
+class Placement:
     """A gate that was placed, the paths to its inputs, and its outputs that wait; with its inputs before.
 
     `parked` has the first paths of outputs that no gate consumes: they lead away from the gate.
@@ -88,9 +88,9 @@ class Step:
     parked: list[Path] = field(default_factory=list)
     before: dict[str, Waiting] = field(default_factory=dict)
 
-    def with_number(self, number: int) -> "Step":
+    def with_number(self, number: int) -> "Placement":
         """Returns the step for a gate with another number, before it is added."""
-        return Step(replace(self.gate, number=number), self.paths, self.outs, self.parked)
+        return Placement(replace(self.gate, number=number), self.paths, self.outs, self.parked)
 
 
 def box_of(cell: GateCell, x: int, y: int) -> TileBox:
@@ -114,7 +114,7 @@ class Board:
         self.world = World(size)
         # The root wires that wait.
         self.waiting: dict[str, Waiting] = {root: Waiting() for root in netlist.free_roots()}
-        self.steps: list[Step] = []
+        self.steps: list[Placement] = []
         self.ends: list[Path] = []
         # For each tile the wires that its box needs, with the number of items for which it does; and the gate that owns
         # it.
@@ -252,7 +252,7 @@ class Board:
         """Returns the tiles to which a gate's moving cells come."""
         return gate.item.touched_tiles
 
-    def commit(self, step: Step) -> None:
+    def commit(self, step: Placement) -> None:
         """Adds a gate with its paths, and lets its outputs wait."""
         self.add_gate(step.gate)
         for path in step.paths:
@@ -264,7 +264,7 @@ class Board:
             self.wait(wire, waiting)
         self.steps.append(step)
 
-    def adopt(self, steps: list[Step]) -> str:
+    def adopt(self, steps: list[Placement]) -> str:
         """Adds gates and paths, and lets the balls that are left wait; returns the root of a ball that has no room to
         wait, or no name.
 
@@ -281,14 +281,14 @@ class Board:
         left = {root: waiting for root, waiting in self.waiting.items() if waiting.ball}
         return next((root for root, waiting in left.items() if not self.wait_again(root, waiting)), "")
 
-    def park(self, step: Step, path: Path, waiting: Waiting) -> None:
+    def park(self, step: Placement, path: Path, waiting: Waiting) -> None:
         """Leads an output of the last gate on, to where it waits from then on."""
         self.add_path(path)
         step.parked.append(path)
         step.outs[path.wire] = waiting
         self.wait(path.wire, waiting)
 
-    def take_back(self) -> Step:
+    def take_back(self) -> Placement:
         """Takes the last gate back, and returns it."""
         step = self.steps.pop()
         for wire in step.outs:
@@ -302,7 +302,7 @@ class Board:
         step.before = {}
         return step
 
-    def take_out(self, step: Step) -> bool:
+    def take_out(self, step: Placement) -> bool:
         """Takes any gate back whose outputs all wait, so that it can be placed elsewhere; returns whether its inputs
         have room to wait."""
         if any(wire not in self.waiting for wire in step.outs):

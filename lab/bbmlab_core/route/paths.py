@@ -51,7 +51,7 @@ def joined_path(parts: list[Path]) -> Path:
     return Path(parts[0].wire, parts[0].start, parts[-1].end, tuple(legs), Item(frozenset()))
 
 
-def joined_item(item: Item, way: Item) -> Item:
+def combined_item(item: Item, way: Item) -> Item:
     """Returns what a path takes with the straight way at its open end."""
     if way is NO_ITEM:
         return item
@@ -169,7 +169,7 @@ class PathFinder:
             # A ball that begins anywhere has an open start too.
             start = self.open_way(ball, -1, most) if ball.time == 0 else NO_ITEM
             if way is not None and start is not None:
-                item = joined_item(joined_item(item, way), start)
+                item = combined_item(combined_item(item, way), start)
                 self.world.add(way)
                 self.world.add(start)
                 return Path(wire, ball, last, tuple(legs), item)
@@ -184,7 +184,7 @@ class PathFinder:
         trail.clear()
         path = self.complete(wire, first, goal, legs) if found else None
         way = self.open_way(first, -1, self.settings.open_steps, path.item) if path else None
-        return Path(wire, first, goal, path.legs, joined_item(path.item, way)) if path and way else None
+        return Path(wire, first, goal, path.legs, combined_item(path.item, way)) if path and way else None
 
     def open_way(self, ball: Ball, sign: int, most: int, own: Item | None = None) -> Item | None:
         """Returns what a way on with one bounce takes behind the end of a path, or before its start if `sign` is -1.
@@ -201,7 +201,7 @@ class PathFinder:
             straight = path_item(ball if sign > 0 else ball.flown(-steps), [Leg(steps, None)])
             if way is None or straight is None or not self.world.fits(way) or not self.world.fits(straight):
                 continue
-            found = joined_item(way, straight)
+            found = combined_item(way, straight)
             if own is None or own.mirrors.isdisjoint(found.touched) and way.mirrors.isdisjoint(own.touched):
                 return found
         return None
@@ -394,7 +394,7 @@ class PathFinder:
             firsts, lasts, is_return = joins[int(self.chance.random() * len(joins))]
             before, after = firsts[int(self.chance.random() * len(firsts))], lasts[
                 int(self.chance.random() * len(lasts))]
-            legs = self.joined(before, after, is_return)
+            legs = self.legs_through(before, after, is_return)
             if legs and self.is_path(start, legs):
                 return legs
         return None
@@ -429,7 +429,7 @@ class PathFinder:
         return range(least,
                      most + 1) if most - least < count else sorted(self.chance.sample(range(least, most + 1), count))
 
-    def joined(self, before: Turned, after: Turned, is_return: bool) -> list[Leg] | None:
+    def legs_through(self, before: Turned, after: Turned, is_return: bool) -> list[Leg] | None:
         """Returns legs that begin and end with given bounces, if two bounces between them can join them."""
         begun = BOUNCE_STEPS if before.turn else 0
         rest = middle_legs(before.ball, after.ball, begun, is_return, self.chance.random())

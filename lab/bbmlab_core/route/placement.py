@@ -12,7 +12,7 @@ from typing import Iterable, Iterator
 from ..texts.circuits import Gate
 from ..texts.layouts import Cell
 from .balls import BOUNCE_STEPS, Ball, Leg, Turn, bounce
-from .board import Board, Step, Waiting, box_of, tiles_in
+from .board import Board, Placement, Waiting, box_of, tiles_in
 from .cells import PORTS, GateCell
 from .paths import Path, PathFinder
 from .settings import Settings
@@ -63,7 +63,8 @@ class Placer:
         # Waiting balls that cannot turn, and the ball that the last step or path would have enclosed.
         self.stuck: set[str] = set()
         self.enclosed = ""
-        # The earliest time for the gate that is being placed, by its delayed inputs that are never true.
+        # The earliest time for the gate that is being placed, by its delayed inputs that are never true, and by late
+        # inputs.
         self.least_time = 0
         # The estimated time at which all gates are done.
         self.horizon = 0
@@ -77,15 +78,16 @@ class Placer:
                 found.append(Inlet(port, root, self.board.waiting[root].ball, netlist.least_steps(wire)))
         return found
 
-    def place_gate(self, gate: Gate, spots: Iterable[Spot] | None = None) -> Step | None:
+    def place_gate(self, gate: Gate, spots: Iterable[Spot] | None = None) -> Placement | None:
         """Returns the first way to place a gate, at any spots or at given ones, or None. Nothing is added yet."""
         self.reasons.clear()
         self.blame.clear()
         self.stuck.clear()
         self.finder.known_departures.clear()
         netlist = self.board.netlist
-        self.least_time = max((netlist.least_steps(wire) for wire in gate.ins if netlist.is_zero(wire)), default=0)
         inlets = self.inlets(gate)
+        self.least_time = max([self.late_time(inlets), *(netlist.least_steps(wire) for wire in gate.ins
+                                                         if netlist.is_zero(wire))])
         for spot in self.spots(gate, inlets) if spots is None else spots:
             self.reasons["tries"] += 1
             step = self.try_spot(gate, spot, inlets)
@@ -95,6 +97,14 @@ class Placer:
             if max(self.blame.values(), default=0) > self.settings.most_blame:
                 break
         return None
+
+    def late_time(self, inlets: list[Inlet]) -> int:
+        """Returns the earliest time for a gate with some inputs: a late one comes after all balls that wait for it."""
+        netlist = self.board.netlist
+        if not any(inlet.ball is None and inlet.root in netlist.late for inlet in inlets):
+            return 0
+        return max((own.ball.time for root, own in self.board.waiting.items() if own.ball and netlist.is_awaited(root)),
+                   default=0)
 
     # --- where and when -----------------------------------------------------------------------------------------------
 
@@ -241,7 +251,7 @@ class Placer:
 
     # --- trying a spot ------------------------------------------------------------------------------------------------
 
-    def try_spot(self, gate: Gate, spot: Spot, inlets: list[Inlet]) -> Step | None:
+    def try_spot(self, gate: Gate, spot: Spot, inlets: list[Inlet]) -> Placement | None:
         """Returns the step that places a gate at a spot, or None if something is in the way. The board stays as it is.
         """
         board, world = self.board, self.board.world
@@ -253,7 +263,7 @@ class Placer:
             self.reasons["cuts"] += 1
             return None
         board.add_gate(placed)
-        step = Step(placed, [])
+        step = Placement(placed, [])
         done = (self.reserve_outs(step, gate) and self.leaves_others([(placed.x, placed.y)])
                 and self.lead_inputs(step, inlets) and self.leaves_escapes(step))
         for path in step.paths:
@@ -266,7 +276,7 @@ class Placer:
         board.remove_gate(placed)
         return step if done else None
 
-    def reserve_outs(self, step: Step, gate: Gate) -> bool:
+    def reserve_outs(self, step: Placement, gate: Gate) -> bool:
         """Lets a gate's outputs wait, if their ways out are free."""
         for port, wire in zip(PORTS[gate.kind][1], gate.outs):
             if self.board.netlist.is_zero(wire):
@@ -287,7 +297,7 @@ class Placer:
         item = path_item(before, [Leg(6, None)])
         return item if item and self.board.world.fits(item) else None
 
-    def lead_inputs(self, step: Step, inlets: list[Inlet]) -> bool:
+    def lead_inputs(self, step: Placement, inlets: list[Inlet]) -> bool:
         """Leads the inputs to a gate: first those that failed most often, and then those that come last."""
         world = self.board.world
         order = sorted(inlets, key=lambda inlet: (-self.blame[inlet.root], -inlet.ball.time if inlet.ball else 1))
@@ -306,7 +316,7 @@ class Placer:
             world.remove(item)
         return good
 
-    def lead_input(self, step: Step, inlet: Inlet) -> bool:
+    def lead_input(self, step: Placement, inlet: Inlet) -> bool:
         """Leads one input to a gate."""
         board, goal = self.board, step.gate.into(inlet.port)
         waiting = board.stop_waiting(inlet.root)
@@ -327,7 +337,7 @@ class Placer:
         step.paths.append(path)
         return True
 
-    def leaves_escapes(self, step: Step) -> bool:
+    def leaves_escapes(self, step: Placement) -> bool:
         """Whether each waiting ball can still turn."""
         places = [(step.gate.x, step.gate.y),
                   *((mirror.x, mirror.y) for path in step.paths for mirror in path.mirrors())]
@@ -353,7 +363,7 @@ class Placer:
         if own and own.ball and not self.can_turn(own):
             self.stuck.add(self.enclosed)
 
-    def park_outputs(self, step: Step) -> None:
+    def park_outputs(self, step: Placement) -> None:
         """Leads the outputs of the last gate that no gate consumes away, if there are good places for them to wait."""
         board = self.board
         for wire, waiting in list(step.outs.items()):
@@ -390,7 +400,7 @@ class Placer:
         far = path.end.flown(self.settings.reserved_steps[-1])
         return board.world.taken_around(far.x, far.y), path, waiting
 
-    def done(self, step: Step) -> int:
+    def done(self, step: Placement) -> int:
         """Returns an estimate of the time at which all that follows a step is done."""
         netlist, times = self.board.netlist, [step.gate.time + step.gate.cell.length]
         for wire, waiting in step.outs.items():

@@ -17,13 +17,13 @@ from ..host.signals import Stopped
 from ..texts.circuits import Circuit
 from ..texts.limits import SECOND, limits_for, with_line
 from .attempt import Attempt, OutOfTimeError
-from .board import Bound, NoRouteError, Step
+from .board import Bound, NoRouteError, Placement
 from .certificate import Certifier, bundle_text, circuit_section
 from .crowding import Crowding, crowding_of
 from .design import Design, cropped
 from .estimate import Estimate, estimate_of
 from .netlist import Netlist
-from .partial import EFFORT_PART, INTERRUPT_SECONDS, SECONDS, Part, hurried_design, partial_design, partial_text
+from .partial import EFFORT_PART, INTERRUPT_SECONDS, SECONDS, PartialRoute, hurried_design, partial_design, partial_text
 from .settings import Settings
 from .world import TILE
 
@@ -53,8 +53,8 @@ COMPACT_LANE = 10
 
 @dataclass(frozen=True)
 class Options:
-    """What a search is asked for: a seed, a side or None, seconds, processes, and whether small layouts, a part or a
-    map are wanted."""
+    """What a search is asked for: a seed, a side or None, seconds, processes, whether small layouts, a part or a map
+    are wanted, and late inputs."""
 
     seed: int = 1
     side: int | None = None
@@ -63,6 +63,7 @@ class Options:
     is_compact: bool = False
     keeps_partial: bool = False
     has_map: bool = False
+    late: tuple[str, ...] = ()
 
     @property
     def most_side(self) -> int:
@@ -103,7 +104,7 @@ class Outcome:
     attempts: int = 0
     placed: int = 0
     total: int = 0
-    partial: list[Step] = field(default_factory=list)
+    partial: list[Placement] = field(default_factory=list)
     partial_size: int = 0
     # The plane of the attempt that placed most gates, when it ended, if a map was asked for, and how many gates these
     # were.
@@ -137,17 +138,17 @@ def netlists_of(circuit: Circuit, options: Options) -> list[Netlist]:
     circuit is shallow.
 
     Balls that begin at any place are led more easily than balls to one last time. Parts are kept of forward netlists
-    alone.
+    alone, and only they have late inputs.
     """
-    forward, backward = Netlist(circuit), Netlist(circuit, is_backward=True)
-    if len(backward.free_roots()) - len(forward.free_roots()) <= MOST_GROWTH:
+    forward, backward = Netlist(circuit, late=options.late), Netlist(circuit, is_backward=True)
+    if options.late or len(backward.free_roots()) - len(forward.free_roots()) <= MOST_GROWTH:
         return [forward]
     is_shallow = max(forward.tails.values(), default=0) <= SHALLOW_STEPS
     return [backward, forward] if is_shallow and not options.keeps_partial else [forward, backward]
 
 
 @dataclass(frozen=True)
-class Plan:
+class AttemptPlan:
     """What an attempt is made with: the circuit, the first side and that up to which the plane may grow, the seed, and
     the costs."""
 
@@ -158,20 +159,20 @@ class Plan:
     settings: Settings
 
 
-def plans_of(netlists: list[Netlist], options: Options, settings: Settings) -> Iterator[Plan]:
+def plans_of(netlists: list[Netlist], options: Options, settings: Settings) -> Iterator[AttemptPlan]:
     """Yields what attempts are made with, in their order, without end."""
     first, index = options.side or estimated_side(netlists[0]), 0
     tight = replace(settings, failures=COMPACT_FAILURES, place_tries=COMPACT_PLACES, lane_cells=COMPACT_LANE)
     for part in COMPACT_PARTS if options.is_compact and not options.side else ():
         side, seed = max(LEAST_SIDE // 2, int(part * first) // TILE * TILE), options.seed * 1_000_003 + index
-        yield Plan(netlists[0], side, options.most_side, seed,
-                   settings) if part == 1 else Plan(netlists[0], side, side, seed, tight)
+        yield (AttemptPlan(netlists[0], side, options.most_side, seed, settings) if part == 1 else
+               AttemptPlan(netlists[0], side, side, seed, tight))
         index += 1
     side = first
     while True:
         for _ in range(ATTEMPTS_PER_SIDE):
-            yield Plan(netlists[index % len(netlists)], side, options.most_side, options.seed * 1_000_003 + index,
-                       settings)
+            netlist, seed = netlists[index % len(netlists)], options.seed * 1_000_003 + index
+            yield AttemptPlan(netlist, side, options.most_side, seed, settings)
             index += 1
         side = side if options.side else min(SECOND.max_side, side + max(2 * TILE, side // 4 // TILE * TILE))
 
@@ -272,7 +273,7 @@ class Search:
         if placed >= self.outcome.crowding_placed:
             self.outcome.crowding, self.outcome.crowding_placed = crowding, placed
 
-    def note_partial(self, placed: int, steps: list[Step], side: int) -> None:
+    def note_partial(self, placed: int, steps: list[Placement], side: int) -> None:
         """Notes how many gates an attempt placed, and keeps the steps that placed them if they are the most.
 
         If a part is kept only its gates count: an attempt backward in time may place more, but leaves no part.
@@ -292,7 +293,7 @@ Message = tuple[str, int, int, object]
 class Task:
     """An attempt for a process of its own."""
 
-    plan: Plan
+    plan: AttemptPlan
     circuit_text: str
     deadline: float
     keeps_partial: bool
@@ -425,7 +426,7 @@ class Pool:
 
 def partial_bundle(circuit: Circuit, outcome: Outcome, options: Options, settings: Settings) -> tuple[str, int] | None:
     """Returns a bundle of the part of a circuit that was placed, and its count of gates, or None if there is none."""
-    part = Part(circuit, outcome.partial, outcome.partial_size, options.most_side)
+    part = PartialRoute(circuit, outcome.partial, outcome.partial_size, options.most_side)
     costs = replace(settings, wander_tries=80, end_rips=PARTIAL_RIPS)
     if outcome.is_interrupted:
         found = hurried_design(part, costs, INTERRUPT_SECONDS)

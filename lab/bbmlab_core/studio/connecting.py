@@ -15,23 +15,22 @@ from typing import Iterable, Iterator
 from ..host.program import opened
 from ..host.terminal import LabError
 from ..joining.command import SETTINGS
-from ..joining.composing import Named
+from ..joining.composing import NamedPart
 from ..joining.modules import JoinedModules
 from ..joining.parts import ALWAYS, PartText
-from ..joining.planning import DETOUR, Job, Placed, Plan
-from ..joining.wiring import Wiring
+from ..joining.planning import Job, JoinPlan, PlacedPart
+from ..joining.wiring import JoinWiring, ball_words
 from ..route.balls import Ball, Leg
 from ..route.board import NoRouteError
 from ..route.certificate import rectangles
 from ..route.paths import Path as BallPath
 from ..route.world import RIM, ROW, number_cell
-from ..texts import sections
 from ..texts.certificates import Certificate
-from ..texts.circuits import Circuit
+from ..texts.circuits import Circuit, Gate
 from ..texts.documents import Document, read_document
 from ..texts.layouts import Cell, Layout
 from ..texts.limits import SECOND, limits_for, with_line
-from ..texts.skimming import head_of
+from ..texts.skimming import design_text
 from ..texts.spelling import spelled
 from .machines import End, MachineRun
 from .verdicts import Judge
@@ -39,6 +38,8 @@ from .verdicts import Judge
 # The columns and rows around the layout that may be used, and the steps to spare of the ball, by the attempts.
 ROOMS = (0, 32, 64, 128, 256, 512)
 SLACKS = (60, 150, 250)
+# The further steps for each cell between the two ports: the ball flies round what is in the way.
+DETOUR = 0.35
 # The seconds in which the program and the lab's search for a certificate must end.
 CHECK_SECONDS = 20.0
 
@@ -61,8 +62,18 @@ class NoModules(JoinedModules):
         """Notes nothing."""
 
 
-class Leading(Wiring):
+class Leading(JoinWiring):
     """The paths of a connection: between its ports straight or by a few bounces, if that can be."""
+
+    def __init__(self, plan: JoinPlan, seed: int, deadline: float) -> None:
+        super().__init__(plan, NoModules(), seed, SETTINGS, deadline)
+        # All balls are of one layout, so none has to leave it.
+        self.world.boxes, self.world.box_of_tile = [], {}
+
+    def closed_end(self) -> str:
+        """Says which open end no ball can leave even if no other ball is led, or returns nothing."""
+        return next((f"{ball_words(self.plan.jobs[index])} at ({ball.x}, {ball.y}) at time {ball.time} has no room for a "
+                     f"bounce {'behind' if sign > 0 else 'before'} it" for index, ball, sign in self.closed_ends()), "")
 
     def connected(self, wire: str, start: Ball, goal: Ball) -> BallPath | None:
         """Returns a path between two balls."""
@@ -100,7 +111,7 @@ class Connection:
         straight = [goal_time for goal_time in (ball.time + far,) if ball.flown(far) == goal.moved(0, 0, goal_time)]
         return straight + [(ball.time + int((1 + DETOUR) * far) + slack + 1) // 2 * 2 for slack in SLACKS]
 
-    def plan(self, delay: int, room: int) -> Plan:
+    def plan(self, delay: int, room: int) -> JoinPlan:
         """Returns which balls are led on the layout with some columns and rows around it."""
         layout, run, end = self.layout, self.run, self.layout.steps + delay
         side = max(layout.width, layout.height) + 2 * room
@@ -110,14 +121,14 @@ class Connection:
         soon = {run.find(number) for number in range(len(run.starts))} - late
         placed = []
         for numbers, own_time in ((soon, 0), (late, delay)):
-            text = PartText(self.circuit, Layout(0, 0, layout.steps), Certificate(2, []), [], [],
+            text = PartText(self.circuit, Layout(layout.width, layout.height, layout.steps), Certificate(), [], [],
                             run.item(numbers, own_time == 0))
-            placed.append(Placed(Named("", text), room, room, own_time))
+            placed.append(PlacedPart(NamedPart("", text), room, room, own_time))
         jobs = [Job(self.output, placed[0].ball(self.out.ball), placed[1].ball(self.goal), delay)]
         jobs += [Job(port.wire, None, placed[1].ball(port.ball), delay) for number, port in enumerate(run.starts)
                  if run.find(number) == self.late and port.ball != self.goal]
         jobs += [Job(end_ball.name or "", placed[0].ball(end_ball.ball), None, end) for end_ball in self.moved_ends()]
-        return Plan(side, end, placed, jobs, side, side)
+        return JoinPlan(side, end, placed, jobs, side, side)
 
     def moved_ends(self) -> list[End]:
         """Returns the balls that are led on to the new last time."""
@@ -131,16 +142,15 @@ class Connection:
     def section(self) -> str:
         """Returns the circuit. Gates that follow from the input come after all others."""
         circuit, late = self.circuit, {self.input}
-        gates: tuple[list[sections.Gate], list[sections.Gate]] = ([], [])
+        gates: tuple[list[Gate], list[Gate]] = ([], [])
         for gate in circuit.gates:
             is_late = not late.isdisjoint(gate.ins)
             late.update(gate.outs if is_late else ())
-            gates[is_late].append(sections.Gate(gate.word, tuple(map(self.wire, gate.ins)), tuple(gate.outs),
+            gates[is_late].append(Gate(gate.kind, tuple(map(self.wire, gate.ins)), tuple(gate.outs),
                                                 gate.parameter))
         inputs = tuple(name for name in circuit.inputs if name != self.input)
         outputs = tuple(self.wire(name) for name in circuit.outputs if name != self.output)
-        return sections.text_of(sections.Circuit(inputs, (*gates[0], *gates[1]), outputs,
-                                                 tuple(map(self.wire, circuit.spills))))
+        return str(Circuit(inputs, (*gates[0], *gates[1]), outputs, tuple(map(self.wire, circuit.spills))))
 
 
 def require_ports(circuit: Circuit, output: str, given: str) -> None:
@@ -155,7 +165,7 @@ def require_ports(circuit: Circuit, output: str, given: str) -> None:
 class Made:
     """The text of a connection whose balls were led."""
 
-    def __init__(self, connection: Connection, plan: Plan, paths: list[BallPath]) -> None:
+    def __init__(self, connection: Connection, plan: JoinPlan, paths: list[BallPath]) -> None:
         self.connection, self.plan, self.paths = connection, plan, paths
         self.room = plan.placed[0].x
         self.left, self.top, self.width, self.height = self.frame()
@@ -184,7 +194,7 @@ class Made:
     def text(self) -> str:
         """Returns the circuit and the layout."""
         circuit = self.connection.circuit
-        limits = limits_for(max(self.width, self.height), self.plan.end, 1, len(circuit.gates), len(circuit.defined))
+        limits = limits_for(max(self.width, self.height), self.plan.end, 1, len(circuit.gates), len(circuit.wires))
         return with_line(self.connection.section() + "\n".join(self.lines()) + "\n", limits)
 
     def lines(self) -> Iterator[str]:
@@ -228,7 +238,7 @@ def led(connection: Connection, deadline: float, seed: int) -> Made:
     for room in ROOMS:
         for delay in connection.delays():
             plan = connection.plan(delay, room)
-            wiring = Leading(plan, NoModules(), seed, SETTINGS, deadline)
+            wiring = Leading(plan, seed, deadline)
             why = wiring.closed_end()
             if why:
                 break
@@ -243,7 +253,7 @@ def led(connection: Connection, deadline: float, seed: int) -> Made:
 
 def connect(text: str, ports: tuple[str, str], deadline: float, seed: int) -> Made:
     """Returns the connection of an output and an input of a text."""
-    head = head_of(spelled(text).text)
+    head = design_text(spelled(text).text)
     document = read_document(head, "design")
     if document.refusal or not document.circuit or not document.layout:
         raise LabError("The circuit and the layout cannot be read: fix this first.")

@@ -8,7 +8,8 @@ from array import array
 from dataclasses import dataclass
 
 from ..host.terminal import LabError
-from ..joining.parts import Port, balls_of, start_ports
+from ..joining.lone_ways import balls_of
+from ..joining.parts import PartPort, start_ports
 from ..pictures.drawing import wire_tables
 from ..route.balls import Ball, block_corner, start_state, stepped
 from ..route.world import ROW, STEP, Item, cell_number
@@ -52,7 +53,7 @@ class MachineRun:
             self.root[number] = number = self.root[self.root[number]]
         return number
 
-    def start_table(self, port: Port) -> int:
+    def start_table(self, port: PartPort) -> int:
         """Returns under which choices a ball is there at the start."""
         return self.full if port.wire == "1" else self.tables.get(port.wire, 0)
 

@@ -1,0 +1,63 @@
+"""Coils: boxes in which a ball waits for long, bouncing from wall to wall, each bounce as late as possible.
+
+A coil of w columns takes a ball for w * w - 14 * w + 15 steps, in about 1.3 cells a step, where a ball that wanders
+takes 2.6. Its lead comes in 8 columns from one edge and 5 rows from the other one. The ball does not leave again: it is
+there at the end, or begins there.
+"""
+
+import math
+from dataclasses import dataclass
+from typing import Iterator
+
+from ..route.balls import BOUNCE_STEPS, Ball, Leg, Turn, bounce
+from ..route.world import World
+from ..texts.layouts import Box
+
+# Where the lead of a ball is in its coil: so many cells from the edges behind it.
+ENTRY = (8, 5)
+# The least columns of a coil.
+LEAST_WIDTH = 18
+
+
+@dataclass(frozen=True)
+class Coil:
+    """A box for a ball that comes in at a place. A bounce keeps its mirror inside the box."""
+
+    entry: Ball
+    box: Box
+
+    def legs(self, steps: int) -> Iterator[Leg]:
+        """Yields the legs of some steps from the entry on."""
+        ball, left, begun = self.entry, steps, 0
+        while True:
+            x, y, dx, dy, _ = ball
+            across = self.box.x + self.box.width - 3 - x if dx > 0 else x - 2 - self.box.x
+            down = self.box.y + self.box.height - 3 - y if dy > 0 else y - 2 - self.box.y
+            own, turn = (across, Turn.UPRIGHT) if across <= down else (down, Turn.FLAT)
+            if own < begun or own + BOUNCE_STEPS > left:
+                yield Leg(left, None)
+                return
+            yield Leg(own, turn)
+            ball, left, begun = bounce(ball.flown(own), turn)[0], left - own, BOUNCE_STEPS
+
+
+def least_width(steps: int) -> int:
+    """Returns the columns of the least coil for some steps."""
+    return max(LEAST_WIDTH, 7 + math.isqrt(max(0, steps + 33)) + 1)
+
+
+def coils_of(ball: Ball, steps: int) -> Iterator[Coil]:
+    """Yields the two least coils for some steps of a ball that is at their entry."""
+    width = least_width(steps)
+    for (right, down), (columns, rows) in ((ENTRY, (width, width + 1)), (ENTRY[::-1], (width + 1, width))):
+        x = ball.x - right if ball.dx > 0 else ball.x + right - columns + 1
+        y = ball.y - down if ball.dy > 0 else ball.y + down - rows + 1
+        yield Coil(ball, Box(x, y, columns, rows))
+
+
+def is_free(world: World, box: Box) -> bool:
+    """Whether a box is inside a world and nothing is in it."""
+    if not (world.is_inside(box.x, box.y) and world.is_inside(box.x + box.width - 1, box.y + box.height - 1)):
+        return False
+    mask = (1 << box.width) - 1
+    return not any(row >> box.x & mask for row in world.blocked[box.y:box.y + box.height])

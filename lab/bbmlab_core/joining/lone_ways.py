@@ -1,0 +1,154 @@
+"""The lone ways of ports: how a ball comes to its first meeting in a part, or leaves its last one.
+
+A part has all its inputs at its start, and all its outputs at its end. But an input may fly on alone for long before it
+meets another ball, and an output may be made early. Where a port is connected, a join leaves out this lone way, so that
+the ball comes later, or leaves earlier. Blocks change by themselves (Margolus 1984): without the lone way all others
+move as before.
+"""
+
+from dataclasses import dataclass
+from typing import Container, Iterable, Iterator
+
+from ..route.balls import Ball, block_cells, run_exactly, start_state
+from ..route.world import ROW, STEP, cell_number, number_cell
+from ..texts.layouts import Cell
+
+
+def balls_of(cells: Iterable[Cell], time: int) -> list[Ball] | None:
+    """Returns the balls that some cells are at a time, or None if they are not whole balls.
+
+    A cell's place and the time tell its direction.
+    """
+    left, found = set(cells), []
+
+    def direction(cell: Cell) -> Cell:
+        """Returns the direction in which a lone cell moves."""
+        return 1 - 2 * ((cell[0] + time) % 2), 1 - 2 * ((cell[1] + time) % 2)
+
+    for x, y in sorted(left, key=lambda cell: (direction(cell), -cell[0] * direction(cell)[0], cell[1])):
+        dx, dy = direction((x, y))
+        tail = x - 2 * dx, y - 2 * dy
+        if (x, y) not in left:
+            continue
+        if tail not in left:
+            return None
+        left -= {(x, y), tail}
+        found.append(Ball(x, y, dx, dy, time))
+    return found
+
+
+@dataclass(frozen=True)
+class LoneWay:
+    """What a join leaves out: the moving cells of a ball by time, the blocks at times that they claim, and mirrors.
+
+    `ball` is where the way inside the part begins or ends without it.
+    """
+
+    ball: Ball
+    moving: frozenset[tuple[int, Cell]]
+    claims: frozenset[int]
+    mirrors: frozenset[Cell]
+
+
+class LoneRun:
+    """The run of a port's ball among the mirrors of its part, as if no other ball were there.
+
+    `bound` is the last time at which it is known to move as in the part; for an output the first such time.
+    """
+
+    def __init__(self, mirrors: set[Cell], ball: Ball, steps: int, is_output: bool) -> None:
+        self.is_output, self.bound = is_output, 0 if is_output else steps
+        # The rule is run backwards from the last time, which is made time 1: blocks alternate, so it must be odd.
+        first = ball.reversed().moved(0, 0, 1) if is_output else ball
+        run = run_exactly(mirrors, start_state([(first, 1)]), first.time, first.time + steps)
+        sign = -1 if is_output else 1
+        self.states = {ball.time + sign * count: frozenset(state) for count, state in enumerate(run.states)}
+        self.corners = {ball.time + sign * count - is_output: own for count, own in enumerate(run.blocks)}
+        if not run.is_stable:
+            self.note_meeting(ball.time + sign * len(run.blocks) - is_output)
+
+    def note_meeting(self, time: int) -> None:
+        """Notes that the ball shares a block with another one in the step from a time."""
+        self.bound = max(self.bound, time + 1) if self.is_output else min(self.bound, time)
+
+    def claims(self) -> Iterator[tuple[int, int]]:
+        """Yields the blocks at times that the run claims, each with its time."""
+        for time, corners in self.corners.items():
+            for x, y in corners:
+                yield time * STEP + y * ROW + x, time
+
+    def is_alone(self, time: int, corner: Cell, live: Container[Cell]) -> bool:
+        """Whether the ball's own cells alone are live in a block."""
+        own = self.states[time]
+        return all((cell in live) == (cell in own) for cell in block_cells(corner))
+
+    def times(self) -> range:
+        """Returns the times at which the way may be cut, the best first."""
+        if self.is_output:
+            return range(self.bound, max(self.states) + 1)
+        return range(self.bound, -1, -1)
+
+    def steps(self, cut: int) -> range:
+        """Returns the times of the steps that are left out if the way is cut at a time."""
+        return range(cut, max(self.states)) if self.is_output else range(cut)
+
+
+class LoneRuns:
+    """The lone runs of some ports of a part, and where they are to be compared with the runs of its modules."""
+
+    def __init__(self, runs: list[LoneRun]) -> None:
+        self.runs = runs
+        self.claimants: dict[int, list[LoneRun]] = {}
+        for run in runs:
+            for claim, _ in run.claims():
+                self.claimants.setdefault(claim, []).append(run)
+
+    def compare(self, time: int, claims: Iterable[int], live: Container[Cell]) -> None:
+        """Compares the blocks in which something moves in the step from a time."""
+        for claim in self.claimants.keys() & claims:
+            for run in self.claimants[claim]:
+                if not run.is_alone(time, number_cell(claim % STEP), live):
+                    run.note_meeting(time)
+
+
+def lone_way(run: LoneRun, claims: set[int], mirrors: set[Cell]) -> LoneWay:
+    """Returns what a run leaves out at its best cut."""
+    ball = next(ball for time in run.times() for ball in [lone_ball(run.states[time], time)] if ball)
+    steps = run.steps(ball.time)
+    moving = frozenset((time, cell) for time in steps for cell in run.states[time])
+    own = frozenset(claim for claim, time in run.claims() if time in steps)
+    beside = {cell for claim in own for cell in block_cells(number_cell(claim % STEP))} & mirrors
+    return LoneWay(ball, moving, own, frozenset(free_mirrors(beside, claims - own, mirrors)))
+
+
+def lone_ball(cells: frozenset[Cell], time: int) -> Ball | None:
+    """Returns the ball that some cells are at a time, or None during a bounce."""
+    balls = balls_of(cells, time)
+    return balls[0] if balls and len(balls) == 1 else None
+
+
+def free_mirrors(beside: set[Cell], claims: set[int], mirrors: set[Cell]) -> set[Cell]:
+    """Returns the whole mirrors with some cells that no block of some claims touches."""
+    left, found = set(beside), set[Cell]()
+    pieces = list[set[Cell]]()
+    while left:
+        pieces.append(piece_of(left.pop(), mirrors))
+        left -= pieces[-1]
+    near = {cell_number((x - i, y - j)) for piece in pieces for x, y in piece for i in (0, 1) for j in (0, 1)}
+    touching = {claim % STEP for claim in claims if claim % STEP in near}
+    touched = {cell for corner in touching for cell in block_cells(number_cell(corner))}
+    for piece in pieces:
+        if piece.isdisjoint(touched):
+            found |= piece
+    return found
+
+
+def piece_of(cell: Cell, mirrors: set[Cell]) -> set[Cell]:
+    """Returns the cells of mirrors that hang together with a cell. No block has cells of two such pieces."""
+    found, left = {cell}, [cell]
+    while left:
+        x, y = left.pop()
+        around = {(x + i, y + j) for i in (-1, 0, 1) for j in (-1, 0, 1)} & mirrors - found
+        found |= around
+        left += around
+    return found

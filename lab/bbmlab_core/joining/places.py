@@ -1,0 +1,78 @@
+"""Places for the parts of a join: rows on a square, each of which goes back where the one before it ended.
+
+So each part is beside the next one. The rows can be mirrored, flipped, or columns: a join takes what needs the fewest
+steps.
+"""
+
+import itertools
+from dataclasses import dataclass
+from typing import Iterator, Sequence
+
+from ..route.world import TILE
+
+# The cells between a part and the border, and between two parts: at least, and at most.
+GAP = 2 * TILE
+MOST_GAP = 10 * TILE
+
+
+@dataclass(frozen=True)
+class Area:
+    """A part's width and height, in cells of whole tiles."""
+
+    width: int
+    height: int
+
+    def turned(self) -> "Area":
+        """Returns the area with columns and rows exchanged."""
+        return Area(self.height, self.width)
+
+
+Place = tuple[int, int]
+
+
+def all_places(areas: Sequence[Area], side: int) -> Iterator[list[Place]]:
+    """Yields the places of areas in their order on a square, in eight ways, or none if they have no room."""
+    for is_column, is_mirrored, is_flipped in itertools.product((False, True), repeat=3):
+        found = rows_of_places([own.turned() for own in areas] if is_column else areas, side)
+        if found is None:
+            continue
+        places = [(y, x) for x, y in found] if is_column else found
+        yield [(side - x - own.width if is_mirrored else x, side - y - own.height if is_flipped else y)
+               for own, (x, y) in zip(areas, places)]
+
+
+def rows_of_places(areas: Sequence[Area], side: int) -> list[Place] | None:
+    """Returns places in rows, or None if they have no room."""
+    rows = filled_rows(areas, side, len(areas))
+    # As many areas in each row as are needed for the same number of rows.
+    rows = filled_rows(areas, side, -(-len(areas) // len(rows)))
+    heights = [max(own.height for own in row) for row in rows]
+    if any(sum(own.width + GAP for own in row) + GAP > side for row in rows):
+        return None
+    if sum(height + GAP for height in heights) + GAP > side:
+        return None
+    places: list[Place] = []
+    for index, (row, y) in enumerate(zip(rows, spread(heights, side))):
+        own = row[::-1] if index % 2 else row
+        found = [(x, y) for x in spread([area.width for area in own], side)]
+        places += found[::-1] if index % 2 else found
+    return places
+
+
+def filled_rows(areas: Sequence[Area], side: int, most: int) -> list[list[Area]]:
+    """Returns the areas in rows, each with as many as have room, at most `most`."""
+    rows: list[list[Area]] = []
+    for own in areas:
+        is_full = not rows or len(rows[-1]) == most
+        if not is_full and sum(other.width + GAP for other in rows[-1]) + own.width + 2 * GAP <= side:
+            rows[-1].append(own)
+        else:
+            rows.append([own])
+    return rows
+
+
+def spread(lengths: list[int], side: int) -> list[int]:
+    """Returns where lengths in a row begin, in the middle of a side and with equal gaps of whole tiles."""
+    gap = min(MOST_GAP, (side - sum(lengths)) // (len(lengths) + 1)) // TILE * TILE
+    first = (side - sum(lengths) - gap * (len(lengths) - 1)) // 2 // TILE * TILE
+    return [first + gap * index + sum(lengths[:index]) for index in range(len(lengths))]
