@@ -57,7 +57,7 @@ class Connecting(unittest.TestCase):
         self.assertEqual(verdict.verdict, "yes", verdict.words)
         document = read_document(text, "design")
         assert document.circuit and document.layout
-        self.assertEqual((document.circuit.inputs, document.circuit.outputs), (["a"], ["q"]))
+        self.assertEqual((document.circuit.inputs, document.circuit.outputs), (("a",), ("q",)))
         for on in ([], ["a"]):
             run = run_layout(document.layout, on)
             self.assertTrue(run.run_to(document.layout.steps))
