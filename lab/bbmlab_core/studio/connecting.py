@@ -72,8 +72,11 @@ class Leading(JoinWiring):
 
     def closed_end(self) -> str:
         """Says which open end no ball can leave even if no other ball is led, or returns nothing."""
-        return next((f"{ball_words(self.plan.jobs[index])} at ({ball.x}, {ball.y}) at time {ball.time} has no room for a "
-                     f"bounce {'behind' if sign > 0 else 'before'} it" for index, ball, sign in self.closed_ends()), "")
+        for index, ball, sign in self.closed_ends():
+            where = "behind it" if sign > 0 else "before it"
+            return (f"{ball_words(self.plan.jobs[index])} at ({ball.x}, {ball.y}) at time {ball.time} has no room for a "
+                    f"bounce {where}")
+        return ""
 
     def connected(self, wire: str, start: Ball, goal: Ball) -> BallPath | None:
         """Returns a path between two balls."""
