@@ -151,7 +151,7 @@ class Counting(unittest.TestCase):
         part = placed_part(made_circuit("forward", 12, 8, 1), 512, 1)
         with tempfile.TemporaryDirectory() as room:
             options = argparse.Namespace(keep_partial=True, map=None, output=f"{room}/part.txt", seed=1, size=512,
-                                         effort=1.0, jobs=1, compact=False, timeout=60)
+                                         effort=1.0, jobs=1, compact=False, timeout=60, late=[])
             for is_interrupted in (False, True):
                 outcome = Outcome(None, "", Counter(), 1, 12, 12, part.steps, 512, is_interrupted)
                 said = io.StringIO()

@@ -74,7 +74,8 @@ class Leading(JoinWiring):
         """Says which open end no ball can leave even if no other ball is led, or returns nothing."""
         for index, ball, sign in self.closed_ends():
             where = "behind it" if sign > 0 else "before it"
-            return (f"{ball_words(self.plan.jobs[index])} at ({ball.x}, {ball.y}) at time {ball.time} has no room for a "
+            words = ball_words(self.plan.jobs[index])
+            return (f"{words} at ({ball.x}, {ball.y}) at time {ball.time} has no room for a "
                     f"bounce {where}")
         return ""
 
