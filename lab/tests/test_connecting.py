@@ -16,7 +16,7 @@ from bbmlab_core.host.terminal import LabError
 from bbmlab_core.physics import standard_cells
 from bbmlab_core.physics.simulation import run_layout
 from bbmlab_core.studio import connecting, machines
-from bbmlab_core.studio.connecting import Made, connect
+from bbmlab_core.studio.connecting import ConnectedText, connect
 from bbmlab_core.studio.verdicts import Judge
 from bbmlab_core.texts.documents import Document, read_document
 
@@ -43,7 +43,7 @@ def two_nots(width: int, height: int, first: tuple[int, int], second: tuple[int,
     return "\n".join([*circuit, f"layout {width} {height} 37", *lines, "end"]) + "\n"
 
 
-def connected(text: str, output: str = "z", given: str = "b", seconds: float = 60) -> Made:
+def connected(text: str, output: str = "z", given: str = "b", seconds: float = 60) -> ConnectedText:
     """Returns the connection of two ports."""
     return connect(text, (output, given), time.monotonic() + seconds, 1)
 
@@ -93,13 +93,13 @@ class Connecting(unittest.TestCase):
         goal = next(port.ball for port in run.starts if port.wire == "b")
         # `not` takes its input falling, and gives its output rising: it is reflected first.
         self.assertNotEqual((out.dx, out.dy), (goal.dx, goal.dy))
-        flipped = connecting.Connection(read_document(text, "design"), "z", "b")
+        flipped = connecting.PortConnection(read_document(text, "design"), "z", "b")
         flipped.goal = out.flown(40).moved(0, 0, -out.time - 40)
         self.assertEqual(flipped.delays()[0], out.time + 40)
 
     def test_gates_come_in_order(self) -> None:
         """The circuit lists a gate after those that it takes wires from, and the input's wire is the output's."""
-        section = connecting.Connection(read_document(two_nots(200, 160, (20, 60), (120, 70)), "design"), "z",
+        section = connecting.PortConnection(read_document(two_nots(200, 160, (20, 60), (120, 70)), "design"), "z",
                                         "b").section()
         self.assertLess(section.index("switch a k -> d y z"), section.index("switch z l -> e x q"))
         self.assertNotIn("input b", section)

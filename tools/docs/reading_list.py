@@ -400,11 +400,13 @@ def missing_words(text: str, library: set[str]) -> Iterator[str]:
 Row = tuple[str, int, int, list[str]]
 
 
-def table_lines(needed: list[Row], names: bool) -> list[str]:
-    """The lines of the table. With `names`, each row is followed by the definitions that are reached."""
+def table_lines(needed: list[Row], names: bool, is_linked: bool) -> list[str]:
+    """The lines of the table, with links for a page of docs/ if asked for. With `names`, each row is followed by the
+    definitions that are reached."""
     lines = ["| file | lines that are reached | of |", "|---|---|---|"]
     for path, total, count, reached in needed:
-        lines.append(f"| `crates/{path}` | {count} | {total} |")
+        file = f"[`crates/{path}`](../crates/{path})" if is_linked else f"`crates/{path}`"
+        lines.append(f"| {file} | {count} | {total} |")
         if names:
             lines.append(f"|   {', '.join(reached)} | | |")
     return [*lines, f"| {len(needed)} files | {sum(r[2] for r in needed)} | {sum(r[1] for r in needed)} |"]
@@ -434,11 +436,12 @@ def main(words: list[str]) -> int:
     closure = closure_of(files[0] if files else STATEMENT)
     rows = rows_of(closure)
     lost = sorted({f"not found: {name}" for name in [*lost_definitions(), *closure.lost]})
-    lines = table_lines([row for row in rows if row[2]], names)
+    lines = table_lines([row for row in rows if row[2]], names, table is not None)
     if table:
-        # Names of files may be links there.
-        text = re.sub(r"\[(`[^`]*`)\]\([^)]*\)", r"\1", Path(table).read_text())
-        found = [] if "\n".join(lines) in text else ["\n".join([f"{table} does not contain this table:", *lines])]
+        page = Path(table).read_text()
+        # Elsewhere the names of files may be links.
+        text = re.sub(r"\[(`[^`]*`)\]\([^)]*\)", r"\1", page)
+        found = [] if "\n".join(lines) in page else ["\n".join([f"{table} does not contain this table:", *lines])]
         found += [*wrong_numbers(text), *wrong_readme(), *missing_words(text, closure.library)]
         found += [line for line in [*lost, *lost_of_others(text)] if line not in found]
         print(*found, sep="\n", end="\n" if found else "")

@@ -36,6 +36,11 @@ class ReadingList(planted.Planted):
         status, said = self.check()
         self.assertEqual((status, said), (0, ""))
 
+    def test_row_without_its_link(self) -> None:
+        self.change("docs/ASSURANCE.md", "| [`crates/bbm_rule/src/block.rt`](../crates/bbm_rule/src/block.rt) |",
+                    "| `crates/bbm_rule/src/block.rt` |")
+        self.assertEqual(self.check()[0], 1)
+
     def test_name_that_another_file_passes_on(self) -> None:
         self.move_row("pub use Rattle.circuit.specs.Rows.{row}")
         status, said = self.listed()

@@ -15,8 +15,7 @@ from ..route.board import Bound, NoRouteError
 from ..route.netlist import Netlist
 from ..route.paths import Path
 from ..route.world import ROW, STEP, TILE, number_cell
-from ..texts.certificates import MAX_CUTS, MAX_USES, Border, Module, ModuleDraft, Stop
-from ..texts.circuits import Circuit
+from ..texts.certificates import MAX_CUTS, MAX_USES, Border, Module, ModuleDraft, Stop, local_wires
 from ..texts.layouts import Box, Cell
 from ..texts.limits import SECOND
 from ..texts.owners import NOBODY, Owners
@@ -50,8 +49,9 @@ class JoinedModules:
                 self.origins.append((placed, own))
         for box in self.tiles_between():
             self.add(box)
-        self.known = [frozenset(local_wires(self.circuit, self.cuts(number), self.uses(number)))
-                      for number in range(len(self.origins))]
+        self.known = [frozenset(local_wires(self.circuit, ModuleDraft(box, cuts=self.cuts(number),
+                                                                      uses=self.uses(number))))
+                      for number, box in enumerate(self.boxes[:len(self.origins)])]
         self.extra: dict[int, Counter[str]] = defaultdict(Counter)
         self.lines: dict[int, array[int]] = defaultdict(lambda: array("q"))
 
@@ -253,8 +253,3 @@ class JoinedModules:
         """Whether a module is a whole tile that nothing reaches."""
         box = self.boxes[number]
         return box.width == box.height == TILE and not self.lines.get(number) and not +self.extra.get(number, Counter())
-
-
-def local_wires(circuit: Circuit, cuts: list[str], uses: list[int]) -> set[str]:
-    """Returns the wires that a module with some cuts and gates knows."""
-    return {*cuts, *(wire for number in uses for wire in circuit.gates[number].outs)}

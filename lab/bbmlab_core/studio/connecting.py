@@ -88,7 +88,7 @@ class Leading(JoinWiring):
         return path or super().connected(wire, start, goal)
 
 
-class Connection:
+class PortConnection:
     """An output and an input of a text that are to be one wire. Raises LabError if they cannot be."""
 
     def __init__(self, document: Document, output: str, given: str) -> None:
@@ -166,10 +166,10 @@ def require_ports(circuit: Circuit, output: str, given: str) -> None:
         raise LabError(f"The output {output} follows from the input {given}: they would make a loop.")
 
 
-class Made:
+class ConnectedText:
     """The text of a connection whose balls were led."""
 
-    def __init__(self, connection: Connection, plan: JoinPlan, paths: list[BallPath]) -> None:
+    def __init__(self, connection: PortConnection, plan: JoinPlan, paths: list[BallPath]) -> None:
         self.connection, self.plan, self.paths = connection, plan, paths
         self.room = plan.placed[0].x
         self.left, self.top, self.width, self.height = self.frame()
@@ -236,7 +236,7 @@ class Made:
                 yield end.kind, end.name and own.wire(end.name), self.moved(cell)
 
 
-def led(connection: Connection, deadline: float, seed: int) -> Made:
+def led(connection: PortConnection, deadline: float, seed: int) -> ConnectedText:
     """Leads all balls, on ever larger planes. Raises LabError if that was not done in time."""
     why = ""
     for room in ROOMS:
@@ -247,7 +247,7 @@ def led(connection: Connection, deadline: float, seed: int) -> Made:
             if why:
                 break
             try:
-                return Made(connection, plan, wiring.run(lambda done, total: None))
+                return ConnectedText(connection, plan, wiring.run(lambda done, total: None))
             except NoRouteError as error:
                 why = str(error)
             if time.monotonic() > deadline:
@@ -255,13 +255,13 @@ def led(connection: Connection, deadline: float, seed: int) -> Made:
     raise LabError(f"There is no room for the ball's way: {why}.")
 
 
-def connect(text: str, ports: tuple[str, str], deadline: float, seed: int) -> Made:
+def connect(text: str, ports: tuple[str, str], deadline: float, seed: int) -> ConnectedText:
     """Returns the connection of an output and an input of a text."""
     head = design_text(spelled(text).text)
     document = read_document(head, "design")
     if document.refusal or not document.circuit or not document.layout:
         raise LabError("The circuit and the layout cannot be read: fix this first.")
-    return led(Connection(document, *ports), deadline, seed)
+    return led(PortConnection(document, *ports), deadline, seed)
 
 
 def main() -> int:
