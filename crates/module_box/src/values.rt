@@ -41,7 +41,7 @@ fn cut_words(alloc: Global, cuts: usize, chunk: u32) -> Result<Vec<u64>, AllocEr
     ensures bits { IfOk result (λ ws. (i : ℕ) → i < cuts → (b : ℕ) → b < 64 →
         bit (slice_index_or ws.items i 0) b ≡ bit (64 * chunk + b) i) }
 {
-    let mut words = Vec::new(alloc);
+    let mut words = Vec::with_capacity(alloc, cuts)?;
     for cut in 0..cuts {
         words.push(cut_word(cut, chunk))?;
     }
