@@ -8,6 +8,7 @@ use Rattle.bbm_rule.specs.Marks.{MarksOne}
 use Rattle.local_run.specs.Leaps.{AreLaterFrom}
 use Rattle.local_run.specs.Quiet.{AreStarredCellsMarked, IsZeroAtUnmarked, LacksCellMark, own_mark_number_at}
 use Rattle.lanes.proofs.LaneLemmas.{place_below}
+use Rattle.std.proofs.Math.Nat.{mul-le-mul_left}
 
 pub outer_same : (c a b : ℕ) → halo_coord c a ≡ halo_coord c b → a ≡ b
 unfolding halo_coord
@@ -16,6 +17,13 @@ outer_same c a b e = omega (arith, ints, e)
 pub number_below : (b : Box2) (x y : ℕ) → b.w % 2 ≡ 0 → b.h % 2 ≡ 0 → x < b.w + 2 → y < b.h + 2 →
     number_at b x y < (b.w / 2 + 1) * (b.h / 2 + 1)
 number_below b x y ew eh lx ly = grind (arith, common_steps, place_below)
+
+-- the number of a cell's own mark is below that of the last part's end
+pub part_within : (n c x y : ℕ) → n < c → n + c * (1 + 2 * (y % 2) + x % 2) < 5 * c
+part_within n c x y l = let most = mul-le-mul_left c (parts x y) in omega (arith, l, most)
+  where
+    parts : (x y : ℕ) → 1 + 2 * (y % 2) + x % 2 ≤ 4
+    parts x y = omega arith
 
 pub cell_marked : (b : Box2) (c : Cell) (x y : ℕ) (old middle new : List ℕ) → c.x ≡ halo_coord b.x x →
     c.y ≡ halo_coord b.y y →

@@ -88,13 +88,13 @@ right_edge j vs p t x y s shows es none a l f = grind (arith, common_steps, ring
 -- nor does a dead cell of which no line says something
 pub unsaid_edge : (j : JobView) (vs : Values) (p : Planes) (t x y : ℕ) (marks : List ℕ) → IsReady j vs →
     Shows j vs t p → AreLineMarks j t marks → x < j.area.w + 2 → y < j.area.h + 2 →
-    IsUnmarked marks (p.stride * (y / 2) + x / 2 + 1152 * (1 + 2 * (y % 2) + x % 2)) →
+    IsUnmarked marks (p.stride * (y / 2) + x / 2 + p.stride * p.rows * (1 + 2 * (y % 2) + x % 2)) →
     ((a : ℕ) → a < 64 * p.words → lane p a x y ≡ false) → IsEdgeCorrectAt j vs t x y
 unsaid_edge j vs p t x y marks ready shows lines lx ly free dead a l f =
     let room = ready.room in
     let count = ready.count in
     let s0 = shows.size.0 in
-    let free = rw shows.size.1 at free in
+    let free = rw (shows.size.1, shows.size.2) at free in
     let inside = ring_in_box j.area _ _ f.1.ring in
     f.1.differs (sym (shown_at j vs p t x y a shows l inside) ∙ dead a (omega arith)
     ∙ sym (ap (is_live (valuation vs a)) (lines.edges x y lx ly (inr free))))
@@ -102,7 +102,7 @@ unsaid_edge j vs p t x y marks ready shows lines lx ly free dead a l f =
 -- and it is as a halo signal says
 pub unsaid_halo : (j : JobView) (vs : Values) (p : Planes) (t x y : ℕ) (marks : List ℕ) → IsReady j vs →
     Shows j vs t p → AreLineMarks j t marks → x < j.area.w + 2 → y < j.area.h + 2 →
-    IsUnmarked marks (p.stride * (y / 2) + x / 2 + 1152 * (1 + 2 * (y % 2) + x % 2)) →
+    IsUnmarked marks (p.stride * (y / 2) + x / 2 + p.stride * p.rows * (1 + 2 * (y % 2) + x % 2)) →
     ((a : ℕ) → a < 64 * p.words → lane p a x y ≡ false) → IsHaloCellSet j vs t p x y
 unsaid_halo j vs p t x y marks ready shows lines lx ly free dead a l out = grind (arith, common_steps)
 

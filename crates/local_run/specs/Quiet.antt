@@ -16,9 +16,9 @@ abbrev pub number_at : Box2 → ℕ → ℕ → ℕ
 number_at b x y = (b.w / 2 + 1) * (y / 2) + x / 2
 
 -- The number of a cell among the marks on lines. These begin with a mark for each number in the planes, and then have
--- four parts of 1152 marks, one for each plane, by the parities of column and row: no plane has more cells
+-- four parts of as many marks, one for each plane, by the parities of column and row.
 abbrev pub own_mark_number_at : Box2 → ℕ → ℕ → ℕ
-own_mark_number_at b x y = number_at b x y + 1152 * (1 + 2 * (y % 2) + x % 2)
+own_mark_number_at b x y = number_at b x y + (b.w / 2 + 1) * (b.h / 2 + 1) * (1 + 2 * (y % 2) + x % 2)
 
 -- one of the two marks of a cell is missing
 abbrev pub LacksCellMark : Box2 → ℕ → ℕ → List ℕ → Type 0
@@ -28,7 +28,7 @@ LacksCellMark b x y marks = IsUnmarked marks (number_at b x y) ⊎ IsUnmarked ma
 abbrev pub HasRoomForCellNumbers : Box2 → List ℕ → Type 0
 HasRoomForCellNumbers b marks =
     (b.x ≤ max_side) × (b.y ≤ max_side) × (b.w ≤ 64) × (b.h ≤ 64) × (b.w % 2 ≡ 0) × (b.h % 2 ≡ 0)
-    × ((b.w / 2 + 1) * (b.h / 2 + 1) + 4608 ≤ 64 * length marks)
+    × (5 * ((b.w / 2 + 1) * (b.h / 2 + 1)) ≤ 64 * length marks)
 
 -- the cell has both marks, where it is in the box or its halo
 abbrev pub IsCellMarked : Box2 → Cell → List ℕ → Type 0
@@ -61,6 +61,6 @@ IsZeroAtUnmarked s b t marks = (x y : ℕ) → x < b.w + 2 → y < b.h + 2 → L
 
 -- marks that leave no cell out of which an edge or halo line of a job says something at time t
 pub record AreLineMarks (j : JobView) (t : ℕ) (marks : List ℕ) : Type 0 where
-  pub room : (j.area.w / 2 + 1) * (j.area.h / 2 + 1) + 4608 ≤ 64 * length marks
+  pub room : 5 * ((j.area.w / 2 + 1) * (j.area.h / 2 + 1)) ≤ 64 * length marks
   pub edges : IsZeroAtUnmarked j.edges j.area t marks
   pub halos : IsZeroAtUnmarked j.halos j.area t marks

@@ -126,11 +126,14 @@ impl LineMarks {
     #[inline(always)]
     pub fn may_have_line(&self, planes: &Planes, x: usize, y: usize) -> bool
         requires place { (x / 2 < planes.now.stride) × (y / 2 < planes.now.rows) }
-        requires room { planes.now.stride * planes.now.rows + 4608 ≤ 64 * vec_len self.now.marks }
+        requires room { 5 * (planes.now.stride * planes.now.rows) ≤ 64 * vec_len self.now.marks }
         ensures { result ≡ false →
             IsUnmarked self.now.marks.items
-            (planes.now.stride * (y / 2) + x / 2 + 1152 * (1 + 2 * (y % 2) + x % 2)) }
+            (planes.now.stride * (y / 2) + x / 2
+            + planes.now.stride * planes.now.rows * (1 + 2 * (y % 2) + x % 2)) }
     {
-        is_marked(&self.marks, own_mark_number(planes.cell_number(x, y), x, y))
+        let number = planes.cell_number(x, y);
+        let own = own_mark_number(number, planes.cells_per_plane(), x, y);
+        is_marked(&self.marks, own)
     }
 }

@@ -32,16 +32,15 @@ fn number_from_halo(coordinate: i32, first: u32, count: u32) -> Option<usize>
     Some((coordinate - before) as usize)
 }
 
-/// The number of words of marks that single cells have: four planes of at most 1152 cells.
-pub const CELL_MARK_WORDS: usize = 72;
-
-/// Returns the number of a cell's own mark, where `number` is that of its cells in the planes.
+/// Returns the number of a cell's own mark, where `number` is that of its cells in the planes, of `cells` cells each.
 #[inline(always)]
-pub fn own_mark_number(number: usize, x: usize, y: usize) -> usize
-    requires { number < 2 ^ 32 }
-    ensures { result ≡ number + 1152 * (1 + 2 * (y % 2) + x % 2) }
+#[tactic(auto, using(crate::proofs::QuietLemmas::part_within))]
+pub fn own_mark_number(number: usize, cells: usize, x: usize, y: usize) -> usize
+    requires { (number < cells) × (cells ≤ 4096) }
+    ensures number { result ≡ number + cells * (1 + 2 * (y % 2) + x % 2) }
+    ensures range { result < 5 * cells }
 {
-    number + 1152 * (1 + 2 * (y % 2) + x % 2)
+    number + cells * (1 + 2 * (y % 2) + x % 2)
 }
 
 // Marks the cell, if it is in the box or its halo: a mark for its number in the planes, and one of its own. Returns
@@ -59,9 +58,11 @@ fn mark_cell(marks: &mut [u64], area: Box2, cell: Cell) -> Option<usize>
     let Some(y) = number_from_halo(cell.y, area.y, area.h) else {
         return None;
     };
-    let number = (area.w as usize / 2 + 1) * (y / 2) + x / 2;
+    let stride = area.w as usize / 2 + 1;
+    let number = stride * (y / 2) + x / 2;
     mark(marks, number);
-    mark(marks, own_mark_number(number, x, y));
+    let cells = stride * (area.h as usize / 2 + 1);
+    mark(marks, own_mark_number(number, cells, x, y));
     Some(number)
 }
 
@@ -332,7 +333,7 @@ pub fn marks_of_starred_cells(alloc: Global, job: &Job) -> Result<Vec<u64>, Allo
 {
     let area = job.area();
     let cells = (area.w as usize / 2 + 1) * (area.h as usize / 2 + 1);
-    let mut marks = vec![in alloc; 0u64; cells.div_ceil(64) + CELL_MARK_WORDS]?;
+    let mut marks = vec![in alloc; 0u64; (5 * cells).div_ceil(64)]?;
     mark_stars_of_shape(&mut marks, job.shape());
     Ok(marks)
 }

@@ -3,7 +3,7 @@ use Rattle.local_run.proofs.Imports.{ℕ, ◌*◌, ◌+◌, ◌/◌, ◌∙◌, 
 use Rattle.lemmas.proofs.Common.{with_items_is}
 use Rattle.local_run.proofs.lines.marks_of_starred_cells.Goals as goal
 
-room : (n m w : ℕ) → w ≡ div_ceil m 64 → n ≡ w + 72 → m + 4608 ≤ 64 * n
+room : (n m w : ℕ) → w ≡ div_ceil (5 * m) 64 → n ≡ w → 5 * m ≤ 64 * n
 room n m w e h = omega (arith, e, h)
 
 pub returns : goal.returns
@@ -15,11 +15,11 @@ returns c =
     let items = with_items_is c.in_ok-marks.marks c.mark_stars_of_shape.new.marks
     (omega (arith, ap length v, c.in_ok-marks.marks.ok.0)) in
     let m = rw shape at c.mark_stars_of_shape.ensures in
-    let long : length c.mark_stars_of_shape.new.marks ≡ c.div_ceil.result + 72 =
+    let long : length c.mark_stars_of_shape.new.marks ≡ c.div_ceil.result =
     omega
     (arith, c.mark_stars_of_shape.auto.marks, ap length v, c.in_ok-marks.marks.ok.0, c.in_ok-marks.ensures.len) in
-    let cells : c.div_ceil.result ≡ div_ceil ((j.area.w / 2 + 1) * (j.area.h / 2 + 1)) 64 =
-    c.div_ceil.ensures ∙ ap (λ (b : Box2). div_ceil ((b.w / 2 + 1) * (b.h / 2 + 1)) 64) e in
+    let cells : c.div_ceil.result ≡ div_ceil (5 * ((j.area.w / 2 + 1) * (j.area.h / 2 + 1))) 64 =
+    c.div_ceil.ensures ∙ ap (λ (b : Box2). div_ceil (5 * ((b.w / 2 + 1) * (b.h / 2 + 1))) 64) e in
     let q = c.requires in
     subst (λ (xs : List ℕ). AreStarredCellMarks (shape_of j) xs) (sym items)
     (record {
