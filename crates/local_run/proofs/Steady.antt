@@ -10,7 +10,7 @@ use Rattle.local_run.proofs.Imports.{inl, inr, ◌≡◌, ◌≢◌, ◌⊎◌}
 use Rattle.bbm_rule.specs.Marks.{IsUnmarked, MarksOne}
 use Rattle.lanes.specs.Settled.{IsSameAtNumber, IsSettled, KeepsSettled}
 use Rattle.lanes.specs.declared.marked_planes.MarkedPlanes.{MarkedPlanes}
-use Rattle.local_run.proofs.Imports.{AreStarredCellMarks, length, mul-le-mul_left, shape_of, ◌≤◌}
+use Rattle.local_run.proofs.Imports.{AreStarredCellMarks, length, shape_of}
 use Rattle.local_run.specs.Quiet.{AreLineMarks, IsZeroAtUnmarked, box_at_origin}
 use Rattle.local_run.specs.Scans.{IsHaloSet}
 use Rattle.local_run.specs.Steady.{AreEventMarks, IsNumberCorrect, IsNumberMarked, IsNumberOfCell, IsNumberSteady}
@@ -187,12 +187,6 @@ steady_next j vs t m m' m'' old new ready shows early halo none marks unchanged 
     settled_after_odd j vs t m'.planes m'' new ready shows odd early (halo odd) (none odd) (marks odd) (odd_step odd))
 
 -- ---- numbers that need no look
--- a box has at most 33 by 33 of them
-pub few_numbers : (w h : ℕ) → w ≤ 64 → h ≤ 64 → (w / 2 + 1) * (h / 2 + 1) ≤ 1089
-few_numbers w h lw lh = let m : (w / 2 + 1) * (h / 2 + 1) ≤ (w / 2 + 1) * 33 =
-    mul-le-mul_left (w / 2 + 1) (omega arith) in
-    omega (arith, m)
-
 correct_if_steady : (j : JobView) (vs : Values) (t : ℕ) (p : Planes) (events : List ℕ) (u : ℕ) → Shows j vs t p →
     AreEventMarks j t events → IsUnmarked events u → IsNumberSteady j vs p u → IsNumberCorrect j vs t p u
 correct_if_steady j vs t p events u shows marks free steady = record {

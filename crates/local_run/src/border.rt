@@ -256,9 +256,9 @@ pub fn set_halo_check_ring(
     requires shows { Shows job.now values.now lines.now.time marked_planes.old.planes }
     requires lines { AreLineMarks job.now lines.now.time lines.now.marks.items }
     requires sought { IsKindSoughtAt job.now lines.now.time Kind.Edge }
-    requires events { AreEventMarks job.now lines.now.time lines.now.events }
+    requires events { AreEventMarks job.now lines.now.time lines.now.events.items }
     requires steady { IsSteadyWhereSettled job.now values.now marked_planes.old
-        lines.now.last_events }
+        lines.now.last_events.items }
     ensures shows { Shows job.now values.now lines.now.time marked_planes.new.planes }
     ensures halo { IsHaloSet job.now values.now lines.now.time marked_planes.new.planes }
     ensures edges { result ≡ true → HasNoFaultOfKind job.now values.now lines.now.time Kind.Edge }

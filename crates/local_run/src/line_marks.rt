@@ -8,13 +8,12 @@ ghost use Rattle.local_run.specs.Steady.{AreEventMarks};
 ghost use Rattle.std.specs.Prelude.{◌≡◌, ◌+◌, ◌*◌, ◌/◌, ◌%◌, ◌<◌, ◌≤◌, length, vec_len, IfOk, false};
 ghost use Rattle.lemmas.specs.Bounds.{max_steps};
 
-use crate::lines::{EventPlaces, LinePlaces, mark_lines, marks_of_starred_cells, own_mark_number};
+use crate::lines::{
+    EventPlaces, LinePlaces, mark_lines, marks_of_starred_cells, number_words, own_mark_number,
+};
 use lanes::{Planes, is_marked};
 use module_job::Job;
 use std::alloc::{AllocError, Global};
-
-// How many words of marks the numbers in a plane have: it has 33 by 33 cells at most.
-const NUMBER_WORDS: usize = 18;
 
 /// Marks on the cells of ring and halo of which a job's lines say something at a time: one for the number of a cell in
 /// its plane, and one of its own.
@@ -25,12 +24,14 @@ pub struct LineMarks {
     // the marks for lines at all times, which all are marks
     all_times: Vec<u64>,
     // marks on the numbers of which a line says something at this time and not at all times
-    events: [u64; NUMBER_WORDS],
+    events: Vec<u64>,
     // the same for the time that was looked at before
-    last_events: [u64; NUMBER_WORDS],
+    last_events: Vec<u64>,
     // where the search for the next time's lines begins
     places: LinePlaces,
     ghost same_long: { vec_len marks ≡ vec_len all_times },
+    ghost five_parts: { vec_len marks ≡ 5 * vec_len events },
+    ghost last_same_long: { vec_len last_events ≡ vec_len events },
     ghost keeps: { KeepsMarks all_times.items marks.items },
 }
 
@@ -42,13 +43,14 @@ impl LineMarks {
     {
         let all_times = marks_of_starred_cells(alloc, job)?;
         let marks = all_times.as_slice().to_vec(alloc)?;
+        let long = number_words(job);
         let none = EventPlaces::NO_PHASE;
         Ok(LineMarks {
             time: 0,
             marks,
             all_times,
-            events: [0; NUMBER_WORDS],
-            last_events: [0; NUMBER_WORDS],
+            events: vec![in alloc; 0u64; long]?,
+            last_events: vec![in alloc; 0u64; long]?,
             places: LinePlaces {
                 edges: none,
                 halos: none,
@@ -65,15 +67,15 @@ impl LineMarks {
         requires range { time < max_steps }
         ensures time { self.new.time ≡ time }
         ensures lines { AreLineMarks job.now time self.new.marks.items }
-        ensures events { AreEventMarks job.now time self.new.events }
-        ensures last_events { self.new.last_events ≡ self.old.events }
+        ensures events { AreEventMarks job.now time self.new.events.items }
+        ensures last_events { self.new.last_events.items ≡ self.old.events.items }
         ensures all_times { self.new.all_times ≡ self.old.all_times }
     {
         self.time = time;
-        self.last_events = self.events;
+        self.last_events.copy_from_slice(&self.events);
         if self.places.has_any() {
             self.marks.copy_from_slice(&self.all_times);
-            self.events = [0; NUMBER_WORDS];
+            self.events.fill(0);
         }
         mark_lines(
             &mut self.marks,
@@ -102,8 +104,8 @@ impl LineMarks {
     /// Returns the marks on the numbers of the events of the time that was looked at.
     #[inline(always)]
     pub fn events(&self) -> &[u64]
-        ensures marks { result.now ≡ self.now.events }
-        ensures long { length result.now ≡ 18 }
+        ensures marks { result.now ≡ self.now.events.items }
+        ensures long { vec_len self.now.marks ≡ 5 * length result.now }
     {
         &self.events
     }
@@ -111,8 +113,8 @@ impl LineMarks {
     /// Returns the marks on the numbers of the events of the time that was looked at before it.
     #[inline(always)]
     pub fn last_events(&self) -> &[u64]
-        ensures marks { result.now ≡ self.now.last_events }
-        ensures long { length result.now ≡ 18 }
+        ensures marks { result.now ≡ self.now.last_events.items }
+        ensures long { vec_len self.now.marks ≡ 5 * length result.now }
     {
         &self.last_events
     }

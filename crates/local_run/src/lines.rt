@@ -8,7 +8,8 @@ ghost use Rattle.local_run.specs.Quiet.{AreStarredCellMarks, AreStarredCellsMark
 ghost use Rattle.local_run.specs.Leaps.{AreLaterFrom};
 ghost use Rattle.local_run.specs.Places.{halo_coord};
 ghost use Rattle.local_run.specs.Steady.{AreEventMarks, HasRoomForNumbers, IsNumberMarked, IsNumberOfCell, IsOutsideHalo, IsSteadyAtUnmarked};
-ghost use Rattle.std.specs.Prelude.{ℕ, nat_lt, true, ◌||◌, ◌≢◌, MatchOption, ◌≡◌, ◌<◌, ◌+◌, ◌*◌, ◌/◌, ◌%◌, ◌^◌, ◌≤◌, length, slice_get, Some, IfOk, IfSome};
+ghost use Rattle.std.specs.Prelude.{ℕ, nat_lt, true, ◌||◌, ◌≢◌, MatchOption, ◌≡◌, ◌<◌, ◌+◌, ◌*◌, ◌/◌, ◌%◌, ◌≤◌, length, vec_len, slice_get, Some, IfOk, IfSome};
+ghost use Rattle.std.specs.Int.{div_ceil};
 ghost use Rattle.lemmas.specs.Bounds.{max_side, max_steps};
 
 use crate::leaps::{first_event_place_from, valid_start_place};
@@ -326,14 +327,23 @@ fn mark_stars_of_shape(marks: &mut [u64], shape: &Shape)
     mark_starred_cells(marks, area, shape.halos().all_times());
 }
 
+/// Returns how many words the marks on the numbers in a plane take.
+pub fn number_words(job: &Job) -> usize
+    requires { IsJob job.now }
+    ensures { result ≡ div_ceil ((job.now.area.w / 2 + 1) * (job.now.area.h / 2 + 1)) 64 }
+{
+    let area = job.area();
+    ((area.w as usize / 2 + 1) * (area.h as usize / 2 + 1)).div_ceil(64)
+}
+
 /// Marks the cells of which an edge or halo line says something at all times, and their numbers in the planes.
 pub fn marks_of_starred_cells(alloc: Global, job: &Job) -> Result<Vec<u64>, AllocError>
     requires { IsJob job.now }
-    ensures { IfOk result (λ m. AreStarredCellMarks (shape_of job.now) m.items) }
+    ensures marks { IfOk result (λ m. AreStarredCellMarks (shape_of job.now) m.items) }
+    ensures count { IfOk result (λ m. vec_len m
+        ≡ 5 * div_ceil ((job.now.area.w / 2 + 1) * (job.now.area.h / 2 + 1)) 64) }
 {
-    let area = job.area();
-    let cells = (area.w as usize / 2 + 1) * (area.h as usize / 2 + 1);
-    let mut marks = vec![in alloc; 0u64; (5 * cells).div_ceil(64)]?;
+    let mut marks = vec![in alloc; 0u64; 5 * number_words(job)]?;
     mark_stars_of_shape(&mut marks, job.shape());
     Ok(marks)
 }

@@ -37,11 +37,11 @@ fn set_halo_find_edge_fault(
     requires sought { IsKindSoughtAt job.now time Kind.Edge }
     requires shows { Shows job.now values.now time marked_planes.old.planes }
     requires steady { IsSteadyWhereSettled job.now values.now marked_planes.old
-        lines.old.events }
+        lines.old.events.items }
     ensures shows { Shows job.now values.now time marked_planes.new.planes }
     ensures halo { IsHaloSet job.now values.now time marked_planes.new.planes }
     ensures lines { lines.new.all_times ≡ lines.old.all_times }
-    ensures events { AreEventMarks job.now time lines.new.events }
+    ensures events { AreEventMarks job.now time lines.new.events.items }
     ensures fault { MatchOption result (HasNoFaultOfKind job.now values.now time Kind.Edge)
         (λ f. IsFirstOfKind job.now values.now time Kind.Edge f) }
 {
@@ -75,11 +75,11 @@ fn fault_at_time(
     requires shows { Shows job.now values.now time marked_planes.old.planes }
     requires next { IsNextStop job.now time next.old }
     requires steady { IsSteadyWhereSettled job.now values.now marked_planes.old
-        lines.old.events }
+        lines.old.events.items }
     ensures shows { Shows job.now values.now time marked_planes.new.planes }
     ensures halo { time % 2 ≡ 1 → IsHaloSet job.now values.now time marked_planes.new.planes }
     ensures lines { lines.new.all_times ≡ lines.old.all_times }
-    ensures events { time % 2 ≡ 1 → AreEventMarks job.now time lines.new.events }
+    ensures events { time % 2 ≡ 1 → AreEventMarks job.now time lines.new.events.items }
     ensures even_unchanged { time % 2 ≡ 0 →
         (marked_planes.new ≡ marked_planes.old) × (lines.new ≡ lines.old) }
     ensures fault { MatchOption result (IsPassed job.now values.now time next.new)

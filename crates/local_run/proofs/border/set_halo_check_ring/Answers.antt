@@ -5,7 +5,7 @@ use Rattle.local_run.proofs.Imports.{◌<◌, ◌∙◌, ◌≡◌, ◌≤◌}
 use Rattle.lanes.proofs.MarkSearch.{whole_zero}
 use Rattle.local_run.proofs.Firsts.{free_from}
 use Rattle.local_run.proofs.QuietLemmas.{number_below}
-use Rattle.local_run.proofs.Steady.{correct_unless_marked, few_numbers, still_settled}
+use Rattle.local_run.proofs.Steady.{correct_unless_marked, still_settled}
 use Rattle.local_run.proofs.Stepping.{outer_inner}
 use Rattle.local_run.specs.Steady.{IsNumberCorrect}
 use Rattle.local_run.proofs.border.set_halo_check_ring.Goals as goal
@@ -17,8 +17,8 @@ set_halo_test_ring_in_word-is_right-requires-clause-unset_are_correct c = λ u e
     let m = c.loop-k.invariant in
     let says = rw (c.marks.ensures, c.events.ensures.marks, c.last_events.ensures.marks)
     at c.border_marks_to_check-word.ensures.unset_need_no_look in
-    correct_unless_marked c.args.job.now c.args.values.now l.time c.loop-k.marked_planes l.marks.items l.events
-    l.last_events u c.requires.job_ready m.shows c.requires.lines c.requires.events m.steady
+    correct_unless_marked c.args.job.now c.args.values.now l.time c.loop-k.marked_planes l.marks.items l.events.items
+    l.last_events.items u c.requires.job_ready m.shows c.requires.lines c.requires.events m.steady
     (says u (omega (arith, e)) none)
 
 pub loop-k-preserved : goal.loop-k-preserved
@@ -29,7 +29,7 @@ loop-k-preserved c =
     record {
       shows = e.shows;
       steady = still_settled j c.args.values.now c.loop-k.marked_planes
-          c.set_halo_test_ring_in_word-is_right.new.marked_planes c.args.lines.now.last_events
+          c.set_halo_test_ring_in_word-is_right.new.marked_planes c.args.lines.now.last_events.items
           c.requires.job_ready m.shows.size e.settled m.steady;
       halo = λ x y lx ly before. by_lt_or_le (number_at j.area x y) (64 * c.loop-k.k)
           (λ h b lb out. e.rest b x y lb lx h ∙ m.halo x y lx ly h b lb out)
@@ -49,7 +49,7 @@ loop-k-preserved-then-word-eq0 c =
     at c.border_marks_to_check-word.ensures.unset_need_no_look in
     let passed : (n : ℕ) → 64 * c.loop-k.k ≤ n → n < 64 * (c.loop-k.k + 1) →
     IsNumberCorrect j c.args.values.now l.time p.planes n = λ n g h.
-    correct_unless_marked j c.args.values.now l.time p l.marks.items l.events l.last_events n
+    correct_unless_marked j c.args.values.now l.time p l.marks.items l.events.items l.last_events.items n
     c.requires.job_ready m.shows c.requires.lines c.requires.events m.steady
     (says n (omega arith) (whole_zero _ (n % 64) c.if-word-eq0.true)) in
     record {
@@ -104,7 +104,7 @@ pub border_marks_to_check-word-requires-clause-room_new_last :
 border_marks_to_check-word-requires-clause-room_new_last c =
     let j = c.args.job.now in
     let q = c.requires.job_ready.job in
-    let few = few_numbers j.area.w j.area.h q.width.1 q.height.1 in
+    let room = c.requires.lines.room in
     let long : c.cells_per_plane-cells.result ≡ (j.area.w / 2 + 1) * (j.area.h / 2 + 1) =
     c.cells_per_plane-cells.ensures.count_is_exact ∙ ap (λ (p : Planes). p.stride * p.rows) c.planes.ensures
     ∙ ap₂ (λ s r. s * r) c.requires.shows.size.1 c.requires.shows.size.2 in
@@ -112,6 +112,6 @@ border_marks_to_check-word-requires-clause-room_new_last c =
     let words = c.div_ceil-k-end.ensures in
     let new = c.events.ensures.long in
     let last = c.last_events.ensures.long in (
-      omega (arith, within, words, new, few, long),
-      omega (arith, within, words, last, few, long),
+      omega (arith, within, words, new, room, long),
+      omega (arith, within, words, last, room, long),
     )

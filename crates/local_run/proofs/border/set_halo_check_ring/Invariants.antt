@@ -6,7 +6,7 @@ use Rattle.local_run.proofs.border.set_halo_check_ring.Given as goal
 abbrev pub invariant-loop-k : goal.invariant-loop-k
 invariant-loop-k l = record {
   shows : Shows l.job l.values l.lines.time l.marked_planes.planes;
-  steady : IsSteadyWhereSettled l.job l.values l.marked_planes l.lines.last_events;
+  steady : IsSteadyWhereSettled l.job l.values l.marked_planes l.lines.last_events.items;
   halo : (x y : ℕ) → x < l.job.area.w + 2 → y < l.job.area.h + 2 → number_at l.job.area x y < 64 * l.k →
       IsHaloCellSet l.job l.values l.lines.time l.marked_planes.planes x y;
   right : l.is_right ≡ true → (x y : ℕ) → x < l.job.area.w + 2 → y < l.job.area.h + 2 →

@@ -19,11 +19,11 @@ loop-time-preserved c =
           (omega (arith, range)) c.in_default.ensures.fault one.next one.stays range next.leap
           next.next;
       steady = steady_next c.args.job.now c.args.values.now c.loop-time.time c.loop-time.marked_planes
-          c.fault_at_time.new.marked_planes c.one_step-changed.new.marked_planes c.loop-time.lines.events
-          c.fault_at_time.new.lines.events c.requires c.in_default.ensures.shows (omega (arith, range))
+          c.fault_at_time.new.marked_planes c.one_step-changed.new.marked_planes c.loop-time.lines.events.items
+          c.fault_at_time.new.lines.events.items c.requires c.in_default.ensures.shows (omega (arith, range))
           c.in_default.ensures.halo c.in_default.ensures.fault.edges c.in_default.ensures.events
           (λ even. let same = c.in_default.ensures.even_unchanged even in
-          (same.0, ap (λ (l : LineMarks). l.events) same.1)) one.settled_if_even one.settled_if_odd
+          (same.0, ap (λ (l : LineMarks). l.events.items) same.1)) one.settled_if_even one.settled_if_odd
           c.loop-time.invariant.steady;
       lines = grind (arith, common_steps);
     }
