@@ -10,5 +10,6 @@ pub mod InsideLemmas
 pub mod FieldLemmas
 pub mod RunLemmas
 pub mod SettledLemmas
+pub mod PutLemmas
 pub mod FrozenLemmas
 pub mod Imports

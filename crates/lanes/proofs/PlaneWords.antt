@@ -57,7 +57,7 @@ pub other_word : (w u k v l word : ℕ) (xs : List ℕ) → k < w → l < w → 
 other_word w u k v l word xs lk ll ne =
     get_or-set_other xs (w * u + k) (w * v + l) word 0 (λ e. ne (unique_place w v u l k ll lk e).0)
 
-lane_at : (q : Planes) (a x y w st : ℕ) (s : List ℕ) → q.words ≡ w → q.stride ≡ st → plane_of q x y ≡ s →
+pub lane_at : (q : Planes) (a x y w st : ℕ) (s : List ℕ) → q.words ≡ w → q.stride ≡ st → plane_of q x y ≡ s →
     lane q a x y ≡ bit (get_or s (w * (st * (y / 2) + x / 2) + a / 64) 0) (a % 64)
 unfolding lane
 lane_at q a x y w st s ew es e = grind (arith, common_steps)

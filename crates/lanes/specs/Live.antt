@@ -1,5 +1,6 @@
 -- Marks on the cells of four planes: those without a mark are dead
-use Rattle.std.specs.Prelude.{◌≡◌, ◌≢◌, Bool, true, ℕ, ◌+◌, ◌*◌, ◌<◌, ◌≤◌, ◌⊎◌, List, slice_index, vec_len}
+use Rattle.std.specs.Prelude.{◌≡◌, ◌≢◌, ◌==◌, if◌then◌else◌, Bool, true, ℕ, ◌+◌, ◌*◌, ◌%◌, ◌<◌, ◌≤◌, ◌⊎◌, List}
+use Rattle.std.specs.Prelude.{slice_index, vec_len}
 use Rattle.std.proofs.Props.{props}
 use Rattle.bbm_rule.specs.Marks.{IsUnmarked}
 use Rattle.bbm_rule.specs.Rows.{cell_at}
@@ -79,6 +80,18 @@ pub record MarksCells (main anti : Bool) (b : BlockPlaces) (l l' : LiveMarks) : 
   pub right : MarksCellIf anti b.right l.right.items l'.right.items
   pub down : MarksCellIf anti b.down l.down.items l'.down.items
   pub even : MarksCellIf main b.even l.even.items l'.even.items
+
+-- the marks of the plane of a cell, by the parities of its column and row
+unfoldable pub marks_at : LiveMarks → ℕ → ℕ → List ℕ
+marks_at l x y =
+    if x % 2 == 0 then (if y % 2 == 0 then l.odd.items else l.down.items)
+    else (if y % 2 == 0 then l.right.items else l.even.items)
+
+-- the mark of one cell, which has this column, row and number, becomes the value, and no other mark changes
+pub record SetsMark (x y u : ℕ) (value : Bool) (l l' : LiveMarks) : Type 0 where
+  pub there : cell_at (marks_at l' x y) u ≡ value
+  pub rest : (x' y' v : ℕ) → ((x' % 2 ≡ x % 2) × (y' % 2 ≡ y % 2) × (v ≡ u) → ⊥) →
+      cell_at (marks_at l' x' y') v ≡ cell_at (marks_at l x' y') v
 
 -- no mark is taken off but those of the dead cells of a block
 pub record UnmarksOnlyDeadCells (p : Planes) (b : BlockPlaces) (l l' : LiveMarks) : Type 0 where

@@ -143,28 +143,4 @@ impl Planes {
         unmark_if_dead(&mut live.down, block.down, &self.down, words);
         unmark_if_dead(&mut live.even, block.even, &self.even, words);
     }
-
-    /// Takes the marks off the dead cells of a block on the diagonals that changed.
-    #[inline]
-    pub(crate) fn unmark_changed_if_dead(
-        &self,
-        live: &mut LiveMarks,
-        block: BlockPlaces,
-        changes: Changes,
-    )
-        requires marks { HasRoomForBlockCells live.old block }
-        requires cells { AreCellNumbers block self.now }
-        ensures unmarked { UnmarksOnlyDeadCells self.now block live.old live.new }
-        ensures same_room { HasSameRoom live.old live.new }
-    {
-        let words = self.words;
-        if changes.main {
-            unmark_if_dead(&mut live.odd, block.odd, &self.odd, words);
-            unmark_if_dead(&mut live.even, block.even, &self.even, words);
-        }
-        if changes.anti {
-            unmark_if_dead(&mut live.right, block.right, &self.right, words);
-            unmark_if_dead(&mut live.down, block.down, &self.down, words);
-        }
-    }
 }

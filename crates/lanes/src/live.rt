@@ -4,11 +4,13 @@
 
 ghost use Rattle.bbm_rule.specs.Bits.{bit};
 ghost use Rattle.bbm_rule.specs.Marks.{IsUnmarked};
-ghost use Rattle.lanes.specs.Live.{AreFirstCellsMarked, AreCellsMarkedUnlessInBoth, AreBlockCellsUnmarked, AreNumberCellsUnmarked, HasRoomForBlockCells, HasRoomForCellMarks, HasSameRoom, IsLone, MarksCells, SwapsMarks};
+ghost use Rattle.lanes.specs.Live.{AreFirstCellsMarked, AreCellsMarkedUnlessInBoth, AreBlockCellsUnmarked, AreNumberCellsUnmarked, HasRoomForBlockCells, HasRoomForCellMarks, HasSameRoom, IsLone, MarksCells, SetsMark, SwapsMarks};
 ghost use Rattle.std.specs.Prelude.{ℕ, ◌≡◌, ◌/◌, ◌<◌, ◌≤◌, ◌%◌, ◌+◌, ◌*◌, ◌^◌, length, IfOk, true, false};
 
 use crate::blocks::{BlockPlaces, Diagonal};
-use crate::marks::{is_marked, mark_if, next_marked_in_either, set_marks_to_not_both, swap_marks};
+use crate::marks::{
+    is_marked, mark_if, next_marked_in_either, set_mark, set_marks_to_not_both, swap_marks,
+};
 use crate::words::Changes;
 use bbm_rule::marks::mark_all;
 use std::alloc::{AllocError, Global};
@@ -136,6 +138,28 @@ impl LiveMarks {
         mark_if(&mut self.right, block.right, changes.anti);
         mark_if(&mut self.down, block.down, changes.anti);
         mark_if(&mut self.even, block.even, changes.main);
+    }
+
+    /// Gives a cell a mark, or takes its mark off. Column and row are counted from the halo, and u is the cell's
+    /// number.
+    #[tactic(auto, using(lemmas::proofs::Common::with_items_is, crate::proofs::PutLemmas::sets_odd_mark, crate::proofs::PutLemmas::sets_down_mark, crate::proofs::PutLemmas::sets_right_mark, crate::proofs::PutLemmas::sets_even_mark))]
+    #[inline(always)]
+    pub fn set(&mut self, x: usize, y: usize, u: usize, is_marked: bool)
+        requires { HasRoomForCellMarks (u + 1) self.old }
+        ensures mark_set { SetsMark x y u is_marked self.old self.new }
+        ensures same_room { HasSameRoom self.old self.new }
+    {
+        if x % 2 == 0 {
+            if y % 2 == 0 {
+                set_mark(&mut self.odd, u, is_marked);
+            } else {
+                set_mark(&mut self.down, u, is_marked);
+            }
+        } else if y % 2 == 0 {
+            set_mark(&mut self.right, u, is_marked);
+        } else {
+            set_mark(&mut self.even, u, is_marked);
+        }
     }
 
     /// Exchanges the marks of the cells of a block's diagonal.

@@ -223,14 +223,13 @@ impl MarkedPlanes {
         ensures settled { KeepsSettled self.old self.new }
     {
         let u = self.planes.cell_number(x, y);
-        let block = self.planes.block_places(Partition::Odd, u);
+        let stride = self.planes.stride();
+        let is_live = self.planes.put(x, y, list, source);
+        self.planes.prove_planes_are_words();
+        self.live_marks.set(x, y, u, is_live);
         let changes = Changes::of_cell(x, y);
         self.block_marks
-            .mark_changes(Partition::Odd, u, self.planes.stride(), changes);
-        self.live_marks.mark_cells(block, changes);
+            .mark_changes(Partition::Odd, u, stride, changes);
         self.frozen.give_up_if_frozen(u);
-        self.planes.put(x, y, list, source);
-        self.planes
-            .unmark_changed_if_dead(&mut self.live_marks, block, changes);
     }
 }

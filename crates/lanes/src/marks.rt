@@ -2,7 +2,7 @@
 
 ghost use Rattle.bbm_rule.specs.Bits.{bit};
 ghost use Rattle.bbm_rule.specs.Marks.{IsUnmarked};
-ghost use Rattle.bbm_rule.specs.Rows.{cell_at};
+ghost use Rattle.bbm_rule.specs.Rows.{cell_at, SetsPlace};
 ghost use Rattle.lanes.specs.Borders.{AreUnmarkedAwayFromBorder};
 ghost use Rattle.lanes.specs.Live.{AreNumberCellsUnmarked, UnmarksOnlyIfDead, HasRoomForCellMarks, IsDeadCell, MarksCellIf, TakesMarkOfOther};
 ghost use Rattle.lanes.specs.Blocks.{block_at};
@@ -33,6 +33,19 @@ pub fn mark_if(marks: &mut [u64], at: usize, changes: bool)
 {
     if changes {
         mark(marks, at);
+    }
+}
+
+/// Gives a number a mark, or takes its mark off.
+#[inline(always)]
+pub fn set_mark(marks: &mut [u64], at: usize, is_marked: bool)
+    requires { at / 64 < length marks.old }
+    ensures { SetsPlace at is_marked marks.old marks.new }
+{
+    if is_marked {
+        marks[at / 64] |= 1u64 << (at % 64);
+    } else {
+        marks[at / 64] &= !(1u64 << (at % 64));
     }
 }
 

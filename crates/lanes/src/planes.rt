@@ -359,19 +359,33 @@ impl Planes {
     ghost use Rattle.lanes.specs.Blocks.{block_at};
     ghost use Rattle.lanes.specs.Calm.{ChangesCells};
     ghost use Rattle.lanes.specs.Turns.{is_on_main_diagonal};
-    ghost use Rattle.lanes.specs.Lanes.{HasWords, SetsCell};
+    ghost use Rattle.lanes.specs.Lanes.{HasWords, SetsCell, word_of};
 
-    /// Sets a cell, counted from the halo, to the words of a source.
-    pub(crate) fn put(&mut self, x: usize, y: usize, list: &[u64], source: WordSource)
+    /// Sets a cell, counted from the halo, to the words of a source. Returns whether one of them is not zero.
+    #[tactic(auto, using(crate::proofs::TurnLemmas::none_first, crate::proofs::TurnLemmas::none_last, lemmas::proofs::Common::cases_lt))]
+    pub(crate) fn put(&mut self, x: usize, y: usize, list: &[u64], source: WordSource) -> bool
         requires place { (x / 2 < self.old.stride) × (y / 2 < self.old.rows) }
         requires source { HasWords self.old.words list.now source }
         ensures cell_set { SetsCell x y list.now source self.old self.new }
         ensures cells { ChangesCells (is_on_main_diagonal x y) (not (is_on_main_diagonal x y))
             (block_at Partition.Odd self.old.stride (self.old.stride * (y / 2) + x / 2)) self.old
             self.new }
+        ensures words_zero { result ≡ false → (k : ℕ) → k < self.old.words →
+            word_of list.now source k ≡ 0 }
     {
-        for k in 0..self.words {
-            self.set_word(x, y, k, source.word(list, k));
+        let words = self.words;
+        // The loop costs more than one word.
+        if words == 1 {
+            let word = source.word(list, 0);
+            self.set_word(x, y, 0, word);
+            return word != 0;
         }
+        let mut union = 0;
+        for k in 0..words {
+            let word = source.word(list, k);
+            self.set_word(x, y, k, word);
+            union |= word;
+        }
+        union != 0
     }
 }

@@ -13,4 +13,5 @@ invariant-loop-k l = record {
   cells : ChangesCells (is_on_main_diagonal l.x l.y)
       (not (is_on_main_diagonal l.x l.y)) (block_at Odd l.fn.self.stride
       (l.fn.self.stride * (l.y / 2) + l.x / 2)) l.fn.self l.self;
+  zero : l.union ≡ 0 → (k : ℕ) → k < l.k → word_of l.list l.source k ≡ 0;
 }
