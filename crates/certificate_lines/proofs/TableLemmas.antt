@@ -5,13 +5,16 @@ use Rattle.certificate_lines.proofs.Imports.{cell, cell_itself, cell_same, commo
 use Rattle.certificate_lines.proofs.Imports.{false, flat_map, get_or, get_or-set_same, get_or_default}
 use Rattle.certificate_lines.proofs.Imports.{get_or_from_slice_get, if◌then◌else◌, in_box, is_at, is_local}
 use Rattle.certificate_lines.proofs.Imports.{is_nonlocal_signal, length, length-replicate, length-set, list_all}
-use Rattle.certificate_lines.proofs.Imports.{list_any, list_any-append, map, nat_eq, not, number_at, option_map}
+use Rattle.certificate_lines.proofs.Imports.{list_any, list_any-append, map, nat_eq, not, nat_tests, number_at}
+use Rattle.certificate_lines.proofs.Imports.{option_map}
 use Rattle.certificate_lines.proofs.Imports.{or-false, port_at, pos, range_with_len, rectangle_cells, refl, replicate}
 use Rattle.certificate_lines.proofs.Imports.{row_cells, set, slice_get, slice_get-get_or, slice_get-map}
 use Rattle.certificate_lines.proofs.Imports.{slice_get_within, subst, suc, sym, take, take-suc, to_z, true, w32, whole}
 use Rattle.certificate_lines.proofs.Imports.{wire_of, zero, ℕ, ℤ, ◌&&◌, ◌*◌, ◌++◌, ◌+◌, ◌-◌, ◌<◌, ◌||◌, ◌∙◌, ◌∷◌, ◌≡◌}
 use Rattle.certificate_lines.proofs.Imports.{◌≤◌}
-use Rattle.lemmas.proofs.Common.{get_or-set_other, length-take-le, get_or-drop, mul-le-mul_right, same_truth}
+use Rattle.lemmas.proofs.Common.{and_or_self, and_zero_l, bit_and, bit_or, cases_Bool, get_or-drop}
+use Rattle.lemmas.proofs.Common.{get_or-set_other, length-take-le, mul-le-mul_right, or_comm, or_zero_l}
+use Rattle.lemmas.proofs.Common.{list_all-append, same_truth}
 use Rattle.bbm_rule.proofs.CellLists.{cast_cell, row_more, rows_found}
 use Rattle.certificate_lines.specs.PortTables.{AreInBox, entry_or_zero, number_with_port_in_front}
 use Rattle.certificate_lines.proofs.RowLemmas.{all_zero, entry_few, entry_own, filled, filled_less, filled_more}
@@ -194,6 +197,22 @@ within_take (x ∷ xs) (suc k) zero q e = (omega arith, e)
 within_take (x ∷ xs) (suc k) (suc i) q e = let r = within_take xs k i q e in (omega (arith, r.0), r.1)
 
 -- entries that are all zero
+-- two numbers join to 0 if and only if both are 0
+first_zero : (a b : ℕ) → nat_eq (bit_or a b) 0 ≡ true → a ≡ 0
+first_zero a b e =
+    sym (and_or_self a b)
+    ∙ ap (λ (n : ℕ). bit_and n a) (or_comm b a ∙ eqb-true (bit_or a b) 0 e)
+    ∙ and_zero_l a
+
+join_zero : (a b : ℕ) → nat_eq (bit_or a b) 0 ≡ (nat_eq a 0 && nat_eq b 0)
+join_zero a b = grind (arith, common_steps, cases_Bool, nat_tests, first_zero, or_zero_l)
+
+-- numbers that join to 0 are 0, and so with one more
+pub one_more_zero : (numbers : List ℕ) (i joined : ℕ) → i < length numbers →
+    nat_eq joined 0 ≡ list_all (λ m. nat_eq m 0) (take i numbers) →
+    nat_eq (bit_or joined (get_or numbers i 0)) 0 ≡ list_all (λ m. nat_eq m 0) (take (i + 1) numbers)
+one_more_zero numbers i joined lt so = grind (arith, common_steps, join_zero, take-suc, list_all-append)
+
 zero_at : (numbers : List ℕ) (n k : ℕ) → list_all (λ m. nat_eq m 0) (take n numbers) ≡ true → k < n →
     get_or numbers k 0 ≡ 0
 zero_at [] n zero all l = refl

@@ -202,7 +202,12 @@ pub fn port_tables<'a>(
 fn are_all_zero(numbers: &[u32]) -> bool
     ensures { result ≡ list_all (λ n. nat_eq n 0) numbers.now }
 {
-    numbers.iter().all(|number| *number == 0)
+    let mut joined = 0;
+    // Over all numbers, so that some are joined at once.
+    for number in numbers {
+        joined |= *number;
+    }
+    joined == 0
 }
 
 impl<'a> PortTable<'a> {

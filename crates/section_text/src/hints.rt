@@ -34,8 +34,8 @@ fn last_digits(name: &Name) -> usize {
     }
 }
 
-// As `last_digits`, for five bytes. Tables of both sizes agree on the slot's lower bits, so a table that grows keeps its
-// guesses.
+// As `last_digits`, for five bytes. Tables of both sizes agree on the slot's lower bits, so a table that grows keeps
+// its guesses.
 fn last_five_digits(name: &Name) -> usize {
     let fifth = match name.bytes() {
         [.., e, _, _, _, _] => *e as usize,
