@@ -1,12 +1,11 @@
 -- The result of reading a bundle, and the answer to it.
-use Rattle.lemmas.proofs.Common.{[], ◌++◌, ◌+◌, ◌∙◌, ◌∷◌, ◌≡◌, ◌≢◌, Err, List, None, Ok, Option, Result, Some, ap}
+use Rattle.lemmas.proofs.Common.{[], ◌++◌, ◌+◌, ◌∙◌, ◌∷◌, ◌≡◌, ◌≢◌, Err, List, None, Ok, Result, Some, ap}
 use Rattle.lemmas.proofs.Common.{append-nil, ap₂, drop, map, refl, subst, sym, ℕ}
 use Rattle.section_text.specs.Words.{lines_of, bytes_after_last_line_feed}
 use Rattle.section_text.specs.declared.limits.Limits.{Limits}
 use Rattle.section_text.specs.Limits.{front_lines}
 use Rattle.section_text.specs.Feeds.{FeedView, ahead}
 use Rattle.section_text.specs.Faults.{refusal}
-use Rattle.section_text.specs.Ports.{PortNameLists}
 use Rattle.section_text.specs.Section.{Reads, FailsAsReading}
 use Rattle.section_text.specs.Sections.{section_then, value_if_at_end}
 use Rattle.section_text.specs.declared.fault.Refusal.{Refusal}
@@ -29,7 +28,7 @@ use Rattle.certificate.specs.Grammars.{CertView, certificate_grammar, certificat
 use Rattle.certificate_lines.specs.Settings.{setting_of}
 use Rattle.certificate_lines.specs.declared.certificate_line.CertificateLine.{CertificateLine}
 use Rattle.answers.specs.Answers.{AnswersOrRefuses}
-use Rattle.answers.specs.BundleReading.{TellsRefusal, bundle_of_certificate}
+use Rattle.answers.specs.BundleReading.{IsDesignRead, TellsRefusal, bundle_of_certificate}
 use Rattle.core_book.specs.Concluding.{port_names_of}
 use Rattle.pattern.specs.FromLines.{layout_of}
 use Rattle.answers.specs.BundleText.{Bundle, bundle_with}
@@ -126,95 +125,94 @@ module _ (l : Limits) (f0 f1 : FeedView) (unread : f0.taken ≡ front_lines l) (
     text_1 : f1.text ≡ f0.text
     text_1 = same_text (circuit_grammar l) circuit_section f0 f1 going (after_circuit l f0.text) circuit read
 
-    module _ (named : Option PortNameLists) (f2 : FeedView) (are : named ≡ Some (port_names_of circuit)) where
-      pub layout_failed : (fault : ReadFault) →
-          Reads {A = Pattern} (layout_grammar l named) layout_section f1 f2 (Err fault) →
-          FailsAsReading fault (bundle_with l f0.text)
-      unfolding after_circuit
-      layout_failed fault reads =
-          let here : Reads {A = Pattern} (layout_grammar l (Some (port_names_of circuit))) layout_section f1 f2
-          (Err fault) = subst (λ n. Reads {A = Pattern} (layout_grammar l n) layout_section f1 f2 (Err fault)) are
-          reads in
-          fails_along fault (bundle_with l f0.text) _ circuit_read
-          (section_failed (layout_grammar l (Some (port_names_of circuit))) layout_section f1 f2 going_1
-          (after_layout l f0.text circuit) fault here)
+    pub layout_failed : (f2 : FeedView) (fault : ReadFault) →
+        Reads {A = Pattern} (layout_grammar l (Some (port_names_of circuit))) layout_section f1 f2 (Err fault) →
+        FailsAsReading fault (bundle_with l f0.text)
+    unfolding after_circuit
+    layout_failed f2 fault reads =
+        fails_along fault (bundle_with l f0.text) _ circuit_read
+        (section_failed (layout_grammar l (Some (port_names_of circuit))) layout_section f1 f2 going_1
+        (after_layout l f0.text circuit) fault reads)
 
-      module _ (layout : Pattern) (read_2 : Reads (layout_grammar l named) layout_section f1 f2 (Ok layout)) where
-        here : Reads (layout_grammar l (Some (port_names_of circuit))) layout_section f1 f2 (Ok layout)
-        here = subst (λ n. Reads (layout_grammar l n) layout_section f1 f2 (Ok layout)) are read_2
+-- ---- what follows a circuit and a layout that were read
 
-        layout_read : bundle_with l f0.text
-            ≡ after_layout l f0.text circuit layout.size (parts_of layout) f2.taken (ahead f2)
-        unfolding after_circuit
-        layout_read = circuit_read ∙ section_read
-            (layout_grammar l (Some (port_names_of circuit))) layout_section f1 f2 going_1
-            (after_layout l f0.text circuit) layout here
+module _ (l : Limits) (f0 f2 : FeedView) (unread : f0.taken ≡ front_lines l) (going : f0.stop ≡ None)
+    (circuit : List CircuitLine) (layout : Pattern) (design : IsDesignRead l f0 f2 circuit layout) where
+  layout_read : bundle_with l f0.text ≡ after_layout l f0.text circuit layout.size (parts_of layout) f2.taken (ahead f2)
+  unfolding after_circuit
+  layout_read = circuit_read l f0 design.between unread going circuit design.circuit_read ∙ section_read
+      (layout_grammar l (Some (port_names_of circuit))) layout_section design.between f2
+      (going_1 l f0 design.between unread going circuit design.circuit_read)
+      (after_layout l f0.text circuit) layout design.layout_read
 
-        going_2 : f2.stop ≡ None
-        going_2 = still_going (layout_grammar l (Some (port_names_of circuit))) layout_section f1 f2 going_1
-            (after_layout l f0.text circuit) layout here
+  going_2 : f2.stop ≡ None
+  going_2 = still_going (layout_grammar l (Some (port_names_of circuit))) layout_section design.between f2
+      (going_1 l f0 design.between unread going circuit design.circuit_read)
+      (after_layout l f0.text circuit) layout design.layout_read
 
-        text_2 : f2.text ≡ f0.text
-        text_2 = same_text (layout_grammar l (Some (port_names_of circuit))) layout_section f1 f2 going_1
-            (after_layout l f0.text circuit) layout here ∙ text_1
+  text_2 : f2.text ≡ f0.text
+  text_2 = same_text (layout_grammar l (Some (port_names_of circuit))) layout_section design.between f2
+      (going_1 l f0 design.between unread going circuit design.circuit_read)
+      (after_layout l f0.text circuit) layout design.layout_read
+      ∙ text_1 l f0 design.between unread going circuit design.circuit_read
 
-        setting : Setting
-        setting = setting_of circuit (layout_of layout.size (parts_of layout))
+  setting : Setting
+  setting = setting_of circuit (layout_of layout.size (parts_of layout))
 
-        module _ (f3 : FeedView) where
-          pub certificate_failed : (fault : ReadFault) →
-              Reads {A = CertView} (certificate_grammar l (setting_of circuit layout)) certificate_section f2 f3
-              (Err fault) → FailsAsReading fault (bundle_with l f0.text)
-          unfolding after_layout setting
-          certificate_failed fault reads =
-              let right : Reads {A = CertView} (certificate_grammar l setting) certificate_section f2 f3 (Err fault) =
-              subst (λ g. Reads {A = CertView} (certificate_grammar l g) certificate_section f2 f3 (Err fault))
-              (sym (same_setting circuit layout)) reads in
-              fails_along fault (bundle_with l f0.text) _ layout_read
-              (section_failed (certificate_grammar l setting) certificate_section f2 f3 going_2
-              (ended l f0.text circuit layout.size (parts_of layout)) fault right)
+  module _ (f3 : FeedView) where
+    pub certificate_failed : (fault : ReadFault) →
+        Reads {A = CertView} (certificate_grammar l (setting_of circuit layout)) certificate_section f2 f3
+        (Err fault) → FailsAsReading fault (bundle_with l f0.text)
+    unfolding after_layout setting
+    certificate_failed fault reads =
+        let right : Reads {A = CertView} (certificate_grammar l setting) certificate_section f2 f3 (Err fault) =
+        subst (λ g. Reads {A = CertView} (certificate_grammar l g) certificate_section f2 f3 (Err fault))
+        (sym (same_setting circuit layout)) reads in
+        fails_along fault (bundle_with l f0.text) _ layout_read
+        (section_failed (certificate_grammar l setting) certificate_section f2 f3 going_2
+        (ended l f0.text circuit layout.size (parts_of layout)) fault right)
 
-          module _ (cert : CertView) (read_3 : Reads
-              (certificate_grammar l (setting_of circuit layout)) certificate_section f2 f3 (Ok cert)) where
-            right : Reads (certificate_grammar l setting) certificate_section f2 f3 (Ok cert)
-            unfolding setting
-            right = subst (λ g. Reads (certificate_grammar l g) certificate_section f2 f3 (Ok cert))
-                (sym (same_setting circuit layout)) read_3
+    module _ (cert : CertView) (read_3 : Reads
+        (certificate_grammar l (setting_of circuit layout)) certificate_section f2 f3 (Ok cert)) where
+      right : Reads (certificate_grammar l setting) certificate_section f2 f3 (Ok cert)
+      unfolding setting
+      right = subst (λ g. Reads (certificate_grammar l g) certificate_section f2 f3 (Ok cert))
+          (sym (same_setting circuit layout)) read_3
 
-            certificate_read : bundle_with l f0.text
-                ≡ ended l f0.text circuit layout.size (parts_of layout) cert.version cert.entries f3.taken (ahead f3)
-            unfolding after_layout setting
-            certificate_read = layout_read
-                ∙ section_read (certificate_grammar l setting) certificate_section f2 f3 going_2
-                (ended l f0.text circuit layout.size (parts_of layout)) cert right
+      certificate_read : bundle_with l f0.text
+          ≡ ended l f0.text circuit layout.size (parts_of layout) cert.version cert.entries f3.taken (ahead f3)
+      unfolding after_layout setting
+      certificate_read = layout_read
+          ∙ section_read (certificate_grammar l setting) certificate_section f2 f3 going_2
+          (ended l f0.text circuit layout.size (parts_of layout)) cert right
 
-            pub going_3 : f3.stop ≡ None
-            going_3 = still_going (certificate_grammar l setting) certificate_section f2 f3 going_2
-                (ended l f0.text circuit layout.size (parts_of layout)) cert right
+      pub going_3 : f3.stop ≡ None
+      going_3 = still_going (certificate_grammar l setting) certificate_section f2 f3 going_2
+          (ended l f0.text circuit layout.size (parts_of layout)) cert right
 
-            text_3 : f3.text ≡ f0.text
-            text_3 = same_text (certificate_grammar l setting) certificate_section f2 f3 going_2
-                (ended l f0.text circuit layout.size (parts_of layout)) cert right ∙ text_2
+      text_3 : f3.text ≡ f0.text
+      text_3 = same_text (certificate_grammar l setting) certificate_section f2 f3 going_2
+          (ended l f0.text circuit layout.size (parts_of layout)) cert right ∙ text_2
 
-            pub bundle_read : cert.circuit ≡ circuit → cert.layout ≡ layout → ahead f3 ≡ [] →
-                bytes_after_last_line_feed f3.text ≡ [] →
-                bundle_with l f0.text ≡ Ok (bundle_of_certificate cert)
-            unfolding ended whole
-            bundle_read same_circuit same_layout none over =
-                certificate_read ∙ at_the_end f3.taken (ahead f3) (bytes_after_last_line_feed f0.text)
-                (whole l f0.text circuit layout.size (parts_of layout) cert.version cert.entries) none
-                (ap bytes_after_last_line_feed (sym text_3) ∙ over)
-                ∙ ap₂ (λ cs p. Ok (whole l f0.text cs p.size (parts_of p) cert.version cert.entries)) (sym same_circuit)
-                (sym same_layout)
+      pub bundle_read : cert.circuit ≡ circuit → cert.layout ≡ layout → ahead f3 ≡ [] →
+          bytes_after_last_line_feed f3.text ≡ [] →
+          bundle_with l f0.text ≡ Ok (bundle_of_certificate cert)
+      unfolding ended whole
+      bundle_read same_circuit same_layout none over =
+          certificate_read ∙ at_the_end f3.taken (ahead f3) (bytes_after_last_line_feed f0.text)
+          (whole l f0.text circuit layout.size (parts_of layout) cert.version cert.entries) none
+          (ap bytes_after_last_line_feed (sym text_3) ∙ over)
+          ∙ ap₂ (λ cs p. Ok (whole l f0.text cs p.size (parts_of p) cert.version cert.entries)) (sym same_circuit)
+          (sym same_layout)
 
-            pub bundle_goes_on : (fault : ReadFault) → (ahead f3 ≡ [] → bytes_after_last_line_feed f3.text ≢ []) →
-                fault ≡ refusal (f3.taken + 1) TextCut → FailsAsReading fault (bundle_with l f0.text)
-            unfolding ended
-            bundle_goes_on fault more is =
-                fails_along fault (bundle_with l f0.text) _ certificate_read
-                (more_fails f3.taken (ahead f3) (bytes_after_last_line_feed f0.text)
-                (whole l f0.text circuit layout.size (parts_of layout) cert.version cert.entries) fault
-                (λ none over. more none (ap bytes_after_last_line_feed text_3 ∙ over)) is)
+      pub bundle_goes_on : (fault : ReadFault) → (ahead f3 ≡ [] → bytes_after_last_line_feed f3.text ≢ []) →
+          fault ≡ refusal (f3.taken + 1) TextCut → FailsAsReading fault (bundle_with l f0.text)
+      unfolding ended
+      bundle_goes_on fault more is =
+          fails_along fault (bundle_with l f0.text) _ certificate_read
+          (more_fails f3.taken (ahead f3) (bytes_after_last_line_feed f0.text)
+          (whole l f0.text circuit layout.size (parts_of layout) cert.version cert.entries) fault
+          (λ none over. more none (ap bytes_after_last_line_feed text_3 ∙ over)) is)
 
 -- ---- answers
 

@@ -4,7 +4,6 @@ use Rattle.lemmas.proofs.Common.{drop, drop-append_seam, flat_map, flat_map-appe
 use Rattle.lemmas.proofs.Common.{sym, take, take-add, take-append_seam, ℕ}
 use Rattle.section_text.specs.Feeds.{FeedView, ahead}
 use Rattle.section_text.specs.Limits.{front_lines, limits_of}
-use Rattle.section_text.specs.Ports.{PortNameLists}
 use Rattle.section_text.specs.SaidSection.{IsSection}
 use Rattle.section_text.specs.Section.{Grammar, Reads, ReadsSection, with_line_feed}
 use Rattle.section_text.specs.Words.{lines_of}
@@ -25,7 +24,9 @@ use Rattle.meaning.proofs.Fronts.{front_spelled}
 use Rattle.certificate_lines.specs.Entries.{Setting}
 use Rattle.certificate_lines.specs.Forms.{form_of}
 use Rattle.certificate.specs.Grammars.{CertView, certificate_grammar, certificate_section}
+use Rattle.answers.specs.BundleReading.{IsDesignRead}
 use Rattle.answers.specs.MigrateText.{layout_section_text}
+use Rattle.core_book.specs.Concluding.{port_names_of}
 
 -- the bytes of the lines that were taken
 abbrev pub bytes_taken : FeedView → List ℕ
@@ -61,28 +62,30 @@ section_bytes before after text e =
     )
 
 -- a circuit and a layout that were read from the lines behind those of the limits
-module _ (l : Limits) (f0 f1 f2 : FeedView) (circuit : List CircuitLine) (layout : Pattern)
-    (named : Option PortNameLists) (own : l ≡ limits_of (lines_of f0.text)) (unread : f0.taken ≡ front_lines l)
-    (reads_1 : Reads (circuit_grammar l) circuit_section f0 f1 (Ok circuit))
-    (reads_2 : Reads (layout_grammar l named) layout_section f1 f2 (Ok layout)) where
+module _ (l : Limits) (f0 f2 : FeedView) (circuit : List CircuitLine) (layout : Pattern)
+    (own : l ≡ limits_of (lines_of f0.text)) (unread : f0.taken ≡ front_lines l)
+    (design : IsDesignRead l f0 f2 circuit layout) where
   front : bytes_taken f0 ≡ front_text l
   front =
       ap (λ (n : ℕ). flat_map with_line_feed (take n (lines_of f0.text))) (unread ∙ ap front_lines own)
       ∙ front_spelled (lines_of f0.text) ∙ ap front_text (sym own)
 
-  circuit_bytes : bytes_taken f1 ≡ front_text l ++ circuit_text circuit
+  circuit_bytes : bytes_taken design.between ≡ front_text l ++ circuit_text circuit
   circuit_bytes =
-      more_taken (circuit_grammar l) circuit_section f0 f1 circuit reads_1
+      more_taken (circuit_grammar l) circuit_section f0 design.between circuit design.circuit_read
       ∙ ap₂ (λ a b. a ++ b) front (circuit_printed l f0.taken (ahead f0) circuit
-      (read (circuit_grammar l) circuit_section f0 f1 circuit reads_1).gives)
+      (read (circuit_grammar l) circuit_section f0 design.between circuit design.circuit_read).gives)
 
   pub design_bytes : bytes_taken f2 ≡ front_text l
       ++ (circuit_text circuit ++ layout_section_text layout.size (parts_of layout))
   unfolding layout_text layout_section_text
   design_bytes =
-      more_taken (layout_grammar l named) layout_section f1 f2 layout reads_2
-      ∙ ap₂ (λ a b. a ++ b) circuit_bytes (layout_printed l named f1.taken (ahead f1) layout
-      (read (layout_grammar l named) layout_section f1 f2 layout reads_2).gives)
+      more_taken (layout_grammar l (Some (port_names_of circuit))) layout_section design.between f2 layout
+      design.layout_read
+      ∙ ap₂ (λ a b. a ++ b) circuit_bytes
+      (layout_printed l (Some (port_names_of circuit)) design.between.taken (ahead design.between) layout
+      (read (layout_grammar l (Some (port_names_of circuit))) layout_section design.between f2 layout
+      design.layout_read).gives)
       ∙ append_assoc (front_text l) (circuit_text circuit) (layout_text layout)
 
 module _ (l : Limits) (g : Setting) (old new : FeedView) (c : CertView)

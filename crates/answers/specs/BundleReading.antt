@@ -1,6 +1,13 @@
 -- The results of reading a bundle.
-use Rattle.std.specs.Prelude.{◌≡◌, ℕ, List}
-use Rattle.pattern.specs.Layout.{parts_of}
+use Rattle.std.specs.Prelude.{◌≡◌, ℕ, List, Some, Ok}
+use Rattle.circuit.specs.Grammars.{circuit_grammar, circuit_section}
+use Rattle.circuit.specs.declared.circuit_line.CircuitLine.{CircuitLine}
+use Rattle.core_book.specs.Concluding.{port_names_of}
+use Rattle.pattern.specs.Grammars.{layout_grammar, layout_section}
+use Rattle.pattern.specs.Layout.{Pattern, parts_of}
+use Rattle.section_text.specs.Feeds.{FeedView}
+use Rattle.section_text.specs.Section.{Reads}
+use Rattle.section_text.specs.declared.limits.Limits.{Limits}
 use Rattle.section_text.specs.declared.fault.ReadFault.{ReadFault}
 use Rattle.section_text.specs.declared.fault.ReadFault.TheVariants as read
 use Rattle.section_text.specs.declared.fault.Refusal.{Refusal}
@@ -27,3 +34,10 @@ pub record TellsRefusal (fault : ReadFault) (output : List ℕ) (outcome : Outco
   pub refused : fault ≡ read.Refused refusal
   pub says : output ≡ refusal_line refusal
   pub ends : outcome ≡ ended.Refused
+
+-- With these limits a circuit was read from a feed, and then a layout with the circuit's port names, up to where the
+-- feed is at last.
+pub record IsDesignRead (l : Limits) (old new : FeedView) (circuit : List CircuitLine) (layout : Pattern) : Type 0 where
+  pub between : FeedView
+  pub circuit_read : Reads (circuit_grammar l) circuit_section old between (Ok circuit)
+  pub layout_read : Reads (layout_grammar l (Some (port_names_of circuit))) layout_section between new (Ok layout)

@@ -8,13 +8,11 @@ ghost use Rattle.answers.specs.MigrateText.{IsMigrationOf};
 ghost use Rattle.answers.specs.ModulesText.{IsModulesOf};
 ghost use Rattle.answers.specs.Questions.{AnswersQuestion};
 
+use crate::design::read_design;
 use crate::migration::migrate;
 use crate::modules::list_modules;
 use crate::outcome::Answered;
 use crate::refusing::refusal_answer;
-use certificate::read_certificate_within;
-use circuit::{port_names, read_circuit_within};
-use pattern::read_layout_within;
 use section_text::{Feed, Limits};
 use std::alloc::{AllocError, Global};
 
@@ -83,20 +81,12 @@ fn answer_after_front(
     ensures { IfOk result (λ answered. AnsweredAs (AnswersQuestion limits question)
         (bundle_with limits text.old.text) answered.output.items answered.outcome) }
 {
-    let circuit = match read_circuit_within(alloc, text, limits) {
+    let design = match read_design(alloc, text, limits) {
         Err(fault) => return refusal_answer(alloc, fault),
-        Ok(circuit) => circuit,
-    };
-    let ports = match port_names(alloc, &circuit) {
-        Err(error) => return Err(error),
-        Ok(ports) => ports,
-    };
-    let layout = match read_layout_within(alloc, text, limits, &ports) {
-        Err(fault) => return refusal_answer(alloc, fault),
-        Ok(layout) => layout,
+        Ok(design) => design,
     };
     let from = text.taken_text().len();
-    let cert = match read_certificate_within(alloc, text, limits, &circuit, &layout) {
+    let cert = match design.read_certificate(alloc, text, limits) {
         Err(fault) => return refusal_answer(alloc, fault),
         Ok(cert) => cert,
     };
@@ -108,7 +98,7 @@ fn answer_after_front(
         Question::Migration => {
             // So that the output can use their memory.
             drop(cert);
-            drop(layout);
+            drop(design);
             migrate(alloc, text.taken_text(), from)
         }
     }

@@ -3,6 +3,7 @@
 
 mod asking;
 mod bundle;
+mod design;
 mod migration;
 mod modules;
 mod outcome;
@@ -11,6 +12,7 @@ mod run;
 mod value;
 
 pub use bundle::{migrate_text, modules_text};
+pub use design::{Design, read_design};
 pub use outcome::{Answered, Outcome};
 pub use refusing::refusal_answer;
 pub use run::run_text;

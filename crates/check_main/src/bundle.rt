@@ -13,13 +13,11 @@ ghost use Rattle.headline.specs.RightInFull.{IsRightInFull};
 ghost use Rattle.headline.specs.SmallDesigns.{IsNoSmallDesignText};
 
 use crate::check::report_on;
-use crate::digesting::{Design, read_with_digest};
+use crate::digesting::read_with_digest;
 use crate::preparing::prepare;
-use answers::{Answered, Outcome, refusal_answer};
+use answers::{Answered, Outcome, read_design, refusal_answer};
 use certificate::laws::text_round_trips;
-use circuit::{port_names, read_circuit_within};
 use job_pool::Gate;
-use pattern::read_layout_within;
 use section_text::{Feed, Limits};
 use std::alloc::{AllocError, Global};
 use std::sync::Wait;
@@ -124,22 +122,12 @@ fn report_after_front<G: Gate + Sync, R: Threads + Wait + Sync>(
         (bundle_with limits feed.text) answered.output.items answered.outcome) }
 {
     let mut feed = feed;
-    let circuit = match read_circuit_within(alloc, &mut feed, limits) {
+    let design = match read_design(alloc, &mut feed, limits) {
         Err(fault) => return refusal_answer(alloc, fault),
-        Ok(circuit) => circuit,
-    };
-    let ports = port_names(alloc, &circuit)?;
-    let layout = match read_layout_within(alloc, &mut feed, limits, &ports) {
-        Err(fault) => return refusal_answer(alloc, fault),
-        Ok(layout) => layout,
+        Ok(design) => design,
     };
     let from = feed.taken_text().len();
-    let design = Design {
-        limits,
-        circuit: &circuit,
-        layout: &layout,
-    };
-    let (digest, read) = read_with_digest(rt, alloc, &mut feed, &design, workers);
+    let (digest, read) = read_with_digest(rt, alloc, &mut feed, limits, &design, workers);
     let cert = match read {
         Err(fault) => return refusal_answer(alloc, fault),
         Ok(cert) => cert,

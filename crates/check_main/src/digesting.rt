@@ -6,9 +6,8 @@ ghost use Rattle.certificate.specs.Grammars.{certificate_grammar, certificate_se
 ghost use Rattle.certificate_lines.specs.Settings.{setting_of};
 ghost use Rattle.check_main.specs.Preparing.{IsRest};
 
-use certificate::{Cert, read_certificate_within};
-use circuit::Circuit;
-use pattern::Layout;
+use answers::Design;
+use certificate::Cert;
 use section_text::{Feed, Limits, ReadFault};
 use sha2::{Digest, Sha256};
 use std::alloc::Global;
@@ -32,28 +31,6 @@ fn copy_of_rest(alloc: Global, feed: &Feed, workers: usize) -> Option<Vec<u8>>
     }
 }
 
-/// The circuit and the layout that a certificate is for, and the limits of their text.
-#[derive(Drop)]
-pub(crate) struct Design<'a> {
-    pub(crate) limits: Limits,
-    pub(crate) circuit: &'a Circuit,
-    pub(crate) layout: &'a Layout,
-}
-
-impl<'a> Design<'a> {
-    // Reads a certificate for it.
-    fn read_certificate(&self, alloc: Global, feed: &mut Feed) -> Result<Cert<'a>, ReadFault>
-        requires { feed.old.closed ≡ true }
-        ensures reads { Reads (certificate_grammar self.now.limits
-            (setting_of self.now.circuit.now self.now.layout.now)) certificate_section feed.old
-            feed.new result }
-        ensures circuit { IfOk result (λ cert. cert.circuit ≡ self.now.circuit.now) }
-        ensures layout { IfOk result (λ cert. cert.layout ≡ self.now.layout.now) }
-    {
-        read_certificate_within(alloc, feed, self.limits, self.circuit, self.layout)
-    }
-}
-
 /// Reads a certificate. If there are several workers, a thread takes the digest of the rest of the text meanwhile.
 ///
 /// The thread has a copy of that text. If the text is short, or there is no memory for the copy, no digest is taken.
@@ -61,22 +38,23 @@ pub(crate) fn read_with_digest<'a, R: Threads>(
     rt: &R,
     alloc: Global,
     feed: &mut Feed,
-    design: &Design<'a>,
+    limits: Limits,
+    design: &'a Design,
     workers: usize,
 ) -> (Option<[u8; 32]>, Result<Cert<'a>, ReadFault>)
     requires { feed.old.closed ≡ true }
     ensures digest { IfSome result.0 (λ digest. (rest : List ℕ) → IsRest feed.old rest →
         digest ≡ sha256 rest) }
-    ensures reads { Reads (certificate_grammar design.now.limits
-        (setting_of design.now.circuit.now design.now.layout.now)) certificate_section feed.old
+    ensures reads { Reads (certificate_grammar limits
+        (setting_of design.now.circuit design.now.layout)) certificate_section feed.old
         feed.new result.1 }
-    ensures circuit { IfOk result.1 (λ cert. cert.circuit ≡ design.now.circuit.now) }
-    ensures layout { IfOk result.1 (λ cert. cert.layout ≡ design.now.layout.now) }
+    ensures circuit { IfOk result.1 (λ cert. cert.circuit ≡ design.now.circuit) }
+    ensures layout { IfOk result.1 (λ cert. cert.layout ≡ design.now.layout) }
 {
     let Some(copy) = copy_of_rest(alloc, feed, workers) else {
-        return (None, design.read_certificate(alloc, feed));
+        return (None, design.read_certificate(alloc, feed, limits));
     };
-    let (digest, read) = read_beside_digest(rt, alloc, feed, design, &copy);
+    let (digest, read) = read_beside_digest(rt, alloc, feed, limits, design, &copy);
     (Some(digest), read)
 }
 
@@ -85,22 +63,23 @@ fn read_beside_digest<'a, R: Threads>(
     rt: &R,
     alloc: Global,
     feed: &mut Feed,
-    design: &Design<'a>,
+    limits: Limits,
+    design: &'a Design,
     bytes: &[u8],
 ) -> ([u8; 32], Result<Cert<'a>, ReadFault>)
     requires { feed.old.closed ≡ true }
     ensures digest { result.0 ≡ sha256 bytes.now }
-    ensures reads { Reads (certificate_grammar design.now.limits
-        (setting_of design.now.circuit.now design.now.layout.now)) certificate_section feed.old
+    ensures reads { Reads (certificate_grammar limits
+        (setting_of design.now.circuit design.now.layout)) certificate_section feed.old
         feed.new result.1 }
-    ensures circuit { IfOk result.1 (λ cert. cert.circuit ≡ design.now.circuit.now) }
-    ensures layout { IfOk result.1 (λ cert. cert.layout ≡ design.now.layout.now) }
+    ensures circuit { IfOk result.1 (λ cert. cert.circuit ≡ design.now.circuit) }
+    ensures layout { IfOk result.1 (λ cert. cert.layout ≡ design.now.layout) }
 {
     join_mut(
         rt,
         &mut || -> [u8; 32]
             ensures { result ≡ sha256 bytes.entry.now }
         { Sha256::digest(bytes) },
-        &mut || design.read_certificate(alloc, feed),
+        &mut || design.read_certificate(alloc, feed, limits),
     )
 }
