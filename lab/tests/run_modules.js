@@ -6,6 +6,7 @@ import { Cells, Grid, mirrorsOf, startKeys, trail as movesBefore, WholeRun } fro
 import { placeNames } from "../bbmlab_core/view/labels.js";
 import * as painting from "../bbmlab_core/view/painting.js";
 import { Player } from "../bbmlab_core/view/player.js";
+import { paintSquares } from "../bbmlab_core/view/squares.js";
 import { SvgPen } from "../bbmlab_core/view/svg_pen.js";
 import { Buckets, Tiles, visitModules } from "../bbmlab_core/view/tiles.js";
 import * as waveform from "../bbmlab_core/view/waveform.js";
@@ -106,6 +107,18 @@ function tiles(size, place, milliseconds) {
     first, firstCopies, drawn: drawn.length, frames };
 }
 
+/** Returns the words of the pixels of a canvas on which squares were drawn, by rows: opacity, blue, green, red. */
+function squares({ width, height, ...place }, cells, look) {
+  const words = [], pen = () => ({ save() {}, restore() {}, setTransform() {}, drawImage() {},
+    canvas: { width, height }, getTransform: () => ({ a: 1 }),
+    createImageData: () => ({ data: new Uint8ClampedArray(4 * width * height) }),
+    putImageData: ({ data }) => { words.push(...new Uint32Array(data.buffer)); } });
+  globalThis.document = { createElement: () => ({ getContext: pen }) };
+  paintSquares({ ...place, pen: pen() }, cells, "#123456", look);
+  return [...Array(height).keys()].map((row) => words.slice(row * width, (row + 1) * width)
+    .map((word) => word.toString(16).padStart(8, "0")));
+}
+
 /** Returns for each time the lines that speak of it, and whether edge and halo lines are filed then. */
 function linesAt(data, times) {
   const player = new Player(data);
@@ -126,7 +139,7 @@ const modulesAt = (modules, cells) => cells.map(([x, y]) => {
   return found;
 });
 
-const functions = { different, filed, linesAt, modulesAt,
+const functions = { different, filed, linesAt, modulesAt, squares,
   wireAt, tiles, trail, waves, scene, results, read, write, places };
 const jobs = JSON.parse(fs.readFileSync(0, "utf8"));
 console.log(JSON.stringify(jobs.map(([name, ...words]) => functions[name](...words))));

@@ -48,8 +48,8 @@ def data_of(document: Document) -> dict[str, Any]:
 def many_outputs(count: int, wrong: list[int]) -> Document:
     """Returns a circuit and a layout of one step with wires that go from inputs to outputs, of which some have their
     output beside the ball."""
-    lines = ["circuit", *(f"input w{index}" for index in range(count)), *(f"output w{index}" for index in range(count)),
-             "end",
+    lines = ["limits 2", "circuit", *(f"input w{index}" for index in range(count)),
+             *(f"output w{index}" for index in range(count)), "end",
              f"layout {4 * count + 4} 8 1"]
     lines += [f"in w{index} {4 * index + 2} 2" for index in range(count)]
     lines += [f"out w{index} {4 * index + 3} {4 if index in wrong else 3}" for index in range(count)]
@@ -273,6 +273,34 @@ class Large(unittest.TestCase):
         self.assertEqual(crossing,
                          ["y: made by switch 0, level 1; flies from time 0 to 190", [2], [10, 10, 191, 191], 1])
         self.assertIsNone(far)
+
+    def test_squares_add_their_part_of_each_pixel(self) -> None:
+        """Many squares are drawn into pixels: each pixel is as opaque as the part of it that they cover, in their
+        colour. What is outside is left out."""
+        place = {"width": 5, "height": 3, "left": 0.5, "top": 0.5, "scale": 1}
+        rows = node([["squares", place, [1, 1, 5, 2, -3, 0], {"side": 1}],
+                     ["squares", place | {"width": 4}, [1, 1], {"side": 1.5, "isWhole": True}]])
+        parts = [[[int(word[:2], 16) for word in row] for row in found] for found in rows]
+        self.assertEqual(parts, [[[64, 64, 0, 0, 0], [64, 64, 0, 0, 64], [0, 0, 0, 0, 64]],
+                                 [[255, 128, 0, 0], [128, 64, 0, 0], [0, 0, 0, 0]]])
+        self.assertEqual({word[2:] for row in rows[0] for word in row}, {"563412"})
+
+    def test_names_of_many_ports(self) -> None:
+        """A layout of more ports than are placed at once shows the names of all that are seen, where they are however
+        the picture is moved, and each once."""
+        data, scale = data_of(many_outputs(300, [])), 24
+        shown = []
+        for left in (500, 510):
+            root = ET.fromstring(node([["scene", data, [], 0, {"scale": scale, "left": left, "top": 0,
+                                                               "pointed": None}]])[0])
+            shown.append({part.text: float(part.get("x")) + left * scale for part in root.iter(f"{SVG}text")
+                          if "→" in (part.text or "")})
+            names = [f"→w{index}" for index in range(300) if left <= 4 * index + 2 < left + 900 / scale - 1]
+            self.assertEqual([name for name in names if name not in shown[-1]], [])
+        both = shown[0].keys() & shown[1].keys()
+        self.assertGreater(len(both), 10)
+        for name in both:
+            self.assertAlmostEqual(shown[0][name], shown[1][name], delta=0.1)
 
     def test_tiles_take_their_time(self) -> None:
         """A first frame makes what there is time for, and shows the coarsest tile where the others are missing; later

@@ -6,7 +6,8 @@
  * pixels for a cell
  */
 import { placeNames } from "./labels.js";
-import { Buckets, visitModules } from "./tiles.js";
+import { isMany, paintSquares } from "./squares.js";
+import { Buckets, squaresOf, visitModules, visitPorts, widestModule } from "./tiles.js";
 
 const INKS = ["ink", "soft", "paper", "plane", "grid", "border", "mirror", "ball", "box", "good", "bad", "edge", "halo",
   "stop", "wave"];
@@ -14,7 +15,7 @@ const MARKS = { edge: "E", halo: "H", stop: "S" };
 const RULER = { wide: 32, high: 18 }, WIRE_INKS = 8;
 // Below this scale tiles show what is still. Where modules are more than a few, borders that are closer, or more, hide
 // what is in them.
-const TILE_SCALE = 4, CLOSE_BORDERS = 20, FEW_MODULES = 64, MANY_BORDERS = 3000, MAX_MODULE_SIDE = 64;
+const TILE_SCALE = 4, CLOSE_BORDERS = 20, FEW_MODULES = 64, MANY_BORDERS = 3000;
 // Below this scale no lines of modules are drawn.
 const LINES_SCALE = 4;
 // A mirror so many cells from all ports does not matter for the places of their names.
@@ -71,18 +72,36 @@ function outline(place, [x, y, w, h], ink, dash, inset, width) {
   pen.setLineDash([]);
 }
 
-/** Strokes the lines between the blocks of the next step. */
+/** Strokes the outlines of cells, x, y, x, y…, of which each can be seen. */
+function outlines(place, found, ink, dash, inset, width) {
+  const { pen, scale } = place, side = Math.max(1, scale - 2 * inset);
+  if (scale < 1 && isMany(pen, found.length / 2)) {
+    // A pen draws a thin outline about one pixel as a dot that begins at a whole pixel.
+    paintSquares(place, found, ink, width < 1 ? { side: 1 + width, isWhole: true }
+      : { side: 1 + width, shift: -width / 2 });
+    return;
+  }
+  pen.strokeStyle = ink;
+  pen.lineWidth = width;
+  pen.setLineDash(dash);
+  for (let index = 0; index < found.length; index += 2) pen.strokeRect(px(place, found[index]) + inset,
+      py(place, found[index + 1]) + inset, side, side);
+  pen.setLineDash([]);
+}
+
+/** Strokes the lines between the blocks of the next step that can be seen. */
 function grid(place, [x, y, w, h], odd) {
   if (place.scale < 5) return;
-  const { pen } = place;
+  const { pen, left, top, wide, high, scale } = place;
+  const first = (start, seen) => start + odd + 2 * Math.max(0, Math.floor((seen - start - odd) / 2));
   pen.strokeStyle = place.inks.grid;
   pen.lineWidth = 1;
   pen.beginPath();
-  for (let u = x + odd; u <= x + w; u += 2) {
+  for (let u = first(x, left); u <= Math.min(x + w, left + wide / scale + 1); u += 2) {
     pen.moveTo(px(place, u), py(place, y));
     pen.lineTo(px(place, u), py(place, y + h));
   }
-  for (let v = y + odd; v <= y + h; v += 2) {
+  for (let v = first(y, top); v <= Math.min(y + h, top + high / scale + 1); v += 2) {
     pen.moveTo(px(place, x), py(place, v));
     pen.lineTo(px(place, x + w), py(place, v));
   }
@@ -163,13 +182,16 @@ function cells(place, live, mirrors) {
 
 /** Draws balls, given as x, y, x, y… */
 function discs(place, balls) {
-  const { pen, scale } = place, radius = scale * 0.36;
+  const { pen, scale } = place, radius = scale * 0.36, side = Math.max(scale < 1 ? 2.5 : 1.5, scale);
+  if (scale < 3 && isMany(pen, balls.length / 2)) {
+    paintSquares(place, balls, place.inks.ball, { side });
+    return;
+  }
   pen.fillStyle = place.inks.ball;
   pen.beginPath();
   for (let index = 0; index < balls.length; index += 2) {
     const x = px(place, balls[index]), y = py(place, balls[index + 1]);
     if (scale < 3) {
-      const side = Math.max(scale < 1 ? 2.5 : 1.5, scale);
       pen.rect(x, y, side, side);
       continue;
     }
@@ -211,15 +233,27 @@ function label(place, text, x, y, ink, align, [top, high] = [y - 10, 13]) {
   pen.fillText(text, x, y);
 }
 
-/** Returns the names of a layout's ports with their cells. */
+// The ports of layouts with their names, and the states of outputs, which are made once.
+const namedPorts = new WeakMap(), outStates = new WeakMap();
+
+/** Returns the names of a layout's ports with their cells. A layout that was changed has to be another object. */
 function portNames(layout) {
-  return [...layout.ins.map(({ name, cell }) => ({ name: `→${name}`, cell, isIn: true })),
-    ...layout.outs.map(({ name, cell }) => ({ name: `${name}→`, cell, isIn: false }))];
+  if (!namedPorts.has(layout)) namedPorts.set(layout,
+    [...layout.ins.map(({ name, cell }) => ({ name: `→${name}`, cell, isIn: true })),
+    ...layout.outs.map(({ name, cell }) => ({ name: `${name}→`, cell, isIn: false }))]);
+  return namedPorts.get(layout);
 }
 
-// The places of the names of a layout, as they were last asked for. They move with the picture, and change with the
-// scale only. A layout that was changed has to be another object.
-let placed = { layout: null, scale: 0, places: [] };
+/** Returns for each output whether it is as it should be; undefined if that is not known. */
+function statesOf(outs, good) {
+  if (!good) return [];
+  if (!outStates.has(good)) outStates.set(good, outs.map(({ cell }) => good.get(String(cell))));
+  return outStates.get(good);
+}
+
+// The places of the names of a layout by squares, as they were last asked for. They move with the picture, and change
+// with the scale only.
+let placed = { layout: null, scale: 0, squares: new Map() };
 
 // The mirrors of layouts that matter for the names of ports, which are looked for once.
 const nearMirrors = new WeakMap();
@@ -245,9 +279,11 @@ function mirrorsNearPorts(layout) {
 /**
  * Returns the places of the names of ports in pixels from cell (0, 0). There is room for a sign before the name of an
  * output.
+ * @param {Port[]} found the ports to name
+ * @param {Port[]} others other ports near them
+ * @param {(x: number, y: number, w: number, h: number) => boolean} isNear whether a rectangle of cells is near them
  */
-function namePlaces(place, layout, size) {
-  if (placed.layout === layout && placed.scale === place.scale) return placed.places;
+function placesOf(place, layout, size, { found, others, isNear }) {
   const side = place.scale;
   const rect = ([x, y], w = 1, h = 1) => ({ x: x * side, y: y * side, width: w * side, height: h * side });
   // The outline of an output is up to three pixels outside its cell.
@@ -255,12 +291,43 @@ function namePlaces(place, layout, size) {
     const { x, y, width, height } = rect(cell);
     return { x: x - 2, y: y - 2, width: width + 4, height: height + 4 };
   };
-  const names = portNames(layout).map(({ name, cell, isIn }) => ({ cell: port(cell), isAbove: isIn, height: size + 3,
+  const names = found.map(({ name, cell, isIn }) => ({ cell: port(cell), isAbove: isIn, height: size + 3,
     width: place.pen.measureText(isIn ? name : `✓ ${name}`).width + 4 }));
-  const signs = [...layout.wastes, ...layout.balls].map((cell) => rect(cell)).concat(
-    mirrorsNearPorts(layout).map(([x, y, w, h]) => rect([x, y], w, h)));
-  placed = { layout, scale: side, places: placeNames(names, signs, []) };
-  return placed.places;
+  const signs = [...layout.wastes, ...layout.balls].filter(([x, y]) => isNear(x, y, 1, 1)).map((cell) => rect(cell))
+    .concat(mirrorsNearPorts(layout).filter((box) => isNear(...box)).map(([x, y, w, h]) => rect([x, y], w, h)));
+  return placeNames(names, signs, others.map(({ cell }) => port(cell)));
+}
+
+/** Returns the ports that are named in a square, the other ports near it, and what is near it. */
+function portsIn(ports, [x0, y0, x1, y1]) {
+  const found = [], others = [], isNear = (x, y, w, h) => x <= x1 + NEAR_PORT && y <= y1 + NEAR_PORT
+    && x + w >= x0 - NEAR_PORT && y + h >= y0 - NEAR_PORT;
+  visitPorts(ports, [x0 - NEAR_PORT, y0 - NEAR_PORT, x1 + NEAR_PORT, y1 + NEAR_PORT], (number, [x, y]) => {
+    if (x >= x0 && y >= y0 && x <= x1 && y <= y1) found.push(ports[number]);
+    else if (isNear(x, y, 1, 1)) others.push(ports[number]);
+  });
+  return { found, others, isNear };
+}
+
+/**
+ * Returns the ports whose names may be seen, each with the place of its name. The names of many ports are placed square
+ * by square: to place all of 61,440 would take a second at each scale.
+ * @returns {{port: Port, at: NamePlace}[]}
+ */
+function placedNames(place, layout, size) {
+  const ports = portNames(layout), isWhole = ports.length <= MANY_PORTS;
+  const squares = isWhole ? [[]] : squaresOf(seenRange(place, layout));
+  if (placed.layout !== layout || placed.scale !== place.scale) placed = { layout, scale: place.scale,
+    squares: new Map() };
+  return squares.flatMap((square) => {
+    const key = String(square);
+    if (!placed.squares.has(key)) {
+      const named = isWhole ? { found: ports, others: [], isNear: () => true } : portsIn(ports, square);
+      const places = placesOf(place, layout, size, named);
+      placed.squares.set(key, named.found.map((port, index) => ({ port, at: places[index] })));
+    }
+    return placed.squares.get(key);
+  });
 }
 
 /** Draws a line from the place of a name to its cell, if it is away from it. */
@@ -277,31 +344,28 @@ function leader(place, { box, away }, cell, ink) {
   pen.stroke();
 }
 
-/** Returns the colour and the sign of an output at the last time. */
-const stateOf = (inks, good, cell) => {
-  const state = good ? good.get(String(cell)) : undefined;
-  return state === undefined ? { ink: inks.ink, sign: "", width: 1.5 }
-    : { ink: state ? inks.good : inks.bad, sign: state ? "✓ " : "✗ ", width: 3 };
-};
+/** Returns the colour, the sign and the line of an output, by whether it is as it should be; undefined is not known. */
+const lookOf = (inks, state) => (state === undefined ? { ink: inks.ink, sign: "", width: 1.5 }
+  : { ink: state ? inks.good : inks.bad, sign: state ? "✓ " : "✗ ", width: 3 });
 
 /**
  * Draws ports with their names, and waste cells. `good` says of out cells whether they are as they should be, at the
  * last time.
  */
 function ports(place, layout, good) {
-  const { inks, scale } = place, isSmall = scale < 4;
-  const outs = layout.outs.filter(({ cell }) => isSeen(place, ...cell)).map(
-    ({ cell }) => ({ cell, ...stateOf(inks, good, cell) }));
-  const show = ({ cell, ink, width }) => outline(place, [...cell, 1, 1], ink, isSmall ? [] : [4, 3], isSmall ? 0 : -1,
-    width);
-  for (const { cell } of layout.ins) if (isSeen(place, ...cell)) outline(place, [...cell, 1, 1], inks.ink, [],
-      isSmall ? 0 : 1, isSmall ? scale / 3 : 1.5);
+  const { inks, scale } = place, isSmall = scale < 4, states = statesOf(layout.outs, good);
+  const range = seenRange(place, layout), ins = [], outs = new Map([[undefined, []], [true, []], [false, []]]);
+  visitPorts(layout.ins, range, (_, [x, y]) => { if (isSeen(place, x, y)) ins.push(x, y); });
+  visitPorts(layout.outs, range, (number, [x, y]) => { if (isSeen(place, x, y)) outs.get(states[number]).push(x, y); });
+  outlines(place, ins, inks.ink, [], isSmall ? 0 : 1, isSmall ? scale / 3 : 1.5);
   // Where cells are small, thick outlines would cover each other: only those that differ are thick, and come last.
-  for (const out of outs.filter(({ ink }) => ink !== inks.bad)) show(isSmall ? { ...out, width: scale / 3 } : out);
-  for (const out of outs.filter(({ ink }) => ink === inks.bad)) show(out);
+  for (const [state, found] of outs) {
+    const { ink, width } = lookOf(inks, state), isThin = isSmall && state !== false;
+    outlines(place, found, ink, isSmall ? [] : [4, 3], isSmall ? 0 : -1, isThin ? scale / 3 : width);
+  }
   wastes(place, layout.wastes);
-  const isMany = layout.ins.length + layout.outs.length > MANY_PORTS;
-  if (scale >= (isMany ? MANY_SCALE : NAMED_SCALE)) names(place, layout, good);
+  const portCount = layout.ins.length + layout.outs.length;
+  if (scale >= (portCount > MANY_PORTS ? MANY_SCALE : NAMED_SCALE)) names(place, layout, good);
 }
 
 /**
@@ -312,10 +376,10 @@ function names(place, layout, good) {
   const { pen, inks, scale } = place, size = Math.max(9, Math.min(14, scale * 0.8)), left = px(place, 0);
   const top = py(place, 0);
   pen.font = `600 ${size}px system-ui, sans-serif`;
-  const places = namePlaces(place, layout, size);
-  const shown = portNames(layout).map((port, index) => ({ ...port, at: places[index],
-    ...(port.isIn ? { ink: inks.ink, sign: "" } : stateOf(inks, good, port.cell)) }))
-    .filter(({ cell, at }) => isSeen(place, ...cell) && at.away <= MAX_AWAY);
+  const shown = placedNames(place, layout, size)
+    .filter(({ port: { cell }, at }) => isSeen(place, ...cell) && at.away <= MAX_AWAY)
+    .map(({ port, at }) => ({ ...port, at,
+      ...lookOf(inks, port.isIn || !good ? undefined : good.get(String(port.cell))) }));
   for (const { at, cell, ink } of shown) leader(place, at, cell, ink);
   for (const { at: { box }, sign, name, ink } of shown) {
     const bottom = top + box.y + box.height;
@@ -341,7 +405,7 @@ function wastes(place, found, ink = place.inks.soft) {
 
 /** Returns the numbers of the modules whose borders can be seen. */
 function seenModules(place, found) {
-  if (found.length > FEW_MODULES && MAX_MODULE_SIDE * place.scale < CLOSE_BORDERS) return [];
+  if (found.length > FEW_MODULES && widestModule(found) * place.scale < CLOSE_BORDERS) return [];
   const [x0, y0, x1, y1] = [place.left, place.top, place.left + place.wide / place.scale,
     place.top + place.high / place.scale], numbers = [];
   const least = found.length > FEW_MODULES ? CLOSE_BORDERS / place.scale : 0;

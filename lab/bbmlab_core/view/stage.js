@@ -3,7 +3,7 @@ import * as address from "./address.js";
 import { mirrorsOf, trail } from "./automaton.js";
 import * as painting from "./painting.js";
 import { SvgPen } from "./svg_pen.js";
-import { Buckets, changedPlaces, Tiles, visitModules } from "./tiles.js";
+import { Buckets, changedPlaces, Tiles, visitModules, visitPorts } from "./tiles.js";
 import * as waveform from "./waveform.js";
 import { Wires } from "./wires.js";
 
@@ -202,9 +202,10 @@ class Stage {
     const isLive = player.run.live.has(key);
     if (mirrors.has(key)) words.push(isLive ? "mirror" : "dead mirror cell");
     else if (isLive) words.push("ball");
-    const isHere = ({ cell }) => cell[0] === x && cell[1] === y;
-    for (const [kind, found] of [["in", layout.ins], ["out", layout.outs]])
-        words.push(...found.filter(isHere).map(({ name }) => `${kind} ${name}`));
+    for (const [kind, found] of [["in", layout.ins], ["out", layout.outs]]) {
+      visitPorts(found, [x, y, x, y],
+        (number, [u, v]) => { if (u === x && v === y) words.push(`${kind} ${found[number].name}`); });
+    }
     if (layout.wastes.some(([u, v]) => u === x && v === y)) words.push("waste");
     let module = -1;
     visitModules(player.modules, [x, y, x, y], (number, [u, v, w, h]) => {

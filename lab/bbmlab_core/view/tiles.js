@@ -8,7 +8,7 @@
 const SIDE = 512, FINEST = 2, MAX_TILES = 96, BUDGET = 7;
 const BUCKET_BITS = 7, COLUMNS = 64;
 
-/** Rectangles and diagonals of a layout, filed by squares of 128 cells. */
+/** Rectangles, cells and diagonals of a layout, filed by squares of 128 cells. */
 class Buckets {
   filed = new Map();
   count = 0;
@@ -64,20 +64,51 @@ class Buckets {
   }
 }
 
-// The boxes of modules that were filed, by their lists.
-const filedModules = new WeakMap();
+// The boxes of modules and the cells of ports that were filed, by their lists.
+const filedModules = new WeakMap(), filedPorts = new WeakMap();
+
+/** Returns the boxes of modules by squares, filed once, and the longest of their short sides. */
+function fileModules(modules) {
+  if (!filedModules.has(modules)) {
+    const filed = new Buckets();
+    let widest = 0;
+    for (const { box: [x, y, w, h] } of modules) {
+      filed.addBox(x, y, w, h);
+      widest = Math.max(widest, Math.min(w, h));
+    }
+    filedModules.set(modules, { filed, widest });
+  }
+  return filedModules.get(modules);
+}
 
 /**
  * Calls an action with the number and the box of each module near a range of cells: a look at all of 42,257 modules
  * takes 5 ms.
  */
-function visitModules(modules, range, action) {
-  if (!filedModules.has(modules)) {
+const visitModules = (modules, range, action) =>
+  fileModules(modules).filed.visit(range, (number) => action(number, modules[number].box));
+
+/** Returns the longest of the short sides of modules. */
+const widestModule = (modules) => fileModules(modules).widest;
+
+/** Calls an action with the number and the cell of each port near a range of cells. */
+function visitPorts(ports, range, action) {
+  if (!filedPorts.has(ports)) {
     const filed = new Buckets();
-    for (const { box } of modules) filed.addBox(...box);
-    filedModules.set(modules, filed);
+    for (const { cell: [x, y] } of ports) filed.addBox(x, y, 1, 1);
+    filedPorts.set(ports, filed);
   }
-  filedModules.get(modules).visit(range, (number) => action(number, modules[number].box));
+  filedPorts.get(ports).visit(range, (number) => action(number, ports[number].cell));
+}
+
+/** Returns the squares by which cells are filed that a range touches: x, y, x, y, the ends included. */
+function squaresOf([x0, y0, x1, y1]) {
+  const found = [], side = 1 << BUCKET_BITS;
+  for (let y = Math.max(0, y0) >> BUCKET_BITS << BUCKET_BITS; y <= y1; y += side) {
+    for (let x = Math.max(0, x0) >> BUCKET_BITS << BUCKET_BITS; x <= x1; x += side) found.push([x, y, x + side - 1,
+      y + side - 1]);
+  }
+  return found;
 }
 
 /**
@@ -213,4 +244,4 @@ class Tiles {
   }
 }
 
-export { Tiles, Buckets, changedPlaces, visitModules };
+export { Tiles, Buckets, changedPlaces, visitModules, visitPorts, widestModule, squaresOf };
