@@ -1,9 +1,9 @@
 #!/usr/bin/python3
-"""browse_features.py FOLDER: tries what FOLDER/adder.html, FOLDER/faults.html and FOLDER/outputs.html do in headless
-Chromium.
+"""browse_features.py FOLDER: tries what FOLDER/adder.html, FOLDER/faults.html, FOLDER/outputs.html and
+FOLDER/crowd.html do in headless Chromium.
 
-The pages are of full_adder.txt, wrong_edge.txt and of a layout with 48 outputs of which three are wrong. It runs with
-Debian's python3-selenium. Each test opens its page anew. BBMLAB_ONLY names one test.
+The pages are of full_adder.txt, wrong_edge.txt and of layouts with 48 outputs of which three are wrong, and with 600 of
+which one is wrong. It runs with Debian's python3-selenium. Each test opens its page anew. BBMLAB_ONLY names one test.
 """
 import os
 import re
@@ -200,6 +200,22 @@ class Picture(Page):
 
 class Report(Page):
     """The report, the outputs and the inputs."""
+
+    def test_long_boxes(self) -> None:
+        """Of 600 outputs and inputs 500 are shown at first, and all when the boxes were scrolled. A switch that is
+        shown then is as its input."""
+        self.open("crowd")
+        self.wait(lambda: self.text("outputs-count") == "1 of 600 outputs differ", self.text("outputs-count"))
+        self.browser.find_element(By.ID, "none").click()
+        self.wait(lambda: self.text("outputs-count") == "All 600 outputs are as the circuit says.",
+                  self.text("outputs-count"))
+        for box, item in (("outputs", "span"), ("inputs", "label")):
+            count = f"return document.querySelectorAll('#{box} > {item}').length"
+            self.assertEqual(self.browser.execute_script(count), 500)
+            self.browser.execute_script(f"const box = document.getElementById('{box}'); "
+                                        "box.scrollTop = box.scrollHeight")
+            self.wait(lambda: self.browser.execute_script(count) == 600, f"the box {box} shows all")
+        self.assertEqual(self.browser.execute_script("return document.querySelectorAll('#inputs :checked').length"), 0)
 
     def test_wrong_outputs_first(self) -> None:
         """The count is shown, and the outputs that differ come first."""

@@ -34,7 +34,8 @@ class Browser(unittest.TestCase):
             folder = os.environ.get("BBMLAB_SHOTS", room)
             for name, text in (("adder", Path(support.example("full_adder")).read_text()),
                                ("faults", Path(support.example("wrong_edge")).read_text()),
-                               ("outputs", many_outputs(48, [5, 17, 40]).text)):
+                               ("outputs", many_outputs(48, [5, 17, 40]).text),
+                               ("crowd", many_outputs(600, [3]).text)):
                 Path(room, f"{name}.txt").write_text(text)
                 made = support.lab("view", f"{room}/{name}.txt", "-o", f"{folder}/{name}.html", "--program", program)
                 self.assertEqual((made.returncode, made.stderr), (0, ""))

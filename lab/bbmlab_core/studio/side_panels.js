@@ -1,4 +1,5 @@
 /** The panels beside the picture: size, inputs, the circuit with its refusal, and the truth table. */
+import { fillBox } from "../view/boxes.js";
 import { Model, ModelRefusal } from "./model.js";
 import { appendWords, ask, delayed, element, made } from "./page_parts.js";
 import { server } from "./server_link.js";
@@ -176,13 +177,12 @@ class SidePanels {
 
   /** Shows a switch for each input. */
   showInputs() {
-    const { names, on } = this.desk.player, box = element("inputs");
+    const { names } = this.desk.player, box = element("inputs");
     const key = `${names.join(" ")} but ${[...this.desk.off].join(" ")}`;
     if (this.inputsKey === key) return;
     this.inputsKey = key;
-    box.replaceChildren(...names.map((name) => this.inputSwitch(name)));
+    fillBox(box, names, (name) => this.inputSwitch(name));
     if (names.length === 0) box.textContent = "The circuit has no inputs yet.";
-    for (const one of box.querySelectorAll("input")) one.checked = on.has(one.value);
   }
 
   /** Returns the switch of an input. */
@@ -190,6 +190,7 @@ class SidePanels {
     const label = made("label"), box = made("input");
     box.type = "checkbox";
     box.value = name;
+    box.checked = this.desk.player.on.has(name);
     box.addEventListener("change", () => this.desk.setInput(name, box.checked));
     label.append(box, name);
     return label;

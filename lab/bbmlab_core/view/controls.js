@@ -251,8 +251,9 @@ function setWays(isOn) {
 function beginWays() {
   const { names, list } = stage.wires;
   element("ways-part").hidden = element("find-wire").hidden = element("wire-words").hidden = list.length === 0;
-  element("wire-names").replaceChildren(...names.map(
-    (name) => Object.assign(document.createElement("option"), { value: name })));
+  // The first picture does not wait for 61,440 names.
+  element("find-wire-name").addEventListener("focus", () => element("wire-names").replaceChildren(...names.map(
+    (name) => Object.assign(document.createElement("option"), { value: name }))), { once: true });
   if (list.length > 0) setWays(Math.max(layout.width, layout.height) > LARGE_SIDE);
   element("ways").addEventListener("change", (event) => setWays(event.target.checked));
   element("find-wire").addEventListener("submit", (event) => {

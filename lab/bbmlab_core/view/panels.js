@@ -1,4 +1,5 @@
 /** Fills the panels beside the picture: inputs, outputs, the report, the lines of the certificate. */
+import { fillBox } from "./boxes.js";
 import { counted } from "./stage.js";
 
 const MAX_LINES_SHOWN = 200;
@@ -50,20 +51,23 @@ function appendCells(parent, text, action) {
   });
 }
 
+/** Returns the switch of an input. */
+function inputSwitch(player, name) {
+  const label = made("label", ""), box = made("input", "");
+  box.type = "checkbox";
+  box.value = name;
+  box.checked = player.on.has(name);
+  box.addEventListener("change", () => {
+    player.setInputs({ [name]: box.checked });
+    player.restart();
+  });
+  label.append(box, name);
+  return label;
+}
+
 /** Makes a switch for each input. */
 function makeInputs(player) {
-  for (const name of player.names) {
-    const label = made("label", ""), box = made("input", "");
-    box.type = "checkbox";
-    box.value = name;
-    box.checked = player.on.has(name);
-    box.addEventListener("change", () => {
-      player.setInputs({ [name]: box.checked });
-      player.restart();
-    });
-    label.append(box, name);
-    element("inputs").append(label);
-  }
+  fillBox(element("inputs"), player.names, (name) => inputSwitch(player, name));
   if (player.names.length === 0) element("inputs").textContent = "The layout has no inputs.";
   element("choices").hidden = player.names.length < 2;
   for (const [id, value] of [["all", true], ["none", false]]) {
@@ -101,13 +105,13 @@ function showResults(player, cell) {
   const results = player.results() || [], text = resultWords(player), isBad = results.some((result) => !result.isGood);
   element("outputs-count").textContent = text;
   element("outputs-count").className = isBad ? "bad" : results.length ? "good" : "";
-  element("outputs").replaceChildren(...results.map((result) => {
+  fillBox(element("outputs"), results, (result) => {
     const label = made("span",
       `${result.isGood ? "✓" : "✗"} ${result.name}=${result.wanted === undefined ? "?" : Number(result.wanted)}`);
     label.className = result.isGood ? "good" : "bad";
     if (!result.isGood) appendCells(label, ` (${faultWords(player, result)})`, cell);
     return label;
-  }));
+  });
 }
 
 /** Lists the lines of the present time with the values that their wires have in the circuit. */
