@@ -36,7 +36,7 @@ function addSquare({ bytes, canvas: { width, height } }, x, y, side) {
     const high = Math.min(y + side, v + 1) - Math.max(y, v);
     for (let u = Math.max(0, Math.floor(x)); u < right; u += 1) {
       const wide = Math.min(x + side, u + 1) - Math.max(x, u), at = (v * width + u << 2) + 3;
-      bytes[at] += wide * high * (255 - bytes[at]);
+      if (bytes[at] < 255) bytes[at] += wide * high * (255 - bytes[at]);
     }
   }
 }
