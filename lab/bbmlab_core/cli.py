@@ -457,7 +457,7 @@ def add_route(commands: Commands) -> None:
     parser.add_argument("--jobs", type=positive, default=1, metavar="N",
                         help="attempts at a time, each in a process (default: 1)")
     parser.add_argument("--compact", action="store_true",
-                        help="make attempts on ever smaller planes, and take the smallest layout with the fewest steps")
+                        help="go on with ever smaller planes, until no attempt on one finds a route")
     parser.add_argument("--no-certificate", action="store_true", help="write the circuit and the layout alone")
     parser.add_argument("--open-ends", action="store_true", help="keep room at each start and end for `bbmlab join`")
     parser.add_argument("--late", nargs="+", default=[], metavar="INPUT",

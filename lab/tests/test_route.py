@@ -2,7 +2,6 @@
 
 import contextlib
 import io
-import itertools
 import os
 import random
 import re
@@ -13,6 +12,7 @@ import sys
 import tempfile
 import time
 import unittest
+from dataclasses import replace
 from pathlib import Path
 from unittest import mock
 
@@ -22,6 +22,7 @@ from bbmlab_core.host.signals import Stopped
 from bbmlab_core.physics.simulation import WholeRun, key_of
 from bbmlab_core.route import certificate, search, world
 from bbmlab_core.route.attempt import Attempt
+from bbmlab_core.route.design import used_tiles
 from bbmlab_core.route.netlist import Netlist
 from bbmlab_core.route.settings import Settings
 from bbmlab_core.route.world import Item
@@ -153,33 +154,42 @@ class Yes(Routing):
         self.assertEqual(whole.split("certificate")[0], part)
 
     def test_compact(self) -> None:
-        """`--compact` gives a layout of at most 0.7 of the area, with a yes, and the same one by two processes."""
-        text = gate_circuit("fredkin")
+        """`--compact` gives a layout of at most 0.4 of the area, with a yes, and the same one by two processes."""
+        text, compact = made_circuit("any", 5, 5, 303), ("--compact", "--effort", "600")
         plain = self.assert_yes(text).layout
-        small = self.assert_yes(text, "--compact", "--effort", "600").layout
+        small = self.assert_yes(text, *compact).layout
         assert plain and small
-        self.assertLessEqual(small.width * small.height, 0.7 * plain.width * plain.height)
-        compact = ("--compact", "--effort", "600")
+        self.assertLessEqual(small.width * small.height, 0.4 * plain.width * plain.height)
         self.assertEqual(*(self.route(gate_circuit("switch"), *compact, *words)[1] for words in ((), ("--jobs", "2"))))
 
-    def test_compact_without_a_small_layout(self) -> None:
-        """If no attempt of `--compact` finds a route, others follow, and the first of them that does is taken."""
-        circuit = read_document(gate_circuit("switch"), "circuit").circuit
+    def test_planes_of_compact(self) -> None:
+        """The planes of `--compact` are smaller than the last layout, and nearly squares. None is too small."""
+        circuit, chance = read_document(gate_circuit("switch"), "circuit").circuit, random.Random(1)
         assert circuit
-        count = len(search.COMPACT_PARTS)
-        plans = list(itertools.islice(search.plans_of([Netlist(circuit)], search.Options(is_compact=True), Settings()),
-                                      count + 2))
-        self.assertEqual([plan.side == plan.most_side for plan in plans], [False, *[True] * (count - 1), False, False])
-        self.assertEqual(len({plan.seed for plan in plans}), count + 2)
-        asked = search.Search(circuit, gate_circuit("switch"), search.Options(is_compact=True, jobs=2), Settings(),
-                              lambda *_: None)
-        pool = search.Pool(asked)
-        routed = asked.run().routed
+        options = search.Options()
+        routed = search.Search(circuit, gate_circuit("switch"), options, Settings(), lambda *_: None).run().routed
         assert routed
-        pool.found = {count + 1: routed, count: routed}
-        self.assertEqual(pool.counted(), [count])
-        pool.found = {7: routed, count: routed, 3: routed}
-        self.assertEqual(pool.counted(), [3, 7])
+        for _ in range(30):
+            last = replace(routed, width=16 * chance.randint(3, 30), height=16 * chance.randint(3, 30))
+            plans = list(search.compact_plans(Netlist(circuit), options, Settings(), last, 7))
+            self.assertEqual(len({plan.seed for plan in plans}), len(plans))
+            for plan in plans:
+                height = plan.height or 0
+                self.assertLessEqual(plan.side * height, 0.9 * last.width * last.height)
+                self.assertLessEqual(48, height)
+                self.assertLessEqual(height, plan.side)
+                self.assertEqual(plan.side, plan.most_side)
+        plans = list(search.compact_plans(Netlist(circuit), options, Settings(), routed, 7))
+        self.assertEqual(len(plans), len(search.COMPACT_PARTS))
+
+    def test_attempts_on_a_rectangle(self) -> None:
+        """A layout of a plane that is no square lies on it."""
+        circuit = read_document(gate_circuit("fredkin"), "circuit").circuit
+        assert circuit
+        design = Attempt(Netlist(circuit), 256, 1, Settings(), height=128).run()
+        self.assertEqual((design.width, design.height), (256, 128))
+        left, top, right, bottom = used_tiles(design)
+        self.assertTrue(0 <= left and 0 <= top and right <= 16 and bottom <= 8)
 
 
 class Mistakes(Routing):

@@ -34,11 +34,11 @@ class Attempt:
     """An attempt. It depends on circuit, size, seed and settings alone, unless the time is over."""
 
     def __init__(self, netlist: Netlist, size: int, seed: int, settings: Settings, deadline: float = float("inf"),
-                 most_size: int = 0) -> None:
+                 most_size: int = 0, height: int | None = None) -> None:
         self.netlist = netlist
         # The side up to which the plane may grow.
         self.most_size = max(size, min(most_size, int(settings.most_growth * size)))
-        self.board = Board(self.netlist, size, settings)
+        self.board = Board(self.netlist, size, settings, height)
         self.chance = random.Random(seed)
         self.placer = Placer(self.board, self.chance)
         self.settings, self.deadline = settings, deadline
@@ -212,7 +212,7 @@ class Attempt:
         board, end = self.board, self.end_time()
         steps = sum(end - (waiting.ball.time if waiting.ball else 0) for waiting in board.waiting.values())
         taken = sum(row.bit_count() for row in board.world.blocked) + self.settings.step_cells * steps
-        while taken > self.settings.end_fill * board.size ** 2 and board.grow(self.settings.growth_part,
+        while taken > self.settings.end_fill * board.size * board.height and board.grow(self.settings.growth_part,
                                                                               self.most_size):
             pass
 
@@ -335,13 +335,14 @@ class Attempt:
 
     def free_start(self) -> Ball:
         """Returns a ball at time 0 at a random place."""
-        chance, size = self.chance, self.board.size
-        return Ball(chance.randrange(4, size // 2 - 4) * 2, chance.randrange(4, size // 2 - 4) * 2, 1, 1, 0)
+        chance, board = self.chance, self.board
+        x, y = chance.randrange(4, board.size // 2 - 4), chance.randrange(4, board.height // 2 - 4)
+        return Ball(2 * x, 2 * y, 1, 1, 0)
 
     def design(self) -> Design:
         """Returns the design that is on the board, forward in time."""
         board = self.board
         end = max([path.end.time for path in board.ends], default=self.end_time())
         paths = [path for step in board.steps for path in [*step.paths, *step.parked]] + board.ends
-        return forward_design(Design(self.netlist.circuit, self.netlist, board.size, board.size, end,
+        return forward_design(Design(self.netlist.circuit, self.netlist, board.size, board.height, end,
                                      [step.gate for step in board.steps], paths))

@@ -13,7 +13,7 @@ from typing import Iterator, NamedTuple
 
 from .balls import BOUNCE_STEPS, Ball, Leg, Turn, bounce, bounce_before
 from .settings import Settings
-from .world import MARGIN, ROW, World
+from .world import ROW, World
 
 # The cells of a mirror as seen from the cell of the ball that it turns.
 OFFSETS = {(turn, dx, dy): bounce(Ball(0, 0, dx, dy, 0), turn)[1].cells() for turn in Turn for dx in (1, -1)
@@ -89,10 +89,7 @@ class BitJoiner:
 
     def room(self, ball: Ball) -> int:
         """Returns the steps after which a ball can bounce inside the plane, at most those of the longest leg."""
-        far = self.world.size - MARGIN - 1
-        across, down = (far - ball.x if ball.dx > 0 else ball.x - MARGIN,
-                        far - ball.y if ball.dy > 0 else ball.y - MARGIN)
-        return min(self.world.free_flight(ball, self.settings.longest_leg), across, down)
+        return min(self.world.free_flight(ball, self.settings.longest_leg), self.world.room(ball))
 
     def shuffled(self, found: list[tuple[int, Turn]]) -> Iterator[tuple[int, Turn]]:
         """Yields the members of a list in random order, without shuffling them all at once."""

@@ -109,9 +109,9 @@ def tiles_in(box: TileBox) -> list[int]:
 class Board:
     """The state of an attempt. Each change can be taken back."""
 
-    def __init__(self, netlist: Netlist, size: int, settings: Settings) -> None:
+    def __init__(self, netlist: Netlist, size: int, settings: Settings, height: int | None = None) -> None:
         self.netlist, self.settings = netlist, settings
-        self.world = World(size)
+        self.world = World(size, height)
         # The root wires that wait.
         self.waiting: dict[str, Waiting] = {root: Waiting() for root in netlist.free_roots()}
         self.steps: list[Placement] = []
@@ -123,8 +123,13 @@ class Board:
 
     @property
     def size(self) -> int:
-        """The side of the plane."""
+        """The width of the plane."""
         return self.world.size
+
+    @property
+    def height(self) -> int:
+        """The height of the plane."""
+        return self.world.height
 
     def grow(self, part: int, most: int) -> bool:
         """Adds the given part of the side at the right and below, in whole pairs of tiles; returns whether that is at

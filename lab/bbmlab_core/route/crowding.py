@@ -32,24 +32,29 @@ class PlacedBox:
 
 @dataclass(frozen=True)
 class Crowding:
-    """The plane of an attempt when it ended: its side, how many cells of each tile are taken, row by row, and the gates
-    on it."""
+    """The plane of an attempt when it ended: its width, how many cells of each tile are taken, row by row, and the
+    gates on it."""
 
     side: int
     taken: tuple[bytes, ...]
     gates: tuple[PlacedBox, ...]
 
     @property
+    def height(self) -> int:
+        """The height of the plane."""
+        return TILE * len(self.taken)
+
+    @property
     def part(self) -> float:
         """The part of all cells that is taken."""
-        return 2 * sum(sum(row) for row in self.taken) / self.side ** 2
+        return 2 * sum(sum(row) for row in self.taken) / (self.side * self.height)
 
 
 def tile_counts(world: World) -> Iterator[bytes]:
     """Yields, for each row of tiles, half of how many cells of each tile are taken: a tile has up to 256, and a byte
     holds 128."""
     tiles = world.size // TILE
-    for first in range(0, tiles * TILE, TILE):
+    for first in range(0, world.height // TILE * TILE, TILE):
         counts = [0] * tiles
         for row in world.blocked[first:first + TILE]:
             parts = (row & (1 << tiles * TILE) - 1).to_bytes(2 * tiles, "little").translate(TAKEN)
@@ -108,11 +113,11 @@ def legend(top: int) -> Iterator[str]:
 
 def crowding_picture(crowding: Crowding, circuit: Circuit, title: str) -> str:
     """Returns the map as a picture (SVG), with a title of one or more lines."""
-    tiles = max(1, crowding.side // TILE)
-    scale = max(1, PIXELS // tiles)
-    size, lines = scale * tiles, title.split("\n")
+    tiles, rows = max(1, crowding.side // TILE), max(1, len(crowding.taken))
+    scale = max(1, PIXELS // max(tiles, rows))
+    size, bottom, lines = scale * tiles, scale * rows, title.split("\n")
     top = 2 * MARGIN + LINE * len(lines)
-    width, height = max(size, 560) + 2 * MARGIN, top + size + 3 * MARGIN
+    width, height = max(size, 560) + 2 * MARGIN, top + bottom + 3 * MARGIN
     drawn = [f'<svg xmlns="http://www.w3.org/2000/svg" width="{width}" height="{height}" viewBox="0 0 {width} '
              f'{height}" '
                'font-family="sans-serif" font-size="13">', f'<rect width="{width}" height="{height}" fill="#fff"/>']
@@ -120,6 +125,6 @@ def crowding_picture(crowding: Crowding, circuit: Circuit, title: str) -> str:
               line in enumerate(lines)]
     drawn += [f'<g transform="translate({MARGIN} {top}) scale({scale})">', *tile_paths(crowding),
                 '<g fill="transparent" stroke="#d1495b" stroke-width="2">', *gate_frames(crowding, circuit), "</g>",
-                f'<rect width="{tiles}" height="{tiles}" fill="none" stroke="#444" stroke-width="2" {STEADY}/>', "</g>",
-              *legend(top + size + MARGIN), "</svg>"]
+                f'<rect width="{tiles}" height="{rows}" fill="none" stroke="#444" stroke-width="2" {STEADY}/>', "</g>",
+              *legend(top + bottom + MARGIN), "</svg>"]
     return "\n".join(drawn) + "\n"

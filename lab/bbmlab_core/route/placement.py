@@ -168,12 +168,12 @@ class Placer:
     def centre(self, inlets: list[Inlet], partner: Ball | None, growth: float, half: int) -> tuple[int, int, int]:
         """Returns a place near the waiting balls for a cell of twice `half` cells, and how far around it the cell may
         be."""
-        chance, size = self.chance, self.board.size
+        chance, size, height = self.chance, self.board.size, self.board.height
         balls = [inlet.ball for inlet in inlets if inlet.ball] or ([partner] if partner else [])
         if not balls:
             # A cell may be as wide as the layout: it finds no room then.
-            far = max(half + 1, size - half)
-            return chance.randrange(half, far), chance.randrange(half, far), 60
+            return (chance.randrange(half, max(half + 1, size - half)),
+                    chance.randrange(half, max(half + 1, height - half)), 60)
         radius = half + chance.choice((20, 40 + int(60 * growth), 80 + int(100 * growth), 120 + int(140 * growth)))
         last = max(balls, key=lambda ball: ball.time)
         ahead = last.flown(chance.randint(half, half + 20 + int(60 * growth)))
@@ -181,7 +181,7 @@ class Placer:
         if len(balls) > 1 and chance.random() < 0.4:
             other = balls[chance.randrange(len(balls))]
             x, y = (x + other.x) // 2, (y + other.y) // 2
-        return min(max(x, half), size - half), min(max(y, half), size - half), radius
+        return min(max(x, half), size - half), min(max(y, half), height - half), radius
 
     def free_column(self, cell: GateCell, row: int, columns: tuple[int, int], is_crowded: bool) -> int | None:
         """Returns a random column from the first to the last of two at which the cell's mirrors have room if it is at
@@ -190,9 +190,8 @@ class Placer:
         If `is_crowded`, only the layout must have room.
         """
         left, top, right, bottom = cell.bounds
-        far = self.board.size - MARGIN - 1
-        first, last = max(columns[0], MARGIN - left), min(columns[1], far - right)
-        if row + top < MARGIN or row + bottom > far or first > last:
+        first, last = max(columns[0], MARGIN - left), min(columns[1], self.board.size - MARGIN - 1 - right)
+        if row + top < MARGIN or row + bottom > self.board.height - MARGIN - 1 or first > last:
             return None
         blocked, taken = self.board.world.blocked, 0
         for y, places in cell.mirror_rows if not is_crowded else ():
@@ -211,9 +210,8 @@ class Placer:
         """Whether the box of a cell is small enough, inside the layout, and no other gate's; if `is_wide`, with a tile
         around it."""
         column, row, columns, rows = box_of(cell, x, y)
-        most = self.board.size // TILE
-        if (columns > MOST_TILES or rows > MOST_TILES or column < 0 or row < 0 or column + columns > most
-            or row + rows > most):
+        if (columns > MOST_TILES or rows > MOST_TILES or column < 0 or row < 0
+            or column + columns > self.board.size // TILE or row + rows > self.board.height // TILE):
             return False
         owners, margin = self.board.owners, 1 if is_wide else 0
         around = (column - margin, row - margin, columns + 2 * margin, rows + 2 * margin)

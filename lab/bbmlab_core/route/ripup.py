@@ -72,9 +72,7 @@ class WayMaker:
 
     def turning_places(self, ball: Ball) -> Item:
         """Returns what a waiting ball's way ahead takes, with mirrors at many places of it."""
-        far = self.board.size - 5
-        room = min(STEPS_AHEAD, far - ball.x if ball.dx > 0 else ball.x - 4,
-                   far - ball.y if ball.dy > 0 else ball.y - 4)
+        room = min(STEPS_AHEAD, self.board.world.room(ball))
         mirrors = [bounce(ball.flown(steps), turn)[1] for steps in range(2, max(3, room), PLACE_STEPS) for turn in Turn]
         way = path_item(ball, [Leg(max(0, room), None)])
         cells = {cell_number(cell) for mirror in mirrors for cell in mirror.cells()}

@@ -2,6 +2,8 @@
 
 The attempts have an order that depends on circuit and options alone. The result is that of the first one in this order
 that succeeds, whatever the number of processes. So the same seed gives the same bytes, unless the time ends first.
+
+With `--compact` such a search follows on smaller planes than that of the result, and so on until one finds no route.
 """
 
 import multiprocessing
@@ -40,15 +42,12 @@ CELLS_PER_STEP = 2.6
 # forward.
 MOST_GROWTH = 20
 SHALLOW_STEPS = 200
-# The attempts of `--compact`: the parts of the first side that are tried. Only the first plane may grow.
-COMPACT_PARTS = (1.0, *(0.85, 0.75, 0.7, 0.65, 0.6, 0.55, 0.5) * 3, 0.65, 0.6)
+# The attempts of `--compact` after a layout, by the part of its area that the plane has at most. The first one that
+# succeeds gives the next layout.
+COMPACT_PARTS = (*(0.8,) * 3, *(0.9,) * 6)
 # How often paths to the last time make way for others in a part that is kept: fewer gates are tried sooner. With 30 in
 # place of 150, 53 of 60 placed gates were kept in eight seconds, and not 46.
 PARTIAL_RIPS = 30
-# Such an attempt is given up after fewer failures, each after fewer places, and gates come nearer to waiting balls.
-COMPACT_FAILURES = 3
-COMPACT_PLACES = 400
-COMPACT_LANE = 10
 
 
 @dataclass(frozen=True)
@@ -84,11 +83,6 @@ class Routed:
     modules: int
     most_cuts: int
     gates: int
-
-    @property
-    def rank(self) -> tuple[int, int]:
-        """The key by which a smaller and faster layout comes first."""
-        return self.width * self.height, self.steps
 
 
 @dataclass
@@ -149,32 +143,68 @@ def netlists_of(circuit: Circuit, options: Options) -> list[Netlist]:
 
 @dataclass(frozen=True)
 class AttemptPlan:
-    """What an attempt is made with: the circuit, the first side and that up to which the plane may grow, the seed, and
-    the costs."""
+    """What an attempt is made with: the circuit, the first side and that up to which the plane may grow, the seed, the
+    costs, and the height of the plane if it is no square."""
 
     netlist: Netlist
     side: int
     most_side: int
     seed: int
     settings: Settings
+    height: int | None = None
+
+    def attempt(self, deadline: float) -> Attempt:
+        """Returns the attempt."""
+        return Attempt(self.netlist, self.side, self.seed, self.settings, deadline, self.most_side, self.height)
+
+
+def seed_of(options: Options, index: int) -> int:
+    """Returns the seed of an attempt."""
+    return options.seed * 1_000_003 + index
 
 
 def plans_of(netlists: list[Netlist], options: Options, settings: Settings) -> Iterator[AttemptPlan]:
     """Yields what attempts are made with, in their order, without end."""
-    first, index = options.side or estimated_side(netlists[0]), 0
-    tight = replace(settings, failures=COMPACT_FAILURES, place_tries=COMPACT_PLACES, lane_cells=COMPACT_LANE)
-    for part in COMPACT_PARTS if options.is_compact and not options.side else ():
-        side, seed = max(LEAST_SIDE // 2, int(part * first) // TILE * TILE), options.seed * 1_000_003 + index
-        yield (AttemptPlan(netlists[0], side, options.most_side, seed, settings) if part == 1 else
-               AttemptPlan(netlists[0], side, side, seed, tight))
-        index += 1
-    side = first
+    side, index = options.side or estimated_side(netlists[0]), 0
     while True:
         for _ in range(ATTEMPTS_PER_SIDE):
-            netlist, seed = netlists[index % len(netlists)], options.seed * 1_000_003 + index
+            netlist, seed = netlists[index % len(netlists)], seed_of(options, index)
             yield AttemptPlan(netlist, side, options.most_side, seed, settings)
             index += 1
         side = side if options.side else min(SECOND.max_side, side + max(2 * TILE, side // 4 // TILE * TILE))
+
+
+def smaller_plane(width: int, height: int, part: float) -> tuple[int, int]:
+    """Returns the longer and the shorter side of a plane that has at most a part of the area of a layout.
+
+    Tiles are taken off the longer side.
+    """
+    most = part * width * height
+    while width * height > most:
+        height, width = sorted((max(width, height) - TILE, min(width, height)))
+    return width, height
+
+
+def compact_settings(settings: Settings) -> Settings:
+    """Returns the costs of attempts on smaller planes.
+
+    They are given up after fewer failures, each after fewer places. Gates may be ahead of waiting balls, fewer of whose
+    next steps are kept free, and outputs wait at their gates: with that 6 of 6 attempts of a circuit of 6 gates
+    succeeded on 192 by 192 cells, and none of 3 without.
+    """
+    return replace(settings, failures=3, place_tries=400, lane_cells=0, reserved_steps=(8,),
+                   least_parking=SECOND.max_steps)
+
+
+def compact_plans(netlist: Netlist, options: Options, settings: Settings, routed: Routed,
+                  first: int) -> Iterator[AttemptPlan]:
+    """Yields what attempts on smaller planes than a layout are made with; `first` is the number of the first of them.
+    """
+    tight = compact_settings(settings)
+    for index, part in enumerate(COMPACT_PARTS, first):
+        width, height = smaller_plane(routed.width, routed.height, part)
+        if height >= LEAST_SIDE // 2:
+            yield AttemptPlan(netlist, width, width, seed_of(options, index), tight, height)
 
 
 def routed_bundle(circuit_text: str, design: Design, is_cropped: bool = True) -> Routed:
@@ -223,43 +253,38 @@ class Search:
     def run(self) -> Outcome:
         """Returns what the search found. An interrupt ends it with the best part so far."""
         try:
-            if self.options.jobs > 1:
-                Pool(self).run()
-            else:
-                self.run_here()
+            found = self.find(plans_of(self.netlists, self.options, self.settings), 0)
+            while found is not None and self.outcome.routed and self.options.is_compact and not self.options.side:
+                plans = compact_plans(self.netlists[0], self.options, self.settings, self.outcome.routed, found + 1)
+                found = self.find(plans, found + 1)
         except KeyboardInterrupt as interrupt:
             self.outcome.is_interrupted = True
             self.outcome.interrupt_status = interrupt.status if isinstance(interrupt,
                                                                            Stopped) else self.outcome.interrupt_status
         return self.outcome
 
-    def limit(self, is_found: bool) -> int:
-        """Returns the number of attempts that are made at most: those of `--compact` if one of them found a route."""
-        return len(COMPACT_PARTS) if self.options.is_compact and is_found else 1_000_000
+    def find(self, plans: Iterator[AttemptPlan], first: int) -> int | None:
+        """Makes attempts from the number `first` on until one finds a route, and returns its number, or None."""
+        return Pool(self, plans, first).run() if self.options.jobs > 1 else self.find_here(plans, first)
 
-    def run_here(self) -> None:
+    def find_here(self, plans: Iterator[AttemptPlan], first: int) -> int | None:
         """Makes attempts in this process."""
-        for index, plan in enumerate(plans_of(self.netlists, self.options, self.settings)):
-            if index >= self.limit(self.outcome.routed is not None) or time.monotonic() > self.deadline:
+        for index, plan in enumerate(plans, first):
+            if time.monotonic() > self.deadline:
                 break
             self.outcome.attempts = index + 1
-            attempt = Attempt(plan.netlist, plan.side, plan.seed, plan.settings, self.deadline, plan.most_side)
+            attempt = plan.attempt(self.deadline)
             try:
                 design = attempt.run(lambda placed, total: self.progress(index + 1, attempt.board.size, placed, total))
-                if self.take(routed_bundle(self.circuit_text, design, not self.options.side)):
-                    break
+                self.outcome.routed = routed_bundle(self.circuit_text, design, not self.options.side)
+                return index
             except NoRouteError as error:
                 self.note_failure(error, attempt.most_placed)
             finally:
                 self.note_partial(attempt.most_placed, attempt.best_steps, attempt.board.size)
                 if self.options.has_map:
                     self.note_crowding(attempt.most_placed, crowding_of(attempt.board))
-
-    def take(self, routed: Routed) -> bool:
-        """Takes a bundle if it is the best so far, and returns whether the search is done."""
-        if self.outcome.routed is None or routed.rank < self.outcome.routed.rank:
-            self.outcome.routed = routed
-        return not self.options.is_compact
+        return None
 
     def note_failure(self, error: NoRouteError, placed: int) -> None:
         """Notes why an attempt failed. The reason that counts is that of the attempt that placed most gates."""
@@ -305,7 +330,7 @@ def work(connection: Connection, task: Task) -> None:
     """Makes one attempt, and sends messages on it. The process that started this one ends it."""
     signal.signal(signal.SIGINT, signal.SIG_IGN)
     plan = task.plan
-    attempt = Attempt(plan.netlist, plan.side, plan.seed, plan.settings, task.deadline, plan.most_side)
+    attempt = plan.attempt(task.deadline)
 
     def tell(placed: int, total: int) -> None:
         """Sends that gates were placed."""
@@ -338,21 +363,21 @@ class Worker:
 
 
 class Pool:
-    """Attempts in several processes at a time."""
+    """Attempts in several processes at a time, until one finds a route."""
 
-    def __init__(self, search: Search) -> None:
-        self.search = search
-        self.plans = enumerate(plans_of(search.netlists, search.options, search.settings))
+    def __init__(self, search: Search, plans: Iterator[AttemptPlan], first: int) -> None:
+        self.search, self.plans = search, enumerate(plans, first)
         self.workers: dict[Connection, Worker] = {}
         self.found: dict[int, Routed] = {}
 
-    def run(self) -> None:
-        """Makes attempts until the first in order that succeeds is known, or the time is over."""
+    def run(self) -> int | None:
+        """Makes attempts until the first in order that succeeds is known, or the time is over, and returns its number.
+        """
         search = self.search
         try:
             while time.monotonic() < search.deadline + 1:
-                while len(self.workers) < search.options.jobs and self.is_useful(search.outcome.attempts):
-                    self.start()
+                while len(self.workers) < search.options.jobs and self.start():
+                    pass
                 if not self.workers:
                     break
                 for connection in wait(list(self.workers), max(0.05, search.deadline + 1 - time.monotonic())):
@@ -364,28 +389,18 @@ class Pool:
             for worker in self.workers.values():
                 worker.process.join()
             # After an interrupt too.
-            for index in self.counted():
-                if search.take(self.found[index]):
-                    break
+            if self.found:
+                search.outcome.routed = self.found[min(self.found)]
+        return min(self.found, default=None)
 
-    def counted(self) -> list[int]:
-        """Returns the attempts that found a route and count: those that one process would have made, in order."""
-        found = sorted(self.found)
-        return [index for index in found
-                if index < len(COMPACT_PARTS)] or found[:1] if self.search.options.is_compact else found
-
-    def is_useful(self, index: int) -> bool:
-        """Whether the attempt with an index can still count."""
-        search = self.search
-        if time.monotonic() > search.deadline or index >= search.limit(bool(self.found)):
+    def start(self) -> bool:
+        """Starts the next attempt if it can still count; returns whether it does."""
+        search, options = self.search, self.search.options
+        following = None if self.found or time.monotonic() > search.deadline else next(self.plans, None)
+        if following is None:
             return False
-        return search.options.is_compact or not self.found or index < min(self.found)
-
-    def start(self) -> None:
-        """Starts the next attempt."""
-        search, (index, plan) = self.search, next(self.plans)
+        index, plan = following
         here, there = multiprocessing.Pipe(duplex=False)
-        options = search.options
         task = Task(plan, search.circuit_text, search.deadline, options.keeps_partial, not options.side,
                     options.has_map)
         process = multiprocessing.get_context("fork").Process(target=work, args=(there, task), daemon=True)
@@ -393,6 +408,7 @@ class Pool:
         there.close()
         self.workers[here] = Worker(process, index)
         search.outcome.attempts = index + 1
+        return True
 
     def receive(self, connection: Connection) -> None:
         """Takes a message of a process. A process that ended without one is dropped."""
@@ -407,8 +423,7 @@ class Pool:
             return
         if isinstance(content, Routed):
             self.found[worker.index] = content
-            if not search.options.is_compact:
-                self.drop_later(worker.index)
+            self.drop_later(worker.index)
         elif isinstance(content, NoRouteError):
             search.note_failure(content, placed)
         search.note_partial(placed, content if isinstance(content, list) else [], side)

@@ -186,15 +186,18 @@ def cell_shape(cell: GateCell) -> tuple[list[int], list[int], list[int]]:
 
 
 class World:
-    """A square of cells with the items on it, which can grow. Rows and diagonals of cells are bits of numbers."""
+    """A rectangle of cells with the items on it, which can grow. Rows and diagonals of cells are bits of numbers.
 
-    def __init__(self, size: int) -> None:
-        self.size = size
+    `size` is its width, and its height too unless `height` is given.
+    """
+
+    def __init__(self, size: int, height: int | None = None) -> None:
+        self.size, self.height = size, height or size
         self.claims: set[int] = set()
         self.mirrors: set[int] = set()
         # How many parts of items touch a cell or have a mirror there, and the same cells as bits of rows: no new mirror
         # may be there.
-        self.counts = array("H", bytes(2 * ROW * size))
+        self.counts = array("H", bytes(2 * ROW * self.height))
         self.blocked = [0] * (ROW + 8)
         # The mirrors by falling diagonals (y - x + ROW) and rising ones (y + x), as bits of x; and so the blocked
         # cells.
@@ -204,6 +207,7 @@ class World:
     def grow(self, cells: int) -> None:
         """Adds columns at the right and rows below. What is there stays."""
         self.size += cells
+        self.height += cells
         self.counts.frombytes(bytes(2 * ROW * cells))
 
     def add(self, item: Item) -> None:
@@ -253,24 +257,30 @@ class World:
 
     def is_inside(self, x: int, y: int) -> bool:
         """Whether a ball may be at a cell."""
-        return MARGIN <= x < self.size - MARGIN and MARGIN <= y < self.size - MARGIN
+        return MARGIN <= x < self.size - MARGIN and MARGIN <= y < self.height - MARGIN
 
     def can_hold(self, mirror: Mirror) -> bool:
         """Whether a mirror may stand where nothing is and no ball passes."""
         x, y, width, height = mirror
-        low, high = RIM, self.size - RIM
-        if x < low or y < low or x + width > high or y + height > high:
+        if x < RIM or y < RIM or x + width > self.size - RIM or y + height > self.height - RIM:
             return False
         blocked = self.blocked
         if height == 2:
             return not (blocked[y] | blocked[y + 1]) >> x & 15
         return not (blocked[y] | blocked[y + 1] | blocked[y + 2] | blocked[y + 3]) >> x & 3
 
+    def room(self, ball: Ball) -> int:
+        """Returns how many steps a ball can fly straight before it meets the margin."""
+        x, y, dx, dy, _ = ball
+        return min(self.size - MARGIN - 1 - x if dx > 0 else x - MARGIN,
+                   self.height - MARGIN - 1 - y if dy > 0 else y - MARGIN)
+
     def free_flight(self, ball: Ball, most: int) -> int:
         """Returns how many steps, at most `most`, a ball can fly straight before it meets a mirror or the margin."""
         x, y, dx, dy, _ = ball
-        far = self.size - MARGIN - 1
-        room_x, room_y = far - x if dx > 0 else x - MARGIN, far - y if dy > 0 else y - MARGIN
+        # As `room` does, in place: this runs most often.
+        room_x = self.size - MARGIN - 1 - x if dx > 0 else x - MARGIN
+        room_y = self.height - MARGIN - 1 - y if dy > 0 else y - MARGIN
         most = min(most, room_x, room_y)
         if most <= 0:
             return 0
@@ -302,7 +312,7 @@ class World:
 
     def taken_around(self, x: int, y: int) -> int:
         """Returns how many cells are taken in a square around a cell."""
-        low, high = max(0, y - AROUND), min(self.size, y + AROUND)
+        low, high = max(0, y - AROUND), min(self.height, y + AROUND)
         left = max(0, x - AROUND)
         mask = (1 << 2 * AROUND) - 1
         outside = (2 * AROUND - (high - low)) * 2 * AROUND
