@@ -17,23 +17,27 @@ from pathlib import Path
 from unittest import mock
 
 import support
-from bbmlab_core.joining import coils, command, lone_ways, modules, planning, wiring
+from bbmlab_core.joining import coil_ways, coils, command, lone_ways, modules, planning, wiring
 from bbmlab_core.joining.composing import Composed, Connection, NamedPart, composed
 from bbmlab_core.joining.lone_ways import balls_of
 from bbmlab_core.joining.parts import read_part
 from bbmlab_core.joining.places import GAP, Area, all_places
+from bbmlab_core.joining.turning import TURNINGS, UPRIGHT, Placing
 from bbmlab_core.physics.simulation import run_layout
 from bbmlab_core.route.attempt import Attempt
 from bbmlab_core.route.balls import Ball, follow, mirror_cells
 from bbmlab_core.route.command import ProgressLine
 from bbmlab_core.route.netlist import Netlist
 from bbmlab_core.route.settings import OPEN_STEPS, Settings
-from bbmlab_core.route.world import ROW, STEP, TILE, Item, number_cell, path_item
+from bbmlab_core.route.world import MARGIN, ROW, STEP, TILE, Item, World, cell_number, number_cell, path_item
 from bbmlab_core.texts.certificates import Module
 from bbmlab_core.texts.circuits import values_under
 from bbmlab_core.texts.documents import Document, read_document
+from bbmlab_core.texts.layouts import Box
 
 INTERRUPT_SECONDS = 6.0
+# The numbers of rows in which seven areas have room.
+ROW_COUNTS = 2
 BLOCK = "circuit\ninput a\nsource 1 -> one\nswitch a one -> b c d\noutput b\nspill c\nspill d\nend\n"
 DELAYED = "circuit\ninput a\ninput b\ndelay 40 a -> late\nswitch late b -> c d e\noutput d\noutput c\nspill e\nend\n"
 LATE = "circuit\ninput a\ndelay 40 a -> late\noutput late\nend\n"
@@ -162,8 +166,9 @@ class Joining(unittest.TestCase):
             self.assertTrue(way.ball.is_legal)
             self.assertFalse(way.mirrors - made.parts[0].text.layout.mirror_cells())
         parts = {part.name: part.text for part in made.parts}
-        whole = planning.made_plan(composed(parts, made.connections, set(ways)), 512, [0])
-        plan = planning.made_plan(made, 512, [0])
+        with mock.patch.object(planning, "turnings_of", lambda placed: [UPRIGHT]):
+            whole = planning.made_plan(composed(parts, made.connections, set(ways)), 512, [0])
+            plan = planning.made_plan(made, 512, [0])
         assert plan and whole
         self.assertLess(plan.end, whole.end)
 
@@ -209,10 +214,12 @@ class Joining(unittest.TestCase):
     def test_paths_that_ignore_a_part(self) -> None:
         """Paths through the parts get a no if the world has only their mirrors."""
         def add_mirrors(own: wiring.JoinWorld, placed: planning.PlacedPart) -> None:
-            own.add(Item(placed.part.item.mirrors).moved(placed.x, placed.y, placed.time))
+            own.add(Item(frozenset(map(placed.placing.cell_numbers(), placed.part.item.mirrors))))
 
         change = mock.patch.object(wiring.JoinWorld, "add_part", add_mirrors)
-        self.assertIn("verdict no", self.verdict_with(change))
+        # Balls wander through the parts, which cost nothing.
+        with mock.patch.multiple(wiring, INSIDE_CELLS=0, OUTWARD_CELLS=0, LEAST_COILED=10 ** 6):
+            self.assertIn("verdict no", self.verdict_with(change))
 
     def test_a_lost_wire(self) -> None:
         """If no module is told of the wires of paths, the text is refused."""
@@ -227,10 +234,11 @@ class Joining(unittest.TestCase):
     # --- time and room between parts ----------------------------------------------------------------------------------
 
     def test_places(self) -> None:
-        """Parts have gaps between them and around them, in eight ways, and each is beside the next one."""
+        """Parts have gaps between them and around them, in eight ways for each number of rows, and each is beside the
+        next one."""
         areas = [Area(160 + 16 * (index % 3), 160) for index in range(7)]
         found = list(all_places(areas, 800))
-        self.assertEqual(len({tuple(places) for places in found}), 8)
+        self.assertEqual(len({tuple(places) for places in found}), 8 * ROW_COUNTS)
         for places in found:
             boxes = [(x, y, x + own.width, y + own.height) for (x, y), own in zip(places, areas)]
             for number, (left, top, right, bottom) in enumerate(boxes):
@@ -260,7 +268,7 @@ class Joining(unittest.TestCase):
         """A coil takes its steps: its path meets itself nowhere, and stays in its box behind the entry."""
         for (dx, dy), steps in itertools.product(itertools.product((1, -1), repeat=2), (90, 327, 328, 2567, 9000)):
             ball = Ball(1000 + (dx < 0), 1000 + (dy < 0), dx, dy, 0)
-            for coil in coils.coils_of(ball, steps):
+            for coil in coils.coils_of(ball, coils.least_width(steps)):
                 legs = list(coil.legs(steps))
                 self.assertEqual(sum(leg.steps for leg in legs), steps)
                 item = path_item(ball, legs)
@@ -272,6 +280,8 @@ class Joining(unittest.TestCase):
         """A ball that waits long goes to a coil, or comes from one, and is there at its time."""
         plan = planning.JoinPlan(1024, 4000, [], [], 1024, 1024)
         own = wiring.JoinWiring(plan, mock.Mock(), 1, command.SETTINGS, float("inf"))
+        # The balls are where a part would be.
+        own.ground = coil_ways.CoilGround(own.world, [Box(400, 450, 220, 100)])
         for number in range(8):
             ball = Ball(440 + 16 * number, 500, 1, 1, 1000)
             job = planning.Job("w", None, ball, 1000) if number % 2 else planning.Job("w", ball, None, 4000)
@@ -288,6 +298,57 @@ class Joining(unittest.TestCase):
             own.world.remove(path.sealed)
             self.assertEqual((len(own.world.claims), len(own.world.mirrors)), before)
             own.world.add(path.sealed)
+
+    def test_ground_of_coils(self) -> None:
+        """Squares are free if nothing is in them or near them. Tiles far away from them need as many steps at least."""
+        size, part, world = 160, Box(50, 40, 20, 30), World(160)
+        taken = [(30, 100), (100, 60), *part.ring()]
+        world.add(Item(frozenset(map(cell_number, taken[:2]))))
+        ground, side, street = coil_ways.CoilGround(world, [part]), 40, coil_ways.PATH_STREET
+        ground.take_coil(Box(130, 120, 20, 20))
+        squares = ground.squares(side, 80)
+        for x, y in itertools.product(range(0, size, 3), repeat=2):
+            own, around = Box(x, y, side, side), Box(x - street, y - street, side + 2 * street, side + 2 * street)
+            inside = min(x, y) >= MARGIN and max(x, y) + side <= size - MARGIN
+            free = inside and not any(map(around.has, taken[:2])) and not any(map(own.has, taken[2:])) and (
+                x + side <= 130 - coil_ways.STREET or y + side <= 120 - coil_ways.STREET)
+            self.assertEqual(squares.has(x, y), free, (x, y))
+        places = [(x + side // 2, y + side // 2) for x in range(size) for y in range(size) if squares.has(x, y)]
+        distances = squares.distances()
+        for x, y in ((5, 5), (60, 55), (155, 155)):
+            least = min(max(abs(i - x), abs(j - y)) for i, j in places)
+            self.assertLess(abs(distances.steps_from(x, y) - least), 2 * TILE)
+
+    def test_turned_numbers(self) -> None:
+        """The numbers of the cells and of the blocks of a turned part are those of its turned cells, and back."""
+        chance = random.Random(1)
+        for turning in TURNINGS:
+            placing = Placing(160, 96, 320, 640, 40, turning)
+            cells, blocks = placing.cell_numbers(), placing.block_numbers()
+            for _ in range(20):
+                x, y, time = chance.randrange(0, 158), chance.randrange(0, 94), chance.randrange(100)
+                self.assertEqual(number_cell(cells(cell_number((x, y)))), placing.cell((x, y)))
+                number = time * STEP + cell_number((x, y))
+                own = blocks(number)
+                self.assertEqual((own // STEP, number_cell(own % STEP)), (time + 40, placing.box(Box(x, y, 2, 2))[:2]))
+                self.assertEqual(blocks.inverse()(own), number)
+                flight = range(number, number + 5 * (STEP + ROW + 1), STEP + ROW + 1)
+                self.assertEqual(list(blocks.of_range(flight)), [blocks(each) for each in flight])
+                dx, dy = chance.choice((-1, 1)), chance.choice((-1, 1))
+                ball = Ball(2 * (x // 2) + (dx < 0), 2 * (y // 2) + (dy < 0), dx, dy, 2 * time)
+                there = placing.ball(ball)
+                self.assertTrue(ball.is_legal and there.is_legal)
+                self.assertEqual(there.cells(), tuple(map(placing.cell, ball.cells())))
+                self.assertEqual(placing.ball(ball.flown(7)), there.flown(7))
+
+    def test_turned_parts(self) -> None:
+        """A join of parts that are mirrored, and turned if they are squares, gets a yes in all ways."""
+        turnings = planning.turnings_of(planning.PlacedPart(self.made().parts[0]))
+        self.assertGreaterEqual(len(turnings), 4)
+        for turning in turnings[1:]:
+            with self.subTest(turning):
+                change = mock.patch.object(planning, "turnings_of", lambda placed, own=turning: [own])
+                self.assertIn("verdict yes", self.verdict_with(change))
 
     # --- balls --------------------------------------------------------------------------------------------------------
 

@@ -4,7 +4,7 @@ A part runs as it does alone, some steps later and elsewhere: blocks change by t
 reaches it if no other ball enters a block in which one of its own balls moves, and no mirror is put where they pass.
 
 The modules, from the lowest: `lone_ways` finds what a join leaves out of a part, `parts` reads bundles and finds their
-balls and what they take, `composing` makes the circuit, `places` and `planning` choose places and times. `modules`
-keeps the modules of the joined bundle, `coils` has boxes in which balls wait, `wiring` leads the balls between the
-parts, `bundles` writes the text, and `command` is `bbmlab join`.
+balls and what they take, `composing` makes the circuit, `turning` mirrors and turns parts, `places` and `planning`
+choose places and times. `modules` keeps the modules of the joined bundle, `coils` has boxes in which balls wait,
+`coil_ways` leads balls to them, `wiring` leads all balls, `bundles` writes the text, and `command` is `bbmlab join`.
 """

@@ -78,7 +78,7 @@ class JoinedLayout:
 
     def mirrors(self) -> set[Cell]:
         """Returns the cells of all mirrors."""
-        found = {placed.cell(cell) for placed in self.plan.placed for cell in placed.part.mirror_cells()}
+        found = {cell for placed in self.plan.placed for cell in map(placed.placing.cell, placed.part.mirror_cells())}
         return found | {number_cell(number) for path in self.paths for number in path.item.mirrors}
 
     def ports(self) -> Iterator[tuple[Cell, str]]:

@@ -10,7 +10,6 @@ from dataclasses import dataclass
 from typing import Iterator
 
 from ..route.balls import BOUNCE_STEPS, Ball, Leg, Turn, bounce
-from ..route.world import World
 from ..texts.layouts import Box
 
 # Where the lead of a ball is in its coil: so many cells from the edges behind it.
@@ -46,18 +45,9 @@ def least_width(steps: int) -> int:
     return max(LEAST_WIDTH, 7 + math.isqrt(max(0, steps + 33)) + 1)
 
 
-def coils_of(ball: Ball, steps: int) -> Iterator[Coil]:
-    """Yields the two least coils for some steps of a ball that is at their entry."""
-    width = least_width(steps)
+def coils_of(ball: Ball, width: int) -> Iterator[Coil]:
+    """Yields the two coils of some columns or rows of a ball that is at their entry."""
     for (right, down), (columns, rows) in ((ENTRY, (width, width + 1)), (ENTRY[::-1], (width + 1, width))):
         x = ball.x - right if ball.dx > 0 else ball.x + right - columns + 1
         y = ball.y - down if ball.dy > 0 else ball.y + down - rows + 1
         yield Coil(ball, Box(x, y, columns, rows))
-
-
-def is_free(world: World, box: Box) -> bool:
-    """Whether a box is inside a world and nothing is in it."""
-    if not (world.is_inside(box.x, box.y) and world.is_inside(box.x + box.width - 1, box.y + box.height - 1)):
-        return False
-    mask = (1 << box.width) - 1
-    return not any(row >> box.x & mask for row in world.blocked[box.y:box.y + box.height])

@@ -45,7 +45,7 @@ class JoinedModules:
         self.origins: list[tuple[PlacedPart, Module]] = []
         for placed in plan.placed:
             for own in placed.part.text.certificate.modules:
-                self.add(Box(own.box.x + placed.x, own.box.y + placed.y, own.box.width, own.box.height))
+                self.add(placed.placing.box(own.box))
                 self.origins.append((placed, own))
         for box in self.tiles_between():
             self.add(box)
@@ -101,12 +101,12 @@ class JoinedModules:
         Lines of lone ways are left out.
         """
         placed, own = self.origins[module.number]
-        part, x, y, time = placed.part, placed.x, placed.y, placed.time
+        part, time, cell = placed.part, placed.time, placed.placing.cell
         module.keeps = [part.first_gate + number for number in own.keeps]
-        module.edges = [Border(None if line.time is None else line.time + time, line.x + x, line.y + y,
+        module.edges = [Border(None if line.time is None else line.time + time, *cell(line.cell),
                                part.wire(line.signal))
                         for line in own.edges if (line.time, line.cell) not in part.missing]
-        module.stops = [Stop(line.time + time, part.wires[line.name], line.x + x, line.y + y) for line in own.stops]
+        module.stops = [Stop(line.time + time, part.wires[line.name], *cell(line.cell)) for line in own.stops]
 
     # --- wires --------------------------------------------------------------------------------------------------------
 

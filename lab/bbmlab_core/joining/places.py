@@ -1,7 +1,7 @@
 """Places for the parts of a join: rows on a square, each of which goes back where the one before it ended.
 
-So each part is beside the next one. The rows can be mirrored, flipped, or columns: a join takes what needs the fewest
-steps.
+So each part is beside the next one. The rows can be few or many, mirrored, flipped, or columns: a join takes what needs
+the fewest steps.
 """
 
 import itertools
@@ -12,7 +12,7 @@ from ..route.world import TILE
 
 # The cells between a part and the border, and between two parts: at least, and at most.
 GAP = 2 * TILE
-MOST_GAP = 10 * TILE
+MOST_GAP = 24 * TILE
 
 
 @dataclass(frozen=True)
@@ -30,10 +30,15 @@ class Area:
 Place = tuple[int, int]
 
 
-def all_places(areas: Sequence[Area], side: int) -> Iterator[list[Place]]:
-    """Yields the places of areas in their order on a square, in eight ways, or none if they have no room."""
-    for is_column, is_mirrored, is_flipped in itertools.product((False, True), repeat=3):
-        found = rows_of_places([own.turned() for own in areas] if is_column else areas, side)
+def all_places(areas: Sequence[Area], side: int, can_turn: bool = False) -> Iterator[list[Place]]:
+    """Yields the places of areas in their order on a square, in eight ways for each number of rows in which they have
+    room.
+
+    If all areas can be turned and mirrored, the other seven ways are as good as the first one, and are left out.
+    """
+    choices = (False,) if can_turn else (False, True)
+    for is_column, is_mirrored, is_flipped, more in itertools.product(*(choices,) * 3, range(len(areas))):
+        found = rows_of_places([own.turned() for own in areas] if is_column else areas, side, more)
         if found is None:
             continue
         places = [(y, x) for x, y in found] if is_column else found
@@ -41,11 +46,15 @@ def all_places(areas: Sequence[Area], side: int) -> Iterator[list[Place]]:
                for own, (x, y) in zip(areas, places)]
 
 
-def rows_of_places(areas: Sequence[Area], side: int) -> list[Place] | None:
-    """Returns places in rows, or None if they have no room."""
-    rows = filled_rows(areas, side, len(areas))
+def rows_of_places(areas: Sequence[Area], side: int, more: int = 0) -> list[Place] | None:
+    """Returns places in as few rows as can be and some more ones, or None if they have no room."""
+    count = len(filled_rows(areas, side, len(areas))) + more
+    if count > len(areas):
+        return None
     # As many areas in each row as are needed for the same number of rows.
-    rows = filled_rows(areas, side, -(-len(areas) // len(rows)))
+    rows = filled_rows(areas, side, -(-len(areas) // count))
+    if len(rows) != count:
+        return None
     heights = [max(own.height for own in row) for row in rows]
     if any(sum(own.width + GAP for own in row) + GAP > side for row in rows):
         return None

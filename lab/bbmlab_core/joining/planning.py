@@ -1,4 +1,4 @@
-"""Places and times for the parts of a join: rows on a square, each part late enough for its balls.
+"""Places and times for the parts of a join: rows on a square, each part turned and late enough for its balls.
 
 Shifts are even and places are whole tiles, so blocks stay blocks and the boxes of parts and tiles do not overlap.
 """
@@ -12,6 +12,7 @@ from ..texts.layouts import Cell
 from ..texts.limits import SECOND
 from .composing import Composed, NamedPart
 from .places import GAP, Area, Place, all_places
+from .turning import TURNINGS, UPRIGHT, Placing, Turning
 
 # The part of the plane between the parts that may be taken by estimate, and the cells that a ball newly touches in a
 # step.
@@ -31,12 +32,20 @@ class Spare:
 
     def steps_between(self, first: Ball, last: Ball) -> int:
         """Returns the steps from a ball to another one."""
-        far = max(abs(first.x - last.x), abs(first.y - last.y))
-        return int((1 + self.detour) * far) + self.steps
+        return int((1 + self.detour) * max(ways_between(first, last))) + self.steps
 
 
-# The steps to spare of each ball between two parts: the next ones if it could not be led.
+def ways_between(first: Ball, last: Ball) -> tuple[int, int]:
+    """Returns the columns and rows from a ball to another one."""
+    return abs(first.x - last.x), abs(first.y - last.y)
+
+
+# The steps to spare of each ball between two parts: the next ones if it could not be led, or if the columns or rows of
+# its way are more than a part of the others: it has few ways to go.
 SPARES = (Spare(0.1, 60), Spare(0.2, 100), Spare(0.35, 150), Spare(0.35, 250), Spare(0.35, 350))
+SLANTED = 0.6
+# How often all parts are turned anew.
+TURNS = 2
 # For each connection the place of its spare steps in `SPARES`.
 Spares = list[int]
 
@@ -49,14 +58,21 @@ class PlacedPart:
     x: int = 0
     y: int = 0
     time: int = 0
+    turning: Turning = UPRIGHT
+
+    @property
+    def placing(self) -> Placing:
+        """Where the part's plane is in the join."""
+        layout = self.part.text.layout
+        return Placing(layout.width, layout.height, self.x, self.y, self.time, self.turning)
 
     def ball(self, ball: Ball) -> Ball:
         """Returns a ball of the part where and when it is in the join."""
-        return ball.moved(self.x, self.y, self.time)
+        return self.placing.ball(ball)
 
     def cell(self, cell: Cell) -> Cell:
         """Returns a cell of the part where it is in the join."""
-        return cell[0] + self.x, cell[1] + self.y
+        return self.placing.cell(cell)
 
     @property
     def area(self) -> Area:
@@ -115,7 +131,8 @@ def made_plan(composed: Composed, side: int, spares: Spares) -> JoinPlan | None:
     come to it than leave it.
     """
     areas = [PlacedPart(part).area for part in composed.parts]
-    found = [placed_at(composed, places, spares) for places in all_places(areas, side)]
+    can_turn = all(turnings_of(PlacedPart(part)) == TURNINGS for part in composed.parts)
+    found = [turned_at(composed, places, spares) for places in all_places(areas, side, can_turn)]
     if not found:
         return None
     placed = min(found, key=last_time)
@@ -132,18 +149,43 @@ def last_time(placed: list[PlacedPart]) -> int:
     return max(own.end for own in placed)
 
 
-def placed_at(composed: Composed, places: list[Place], spares: Spares) -> list[PlacedPart]:
-    """Returns the parts at some places, each as early as its balls can come."""
+def turned_at(composed: Composed, places: list[Place], spares: Spares) -> list[PlacedPart]:
+    """Returns the parts at some places, each turned so that the last one ends early."""
     placed = [PlacedPart(part, x, y) for part, (x, y) in zip(composed.parts, places)]
+    set_times(composed, placed, spares)
+    connected = {name for own in composed.connections for name in (own.source, own.target)}
+    for own in (own for _ in range(TURNS) for own in placed if own.part.name in connected):
+        ends = dict[Turning, tuple[int, int]]()
+        for turning in turnings_of(own):
+            own.turning = turning
+            set_times(composed, placed, spares)
+            ends[turning] = last_time(placed), sum(other.time for other in placed)
+        own.turning = min(ends, key=lambda turning: ends[turning])
+    set_times(composed, placed, spares)
+    return placed
+
+
+def turnings_of(placed: PlacedPart) -> list[Turning]:
+    """Returns the turnings with which a part takes the same place. Blocks stay blocks if its sides are even."""
+    layout, area = placed.part.text.layout, placed.area
+    if layout.width % 2 or layout.height % 2:
+        return [UPRIGHT]
+    return [own for own in TURNINGS if area.width == area.height or not own.is_turned]
+
+
+def set_times(composed: Composed, placed: list[PlacedPart], spares: Spares) -> None:
+    """Sets the times of placed parts: each is as early as its balls can come."""
     by_name = {own.part.name: own for own in placed}
     for own in placed:
+        own.time = 0
         for connection, spare in zip(composed.connections, spares):
             if connection.target == own.part.name:
                 first = end_ball(by_name[connection.source], connection.output)
                 last = start_ball(own, connection.input)
-                after = first.time + SPARES[spare].steps_between(first, last) - (last.time - own.time)
+                ways = sorted(ways_between(first, last))
+                own_spare = SPARES[min(len(SPARES) - 1, spare + (ways[0] > SLANTED * ways[1]))]
+                after = first.time + own_spare.steps_between(first, last) - last.time
                 own.time = max(own.time, (after + 1) // 2 * 2)
-    return placed
 
 
 def end_ball(placed: PlacedPart, wire: str) -> Ball:

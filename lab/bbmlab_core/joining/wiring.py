@@ -9,7 +9,7 @@ import time
 from array import array
 from dataclasses import dataclass
 from itertools import chain
-from typing import Callable, Collection, Iterable, Iterator, NamedTuple
+from typing import Callable, Collection, Iterable, NamedTuple
 
 from ..route.balls import Ball, Leg, follow, reversed_legs
 from ..route.board import Bound, NoRouteError
@@ -17,10 +17,11 @@ from ..route.paths import Path, PathFinder, Trail
 from ..route.settings import Settings
 from ..route.world import STEP, TILE, Item, World, cell_number, number_cell, path_item
 from ..texts.layouts import Box
-from .coils import Coil, coils_of, is_free
+from .coil_ways import CoilGround, CoilSearch
 from .modules import JoinedModules
 from .parts import ALWAYS
 from .planning import Job, JoinPlan, PlacedPart
+from .turning import NumberMap
 
 # The steps at the open ends of balls that wait which are kept free, the first that fit.
 STUB_STEPS = (20, 14, 10, 6, 3)
@@ -45,15 +46,10 @@ NEAR = 70
 # The steps of the straight way of a ball from which other paths are taken.
 WAY_STEPS = 76
 
-
-# A ball with at least so many steps to wait goes to a coil, if one has room. A coil keeps so many cells off parts. It
-# is between the next two numbers of steps behind a wander of some steps, which is tried a few times.
+# A ball with at least so many steps to wait goes to a coil. A coil keeps so many cells off parts: balls have to leave
+# them.
 LEAST_COILED = 400
 CLEAR = 80
-COIL_AHEAD = 12
-COIL_REACH = 200
-AWAY_STEPS = (40, 500)
-COIL_TRIES = 5
 
 
 class TightError(NoRouteError):
@@ -66,9 +62,10 @@ class TightError(NoRouteError):
 
 @dataclass(frozen=True, eq=False)
 class CoiledPath(Path):
-    """A path that waits in a coil. `sealed` keeps all other balls out of the coil's box, without its claims there."""
+    """A path that waits in a coil. `sealed` keeps all other balls out of the coil's `box`, without its claims there."""
 
     sealed: Item
+    box: Box
 
 
 def taken_by(path: Path) -> Item:
@@ -94,10 +91,11 @@ def compact_item(item: Item) -> Item:
 
 
 class PartClaims(NamedTuple):
-    """The blocks at times that a part claims, by its own numbers, with its corners and the number of its first cell."""
+    """The blocks at times that a part claims, by its own numbers, with its corners and its numbers of those of the
+    join."""
 
     corners: tuple[int, int, int, int]
-    first: int
+    numbers: NumberMap
     claims: set[int]
 
     def meets(self, part: "range | array[int]") -> bool:
@@ -106,9 +104,8 @@ class PartClaims(NamedTuple):
         (x, y), (far, low) = number_cell(part[0] % STEP), number_cell(part[-1] % STEP)
         if max(x, far) < left - 8 or min(x, far) > right + 8 or max(y, low) < top - 8 or min(y, low) > bottom + 8:
             return False
-        if isinstance(part, range):
-            return not self.claims.isdisjoint(range(part.start - self.first, part.stop - self.first, part.step))
-        return not self.claims.isdisjoint(number - self.first for number in part)
+        own: Iterable[int] = self.numbers.of_range(part) if isinstance(part, range) else map(self.numbers, part)
+        return not self.claims.isdisjoint(own)
 
 
 class JoinWorld(World):
@@ -131,21 +128,17 @@ class JoinWorld(World):
     def add_part(self, placed: PlacedPart) -> None:
         """Adds a part where and when it is in the join."""
         item, area = placed.part.item, placed.area
-        self.add(Item(item.mirrors, item.touched_parts).moved(placed.x, placed.y, placed.time))
+        cells = placed.placing.cell_numbers()
+        touched = tuple(array("q", map(cells, own)) for own in item.touched_parts)
+        self.add(Item(frozenset(map(cells, item.mirrors)), touched))
         corners = placed.x, placed.y, placed.x + area.width, placed.y + area.height
         claims = self.claim_sets.setdefault(id(item), item.claims)
-        self.part_claims.append(PartClaims(corners, placed.time * STEP + cell_number((placed.x, placed.y)), claims))
+        self.part_claims.append(PartClaims(corners, placed.placing.block_numbers().inverse(), claims))
 
     def fits(self, item: Item) -> bool:
         """Whether an item may be added: it meets nothing that is there, neither in space nor in time."""
         return super().fits(item) and not any(own.meets(part) for part in map(compact_part, item.claim_parts)
                                               for own in self.part_claims)
-
-    def is_clear_of_parts(self, box: Box) -> bool:
-        """Whether a box is so far from all parts that balls can still leave them."""
-        right, bottom = box.x + box.width + CLEAR, box.y + box.height + CLEAR
-        return not any(left < right and box.x - CLEAR < far and top < bottom and box.y - CLEAR < low
-                       for left, top, far, low in self.boxes)
 
     def depth(self, x: int, y: int) -> int:
         """Returns how far a cell is from the border of the part that it is in, or 0."""
@@ -174,6 +167,9 @@ class JoinWiring:
         self.chance = random.Random(seed)
         self.finder = PathFinder(self.world, self.chance, settings)
         self.finder.check_time = self.check_time
+        around = [Box(x - CLEAR, y - CLEAR, far - x + 2 * CLEAR, low - y + 2 * CLEAR)
+                  for x, y, far, low in self.world.boxes]
+        self.ground = CoilGround(self.world, around)
         self.stubs: dict[int, list[Item]] = {}
         self.paths: dict[int, Path] = {}
 
@@ -221,13 +217,15 @@ class JoinWiring:
                 for what, ball in (("from", job.start), ("to", job.goal)) if ball]
         return f"{ball_words(job)} could not be led {' '.join(ends)}"
 
-    def closed_ends(self) -> Iterator[tuple[int, Ball, int]]:
-        """Yields the open ends that no ball can leave even if no other ball is led: the number of the job, the ball,
-        and 1 behind it or -1 before it."""
-        for index, job in enumerate(self.plan.jobs):
-            for ball, sign in ((job.start, 1), (job.goal, -1)):
-                if ball is not None and not any(self.can_leave(ball, sign) for _ in range(TRIES)):
-                    yield index, ball, sign
+    def closed_ends(self) -> list[tuple[int, Ball, int]]:
+        """Returns the open ends that no ball can leave even if no other ball is led: the number of the job, the ball,
+        and 1 behind it or -1 before it. The paths to come do not depend on what was tried."""
+        self.finder.chance = random.Random(0)
+        found = [(index, ball, sign) for index, job in enumerate(self.plan.jobs)
+                 for ball, sign in ((job.start, 1), (job.goal, -1))
+                 if ball is not None and not any(self.can_leave(ball, sign) for _ in range(TRIES))]
+        self.finder.chance = self.chance
+        return found
 
     def can_leave(self, ball: Ball, sign: int) -> bool:
         """Whether a ball can fly some steps on, or some steps come before it if `sign` is -1."""
@@ -269,11 +267,13 @@ class JoinWiring:
         for stub in self.stubs.pop(index):
             self.world.remove(stub)
         job = self.plan.jobs[index]
-        for _ in range(TRIES):
-            path = self.found(job)
+        for tried in range(TRIES):
+            path = self.found(job, tried)
             numbers = self.modules.modules_of(path) if path else set[int]()
             if path is not None and self.modules.has_room_for(job.wire, numbers):
                 self.world.add(taken_by(path))
+                if isinstance(path, CoiledPath):
+                    self.ground.take_coil(path.box)
                 self.modules.count(job.wire, numbers, 1)
                 self.paths[index] = path
                 return True
@@ -298,49 +298,33 @@ class JoinWiring:
         ends = [ball for ball in (job.start, job.goal) if ball is not None]
         return any(abs(end.x - ball.x) < NEAR and abs(end.y - ball.y) < NEAR for end in ends for ball in balls)
 
-    def found(self, job: Job) -> Path | None:
-        """Returns a path for a ball, or None."""
+    def found(self, job: Job, tried: int = 0) -> Path | None:
+        """Returns a path for a ball, or None. A coil is sought only at the first try."""
         self.finder.known_departures.clear()
+        coiled = self.coiled(job) if not tried and not job.is_between and job.steps >= LEAST_COILED else None
+        if coiled is not None:
+            return coiled
         if job.goal is None:
             assert job.start is not None
-            return self.coiled(job, job.start, job.end) or self.finder.lead_on(job.wire, job.start, job.end)
+            return self.finder.lead_on(job.wire, job.start, job.end)
         if job.start is None:
-            return self.coiled(job, job.goal, 0) or self.finder.lead_here(job.wire, job.goal)
+            return self.finder.lead_here(job.wire, job.goal)
         return self.connected(job.wire, job.start, job.goal)
 
-    def coiled(self, job: Job, ball: Ball, end: int) -> Path | None:
-        """Returns a path that wanders away from its part, to a coil in which the ball waits, or None.
-
-        Without a start the ball comes from a coil.
-        """
-        if job.steps < LEAST_COILED:
-            return None
-        for _ in range(COIL_TRIES):
-            trail = Trail(self.world, ball, is_backward=job.start is None)
-            stop = min(trail.ball.time + self.chance.randint(*AWAY_STEPS), end)
-            coil = self.coil_of(trail, end) if self.finder.wander(trail, stop) else None
-            legs = trail.legs() if trail.steps else []
-            first, left = trail.ball, end - trail.ball.time
-            trail.clear()
-            if coil is not None:
-                ahead = coil.entry.time - first.time
-                more = linked([Leg(ahead, None)], list(coil.legs(left - ahead)))
-                legs = linked(reversed_legs(more), legs) if job.start is None else linked(legs, more)
-                start, goal = (self.finder.before(ball, legs), ball) if job.start is None else (
-                    ball, follow(ball, legs)[0])
-                path = self.finder.complete(job.wire, start, goal, legs)
-                if path is not None:
-                    item = compact_item(path.item)
-                    return CoiledPath(job.wire, start, goal, path.legs, item, sealed_item(item, coil.box))
-        return None
-
-    def coil_of(self, trail: Trail, end: int) -> Coil | None:
-        """Returns a coil that has room behind the end of a trail, for the steps up to a time; or None."""
-        left = end - trail.ball.time
-        for ahead in range(COIL_AHEAD, min(left, trail.room(COIL_REACH)) + 1, 4):
-            for coil in coils_of(trail.ball.flown(ahead), left - ahead):
-                if self.world.is_clear_of_parts(coil.box) and is_free(self.world, coil.box):
-                    return coil
+    def coiled(self, job: Job) -> Path | None:
+        """Returns a path to a coil in which a ball waits, or None. Without a start the ball comes from a coil."""
+        ball, end = job.start, job.end
+        if ball is None:
+            assert job.goal is not None
+            ball, end = job.goal, 0
+        for coil, legs in CoilSearch(self.finder, self.ground, ball, end, job.start is None).run():
+            if job.start is None:
+                legs = reversed_legs(legs)
+            start = job.start or self.finder.before(ball, legs)
+            path = self.finder.complete(job.wire, start, follow(start, legs)[0], legs)
+            if path is not None:
+                item = compact_item(path.item)
+                return CoiledPath(job.wire, start, path.end, path.legs, item, sealed_item(item, coil.box), coil.box)
         return None
 
     def connected(self, wire: str, start: Ball, goal: Ball) -> Path | None:
@@ -373,6 +357,8 @@ class JoinWiring:
         """Takes the path of a ball back, which waits again."""
         path = self.paths.pop(index)
         self.world.remove(taken_by(path))
+        if isinstance(path, CoiledPath):
+            self.ground.take_coils(own.box for own in self.paths.values() if isinstance(own, CoiledPath))
         self.modules.count(path.wire, self.modules.modules_of(path), -1)
         self.reserve(index)
 
