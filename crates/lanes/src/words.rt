@@ -111,6 +111,10 @@ pub(crate) fn are_words_different(
     ensures { result ≡ false → (k : ℕ) → k < long →
         slice_index first.now (a + k) ≡ slice_index second.now (b + k) }
 {
+    // The loop costs more than one word.
+    if long == 1 {
+        return first[a] != second[b];
+    }
     let mut difference = 0;
     // Over all words, so that some are compared at once.
     for k in 0..long {
@@ -126,6 +130,10 @@ pub(crate) fn has_word_other_than(words: &[u64], a: usize, word: u64, long: usiz
     requires { a + long ≤ length words.now }
     ensures { result ≡ false → (k : ℕ) → k < long → slice_index words.now (a + k) ≡ word }
 {
+    // The loop costs more than one word.
+    if long == 1 {
+        return words[a] != word;
+    }
     let mut difference = 0;
     for k in 0..long {
         difference |= words[a + k] ^ word;

@@ -14,6 +14,7 @@ use crate::lines::{
 use lanes::{Planes, is_marked};
 use module_job::Job;
 use std::alloc::{AllocError, Global};
+use std::mem::swap;
 
 /// Marks on the cells of ring and halo of which a job's lines say something at a time: one for the number of a cell in
 /// its plane, and one of its own.
@@ -27,6 +28,8 @@ pub struct LineMarks {
     events: Vec<u64>,
     // the same for the time that was looked at before
     last_events: Vec<u64>,
+    // whether they may have a mark
+    has_last_events: bool,
     // where the search for the next time's lines begins
     places: LinePlaces,
     ghost same_long: { vec_len marks ≡ vec_len all_times },
@@ -51,6 +54,7 @@ impl LineMarks {
             all_times,
             events: vec![in alloc; 0u64; long]?,
             last_events: vec![in alloc; 0u64; long]?,
+            has_last_events: false,
             places: LinePlaces {
                 edges: none,
                 halos: none,
@@ -72,11 +76,16 @@ impl LineMarks {
         ensures all_times { self.new.all_times ≡ self.old.all_times }
     {
         self.time = time;
-        self.last_events.copy_from_slice(&self.events);
-        if self.places.has_any() {
+        let has_events = self.places.has_any();
+        if has_events {
             self.marks.copy_from_slice(&self.all_times);
+        }
+        // An exchange costs less than a copy. A mark that is left over would only cost a look.
+        swap(&mut self.events, &mut self.last_events);
+        if self.has_last_events {
             self.events.fill(0);
         }
+        self.has_last_events = has_events;
         mark_lines(
             &mut self.marks,
             &mut self.events,

@@ -33,7 +33,8 @@ fn number_from_halo(coordinate: i32, first: u32, count: u32) -> Option<usize>
     Some((coordinate - before) as usize)
 }
 
-/// Returns the number of a cell's own mark, where `number` is that of its cells in the planes, of `cells` cells each.
+/// Returns the number of a cell's own mark. `number` is the number of the cell in its plane, and each plane has `cells`
+/// cells.
 #[inline(always)]
 #[tactic(auto, using(crate::proofs::QuietLemmas::part_within))]
 pub fn own_mark_number(number: usize, cells: usize, x: usize, y: usize) -> usize
