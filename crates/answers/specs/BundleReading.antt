@@ -35,8 +35,8 @@ pub record TellsRefusal (fault : ReadFault) (output : List ℕ) (outcome : Outco
   pub says : output ≡ refusal_line refusal
   pub ends : outcome ≡ ended.Refused
 
--- With these limits a circuit was read from a feed, and then a layout with the circuit's port names, up to where the
--- feed is at last.
+-- With these limits a circuit was read from the feed `old`, and then a layout with the circuit's port names. `new` is
+-- the feed after both.
 pub record IsDesignRead (l : Limits) (old new : FeedView) (circuit : List CircuitLine) (layout : Pattern) : Type 0 where
   pub between : FeedView
   pub circuit_read : Reads (circuit_grammar l) circuit_section old between (Ok circuit)
