@@ -2,7 +2,7 @@
 use Rattle.certificate_lines.proofs.Imports.{Bool, BorderLine, Edge, Halo, Item, List, Module, None, Option, Some, Stop}
 use Rattle.certificate_lines.proofs.Imports.{StopLine, ap, arith, border_of, bytes_eq, bytes_eq-Decides, cases_Bool}
 use Rattle.certificate_lines.proofs.Imports.{codes, common_steps, cond-false, cond-true, false, form_of, if◌then◌else◌}
-use Rattle.certificate_lines.proofs.Imports.{is_word_at, length, refl, stop_of, sym, true, ℕ, ◌==◌, ◌>>=◌, ◌∙◌, ◌≡◌}
+use Rattle.certificate_lines.proofs.Imports.{is_word_at, length, stop_of, sym, true, ℕ, ◌==◌, ◌>>=◌, ◌∙◌, ◌≡◌}
 use Rattle.pattern.specs.Forms.{box_of}
 use Rattle.lemmas.proofs.Common.{test_failed, tested_value}
 use Rattle.section_text.specs.Listed.{list_of_five_words}
@@ -12,8 +12,7 @@ use Rattle.section_text.specs.declared.section.Form.TheVariants.{Header, End}
 use Rattle.certificate_lines.specs.Forms.{CertificateForm, form_of_not_five_words}
 
 same_none : (b : Bool) (x : Option CertificateForm) → x ≡ None → (if b then None else x) ≡ None
-same_none true x e = refl
-same_none false x e = e
+same_none b x h1 = grind (arith, common_steps)
 
 -- ---- lines of five words
 
@@ -61,8 +60,7 @@ no_stop ws e = sym (cond-false _ _ _ (test_failed (length ws == 5) ws (sym e)))
 
 -- a word that is one keyword is no other
 other_word : (o : Option (List ℕ)) (k m : List ℕ) → bytes_eq k m ≡ false → is_word o k ≡ true → is_word o m ≡ false
-other_word None k m d e = refl
-other_word (Some w) k m d e = ap (λ z. bytes_eq z m) ((bytes_eq-Decides w k).0 e) ∙ d
+other_word o k m h1 h2 = grind (arith, common_steps, bytes_eq-Decides)
 
 -- a line that begins with the keyword of a line of five words
 no_short_form : (ws : List (List ℕ)) (k : List ℕ) → is_word_at ws 0 k ≡ true → bytes_eq k (codes "cut") ≡ false →

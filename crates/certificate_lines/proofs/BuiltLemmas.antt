@@ -121,8 +121,7 @@ module _ (g : Setting) (ms : List ModuleLines) where
       has_nonlocal_port g m ≡ false) → is_last_module_incomplete g (last_of ms) ≡ false
       → (i : ℕ) (m : ModuleLines) → i + 1 < length (ms ++ new_module b ∷ []) →
       slice_get (ms ++ new_module b ∷ []) i ≡ Some m → has_nonlocal_port g m ≡ false
-  ported_push b before complete i m lt e =
-      grind (arith, common_steps, pushed, new_module, slice_get_within, length_push, last_is)
+  ported_push b before complete i m lt e = grind (arith, common_steps, pushed, slice_get_within, length_push, last_is)
 
   pub module_sound : (b : Box2) → AreGoodModulesSoFar g ms → IsGoodModule g ms (last_of ms) b →
       AreGoodModulesSoFar g (ms ++ new_module b ∷ [])
@@ -138,15 +137,7 @@ module _ (g : Setting) (ms : List ModuleLines) where
 
   pub module_built : (b : Box2) (old new : OwnersView) → AreBuilt g ms old → IsGoodModule g ms (last_of ms) b →
       (number : ℕ) → number ≡ length ms → PutsBox b number old new → AreBuilt g (ms ++ new_module b ∷ []) new
-  module_built b old new built good number is puts = record {
-    sound = module_sound b built.sound good;
-    owners = record {
-      width = puts.width ∙ built.owners.width;
-      height = puts.height ∙ built.owners.height;
-      boxes = subst (ArePartOwners new) (sym (areas_push ms (new_module b))) (puts.boxes (areas ms) built.owners.boxes
-          (is ∙ sym (length-map ms (λ (m : ModuleLines). m.area))) (let few = good.few in omega (arith, is, few)));
-    };
-  }
+  module_built b old new built good number is puts = grind (arith, common_steps, module_sound, areas_push, length-map)
 
   -- one more line of the last module
   pub line_sound : (i : CertificateLine) → AreGoodModulesSoFar g ms →
@@ -168,9 +159,5 @@ module _ (g : Setting) (ms : List ModuleLines) where
       AreBuilt g (change_last (module_with_line i) ms) o
   line_built i o built grows = record {
     sound = line_sound i built.sound grows;
-    owners = record {
-      width = built.owners.width;
-      height = built.owners.height;
-      boxes = subst (ArePartOwners o) (sym (areas_changed i ms)) built.owners.boxes;
-    };
+    owners = grind (arith, common_steps, areas_changed);
   }

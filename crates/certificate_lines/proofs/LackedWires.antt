@@ -17,11 +17,7 @@ use Rattle.certificate_lines.proofs.Lists.{some_is}
 -- ---- tests of two lists
 
 or_exchange : (a b c d : Bool) → ((a || b) || (c || d)) ≡ ((a || c) || (b || d))
-or_exchange true b c d = refl
-or_exchange false true true d = refl
-or_exchange false true false d = refl
-or_exchange false false true d = refl
-or_exchange false false false d = refl
+or_exchange a b c d = grind (arith, common_steps)
 
 module _ {X : Type 0} where
   pub any_either : (f g : X → Bool) (xs : List X) → list_any (λ x. f x || g x) xs ≡ (list_any f xs || list_any g xs)

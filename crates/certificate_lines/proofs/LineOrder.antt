@@ -41,10 +41,7 @@ pub in_append : {A : Type 0} (x : A) (xs ys : List A) → In x (xs ++ ys) → In
 unfolding In
 in_append x [] ys i = inr i
 in_append x (y ∷ xs) ys (inl same) = inl (inl same)
-in_append x (y ∷ xs) ys (inr later) = elim (in_append x xs ys later) [
-  | inl first ↦ inl (inr first)
-  | inr second ↦ inr second
-]
+in_append x (y ∷ xs) ys (inr later) = grind (arith, common_steps, in_append x xs ys later)
 
 -- an element of a list that a function makes of each element
 pub in_flat : {A B : Type 0} (f : A → List B) (b : B) (xs : List A) → In b (flat_map f xs) →
@@ -72,13 +69,8 @@ head_or_later x y ys i = i
 pub in_filter : {A : Type 0} (test : A → Bool) (x : A) (xs : List A) → In x (filter test xs) → In x xs × (test x ≡ true)
 unfolding In
 in_filter test x [] i = absurd i
-in_filter test x (y ∷ ys) i = elim (cases_Bool (test y)) [
-  | inl holds ↦ elim (head_or_later x y (filter test ys) (subst (In x) (cond-true _ _ _ holds) i)) [
-    | inl same ↦ (inl same, sym (ap test same) ∙ holds)
-    | inr later ↦ let r = in_filter test x ys later in (inr r.0, r.1)
-  ]
-  | inr fails ↦ let r = in_filter test x ys (subst (In x) (cond-false _ _ _ fails) i) in (inr r.0, r.1)
-]
+in_filter test x (y ∷ ys) i =
+    grind (arith, common_steps, cases_Bool, head_or_later, cond-true, cond-false, in_filter test x ys)
 
 pub filter_in : {A : Type 0} (test : A → Bool) (x : A) (xs : List A) → In x xs → test x ≡ true → In x (filter test xs)
 unfolding In
@@ -111,8 +103,7 @@ abbrev pub AreDistinct : List BorderLine → Type 0
 AreDistinct = Pairs (λ d e. border_line_cmp d e ≢ Equal)
 
 less_apart : (o : Ordering) → o ≡ Less → o ≢ Equal
-less_apart Less e h = cc
-less_apart _ e h = cc
+less_apart o h1 = grind (arith, common_steps)
 
 pub pairs_each : {A : Type 0} (R S : A → A → Type 0) → ((a b : A) → R a b → S a b) → (xs : List A) → Pairs R xs →
     Pairs S xs
@@ -126,13 +117,10 @@ rising_distinct es p = grind (arith, common_steps, pairs_each, less_apart)
 -- ---- a line more
 
 after_line : (o : Ordering) → o ≢ Equal → is_lt o ≡ false → o ≡ Greater
-after_line Less n h = absurd cc
-after_line Equal n h = absurd (n refl)
-after_line Greater n h = refl
+after_line o h1 h2 = grind (arith, common_steps)
 
 pub is_before : (o : Ordering) → is_lt o ≡ true → o ≡ Less
-is_before Less h = refl
-is_before _ h = absurd cc
+is_before o h1 = grind (arith, common_steps)
 
 turned : (d e : BorderLine) → border_line_cmp d e ≡ Greater → border_line_cmp e d ≡ Less
 turned d e h = line_total.antisymm e d ∙ ap ordering_reverse h
@@ -149,10 +137,7 @@ put_back : (x d e : BorderLine) (es : List BorderLine) (b : Bool) →
     ((d ≡ x) ⊎ In x es → In x (insert_border_line d es)) →
     (d ≡ x) ⊎ In x (e ∷ es) → In x (if b then d ∷ e ∷ es else e ∷ insert_border_line d es)
 unfolding In
-put_back x d e es true h i = i
-put_back x d e es false h (inl same) = inr (h (inl same))
-put_back x d e es false h (inr (inl same)) = inl same
-put_back x d e es false h (inr (inr later)) = inr (h (inr later))
+put_back x d e es b h1 h2 = grind (arith, common_steps)
 
 pub in_put : (x d : BorderLine) (es : List BorderLine) → In x (insert_border_line d es) → (d ≡ x) ⊎ In x es
 unfolding insert_border_line In
@@ -180,10 +165,7 @@ put_rises d (e ∷ es) p n = elim (cases_Bool (is_lt (border_line_cmp d e))) [
 pub in_ordered : (x : BorderLine) (ds : List BorderLine) → In x (sorted_border_lines ds) → In x ds
 unfolding sorted_border_lines In
 in_ordered x [] i = i
-in_ordered x (d ∷ ds) i = elim (in_put x d (sorted_border_lines ds) i) [
-  | inl same ↦ inl same
-  | inr later ↦ inr (in_ordered x ds later)
-]
+in_ordered x (d ∷ ds) i = grind (arith, common_steps, in_put, in_ordered x ds)
 
 pub ordered_in : (x : BorderLine) (ds : List BorderLine) → In x ds → In x (sorted_border_lines ds)
 unfolding sorted_border_lines In
