@@ -8,7 +8,7 @@ use Rattle.soundness.proofs.Imports.{event_at, events_of_line, false, flat_map, 
 use Rattle.soundness.proofs.Imports.{in_ring, is_at, is_live, line_signals, mapped_from, one_or_named_wire, refl}
 use Rattle.soundness.proofs.Imports.{renumber_demand, renumber_signal, setting_of, signal_at, slice_get}
 use Rattle.soundness.proofs.Imports.{slice_get_within, some_at, subst, sym, true, true≢false, values_by_local_number}
-use Rattle.soundness.proofs.Imports.{whole, ℕ, ℤ, ◌&&◌, ◌++◌, ◌==◌, ◌∙◌, ◌∷◌, ◌≡◌}
+use Rattle.soundness.proofs.Imports.{whole, ℕ, ℤ, ◌++◌, ◌∙◌, ◌∷◌, ◌≡◌}
 use Rattle.lemmas.proofs.Common.{cond-false, and-false}
 use Rattle.border_match.proofs.Bridge.{edge_same}
 use Rattle.module_job.specs.declared.job.Demand.TheVariants as Demanded
@@ -17,14 +17,12 @@ use Rattle.module_job.specs.declared.job.Demand.TheVariants as Demanded
 
 live_seen : (l : LocalNet) (v : Valuation) (s : Signal) →
     is_live (values_by_local_number l v) s ≡ is_live v (renumber_signal (circuit_wire l) s)
-live_seen l v Zero = refl
-live_seen l v _ = refl
+live_seen l v s = grind (arith, common_steps)
 
 pub meets_for_circuit_wires : (l : LocalNet) (v : Valuation) (d : Demand) (live : Bool) →
     MeetsDemand (values_by_local_number l v) d live →
     MeetsDemand v (renumber_demand (circuit_wire l) d) live
-meets_for_circuit_wires l v Demanded.Dead live h = h
-meets_for_circuit_wires l v _ live h = h
+meets_for_circuit_wires l v d live h1 = grind (arith, common_steps)
 
 pub live_renumbered : (l : LocalNet) (v : Valuation) (s r : Signal) → renumber_signal (circuit_wire l) s ≡ r →
     is_live (values_by_local_number l v) s ≡ is_live v r
@@ -83,15 +81,13 @@ one_all_times : (e : BorderLine) (time : Option ℕ) (s : Signal) (rest : List A
     all_times_at rest x y ≡ None →
     all_times_at (all_times_of_line e time s ++ rest) x y ≡ None
 unfolding all_times_at
-one_all_times e None s rest x y h r = cond-false _ _ _ h ∙ r
-one_all_times e (Some t) s rest x y h r = r
+one_all_times e time s rest x y h1 h2 = grind (arith, common_steps, cond-false)
 
 one_event : (e : BorderLine) (time : Option ℕ) (s : Signal) (rest : List TimedSignal) (t : ℕ) (x y : ℤ) →
     is_at e.cell x y ≡ false → event_at rest t x y ≡ None →
     event_at (events_of_line e time s ++ rest) t x y ≡ None
 unfolding event_at
-one_event e None s rest t x y h r = r
-one_event e (Some u) s rest t x y h r = cond-false _ _ _ (ap (λ b. (u == t) && b) h ∙ and-false (u == t)) ∙ r
+one_event e time s rest t x y h1 h2 = grind (arith, common_steps, cond-false, and-false)
 
 abbrev NamesNot : ℤ → ℤ → BorderLine → Type 0
 NamesNot x y e = is_at e.cell x y ≡ false

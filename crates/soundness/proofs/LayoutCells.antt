@@ -1,15 +1,14 @@
 -- The cells of a layout: their ports, the start, and the demand at the end
 use Rattle.soundness.proofs.Imports.{AreGoodAfter, Ball, Bool, Box2, Cell, Circuit, In, IsEven, LayoutHeader}
 use Rattle.soundness.proofs.Imports.{LayoutLine, List, MeetsDemand, Mirror, None, One, Option, Out, Pattern, Port, Some}
-use Rattle.soundness.proofs.Imports.{Valuation, Waste, [], and_from, and_parts, any_at, ap}
-use Rattle.soundness.proofs.Imports.{arith, cell_fault, cell_same, cells_of, cells_taken_at_end, code_if, common_steps}
-use Rattle.soundness.proofs.Imports.{end_demand, false, false≢true, if◌then◌else◌, in_box, in_cells, in_ports}
-use Rattle.soundness.proofs.Imports.{in_ports_on, in_rectangles, is_at, is_inside, is_live, is_taken, kept, map}
-use Rattle.soundness.proofs.Imports.{none_stands, not, option_map, option_map_or, parts_of, passed, port_at}
-use Rattle.soundness.proofs.Imports.{port_stands, refl, same_Some, same_truth, size_fault, slice_get, slice_get-map}
-use Rattle.soundness.proofs.Imports.{start, start_signal, suc, sym, takes_at_end, takes_at_start, true, true≢false}
-use Rattle.soundness.proofs.Imports.{values_by_name, whole, wire_of, wire_of_optional_name, wire_or_dead, wire_or_zero}
-use Rattle.soundness.proofs.Imports.{zero, ℕ, ℤ, ◌&&◌, ◌++◌, ◌||◌, ◌∙◌, ◌∷◌, ◌≡◌}
+use Rattle.soundness.proofs.Imports.{Valuation, Waste, [], and_from, and_parts, any_at, ap, arith, cell_fault}
+use Rattle.soundness.proofs.Imports.{cell_same, cells_of, cells_taken_at_end, code_if, common_steps, end_demand, false}
+use Rattle.soundness.proofs.Imports.{false≢true, if◌then◌else◌, in_box, in_cells, in_ports, in_ports_on, in_rectangles}
+use Rattle.soundness.proofs.Imports.{is_at, is_inside, is_live, is_taken, kept, map, none_stands, not, option_map}
+use Rattle.soundness.proofs.Imports.{option_map_or, parts_of, passed, port_at, port_stands, refl, same_Some, same_truth}
+use Rattle.soundness.proofs.Imports.{size_fault, slice_get, slice_get-map, start, start_signal, suc, sym, takes_at_end}
+use Rattle.soundness.proofs.Imports.{takes_at_start, true, true≢false, values_by_name, whole, wire_of_optional_name}
+use Rattle.soundness.proofs.Imports.{wire_or_dead, wire_or_zero, zero, ℕ, ℤ, ◌&&◌, ◌++◌, ◌||◌, ◌∙◌, ◌∷◌, ◌≡◌}
 use Rattle.lemmas.proofs.Common.{left_is_false}
 use Rattle.bbm_rule.specs.Boxes.{in_box}
 use Rattle.pattern.specs.Layout.{HaveDistinctCells, in_layout}
@@ -80,16 +79,12 @@ no_port ports x y (Some n) none e =
 -- ---- the start
 
 live_cases : (v : Valuation) (o : Option ℕ) → is_live v (wire_or_zero o) ≡ option_map_or v o false
-live_cases v None = refl
-live_cases v (Some w) = refl
+live_cases v o = grind (arith, common_steps)
 
 start_cases : (c : Circuit) (v : Valuation) (m b : Bool) (o : Option (List ℕ)) →
     is_live v (if m || b then One else wire_or_zero (wire_of_optional_name c o))
     ≡ (m || b || is_on (values_by_name c v) o)
-start_cases c v true b o = refl
-start_cases c v false true o = refl
-start_cases c v false false None = refl
-start_cases c v false false (Some n) = live_cases v (wire_of c n)
+start_cases c v m b o = grind (arith, common_steps, live_cases)
 
 -- what the job's signals say of the start is the start
 pub live_start : (c : Circuit) (p : Pattern) (v : Valuation) (x y : ℤ) → AreGoodAfter p.size [] (parts_of p) →
@@ -106,8 +101,7 @@ whole_even s limits = let sized = is_sized s limits in
     record { x = refl; y = refl; w = sized.width.2; h = sized.height.2 }
 
 absent : (a b : Bool) → (a ≡ true → b ≡ true) → b ≡ false → a ≡ false
-absent true b f e = absurd (false≢true (sym e ∙ f refl))
-absent false b f e = refl
+absent a b h1 h2 = grind (arith, common_steps, false≢true)
 
 -- nothing begins outside the rectangle
 pub start_outside : (p : Pattern) (on : List ℕ → Bool) (x y : ℤ) → AreGoodAfter p.size [] (parts_of p) →
@@ -131,9 +125,7 @@ record IsFree (s : LayoutHeader) (before : List LayoutLine) (q : Port) : Type 0 
   free : cells_taken_at_end before q.cell.x q.cell.y ≡ false
 
 two_tests : (a b : Bool) → code_if (not a || (b || false)) TakenCell ≡ None → (a ≡ true) × (b ≡ false)
-two_tests true true e = absurd cc
-two_tests true false e = (refl, refl)
-two_tests false b e = absurd cc
+two_tests a b h1 = grind (arith, common_steps)
 
 free_here : (s : LayoutHeader) (before : List LayoutLine) (q : Port) → cell_fault s before (Out q) ≡ None →
     IsFree s before q
@@ -173,10 +165,7 @@ mirror_ended p x y h =
     let s = passed (λ (r : Box2). in_box r x y) p.mirrors h in
     let at : slice_get (map Mirror p.mirrors) s.place ≡ Some (Mirror s.element) =
     slice_get-map Mirror p.mirrors s.place ∙ ap (option_map Mirror) s.stands in
-    any_at (λ (b : LayoutLine). takes_at_end b && holds b x y) _ s.place (Mirror s.element)
-    (kept (map Mirror p.mirrors ++ map Ball p.balls) (map In p.ins) s.place (Mirror s.element)
-    (kept (map Mirror p.mirrors) (map Ball p.balls) s.place (Mirror s.element) at))
-    (mirror_ends s.element x y s.passes)
+    grind (arith, common_steps, any_at, kept, mirror_ends)
 
 -- an output cell is inside, no mirror has it, and it is the output's own
 pub record IsOutput (p : Pattern) (q : Port) : Type 0 where
@@ -188,11 +177,7 @@ pub is_output : (p : Pattern) → AreGoodAfter p.size [] (parts_of p) → (i : �
     IsOutput p q
 is_output p good i q e =
     let f = output_free p good i q e in
-    record {
-      inside = whole_inside p.size q.cell.x q.cell.y ∙ f.inside;
-      no_mirror = absent _ _ (mirror_ended p q.cell.x q.cell.y) f.free;
-      port = port_is p.outs q i _ (outs_apart p good) e refl;
-    }
+    grind (arith, common_steps, whole_inside, absent, mirror_ended, port_is, outs_apart)
 
 -- ---- the end
 
@@ -204,8 +189,7 @@ met_mirror c p v x y live e h = grind (arith, common_steps)
 
 by_wire : (v : Valuation) (o : Option ℕ) (live : Bool) → MeetsDemand v (wire_or_dead o) live →
     live ≡ option_map_or v o false
-by_wire v None live h = h
-by_wire v (Some w) live h = h
+by_wire v o live h1 = grind (arith, common_steps)
 
 pub met_output : (c : Circuit) (p : Pattern) (v : Valuation) (x y : ℤ) (n : List ℕ) (live : Bool) →
     in_rectangles p.mirrors x y ≡ false →
