@@ -67,8 +67,7 @@ last_is c ss w t h =
 -- ---- delays
 
 if_before : (b : Bool) (d m : ℕ) → (if b then Before else Steps d) ≡ Steps m → (b ≡ false) × (d ≡ m)
-if_before true d m e = absurd cc
-if_before false d m e = (refl, cc)
+if_before b d m h1 = grind (arith, common_steps)
 
 later_by : (l f m : ℕ) → nat_lt f l ≡ false → f - l ≡ m → f ≡ l + m
 later_by l f m no_less e = grind (arith, nat_tests)
@@ -76,30 +75,14 @@ later_by l f m no_less e = grind (arith, nat_tests)
 -- from the last time of one wire to the first time of another
 gap_steps : (last first : Option ℕ) (m : ℕ) → gap_between last first ≡ Steps m →
     (l : ℕ) × (last ≡ Some l) × (first ≡ Some (l + m))
-gap_steps None first m e = absurd cc
-gap_steps (Some l) None m e = absurd cc
-gap_steps (Some l) (Some f) m e = let parts = if_before (nat_lt f l) (f - l) m e in
-    (l, refl, ap Some (later_by l f m parts.0 parts.1))
+gap_steps last first m h1 = grind (arith, common_steps, if_before, later_by)
 
 gap_missing : (last first : Option ℕ) (l f : ℕ) → gap_between last first ≡ Missing → last ≡ Some l → first ≡ Some f → ⊥
-gap_missing None first l f e p q = absurd cc
-gap_missing (Some k) None l f e p q = absurd cc
-gap_missing (Some k) (Some g) l f e p q = by_case (nat_lt g k) e
-  where
-    by_case : (b : Bool) → (if b then Before else Steps (g - k)) ≡ Missing → ⊥
-    by_case true e = cc
-    by_case false e = cc
+gap_missing last first l f h1 h2 h3 = grind (arith, common_steps)
 
 gap_before : (last first : Option ℕ) → gap_between last first ≡ Before →
     (l : ℕ) × (f : ℕ) × (last ≡ Some l) × (first ≡ Some f) × (f < l)
-gap_before None first e = absurd cc
-gap_before (Some k) None e = absurd cc
-gap_before (Some k) (Some g) e = by_case (nat_lt g k) refl e
-  where
-    by_case : (b : Bool) → nat_lt g k ≡ b → (if b then Before else Steps (g - k)) ≡ Before →
-        (l : ℕ) × (f : ℕ) × (Some k ≡ Some l) × (Some g ≡ Some f) × (f < l)
-    by_case true less e = (k, g, refl, refl, below_by_test g k less)
-    by_case false less e = absurd cc
+gap_before last first h1 = grind (arith, common_steps, below_by_test)
 
 -- the gap of a gate with one wire on each side
 own_gap : (c : Circuit) (ss : List StopLine) (ins outs : List ℕ) (a b : ℕ) (gap : StopGap) →
@@ -120,8 +103,7 @@ gap_tells c ss a b Before e = grind (arith, common_steps, gap_before, is_last, i
 -- ---- meetings
 
 time_there : (o : Option ℕ) (s : ℕ) → o ≡ Some s → Contains (option_to_list o) s
-time_there None s e = absurd cc
-time_there (Some t) s e = (zero, omega arith, same_Some t s e)
+time_there o s h1 = grind (arith, common_steps, same_Some)
 
 -- the last time of a wire is among the last times
 listed : (last : ℕ → Option ℕ) (ws : List ℕ) (w s : ℕ) → Contains ws w → last w ≡ Some s →
@@ -157,8 +139,7 @@ none_agreed (a ∷ ts) t lt e h =
 
 -- what holds of the last times of all wires that have one
 each_time : (P : ℕ → Type 0) (o : Option ℕ) → ((s : ℕ) → o ≡ Some s → P s) → All P (option_to_list o)
-each_time P None h = All-nil P
-each_time P (Some s) h = All-cons P s [] (h s refl) (All-nil P)
+each_time P o h1 = grind (arith, common_steps)
 
 all_times : (P : ℕ → Type 0) (last : ℕ → Option ℕ) (ws : List ℕ) → ((w s : ℕ) → Contains ws w → last w ≡ Some s → P s) →
     All P (last_times last ws)
@@ -238,16 +219,13 @@ kept_at : (f : ℕ → Gate → List TimeLine) (j : ℕ) (gates : List Gate) (i 
 unfolding lines_by_number
 kept_at f j [] i g e at = absurd cc
 kept_at f j (h ∷ gates) zero g e at =
-    let p = obeyed_parts (f j h) (lines_by_number f (j + 1) gates) e in
-    let same : h ≡ g = same_Some h g at in
-    grind (arith, common_steps)
+    grind (arith, common_steps, obeyed_parts, same_Some)
 kept_at f j (h ∷ gates) (suc i) g e at =
     let p = obeyed_parts (f j h) (lines_by_number f (j + 1) gates) e in
     subst (λ n. list_all is_obeyed (f n g) ≡ true) (omega arith) (kept_at f (j + 1) gates i g p.1 at)
 
 kept_gap : (k n : ℕ) (gap : StopGap) → list_all is_obeyed (line.Delay k n gap ∷ []) ≡ true → gap ≡ Steps n
-kept_gap k n (Steps m) e = ap Steps (eqb-true m n (and_parts (m == n) true e).0)
-kept_gap k n _ e = absurd cc
+kept_gap k n gap h1 = grind (arith, common_steps, eqb-true, and_parts)
 
 meeting_of : (k : ℕ) (ts : List ℕ) → list_all is_obeyed (meet_line_of_times k ts) ≡ true → (t : ℕ) × All (λ u. u ≡ t) ts
 meeting_of k [] e = (0, All-nil (λ u. u ≡ 0))

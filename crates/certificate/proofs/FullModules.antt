@@ -1,7 +1,7 @@
 -- The modules of version 2 as modules of version 1
 use Rattle.certificate.proofs.Imports.{All, AreDistinct, AreInOrder, AreModules, Bool, BorderLine, Box2, Cell}
 use Rattle.certificate.proofs.Imports.{CertificateLine, Each, Equal, Halo, HasLocalPorts, IfSome, In, IsModule, IsTrue}
-use Rattle.certificate.proofs.Imports.{Less, List, ModuleLines, None, Option, Ordering, Pairs, Rises, Setting, Some}
+use Rattle.certificate.proofs.Imports.{Less, List, ModuleLines, Option, Ordering, Pairs, Rises, Setting, Some}
 use Rattle.certificate.proofs.Imports.{StarsExcludeLaterTimes, Stop, StopLine, Tile, [], all_in, any_at, ap, ap₂, areas}
 use Rattle.certificate.proofs.Imports.{arith, border_line_cmp, cases_Bool, cell_of, common_steps, cond-false, cond-true}
 use Rattle.certificate.proofs.Imports.{cut_wires, cuts, each_in, edge_in, edge_lines_beside, edges, false, filter}
@@ -139,8 +139,7 @@ order_of_pairs [] p = tt
 order_of_pairs (i ∷ lines) p = (all_of_tests (may_precede i) lines p.0, order_of_pairs lines p.1)
 
 less_is : (o : Ordering) (b : Bool) → o ≡ Less → (is_lt o || b) ≡ true
-less_is Less b h = refl
-less_is _ b h = absurd cc
+less_is o b h1 = grind (arith, common_steps)
 
 halos_follow : (d e : BorderLine) → border_line_cmp d e ≡ Less → may_precede (Halo d) (Halo e) ≡ true
 unfolding may_precede line_cmp rank_of sort_number_of cell_of border_line_cmp
@@ -148,15 +147,11 @@ halos_follow d e h = less_is _ _ h
 
 before_halo : (i : CertificateLine) (e : BorderLine) → precedes_halos i ≡ true → may_precede i (Halo e) ≡ true
 unfolding may_precede line_cmp rank_of precedes_halos
-before_halo (Halo d) e h = absurd cc
-before_halo (Stop s) e h = absurd cc
-before_halo _ e h = refl
+before_halo i e h1 = grind (arith, common_steps)
 
 before_stop : (i : CertificateLine) (s : StopLine) → precedes_halos i ≡ true → may_precede i (Stop s) ≡ true
 unfolding may_precede line_cmp rank_of precedes_halos
-before_stop (Halo d) s h = absurd cc
-before_stop (Stop t) s h = absurd cc
-before_stop _ s h = refl
+before_stop i s h1 = grind (arith, common_steps)
 
 halo_before_stop : (e : BorderLine) (s : StopLine) → may_precede (Halo e) (Stop s) ≡ true
 unfolding may_precede line_cmp rank_of
@@ -206,8 +201,7 @@ abbrev Apart : ModuleLines → ModuleLines → Type 0
 Apart m n = (x y : ℤ) → in_box m.area x y ≡ true → in_box n.area x y ≡ true → ⊥
 
 equal_parts : (a b : Ordering) → ordering_then a b ≡ Equal → b ≡ Equal
-equal_parts Equal b h = h
-equal_parts _ b h = absurd cc
+equal_parts a b h1 = grind (arith, common_steps)
 
 same_place : (d e : BorderLine) → border_line_cmp d e ≡ Equal → d.cell ≡ e.cell
 unfolding border_line_cmp
@@ -317,8 +311,7 @@ module _ (g : Setting) (ms : List ModuleLines) (good : AreModules g ms) where
 
     one_or_local_wire : (s : Option (List ℕ)) → is_nonlocal_signal g.circuit (known g.circuit m) s ≡ false →
         IfSome s (λ name. IsTrue (is_local g.circuit (known g.circuit m) name))
-    one_or_local_wire None h = tt
-    one_or_local_wire (Some name) h = grind (arith, common_steps)
+    one_or_local_wire s h1 = grind (arith, common_steps)
 
     -- the edge lines beside it may be its halo lines
     halo_here : (e : BorderLine) → In e (edge_lines_beside g ms m.area) →

@@ -10,7 +10,6 @@ use Rattle.certificate.proofs.Imports.{no_code, or_parts, rectangle_cells, slice
 use Rattle.certificate.proofs.Imports.{slice_get_within, some_is, subst, sym, true, true_from_not, true≢false, whole, ℕ}
 use Rattle.certificate.proofs.Imports.{◌&&◌, ◌++◌, ◌+◌, ◌<◌, ◌==◌, ◌||◌, ◌∙◌, ◌∷◌, ◌≡◌, ◌≤◌, ◌⊎◌, mapped_from}
 use Rattle.lemmas.proofs.Common.{or_cases}
-use Rattle.section_text.specs.Codes.{or_else}
 use Rattle.section_text.specs.declared.limits.Limits.{Limits}
 use Rattle.module_box.specs.Tiling.{IsInside}
 use Rattle.certificate_lines.specs.Rules.{in_boxes, module_limit_fault}
@@ -38,16 +37,14 @@ module _ (g : Setting) (es : List CertificateLine) (sound : AreGoodModulesSoFar 
   sound_push : (i : CertificateLine) → entry_fault g es i ≡ None → AreGoodModulesSoFar g (modules_of (es ++ i ∷ []))
   unfolding entry_fault add_line
   sound_push (Module b) e =
-      subst (AreGoodModulesSoFar g) (sym (modules_push es (Module b)))
-      (module_sound g (modules_of es) b sound (good_module g (modules_of es) (last_module es) b e))
+      grind (arith, common_steps, modules_push, module_sound, good_module)
   sound_push i e = inner_sound i tt (good_line g es i e)
 
 -- a line without a fault passes the tests of a line, and that of the limits of its text
 pub passed_line : (l : Limits) (g : Setting) (v : ℕ) (before : List CertificateLine) (i : CertificateLine) →
     (certificate_grammar l g).item_fault v before i ≡ None →
     (module_limit_fault l g before i ≡ None) × (entry_fault g before i ≡ None)
-passed_line l g v before i e = both_none (module_limit_fault l g before i) (entry_fault g before i)
-    (both_none _ (or_else (module_limit_fault l g before i) (entry_fault g before i)) e).1
+passed_line l g v before i e = grind (arith, common_steps, both_none)
 
 sound_all : (l : Limits) (g : Setting) (v : ℕ) (more before : List CertificateLine) →
     AreGoodModulesSoFar g (modules_of before) →

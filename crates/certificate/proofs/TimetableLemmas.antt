@@ -1,11 +1,11 @@
 -- The signals of a module after one more line.
-use Rattle.certificate.proofs.Imports.{All, All-nil, AllTimesSignal, AreRising, AreSignalLists, BorderLine, IsRising}
-use Rattle.certificate.proofs.Imports.{IsSignalWireBelow, List, LocalNet, None, Option, Pairs, Signal, Some}
-use Rattle.certificate.proofs.Imports.{StoredBorder, TimedSignal, [], all_times_of_line, append-nil, arith}
-use Rattle.certificate.proofs.Imports.{border_line_cmp, cell_cmp, circuit_wire, common_steps, events_of_line}
-use Rattle.certificate.proofs.Imports.{flat_map-append, map, map-append, moment_cmp, one_or_wire, refl}
-use Rattle.certificate.proofs.Imports.{renumber_all_times, renumber_event, renumber_signal, stored_signals}
-use Rattle.certificate.proofs.Imports.{unnamed_line, wires, ℕ, ◌++◌, ◌∷◌, ◌≡◌, pairs_flat, rising_of}
+use Rattle.certificate.proofs.Imports.{All, AllTimesSignal, AreRising, AreSignalLists, BorderLine, IsRising}
+use Rattle.certificate.proofs.Imports.{IsSignalWireBelow, List, LocalNet, Option, Pairs, Signal, StoredBorder}
+use Rattle.certificate.proofs.Imports.{TimedSignal, [], all_times_of_line, append-nil, arith, border_line_cmp, cell_cmp}
+use Rattle.certificate.proofs.Imports.{circuit_wire, common_steps, events_of_line, flat_map-append, map, map-append}
+use Rattle.certificate.proofs.Imports.{moment_cmp, one_or_wire, refl, renumber_all_times, renumber_event}
+use Rattle.certificate.proofs.Imports.{renumber_signal, stored_signals, unnamed_line, wires, ℕ, ◌++◌, ◌∷◌, ◌≡◌}
+use Rattle.certificate.proofs.Imports.{pairs_flat, rising_of}
 use Rattle.module_box.specs.Schedules.{moment_of, cell_of}
 use Rattle.certificate_lines.proofs.ModulePushes.{all_one}
 use Rattle.certificate.specs.declared.signal_lists.SignalLists.{SignalLists}
@@ -17,23 +17,19 @@ use Rattle.certificate.proofs.FullModules.{pairs_by_place}
 
 renumbered_all_times : (f : ℕ → ℕ) (e : BorderLine) (t : Option ℕ) (s : Signal) →
     map (renumber_all_times f) (all_times_of_line e t s) ≡ all_times_of_line e t (renumber_signal f s)
-renumbered_all_times f e None s = refl
-renumbered_all_times f e (Some t) s = refl
+renumbered_all_times f e t s = grind (arith, common_steps)
 
 renumbered_event : (f : ℕ → ℕ) (e : BorderLine) (t : Option ℕ) (s : Signal) →
     map (renumber_event f) (events_of_line e t s) ≡ events_of_line e t (renumber_signal f s)
-renumbered_event f e None s = refl
-renumbered_event f e (Some t) s = refl
+renumbered_event f e t s = grind (arith, common_steps)
 
 own_all_times : (n : ℕ) (e : BorderLine) (t : Option ℕ) (s : Signal) → IsSignalWireBelow n s →
     All (λ h. IsSignalWireBelow n h.signal) (all_times_of_line e t s)
-own_all_times n e None s b = all_one (λ h. IsSignalWireBelow n h.signal) _ b
-own_all_times n e (Some t) s b = All-nil (λ h. IsSignalWireBelow n h.signal)
+own_all_times n e t s h1 = grind (arith, common_steps, all_one)
 
 own_event : (n : ℕ) (e : BorderLine) (t : Option ℕ) (s : Signal) → IsSignalWireBelow n s →
     All (λ h. IsSignalWireBelow n h.signal) (events_of_line e t s)
-own_event n e None s b = All-nil (λ h. IsSignalWireBelow n h.signal)
-own_event n e (Some t) s b = all_one (λ h. IsSignalWireBelow n h.signal) _ b
+own_event n e t s h1 = grind (arith, common_steps, all_one)
 
 module _ (l : LocalNet) where
   more_all_times : (bs : List StoredBorder) (b : StoredBorder) (s : Signal) (hs ns : List AllTimesSignal) →
