@@ -1,16 +1,15 @@
 -- The lines of a moved layout keep the rules of lines
-use Rattle.headline.proofs.Imports.{Ball, Bool, In, LayoutHeader, LayoutLine, List, Mirror, None, Out}
-use Rattle.headline.proofs.Imports.{Pattern, TakenCell, Waste, [], and_parts, ap₂, arith, cell_fault, cells_of}
-use Rattle.headline.proofs.Imports.{cells_taken_at_start, code_if, common_steps, enlarged, false, flat_map}
-use Rattle.headline.proofs.Imports.{in_layout, in_span, in_span-negsuc, ints, is_inside, is_layout_side, is_taken}
-use Rattle.headline.proofs.Imports.{limit_fault, map, map-append, moved, moved_by_two, nat_tests}
-use Rattle.headline.proofs.Imports.{negsuc, not, parts_of, port_moved_by_two, pos, range_with_len, rectangle_cells}
-use Rattle.headline.proofs.Imports.{rectangle_moved_by_two, refl, size_fault, span_from, span_parts, suc, sym}
-use Rattle.headline.proofs.Imports.{takes_at_start, true, zero, ℕ, ℤ, ◌++◌, ◌+ℤ◌, ◌+◌, ◌||◌, ◌∙◌, ◌∷◌, ◌≡◌, ◌≤◌}
+use Rattle.headline.proofs.Imports.{Ball, Bool, In, LayoutHeader, LayoutLine, List, Mirror, None, Out, Pattern}
+use Rattle.headline.proofs.Imports.{TakenCell, Waste, [], and_parts, ap₂, arith, cell_fault, cells_of}
+use Rattle.headline.proofs.Imports.{cells_taken_at_start, code_if, common_steps, enlarged, flat_map, in_layout, in_span}
+use Rattle.headline.proofs.Imports.{in_span-negsuc, ints, is_inside, is_layout_side, is_taken, limit_fault, map}
+use Rattle.headline.proofs.Imports.{map-append, moved, moved_by_two, nat_tests, negsuc, not, parts_of}
+use Rattle.headline.proofs.Imports.{port_moved_by_two, pos, range_with_len, rectangle_cells, rectangle_moved_by_two}
+use Rattle.headline.proofs.Imports.{refl, size_fault, span_from, span_parts, suc, sym, takes_at_start, true, zero, ℕ, ℤ}
+use Rattle.headline.proofs.Imports.{◌++◌, ◌+ℤ◌, ◌+◌, ◌||◌, ◌∙◌, ◌∷◌, ◌≡◌, ◌≤◌, no_code}
 use Rattle.bbm_rule.specs.CellLists.{row_cells}
 use Rattle.pattern.specs.Lines.{AreGoodAfter, cells_taken_at_end, takes_at_end, holds}
 use Rattle.headline.proofs.MovedPlanes.{any_map, cells_moved}
-use Rattle.headline.proofs.Imports.{no_code}
 
 -- ---- lines
 
@@ -61,13 +60,11 @@ holds_moved part x y = grind (arith, common_steps, line_cells_moved, cells_moved
 
 begins_moved : (part : LayoutLine) → takes_at_start (moved_line part) ≡ takes_at_start part
 unfolding takes_at_start
-begins_moved (Mirror r) = refl
-begins_moved _ = refl
+begins_moved part = grind (arith, common_steps)
 
 ends_moved : (part : LayoutLine) → takes_at_end (moved_line part) ≡ takes_at_end part
 unfolding takes_at_end
-ends_moved (Mirror r) = refl
-ends_moved _ = refl
+ends_moved part = grind (arith, common_steps)
 
 begun_moved : (parts : List LayoutLine) (x y : ℤ) →
     cells_taken_at_start (moved_lines parts) (x +ℤ pos 2) (y +ℤ pos 2) ≡ cells_taken_at_start parts x y
@@ -107,14 +104,11 @@ inside_moved s (Waste c) h = layout_enlarged s c.x c.y h
 
 limit_moved : (part : LayoutLine) → limit_fault (moved_line part) ≡ limit_fault part
 unfolding limit_fault
-limit_moved (Mirror r) = refl
-limit_moved _ = refl
+limit_moved part = grind (arith, common_steps)
 
 fault_none : (a a' b b' : Bool) → (a ≡ true → a' ≡ true) → b' ≡ b → code_if (not a || b) TakenCell ≡ None →
     code_if (not a' || b') TakenCell ≡ None
-fault_none true a' false b' f e none = ap₂ (λ p q. code_if (not p || q) TakenCell) (f refl) e
-fault_none true a' true b' f e none = cc
-fault_none false a' b b' f e none = cc
+fault_none a a' b b' h1 h2 h3 = grind (arith, common_steps)
 
 cell_moved : (s : LayoutHeader) (before : List LayoutLine) (part : LayoutLine) → cell_fault s before part ≡ None →
     cell_fault (enlarged s) (moved_lines before) (moved_line part) ≡ None

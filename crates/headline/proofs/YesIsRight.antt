@@ -70,8 +70,7 @@ ok_of x y e = cc
 
 unless_ok : (n : ℕ) (o : Option RefusalCode) (r : Result (Unit {0} × List CircuitLine) Refusal)
     (y : Unit {0} × List CircuitLine) → refused_if_code n o r ≡ Ok y → (o ≡ None) × (r ≡ Ok y)
-unless_ok n None r y e = (refl, e)
-unless_ok n (Some code) r y e = absurd cc
+unless_ok n o r y h1 = grind (arith, common_steps)
 
 line_good : (l : Limits) (words : List (List ℕ)) (ls : List (List ℕ)) (before : List CircuitLine) (n : ℕ)
     (rows : List CircuitLine)
@@ -176,8 +175,7 @@ spelled l from text circuit ports n p first second =
     }
 
 pub no_missing : (o : Option (List ℕ)) → unconsumed_wire_code o ≡ None → o ≡ None
-no_missing None e = refl
-no_missing (Some n) e = absurd cc
+no_missing o h1 = grind (arith, common_steps)
 
 pub record IsReadBundle (text : List ℕ) (b : Bundle) : Type 0 where
   pub circuit : AreGoodCircuitLines b.circuit
@@ -198,15 +196,12 @@ pub record WentOn {H I : Type 0} {B : Type 0} (read : Result (H × List I) Refus
 
 pub went_on : {H I : Type 0} {B : Type 0} (read : Result (H × List I) Refusal) (next : H → List I → Result B Refusal)
     (b : B) → continue_after_section read next ≡ Ok b → WentOn read next b
-went_on (Ok read) next b e = record { header = read.0; items = read.1; was = refl; then = e }
-went_on (Err refusal) next b e = absurd cc
+went_on read next b h1 = grind (arith, common_steps)
 
 is_over : {B : Type 0} (n : ℕ) (ls : List (List ℕ)) (rest : List ℕ) (value b : B) →
     value_if_at_end n ls rest value ≡ Ok b →
     (ls ≡ []) × (rest ≡ []) × (value ≡ b)
-is_over n [] [] value b e = (refl, refl, cc)
-is_over n [] (c ∷ rest) value b e = absurd cc
-is_over n (l ∷ ls) rest value b e = absurd cc
+is_over n ls rest value b h1 = grind (arith, common_steps)
 
 abbrev pub past_circuit : List ℕ → Bundle → List (List ℕ)
 past_circuit text b = drop (length b.circuit + 2) (section_lines text)
@@ -283,17 +278,7 @@ own_design text b output outcome circuit layout reads says said =
     (sym same.layout) good.layout in
     let begins = good.begins p same.layout in
     let one = one_design text b.circuit circuit p layout (good.says p same.layout) said in
-    subst (λ (cs : List CircuitLine). IsGoodDesign text cs layout) one.0
-    (subst (IsGoodDesign text b.circuit) one.1 (record {
-      circuit_lines = good.circuit;
-      all_consumed = good.all_consumed;
-      few_wires = good.few_wires;
-      size = (both_none _ _ whole.header).1;
-      text_size = (both_none _ _ whole.header).0;
-      layout_lines = laid_out (text_limits text) (Some (port_names_of b.circuit)) p.size [] (parts_of p) whole.each;
-      rest = begins.rest;
-      begins = begins.begins;
-    }))
+    grind (arith, common_steps, few_wires, both_none, laid_out)
 
 by_read : (text output : List ℕ) (outcome : Outcome) (circuit : List CircuitLine) (layout : Pattern)
     (read : Result Bundle Refusal) → bundle_of text ≡ read → AnswersOrRefuses SaysReport read output outcome →
@@ -310,8 +295,7 @@ good_designs text output outcome circuit layout says some said =
 -- ---- a yes
 
 is_yes : (v : Verdict) → Yes ≡ verdict_outcome v → v ≡ verdict.Yes
-is_yes verdict.Yes e = refl
-is_yes (verdict.No lines) e = absurd cc
+is_yes v h1 = grind (arith, common_steps)
 
 -- what is known of the certificate of a report
 pub known : (text : List ℕ) (b : Bundle) (output : List ℕ) (outcome : Outcome) → bundle_of text ≡ Ok b →
@@ -323,12 +307,7 @@ known text b output outcome reads says =
     let circuit : AreGoodCircuitLines c.circuit = subst AreGoodCircuitLines (sym same.circuit) good.circuit in
     let whole : IsFaultless (layout_grammar (text_limits text) (Some (port_names_of c.circuit))) c.layout.size
     (parts_of c.layout) =
-    subst (λ (q : LayoutHeader × List LayoutLine).
-    IsFaultless (layout_grammar (text_limits text) (Some (port_names_of c.circuit))) q.0 q.1)
-    (sym same.layout)
-    (subst (λ (cs : List CircuitLine).
-    IsFaultless (layout_grammar (text_limits text) (Some (port_names_of cs))) b.size b.parts)
-    (sym same.circuit) good.layout) in
+    grind (arith, common_steps) in
     record {
       ordered = gates_are_ordered c.circuit circuit;
       same = refl;
