@@ -1,24 +1,20 @@
 -- The modules so far, after one more module and after one more line.
-use Rattle.certificate_lines.proofs.Imports.{AreApart, AreBuilt, AreGoodModulesSoFar, AreInOrder, Box2}
-use Rattle.certificate_lines.proofs.Imports.{Cell, CertificateLine, IsEven, IsInside, IsModule}
-use Rattle.certificate_lines.proofs.Imports.{IsModuleInLimits, LayoutHeader, List, ModuleLines, None, Option}
-use Rattle.certificate_lines.proofs.Imports.{RefusalCode, Setting, Some, StarsExcludeLaterTimes, []}
-use Rattle.certificate_lines.proofs.Imports.{ap, areas, arith, module_box_code, change_last, common_steps}
-use Rattle.certificate_lines.proofs.Imports.{false, has_nonlocal_port, in_box, inl, inr}
-use Rattle.certificate_lines.proofs.Imports.{is_last_module_incomplete, is_odd, last_of, length, length-map}
-use Rattle.certificate_lines.proofs.Imports.{length_push}
-use Rattle.certificate_lines.proofs.Imports.{map-append, module_line_code}
-use Rattle.certificate_lines.proofs.Imports.{module_with_line, nat_tests, none_at, pushed}
-use Rattle.certificate_lines.proofs.Imports.{rectangle_cells, refl, slice_get, slice_get_within}
-use Rattle.certificate_lines.proofs.Imports.{subst, sym, true, true≢false, ℕ, ℤ, ◌%◌, ◌++◌, ◌+◌, ◌-◌, ◌<◌}
-use Rattle.certificate_lines.proofs.Imports.{◌∙◌, ◌∷◌, ◌≡◌, ◌≤◌}
-use Rattle.lemmas.proofs.Common.{not_below_by_test, or_parts}
-use Rattle.certificate_lines.specs.Rules.{is_bad_box_side, is_misplaced, overlaps, in_boxes}
+use Rattle.certificate_lines.proofs.Imports.{AreApart, AreBuilt, AreGoodModulesSoFar, AreInOrder, Box2, Cell}
+use Rattle.certificate_lines.proofs.Imports.{CertificateLine, IsEven, IsInside, IsModule, IsModuleInLimits}
+use Rattle.certificate_lines.proofs.Imports.{LayoutHeader, List, ModuleLines, None, Option, RefusalCode, Setting, Some}
+use Rattle.certificate_lines.proofs.Imports.{StarsExcludeLaterTimes, [], ap, areas, arith, module_box_code, change_last}
+use Rattle.certificate_lines.proofs.Imports.{common_steps, false, has_nonlocal_port, in_box, inl, inr}
+use Rattle.certificate_lines.proofs.Imports.{is_last_module_incomplete, last_of, length, length-map, length_push}
+use Rattle.certificate_lines.proofs.Imports.{map-append, module_line_code, module_with_line, nat_tests, none_at, pushed}
+use Rattle.certificate_lines.proofs.Imports.{rectangle_cells, refl, slice_get, slice_get_within, subst, sym, true}
+use Rattle.certificate_lines.proofs.Imports.{true≢false, ℕ, ℤ, ◌%◌, ◌++◌, ◌+◌, ◌-◌, ◌<◌, ◌∙◌, ◌∷◌, ◌≡◌, ◌≤◌}
+use Rattle.lemmas.proofs.Common.{or_parts}
+use Rattle.certificate_lines.specs.Rules.{is_bad_box_side, overlaps, in_boxes}
 use Rattle.certificate_lines.proofs.Growing.{areas_changed, length_changed, changed_at, last_at, last_by_place}
 use Rattle.certificate_lines.proofs.Lists.{any_at}
 use Rattle.certificate_lines.proofs.ModulePushes.{no_code, less}
 use Rattle.certificate_lines.proofs.PortLemmas.{has_cell}
-use Rattle.module_box.specs.Tiling.{ArePartOwners, OwnersView, PutsBox}
+use Rattle.module_box.specs.Tiling.{OwnersView, PutsBox}
 use Rattle.bbm_rule.proofs.RectangleLemmas.{in_box_cells}
 use Rattle.lemmas.specs.Bounds.{max_modules}
 use Rattle.section_text.proofs.Codes.{both_none}
@@ -33,14 +29,6 @@ pub record IsGoodBox (s : LayoutHeader) (b : Box2) : Type 0 where
 
 side : (n : ℕ) → is_bad_box_side n ≡ false → (n % 2 ≡ 0) × (2 ≤ n) × (n ≤ 64)
 side n e = (grind (arith, nat_tests), grind (arith, nat_tests), grind (arith, nat_tests))
-
-even_by : (n : ℕ) → is_odd n ≡ false → n % 2 ≡ 0
-even_by n e = grind (arith, nat_tests)
-
-box_good : (s : LayoutHeader) (b : Box2) → is_bad_box_side b.w ≡ false → is_bad_box_side b.h ≡ false →
-    is_misplaced s b ≡ false →
-    IsGoodBox s b
-box_good s b wide high placed = grind (arith, common_steps, side, or_parts, even_by, not_below_by_test)
 
 -- what the tests of a `module` line say
 pub record IsGoodModule (g : Setting) (ms : List ModuleLines) (before : Option ModuleLines) (b : Box2) : Type 0 where
@@ -59,7 +47,7 @@ pub passes_alone : (g : Setting) (count : ℕ) (before : Option ModuleLines) (b 
     module_box_code g count before b ≡ None →
     PassesAlone g count before b
 unfolding module_box_code
-passes_alone g count before b e = grind (arith, common_steps, both_none, or_parts, no_code, less, box_good)
+passes_alone g count before b e = grind (arith, common_steps, both_none, or_parts, no_code, less)
 
 pub good_module : (g : Setting) (ms : List ModuleLines) (before : Option ModuleLines) (b : Box2) →
     module_line_code g ms before b ≡ None → IsGoodModule g ms before b
@@ -110,9 +98,6 @@ last_is ms i m at e = sym (last_by_place ms) ∙ ap (slice_get ms) (let p : leng
 module _ (g : Setting) (ms : List ModuleLines) where
   pub sound_none : AreGoodModulesSoFar g []
   sound_none = grind (arith, common_steps, none_at)
-
-  pub built_none : (o : OwnersView) → o.width ≡ g.size.w → o.height ≡ g.size.h → ArePartOwners o [] → AreBuilt g [] o
-  built_none o w h none = record { sound = sound_none; owners = record { width = w; height = h; boxes = none } }
 
   abbrev new_module : Box2 → ModuleLines
   new_module b = record { area = b; lines = [] }

@@ -4,36 +4,25 @@ use Rattle.certificate_lines.proofs.Imports.{CertificateLine, Circuit, Cut, IsBo
 use Rattle.certificate_lines.proofs.Imports.{LineKey, List, Module, ModuleLines, None, Option, OutOfOrder, Port}
 use Rattle.certificate_lines.proofs.Imports.{RefusalCode, Setting, Some, Use, [], add_line, ap, append-nil, arith}
 use Rattle.certificate_lines.proofs.Imports.{body_line_code, change_last, code_if, common_steps, content_code, edge_in}
-use Rattle.certificate_lines.proofs.Imports.{false, flat_map, halo_in, has_nonlocal_port, in_box}
-use Rattle.certificate_lines.proofs.Imports.{is_last_module_incomplete, is_local, is_starred_line_at, key_of}
-use Rattle.certificate_lines.proofs.Imports.{key_or_first, known, last_body_line, last_module, last_of, list_any}
-use Rattle.certificate_lines.proofs.Imports.{list_any-append, may_follow, module_line_code, module_with_line}
-use Rattle.certificate_lines.proofs.Imports.{modules_of, not, IfSome, option_map, option_to_list, or_else, refl}
-use Rattle.certificate_lines.proofs.Imports.{same_cell, size_fault, size_sides, subst, sym, true, true_from_not, ℕ}
-use Rattle.certificate_lines.proofs.Imports.{◌&&◌, ◌++◌, ◌+◌, ◌||◌, ◌∙◌, ◌∷◌, ◌≡◌, ◌≤◌, length}
+use Rattle.certificate_lines.proofs.Imports.{false, halo_in, has_nonlocal_port, in_box, is_last_module_incomplete}
+use Rattle.certificate_lines.proofs.Imports.{is_local, is_starred_line_at, key_of, key_or_first, known, last_body_line}
+use Rattle.certificate_lines.proofs.Imports.{last_module, last_of, list_any, may_follow, module_line_code}
+use Rattle.certificate_lines.proofs.Imports.{module_with_line, modules_of, not, IfSome, option_map, option_to_list}
+use Rattle.certificate_lines.proofs.Imports.{or_else, refl, same_cell, size_fault, size_sides, subst, sym, true}
+use Rattle.certificate_lines.proofs.Imports.{true_from_not, ℕ, ◌&&◌, ◌++◌, ◌+◌, ◌||◌, ◌∙◌, ◌∷◌, ◌≡◌, ◌≤◌, length}
 use Rattle.certificate_lines.specs.Modules.{IsWithinLineLimit}
 use Rattle.certificate_lines.specs.Rules.{line_fault}
 use Rattle.certificate_lines.specs.BuilderView.{IsEdgeHaloOrStopLine, IsLastModule, IsTracked, IsTrackedWith}
 use Rattle.certificate_lines.specs.BuilderView.{wires_made_local}
-use Rattle.certificate_lines.proofs.BuiltLemmas.{built_none, module_built, line_built, good_module}
-use Rattle.certificate_lines.proofs.Growing.{modules_push, flat_push, last_at, last_pushed, last_changed, body_step}
+use Rattle.certificate_lines.proofs.BuiltLemmas.{module_built, line_built, good_module}
+use Rattle.certificate_lines.proofs.Growing.{modules_push, last_at, last_pushed, last_changed, body_step}
 use Rattle.certificate_lines.proofs.Lists.{some_is}
 use Rattle.certificate_lines.proofs.OrderLemmas.{inner_pushed, key_pushed, module_key, module_pushed}
-use Rattle.certificate_lines.proofs.LackedWires.{wires_begun, wires_more}
-use Rattle.certificate_lines.proofs.ModulePushes.{no_code, new_wire, good_use, known_cut, known_use}
-use Rattle.certificate_lines.proofs.ModulePushes.{known_same, pushed}
+use Rattle.certificate_lines.proofs.LackedWires.{wires_more}
+use Rattle.certificate_lines.proofs.ModulePushes.{no_code, new_wire, good_use, known_cut, known_same, pushed}
 use Rattle.module_box.specs.Tiling.{ArePartOwners, OwnersView, PutsBox}
 use Rattle.lemmas.specs.Bounds.{max_side}
 use Rattle.section_text.proofs.Codes.{both_none}
-
-no_last : {X : Type 0} (x : X) → None ≡ Some x → ⊥
-no_last x e = cc
-
-pub kept_none : (g : Setting) (owners : OwnersView) → owners.width ≡ g.size.w → owners.height ≡ g.size.h →
-    ArePartOwners owners [] → (local : List ℕ) (e h : List Cell) →
-    IsTracked g [] owners None local e h
-unfolding modules_of last_of
-kept_none g owners w h dead local e f = grind (arith, common_steps, built_none, no_last)
 
 -- ---- the last module
 
@@ -70,7 +59,7 @@ made_local g m is (Cut n) inner follows good =
     known_cut g m is n follows words.wire words.named
     ∙ ap (λ o. known g.circuit m ++ option_to_list o) (sym words.named)
 made_local g m is (Use k) inner follows good =
-    grind (arith, common_steps, good_use, known_use)
+    grind (arith, common_steps, good_use)
 made_local g m is i inner follows good = known_same g m i refl refl ∙ sym (append-nil (known g.circuit m))
 
 -- a list of the cells of starred lines, after one more line
@@ -152,16 +141,10 @@ module _ (g : Setting) (es : List CertificateLine) (owners : OwnersView) (last :
     the_same : (m : ModuleLines) → last_module es ≡ Some m → good.module_lines ≡ m
     the_same m some = some_is good.module_lines m (sym good.last ∙ some)
 
-    more_stars : (c : Cell) (f : CertificateLine → List BorderLine) (m : ModuleLines) (old new : List Cell) →
-        list_any (same_cell c) old ≡ list_any (is_starred_line_at c) (flat_map f m.lines)
-        → list_any (same_cell c) new ≡ (list_any (same_cell c) old || list_any (is_starred_line_at c) (f i)) →
-        list_any (same_cell c) new ≡ list_any (is_starred_line_at c) (flat_map f (m.lines ++ i ∷ []))
-    more_stars c f m old new before after = grind (arith, common_steps, list_any-append, flat_push)
-
     last_after : (e' h' : List Cell) → AreStarsWith edge_in i e e' → AreStarsWith halo_in i h h' →
         IsLastModule g good.module_lines last local e h →
         IsLastModule g (module_with_line i good.module_lines) (Some i) (local ++ wires_made_local g.circuit i) e' h'
-    last_after e' h' stars halo_stars p = grind (arith, common_steps, last_pushed, more_stars, wires_after)
+    last_after e' h' stars halo_stars p = grind (arith, common_steps, last_pushed, wires_after)
 
     pub kept_inner : (e' h' : List Cell) → AreStarsWith edge_in i e e' → AreStarsWith halo_in i h h' →
         IsTracked g (es ++ i ∷ []) owners (Some i) (local ++ wires_made_local g.circuit i) e' h'
@@ -214,7 +197,7 @@ pub with_none : (g : Setting) (owners : OwnersView) → owners.width ≡ g.size.
     ArePartOwners owners [] → (e h : List Cell) → (key : LineKey) → key ≡ key_or_first None →
     IsTrackedWith g [] owners (last_body_line []) key [] [] e h
 unfolding modules_of last_of
-with_none g owners w high dead e h key first = grind (arith, common_steps, kept_none)
+with_none g owners w high dead e h key first = grind (arith, common_steps)
 
 module _ (g : Setting) (es : List CertificateLine) (owners : OwnersView) (last : Option CertificateLine)
     (key : LineKey) (earlier : List (List ℕ)) (local : List ℕ) (e h : List Cell)
@@ -256,6 +239,6 @@ module _ (g : Setting) (es : List CertificateLine) (owners : OwnersView) (last :
       l (key_or_first None)
       (earlier ++ local ∷ []) [] [] []) (sym (module_pushed es b)) (record {
         kept = kept_module g es owners last local e h was.kept new_owners b good number is puts;
-        wires = grind (arith, common_steps, modules_push, wires_begun);
+        wires = grind (arith, common_steps, modules_push);
         key_is = module_key es b;
       })

@@ -86,11 +86,6 @@ split_last f (y ∷ z ∷ xs) x e =
     let rest = split_last f (z ∷ xs) x e in
     record { start = y ∷ rest.start; was = ap (λ l. y ∷ l) rest.was; now = ap (λ l. y ∷ l) rest.now }
 
-pub wires_begun : (c : Circuit) (ms : List ModuleLines) (m : ModuleLines) (earlier : List (List ℕ)) (local : List ℕ) →
-    known c m ≡ [] → AreLocalWiresOfModules c ms earlier local →
-    AreLocalWiresOfModules c (ms ++ m ∷ []) (earlier ++ local ∷ []) []
-wires_begun c ms m earlier local none h = grind (arith, common_steps, map-append)
-
 pub wires_more : (c : Circuit) (f : ModuleLines → ModuleLines) (ms : List ModuleLines) (m : ModuleLines)
     (earlier : List (List ℕ)) (local more : List ℕ) → last_of ms ≡ Some m → known c (f m) ≡ known c m ++ more →
     AreLocalWiresOfModules c ms earlier local → AreLocalWiresOfModules c (change_last f ms) earlier (local ++ more)

@@ -60,17 +60,13 @@ flat_in f b [] a i j = absurd i
 flat_in f b (x ∷ xs) a (inl same) j = in_left b (f x) (flat_map f xs) (subst (λ y. In b (f y)) (sym same) j)
 flat_in f b (x ∷ xs) a (inr later) j = in_right b (f x) (flat_map f xs) (flat_in f b xs a later j)
 
-head_or_later : {A : Type 0} (x y : A) (ys : List A) → In x (y ∷ ys) → (y ≡ x) ⊎ In x ys
-unfolding In
-head_or_later x y ys i = i
-
 -- ---- the elements that pass a test
 
 pub in_filter : {A : Type 0} (test : A → Bool) (x : A) (xs : List A) → In x (filter test xs) → In x xs × (test x ≡ true)
 unfolding In
 in_filter test x [] i = absurd i
 in_filter test x (y ∷ ys) i =
-    grind (arith, common_steps, cases_Bool, head_or_later, cond-true, cond-false, in_filter test x ys)
+    grind (arith, common_steps, cases_Bool, cond-true, cond-false, in_filter test x ys)
 
 pub filter_in : {A : Type 0} (test : A → Bool) (x : A) (xs : List A) → In x xs → test x ≡ true → In x (filter test xs)
 unfolding In
@@ -102,9 +98,6 @@ Rises = Pairs (λ d e. border_line_cmp d e ≡ Less)
 abbrev pub AreDistinct : List BorderLine → Type 0
 AreDistinct = Pairs (λ d e. border_line_cmp d e ≢ Equal)
 
-less_apart : (o : Ordering) → o ≡ Less → o ≢ Equal
-less_apart o h1 = grind (arith, common_steps)
-
 pub pairs_each : {A : Type 0} (R S : A → A → Type 0) → ((a b : A) → R a b → S a b) → (xs : List A) → Pairs R xs →
     Pairs S xs
 unfolding Pairs
@@ -112,15 +105,12 @@ pairs_each R S h [] p = p
 pairs_each R S h (x ∷ xs) p = (each_map (R x) (S x) (h x) xs p.0, pairs_each R S h xs p.1)
 
 pub rising_distinct : (es : List BorderLine) → Rises es → AreDistinct es
-rising_distinct es p = grind (arith, common_steps, pairs_each, less_apart)
+rising_distinct es p = grind (arith, common_steps, pairs_each)
 
 -- ---- a line more
 
 after_line : (o : Ordering) → o ≢ Equal → is_lt o ≡ false → o ≡ Greater
 after_line o h1 h2 = grind (arith, common_steps)
-
-pub is_before : (o : Ordering) → is_lt o ≡ true → o ≡ Less
-is_before o h1 = grind (arith, common_steps)
 
 turned : (d e : BorderLine) → border_line_cmp d e ≡ Greater → border_line_cmp e d ≡ Less
 turned d e h = line_total.antisymm e d ∙ ap ordering_reverse h
@@ -155,7 +145,7 @@ unfolding insert_border_line Each Pairs
 put_rises d [] p n = (tt, tt)
 put_rises d (e ∷ es) p n = elim (cases_Bool (is_lt (border_line_cmp d e))) [
   | inl holds ↦
-      grind (arith, common_steps, is_before, cond-true, each_map, line_total)
+      grind (arith, common_steps, cond-true, each_map, line_total)
   | inr fails ↦
       grind (arith, common_steps, put_rises d es p.1 n.1, turned, after_line, cond-false, in_each, in_put, each_in)
 ]

@@ -13,7 +13,7 @@ use Rattle.certificate_lines.proofs.Imports.{◌++◌, ◌<◌, ◌||◌, ◌∙
 use Rattle.certificate_lines.proofs.Imports.{content_code, ◌+◌, ◌≤◌}
 use Rattle.lemmas.proofs.Common.{nat_le, at_most_by_test, below_by_test, All-append, All-cons, ◌≢◌}
 use Rattle.certificate_lines.specs.Entries.{keeps, halos, stops, cut_wires}
-use Rattle.certificate_lines.specs.Rules.{cut_line_code, cut_wire_fault, used_gate_fault, use_line_code, keep_line_code}
+use Rattle.certificate_lines.specs.Rules.{cut_line_code, used_gate_fault, use_line_code, keep_line_code}
 use Rattle.certificate_lines.specs.Rules.{is_line_time_allowed, is_edge_place_and_time, is_halo_place_and_time}
 use Rattle.certificate_lines.specs.Rules.{is_stop_place_and_time, signal_fault, wire_fault, border_line_code}
 use Rattle.certificate_lines.specs.Rules.{timed_line_count, timed_line_limit, edge_line_code, halo_line_code}
@@ -24,7 +24,7 @@ pub use Rattle.pattern.proofs.Added.{no_code}
 use Rattle.certificate_lines.proofs.Growing.{flat_push, flat_same}
 use Rattle.certificate_lines.proofs.LineRanks.{only_uses, only_keeps, only_edges, only_halos, only_stops}
 use Rattle.certificate_lines.proofs.ModuleLemmas.{all_before, list_all_push, lower_uses, none_before, order_push}
-use Rattle.certificate_lines.proofs.LocalLemmas.{local_cut, local_use, local_more}
+use Rattle.certificate_lines.proofs.LocalLemmas.{local_cut, local_use}
 use Rattle.section_text.proofs.Codes.{both_none}
 
 -- ---- tests that a line passed
@@ -46,23 +46,12 @@ pub record IsNewWire (c : Circuit) (local : List ℕ) (name : List ℕ) : Type 0
   pub named : wire_of c name ≡ Some wire
   pub new : is_among local wire ≡ false
 
-new_by : (local : List ℕ) (o : Option ℕ) → cut_wire_fault local o ≡ None →
-    (w : ℕ) × (o ≡ Some w) × (is_among local w ≡ false)
-new_by local o h1 = grind (arith, common_steps, no_code)
-
 pub new_wire : (c : Circuit) (count : ℕ) (local : List ℕ) (name : List ℕ) → cut_line_code c count local name ≡ None →
     (count < 12) × IsNewWire c local name
 unfolding cut_line_code
-new_wire c count local name e = grind (arith, common_steps, both_none, new_by, less, no_code)
-
-pub cut_wires_cut : (c : Circuit) (m : ModuleLines) (n : List ℕ) (w : ℕ) → wire_of c n ≡ Some w →
-    cut_wires c (module_with_line (Cut n) m) ≡ cut_wires c m ++ w ∷ []
-cut_wires_cut c m n w e = grind (arith, common_steps, flat_push)
+new_wire c count local name e = grind (arith, common_steps, both_none, less, no_code)
 
 -- ---- lines with a time beside those with a `*`
-
-kept_free : (star here more : Bool) → (star || not (here || more)) ≡ true → (star || not more) ≡ true
-kept_free star here more h = grind arith
 
 first_free : (star here more : Bool) → (star || not (here || more)) ≡ true → (star || not here) ≡ true
 first_free star here more h = grind arith
@@ -74,7 +63,7 @@ unstarred_push [] e u h = (refl, tt)
 unstarred_push (d ∷ es) e u h = (
   list_all_push (λ e. is_star e.time || not (is_starred_line_at e.cell d)) es e u.0
       (first_free (is_star e.time) (is_starred_line_at e.cell d) (list_any (is_starred_line_at e.cell) es) h),
-  unstarred_push es e u.1 (grind (arith, common_steps, kept_free)),
+  unstarred_push es e u.1 (grind (arith, common_steps)),
 )
 
 free_time : (steps : ℕ) (starred : Bool) (t : Option ℕ) → is_line_time_allowed steps starred t ≡ true →
@@ -145,7 +134,7 @@ module _ (g : Setting) (m : ModuleLines) (is : IsModule g m) (n : List ℕ)
     known_none = ap (local_wires g.circuit.netlist (cut_wires g.circuit m)) no_gates
 
     pub known_cut : known g.circuit cut ≡ known g.circuit m ++ w ∷ []
-    known_cut = grind (arith, common_steps, cut_wires_cut, gates_are, known_none)
+    known_cut = grind (arith, common_steps, gates_are, known_none)
 
     cut_pushed : length (cuts m) < 12 → is_among (known g.circuit m) w ≡ false → IsModuleInLimits g cut
     unfolding rank_of
@@ -156,8 +145,8 @@ module _ (g : Setting) (m : ModuleLines) (is : IsModule g m) (n : List ℕ)
         let after = local_cut g.circuit.netlist (cut_wires g.circuit m) w before room
         (ap (λ l. is_among l w) (sym known_none) ∙ new) in
         early_pushed g m is (Cut n) follows (omega arith)
-        (grind (arith, common_steps, cut_wires_cut, length_push, flat_push))
-        (grind (arith, common_steps, cut, gates_are, cut_wires_cut))
+        (grind (arith, common_steps, length_push, flat_push))
+        (grind (arith, common_steps, cut, gates_are))
 
 -- ---- a used gate
 
@@ -185,10 +174,6 @@ module _ (g : Setting) (m : ModuleLines) (k : ℕ) where
 
   cut_wires_use : cut_wires g.circuit used ≡ cut_wires g.circuit m
   cut_wires_use = ap (flat_map (λ n. option_to_list (wire_of g.circuit n))) (flat_same cut_name_in m.lines (Use k) refl)
-
-  pub known_use : (gate : Gate) → slice_get g.circuit.netlist.gates k ≡ Some gate →
-      known g.circuit used ≡ known g.circuit m ++ gate.outs
-  known_use gate at = grind (arith, common_steps, cut_wires_use, flat_push, local_more)
 
   use_pushed : IsModule g m → may_follow m.lines (Use k) ≡ true → length (gates m) < 64 →
       IsGoodUse g.circuit (known g.circuit m) k → IsModuleInLimits g used

@@ -9,7 +9,6 @@ use Rattle.certificate_lines.proofs.Imports.{◌&&◌, ◌++◌, ◌∙◌, ◌�
 use Rattle.lemmas.proofs.Common.{nat_cmp, and-true}
 use Rattle.certificate_lines.specs.BuilderView.{body_line_or_none}
 use Rattle.certificate_lines.proofs.Growing.{last_pushed}
-use Rattle.certificate_lines.proofs.LineOrder.{is_before}
 use Rattle.certificate_lines.proofs.LineRanks.{cut_rank}
 
 line_total : IsTotalOrder line_cmp
@@ -35,7 +34,7 @@ cells_precede i j ranks uncut numbers = grind (arith, common_steps, nat_cmp, cut
 precede_parts : (i j : CertificateLine) → may_precede i j ≡ true →
     (line_cmp i j ≡ Less) ⊎ ((is_cut i ≡ true) × (is_cut j ≡ true))
 unfolding may_precede
-precede_parts i j h = grind (arith, common_steps, or_cases, is_before, and_parts)
+precede_parts i j h = grind (arith, common_steps, or_cases, and_parts)
 
 less_then_cut : (i j k : CertificateLine) → line_cmp i j ≡ Less → is_cut j ≡ true → is_cut k ≡ true →
     line_cmp i k ≡ Less

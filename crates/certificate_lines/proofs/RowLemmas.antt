@@ -47,11 +47,6 @@ filled_less (suc n ∷ xs) zero d lt e = absurd (omega arith)
 filled_less (zero ∷ xs) (suc i) d lt e = let m = filled_less xs i d (omega arith) e in omega (arith, m)
 filled_less (suc n ∷ xs) (suc i) d lt e = let m = filled_less xs i d (omega arith) e in omega (arith, m)
 
-pub all_zero : (n i : ℕ) → get_or {A = ℕ} (replicate n zero) i zero ≡ zero
-all_zero zero i = refl
-all_zero (suc n) zero = refl
-all_zero (suc n) (suc i) = all_zero n i
-
 -- ---- the rows of a box
 
 -- a cell of a box is in one of its rows and columns
@@ -78,7 +73,7 @@ pub record AreRowsSoFar (b : Box2) (ports : List Port) (k : ℕ) (rows : List �
       0 < get_or rows (unsigned_abs p.cell.y - b.y) 0
 
 pub no_rows : (b : Box2) (ports : List Port) (n : ℕ) → n ≡ b.h → AreRowsSoFar b ports 0 (replicate n zero) 0
-no_rows b ports n is = grind (arith, common_steps, length-replicate, filled_none, all_zero)
+no_rows b ports n is = grind (arith, common_steps, length-replicate, filled_none)
 
 module _ (b : Box2) (ports : List Port) (k : ℕ) (p : Port) (at : slice_get ports k ≡ Some p)
     (inside : in_box b p.cell.x p.cell.y ≡ true) (rows : List ℕ) (count : ℕ)

@@ -17,8 +17,7 @@ use Rattle.lemmas.proofs.Common.{get_or-set_other, length-take-le, mul-le-mul_ri
 use Rattle.lemmas.proofs.Common.{list_all-append, same_truth}
 use Rattle.bbm_rule.proofs.CellLists.{cast_cell, row_more, rows_found}
 use Rattle.certificate_lines.specs.PortTables.{AreInBox, entry_or_zero, number_with_port_in_front}
-use Rattle.certificate_lines.proofs.RowLemmas.{all_zero, entry_few, entry_own, filled, filled_less, filled_more}
-use Rattle.certificate_lines.proofs.RowLemmas.{filled_none}
+use Rattle.certificate_lines.proofs.RowLemmas.{entry_few, entry_own, filled, filled_less, filled_more, filled_none}
 use Rattle.certificate_lines.proofs.Lists.{passed, any_at, some_is}
 use Rattle.certificate_lines.proofs.LayoutPorts.{port_stands, none_stands}
 use Rattle.certificate_lines.proofs.PortLemmas.{cell_passed, has_cell}
@@ -251,7 +250,7 @@ pub record IsFilling (b : Box2) (ports : List Port) (rows : List ℕ) (count k :
 
 no_entry : (n : ℕ) (o : Option ℕ) → entry_or_zero (replicate n zero) o ≡ 0
 unfolding entry_or_zero
-no_entry n o = grind (arith, common_steps, all_zero)
+no_entry n o = grind (arith, common_steps)
 
 pub no_ports : (b : Box2) (ports : List Port) (rows : List ℕ) (count n : ℕ) → n ≡ count * b.w →
     IsFilling b ports rows count 0 (replicate n zero)

@@ -1,8 +1,8 @@
 -- The marks of a list of wires
 use Rattle.certificate_lines.proofs.Imports.{List, [], ap, arith, common_steps, false, get_or, is_among, length}
-use Rattle.certificate_lines.proofs.Imports.{length-replicate, refl, replicate, suc, sym, take, take_more, true, zero}
-use Rattle.certificate_lines.proofs.Imports.{ℕ, ◌%◌, ◌++◌, ◌+◌, ◌<◌, ◌==◌, ◌||◌, ◌∙◌, ◌∷◌, ◌≡◌, ◌≤◌, false≢true}
-use Rattle.lemmas.proofs.Common.{◌/◌, eq_itself, or-true, false_from_ne_true, get_or-replicate, get_or_past}
+use Rattle.certificate_lines.proofs.Imports.{replicate, suc, sym, take, take_more, true, zero, ℕ, ◌%◌, ◌++◌, ◌+◌, ◌<◌}
+use Rattle.certificate_lines.proofs.Imports.{◌==◌, ◌||◌, ◌∙◌, ◌∷◌, ◌≡◌, ◌≤◌, false≢true}
+use Rattle.lemmas.proofs.Common.{◌/◌, eq_itself, or-true, false_from_ne_true, get_or_past}
 use Rattle.std.proofs.lemmas.List.{get_or-take, length-take-le}
 use Rattle.bbm_rule.specs.Rows.{SetsPlace}
 use Rattle.bbm_rule.specs.Rows.{cell_at}
@@ -22,12 +22,6 @@ past_marks marks w past = unmarked marks w (get_or_past marks (w / 64) 0 past)
 pub none_marked : (w : ℕ) → cell_at [] w ≡ is_among [] w
 none_marked w = past_marks [] w (omega arith)
 
--- the words that are added have no mark
-grown_word : (marks : List ℕ) (n k : ℕ) → get_or (marks ++ replicate n 0) k 0 ≡ get_or marks k 0
-grown_word [] n k = grind (arith, common_steps, by_lt_or_le, get_or-replicate, get_or_past, length-replicate)
-grown_word (m ∷ marks) n zero = refl
-grown_word (m ∷ marks) n (suc k) = grown_word marks n k
-
 take_all : (marks : List ℕ) (n : ℕ) → length marks ≤ n → take n marks ≡ marks
 take_all [] n few = grind (arith, common_steps)
 take_all (m ∷ marks) zero few = absurd (omega (arith, few))
@@ -36,7 +30,7 @@ take_all (m ∷ marks) (suc n) few = ap (λ l. m ∷ l) (take_all marks n (omega
 pub grown_marks : (marks : List ℕ) (n k w : ℕ) → length marks ≤ n →
     cell_at (take n marks ++ replicate k 0) w ≡ cell_at marks w
 unfolding cell_at
-grown_marks marks n k w few = grind (arith, common_steps, take_all, grown_word)
+grown_marks marks n k w few = grind (arith, common_steps, take_all)
 
 -- marks that are truncated to their old length are the old ones
 pub same_marks_truncated : (old new : List ℕ) (n w : ℕ) → n ≡ length old → n ≤ length new →
