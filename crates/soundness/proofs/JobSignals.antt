@@ -1,14 +1,14 @@
 -- The jobs of modules: which one has a cell, and what their signals say by the wires of the circuit
 use Rattle.soundness.proofs.Imports.{All, All-head, All-tail, AllTimesSignal, BelongTogether, Bool, BorderLine, Box2}
-use Rattle.soundness.proofs.Imports.{Cell, Circuit, CircuitLine, Demand, IsEven, IsJobOf, IsModule, JobView, List}
-use Rattle.soundness.proofs.Imports.{LocalNet, MeetsDemand, ModuleLines, None, Option, Pattern, Signal, Some}
-use Rattle.soundness.proofs.Imports.{TimedSignal, Valuation, Zero, [], all_times_at, all_times_of_line, ap, arith}
-use Rattle.soundness.proofs.Imports.{cases_Bool, cell_same, circuit_of, circuit_wire, common_steps, edge_signal, edges}
-use Rattle.soundness.proofs.Imports.{event_at, events_of_line, false, flat_map, halo_same, halo_signal, halos, in_box}
-use Rattle.soundness.proofs.Imports.{in_ring, is_at, is_live, line_signals, mapped_from, one_or_named_wire, refl}
+use Rattle.soundness.proofs.Imports.{Cell, Circuit, CircuitLine, Demand, IsJobOf, IsModule, JobView, List, LocalNet}
+use Rattle.soundness.proofs.Imports.{MeetsDemand, ModuleLines, None, Option, Pattern, Signal, Some, TimedSignal}
+use Rattle.soundness.proofs.Imports.{Valuation, Zero, [], all_times_at, all_times_of_line, ap, arith, cases_Bool}
+use Rattle.soundness.proofs.Imports.{cell_same, circuit_of, circuit_wire, common_steps, edge_signal, edges, event_at}
+use Rattle.soundness.proofs.Imports.{events_of_line, false, flat_map, halo_same, halo_signal, halos, in_box, in_ring}
+use Rattle.soundness.proofs.Imports.{is_at, is_live, line_signals, mapped_from, one_or_named_wire, refl}
 use Rattle.soundness.proofs.Imports.{renumber_demand, renumber_signal, setting_of, signal_at, slice_get}
-use Rattle.soundness.proofs.Imports.{slice_get_within, some_at, subst, sym, true, true≢false, values_by_local_number}
-use Rattle.soundness.proofs.Imports.{whole, ℕ, ℤ, ◌++◌, ◌∙◌, ◌∷◌, ◌≡◌}
+use Rattle.soundness.proofs.Imports.{slice_get_within, some_at, sym, true, true≢false, values_by_local_number, whole, ℕ}
+use Rattle.soundness.proofs.Imports.{ℤ, ◌++◌, ◌∙◌, ◌∷◌, ◌≡◌}
 use Rattle.lemmas.proofs.Common.{cond-false, and-false}
 use Rattle.border_match.proofs.Bridge.{edge_same}
 use Rattle.module_job.specs.declared.job.Demand.TheVariants as Demanded
@@ -43,10 +43,6 @@ pub known_job : (lines : List CircuitLine) (p : Pattern) (ms : List ModuleLines)
 known_job lines p ms jobs i j b e =
     let m = some_at ms i (let lt = slice_get_within jobs i j e in let n = b.are_jobs.count in omega (arith, lt, n)) in
     record { of = m.0; numbered = m.1; is_job = b.are_jobs.each i m.0 j m.1 e; good = b.are_modules.each i m.0 m.1 }
-
-pub job_even : (lines : List CircuitLine) (p : Pattern) (ms : List ModuleLines) (i : ℕ) (j : JobView) →
-    Known lines p ms i j → IsEven j.area
-job_even lines p ms i j k = subst IsEven (sym k.is_job.area) k.good.even
 
 -- which job has a cell of the rectangle
 pub record Owner (lines : List CircuitLine) (p : Pattern) (ms : List ModuleLines) (jobs : List JobView)

@@ -2,16 +2,16 @@
 use Rattle.soundness.proofs.Imports.{Accepts, AreDistinct, AreJobsOf, AreModules, Bool, BorderLine, Box2, Circuit}
 use Rattle.soundness.proofs.Imports.{CircuitLine, Fault, IfSome, IsFault, IsJobOf, IsKeepFault, IsModule}
 use Rattle.soundness.proofs.Imports.{IsSignalWireBelow, IsTrue, JobView, KeepFault, List, ModuleLines, None, Option}
-use Rattle.soundness.proofs.Imports.{Pattern, Setting, Signal, Some, Wire, Zero, [], any_at, ap, are_all_obeyed, arith}
+use Rattle.soundness.proofs.Imports.{Pattern, Setting, Signal, Some, Wire, Zero, [], ap, are_all_obeyed, arith}
 use Rattle.soundness.proofs.Imports.{cases_Bool, circuit_of, circuit_wire, common_steps, edge_signal, edges, false}
 use Rattle.soundness.proofs.Imports.{first_seen, halo_same, halo_signal, halos, in_box, in_halo, inl, inr, is_among}
 use Rattle.soundness.proofs.Imports.{is_local, is_local_wire, job_demand, job_start, known, last_seen, length}
 use Rattle.soundness.proofs.Imports.{length-map, line_signals, list_any, map, mapped_from, modules, nat_lt, nat_tests}
 use Rattle.soundness.proofs.Imports.{not, one_or_named_wire, refl, renumber_signal, renumber_signals, setting}
-use Rattle.soundness.proofs.Imports.{setting_of, signal_at, slice_get, slice_get-get_or, slice_get_within, slice_index}
-use Rattle.soundness.proofs.Imports.{some_at, stops, stops_of_lines, stops_stand, subst, sym, time_lines_of_gates, true}
-use Rattle.soundness.proofs.Imports.{whole, wire_of, wire_or_zero, wires, ℕ, ℤ, ◌%◌, ◌<◌, ◌∙◌, ◌∷◌, ◌≡◌, ◌≤◌}
-use Rattle.lemmas.proofs.Common.{slice_index_or, eq_test, mapped_at}
+use Rattle.soundness.proofs.Imports.{setting_of, signal_at, slice_get, slice_get_within, slice_index, some_at, stops}
+use Rattle.soundness.proofs.Imports.{stops_of_lines, stops_stand, subst, sym, time_lines_of_gates, true, whole, wire_of}
+use Rattle.soundness.proofs.Imports.{wire_or_zero, wires, ℕ, ℤ, ◌%◌, ◌<◌, ◌∙◌, ◌∷◌, ◌≡◌, ◌≤◌}
+use Rattle.lemmas.proofs.Common.{slice_index_or, mapped_at}
 use Rattle.std.specs.List.{All}
 use Rattle.certificate_lines.specs.Entries.{modules_of}
 use Rattle.certificate_lines.specs.Versions.{edge_lines_beside, is_haloless_version, is_nonlocal_signal}
@@ -50,9 +50,6 @@ local_wire_of c local name h = grind (arith, common_steps)
 wire_behind : (f : ℕ → ℕ) (n : ℕ) (s : Signal) (w : ℕ) → IsSignalWireBelow n s → renumber_signal f s ≡ Wire w →
     (i : ℕ) × (i < n) × (f i ≡ w)
 wire_behind f n s w h1 h2 = grind (arith, common_steps)
-
-among_at : (ws : List ℕ) (i w : ℕ) → i < length ws → slice_index ws i ≡ w → is_among ws w ≡ true
-among_at ws i w lt e = grind (arith, common_steps, any_at, slice_get-get_or, eq_test)
 
 module _ (lines : List CircuitLine) (p : Pattern) (ms : List ModuleLines) (jobs : List JobView)
     (good : AreModules (setting_of lines p) ms) (own : AreJobsOf (circuit_of lines) p ms jobs)
@@ -96,7 +93,7 @@ module _ (lines : List CircuitLine) (p : Pattern) (ms : List ModuleLines) (jobs 
       let is = own.each i m j.0 at j.1 in
       let named = wire_behind (circuit_wire j.0.locals) (wires j.0.locals.netlist) (signal_at j.0.halos t x y) w
       (halo_below j.0 t x y is.own) (halo_same lines p m j.0 t x y is ∙ e) in
-      grind (arith, common_steps, among_at)
+      grind (arith, common_steps)
 
   time_of : (e : BorderLine) → IfSome e.time (λ t. (t % 2 ≡ 1) × (t < p.size.steps)) → 1 < p.size.steps →
       (t : ℕ) × SaysAt t e.time × (t % 2 ≡ 1) × (t < p.size.steps)

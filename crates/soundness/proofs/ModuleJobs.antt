@@ -258,21 +258,18 @@ module _ (c : Circuit) (p : Pattern) (m : ModuleLines) (j k : JobView) (differen
   unfolding job_demand
   demand_inside i x y h = cond-true _ _ _ h
 
-  inside_k : (x y : ℤ) → in_box j.area x y ≡ true → in_box k.area x y ≡ true
-  inside_k x y h = ap (λ b. in_box b x y) (sym same_area) ∙ h
-
   area_of_j : m.area.w * m.area.h ≡ j.area.w * j.area.h
   area_of_j = ap (λ (b : Box2). b.w * b.h) (sym of_j.area)
 
   same_starts : j.starts ≡ k.starts
   same_starts = same_over_box j.area j.starts k.starts Zero (of_j.start_count ∙ area_of_j)
       (of_k.start_count ∙ area_of_j)
-      (λ x y h. grind (arith, common_steps, start_inside, same_start, inside_k, slice_get, same_area))
+      (λ x y h. grind (arith, common_steps, start_inside, same_start, slice_get, same_area))
 
   same_demands : j.demands ≡ k.demands
   same_demands = same_over_box j.area j.demands k.demands Demanded.Dead (of_j.demand_count ∙ area_of_j)
       (of_k.demand_count ∙ area_of_j)
-      (λ x y h. grind (arith, common_steps, demand_inside, same_demand, inside_k, slice_get, same_area))
+      (λ x y h. grind (arith, common_steps, demand_inside, same_demand, slice_get, same_area))
 
   same_job : j ≡ k
   same_job = λ i. record {

@@ -79,12 +79,6 @@ value_there ws a k w different e = ap (bit a) (different (place ws w) k w (place
 
 -- ---- what is on time keeps the rules on times
 
-last_one : (c : Circuit) (ss : List StopLine) (w s t : ℕ) → IsLastTime c ss w s → IsLastTime c ss w t → s ≡ t
-last_one c ss w s t a b = grind (arith, common_steps)
-
-first_one : (c : Circuit) (ss : List StopLine) (w s t : ℕ) → IsFirstTime c ss w s → IsFirstTime c ss w t → s ≡ t
-first_one c ss w s t a b = grind (arith, common_steps)
-
 -- a delay uses one wire and defines one
 record HasOneWire (g : Gate) : Type 0 where
   used : ℕ
@@ -109,11 +103,11 @@ delay_wires m n (f ∷ gs) zero g ordered at is =
 delay_wires m n (f ∷ gs) (suc k) g ordered at is = delay_wires (m + defines f.kind) n gs k g ordered.3 at is
 
 same_steps : (c : Circuit) (ss : List StopLine) (m n a b : ℕ) → TakesSteps c ss m a b → TakesSteps c ss n a b → m ≡ n
-same_steps c ss m n a b s t = grind (arith, common_steps, last_one, first_one)
+same_steps c ss m n a b s t = grind (arith, common_steps)
 
 not_before : (c : Circuit) (ss : List StopLine) (n a b s t : ℕ) → TakesSteps c ss n a b → IsLastTime c ss a s →
     IsFirstTime c ss b t → t < s → ⊥
-not_before c ss n a b s t takes last first lt = grind (arith, common_steps, last_one, first_one)
+not_before c ss n a b s t takes last first lt = grind (arith, common_steps)
 
 kept_gap : (c : Circuit) (ss : List StopLine) (k n a b : ℕ) (gap : StopGap) → TakesSteps c ss n a b →
     IsDelayGapTrue c ss gap a b → is_obeyed (times.Delay k n gap) ≡ true

@@ -1,10 +1,9 @@
 -- A job has a least fault or none, and so for keep faults and border faults
 use Rattle.lemmas.proofs.Common.{common_steps}
-use Rattle.lemmas.proofs.Common.{Decides-int_eq}
 use Rattle.soundness.proofs.Imports.{AreOrdered, Bool, BorderFault, Box2, Cell, Demand, Edge, End, Fault, IsBorderFault}
 use Rattle.soundness.proofs.Imports.{IsFault, IsFaultUnder, IsJob, IsKeepFault, IsLeastBorderFault, IsLeastFault}
 use Rattle.soundness.proofs.Imports.{IsLeastKeepFault, IsTrue, JobView, KeepFault, Kind, List, MeetsDemand, ModuleLines}
-use Rattle.soundness.proofs.Imports.{None, Option, Setting, Signal, Some, Stop, Valuation, [], ap, arith, as_values}
+use Rattle.soundness.proofs.Imports.{None, Option, Setting, Some, Stop, Valuation, [], ap, arith, as_values}
 use Rattle.soundness.proofs.Imports.{assignments, bit, border_cmp, box_place, decided, edge_signal, fault_cmp, flat_map}
 use Rattle.soundness.proofs.Imports.{get_or_from_slice_get, halo_signal, in_box, in_halo, in_ring, inl, inr, is_among}
 use Rattle.soundness.proofs.Imports.{is_live, job_demand, local_run, map, range_with_len, rectangle_cells, refl}
@@ -14,7 +13,6 @@ use Rattle.circuit.proofs.Undefined.{stopped, undefined_is_one}
 use Rattle.module_box.specs.LocalValues.{IsFirstLocalGateWithoutRow}
 use Rattle.certificate_lines.proofs.LineOrder.{In, flat_in}
 use Rattle.certificate.proofs.FullModules.{stands}
-use Rattle.module_job.specs.Jobs.{IsStopOf}
 use Rattle.local_run.specs.Order.{keep_cmp}
 use Rattle.local_run.proofs.Leasts.{undefined_no_fault}
 use Rattle.border_match.proofs.FaultOrder.{border_total}
@@ -26,9 +24,6 @@ use Rattle.bbm_rule.proofs.RingTests.{ring_in_box}
 use Rattle.local_run.proofs.Least.{fault_total, keep_total}
 use Rattle.module_job.specs.declared.job.Demand.TheVariants as Demanded
 use Rattle.module_job.specs.declared.job.Stop as listed
-
-integers_decided : (a b : ℤ) → Decided (a ≡ b)
-integers_decided a b = decided_by (Decides-int_eq a b).0 (Decides-int_eq a b).1 (true_decided _)
 
 in_cells_of_box : (b : Box2) (d : Cell) → in_box b d.x d.y ≡ true → In d (rectangle_cells b)
 in_cells_of_box b d h = stands (rectangle_cells b) _ d (box_place b d.x d.y h)
@@ -43,7 +38,7 @@ module _ (j : JobView) (u : Valuation) (t : ℕ) (x y : ℤ) where
   IsMissed s = (s.at.time ≡ t) × ((s.at.cell.x ≡ x) × ((s.at.cell.y ≡ y) × (local_run j u t x y ≢ u s.wire)))
 
   missed_decided : (s : listed.Stop) → Decided (IsMissed s)
-  missed_decided s = grind (arith, common_steps, both_decided, numbers_decided, integers_decided, bools_decided)
+  missed_decided s = grind (arith, common_steps, both_decided, numbers_decided, bools_decided)
 
   under_decided : (kind : Kind) → Decided (IsFaultUnder j u t kind x y)
   under_decided Edge = decided_by
@@ -75,12 +70,8 @@ module _ (j : JobView) (is : IsJob j) (ordered : AreOrdered j.locals.netlist.giv
   abbrev Bounded : Fault → Type 0
   Bounded f = (f.time < j.steps + 1) × (in_box j.area f.cell.x f.cell.y ≡ true)
 
-  stop_inside : (f : Fault) (s : listed.Stop) → IsStopOf j s → s.at.time ≡ f.time → s.at.cell.x ≡ f.cell.x →
-      s.at.cell.y ≡ f.cell.y → Bounded f
-  stop_inside f s stop time column row = grind (arith, common_steps)
-
   bounded : (u : Valuation) (f : Fault) (kind : Kind) → IsFaultUnder j u f.time kind f.cell.x f.cell.y → Bounded f
-  bounded u f kind h1 = grind (arith, common_steps, ring_in_box, stop_inside)
+  bounded u f kind h1 = grind (arith, common_steps, ring_in_box)
 
   abbrev kinds : List Kind
   kinds = Edge ∷ Stop ∷ End ∷ []
@@ -181,16 +172,10 @@ module _ (j : JobView) (is : IsJob j) (ordered : AreOrdered j.locals.netlist.giv
 
 -- ---- border faults
 
-signals_decided : (a b : Signal) → Decided (a ≡ b)
-signals_decided a b = grind (arith, common_steps, decided_by, numbers_decided)
-
 module _ (g : Setting) (ms : List ModuleLines) (i : ℕ) where
   abbrev IsOtherwise : ModuleLines → BorderFault → ModuleLines → Type 0
   IsOtherwise m f o = IsTrue (in_box o.area f.cell.x f.cell.y)
       × (halo_signal g.circuit m f.time f.cell.x f.cell.y ≢ edge_signal g.circuit o f.time f.cell.x f.cell.y)
-
-  otherwise_decided : (m : ModuleLines) (f : BorderFault) (o : ModuleLines) → Decided (IsOtherwise m f o)
-  otherwise_decided m f o = grind (arith, common_steps, both_decided, true_decided, not_decided, signals_decided)
 
   abbrev IsBorderFaultOf : ModuleLines → BorderFault → Type 0
   IsBorderFaultOf m f = (f.time % 2 ≡ 1) × ((f.time < g.size.steps) × (IsTrue (in_box (whole g.size) f.cell.x f.cell.y)
@@ -200,7 +185,7 @@ module _ (g : Setting) (ms : List ModuleLines) (i : ℕ) where
   of_module_decided m f =
       both_decided (numbers_decided (f.time % 2) 1) (λ _.
       both_decided (below_decided f.time g.size.steps) (
-      grind (arith, common_steps, both_decided, true_decided, some_decided, otherwise_decided)))
+      grind (arith, common_steps, both_decided, true_decided, some_decided)))
 
   to_fault : (m : ModuleLines) (f : BorderFault) → slice_get ms i ≡ Some m → IsBorderFaultOf m f →
       IsBorderFault g ms i f

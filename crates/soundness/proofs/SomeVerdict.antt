@@ -1,22 +1,22 @@
 -- The modules of a certificate have jobs and a verdict
 use Rattle.soundness.proofs.Imports.{AreJobsOf, AreLeastFaultsOfJob, AreModules, AreOrdered, Bool, BorderFault, Box2}
-use Rattle.soundness.proofs.Imports.{CircuitLine, Gate, GateKind, IsEven, IsJob, IsJobOf, IsLeastBorderFault, IsModule}
-use Rattle.soundness.proofs.Imports.{IsVerdict, JobView, LeastFaults, List, ModuleLines, None, Option, Pattern}
-use Rattle.soundness.proofs.Imports.{ReportLine, Setting, Some, Source, StopGap, TimeLine, Yes, [], ap, append-nil}
-use Rattle.soundness.proofs.Imports.{append_assoc, are_all_obeyed, arith, circuit_of, common_steps, cond, defined}
-use Rattle.soundness.proofs.Imports.{delay_and_meet_lines, false, get_or, in_box, inl, inr, is_inverse, is_kept, length}
-use Rattle.soundness.proofs.Imports.{length-append, length-map, map, nat_lt, nat_tests, netlist_of, not, option_map}
-use Rattle.soundness.proofs.Imports.{option_to_list, refl, renumber_keep, report_lines_from, setting_of, size_fault}
-use Rattle.soundness.proofs.Imports.{slice_get, slice_get_within, stops, stops_stand, subst, suc, sym}
-use Rattle.soundness.proofs.Imports.{time_lines_of_gates, timing_report_line, true, unkept_from, unkept_lines, zero, ℕ}
-use Rattle.soundness.proofs.Imports.{◌&&◌, ◌*◌, ◌++◌, ◌+◌, ◌<◌, ◌||◌, ◌∙◌, ◌∷◌, ◌≡◌, ◌≤◌}
+use Rattle.soundness.proofs.Imports.{CircuitLine, Gate, IsEven, IsJob, IsJobOf, IsLeastBorderFault, IsModule, IsVerdict}
+use Rattle.soundness.proofs.Imports.{JobView, LeastFaults, List, ModuleLines, None, Option, Pattern, ReportLine}
+use Rattle.soundness.proofs.Imports.{Setting, Some, TimeLine, Yes, [], ap, append-nil, append_assoc, are_all_obeyed}
+use Rattle.soundness.proofs.Imports.{arith, circuit_of, common_steps, cond, defined, delay_and_meet_lines, false}
+use Rattle.soundness.proofs.Imports.{get_or, in_box, inl, inr, is_inverse, is_kept, length, length-append, length-map}
+use Rattle.soundness.proofs.Imports.{map, nat_lt, nat_tests, netlist_of, not, option_map, option_to_list, refl}
+use Rattle.soundness.proofs.Imports.{renumber_keep, report_lines_from, setting_of, size_fault, slice_get}
+use Rattle.soundness.proofs.Imports.{slice_get_within, stops, stops_stand, subst, suc, sym, time_lines_of_gates}
+use Rattle.soundness.proofs.Imports.{timing_report_line, true, unkept_from, unkept_lines, zero, ℕ, ◌&&◌, ◌*◌, ◌++◌, ◌+◌}
+use Rattle.soundness.proofs.Imports.{◌<◌, ◌||◌, ◌∙◌, ◌∷◌, ◌≡◌, ◌≤◌}
 use Rattle.lemmas.proofs.Common.{◌^◌, Global, Vec, nat_le}
 use Rattle.circuit.specs.Bridge.{AreGoodCircuitLines, AreGoodAfter}
 use Rattle.circuit.specs.Rules.{added_line_code, gate_count, is_gate, is_wrong_delay, exceeds_limit}
 use Rattle.circuit.proofs.Bridging.{count_append, gates_are_ordered}
 use Rattle.circuit.proofs.Naming.{gates_counted}
 use Rattle.certificate.specs.StopLists.{AreStops}
-use Rattle.certificate.specs.Times.{delay_line_of_kind, meet_line_of_times, lines_by_number}
+use Rattle.certificate.specs.Times.{lines_by_number}
 use Rattle.certificate.proofs.JobLemmas.{within_512}
 use Rattle.certificate.proofs.StopLemmas.{stops_rise}
 use Rattle.border_match.specs.BorderFaults.{AreBorderFaultsOf}
@@ -66,15 +66,8 @@ unfolding lines_by_number
 line_each f few k [] = omega arith
 line_each f few k (g ∷ gs) = grind (arith, common_steps, length-append, (line_each f few (k + 1) gs))
 
-few_delays : (k : ℕ) (kind : GateKind) (gap : StopGap) → length (delay_line_of_kind k kind gap) ≤ 1
-few_delays k (Source b) gap = omega arith
-few_delays k _ gap = omega arith
-
-few_meetings : (k : ℕ) (ts : List ℕ) → length (meet_line_of_times k ts) ≤ 1
-few_meetings k ts = grind (arith, common_steps)
-
 two_each : (first last : ℕ → Option ℕ) (gs : List Gate) → length (time_lines_of_gates first last gs) ≤ 2 * length gs
-two_each first last gs = grind (arith, common_steps, line_each, few_delays, few_meetings, length-append)
+two_each first last gs = grind (arith, common_steps, line_each, length-append)
 
 -- ---- a circuit has at most 16,384 gates
 

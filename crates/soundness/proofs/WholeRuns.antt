@@ -31,9 +31,8 @@ use Rattle.soundness.specs.HeadlineLaws.{PlaneEndsAsAsked, AcceptedIsCorrect, Ac
 use Rattle.soundness.proofs.InputRuns.{inputs_decide}
 use Rattle.soundness.proofs.StopParts.{all_flat, all_map, local_wire_is, one_said}
 use Rattle.soundness.proofs.KeptGates.{accepted_has_valuation}
-use Rattle.soundness.proofs.JobSignals.{Known, Owner, known_job, job_even, owner_of, meets_for_circuit_wires}
-use Rattle.soundness.proofs.JobSignals.{live_renumbered, rim_edge_dead, outer_halo_dead, edge_by_circuit}
-use Rattle.soundness.proofs.JobSignals.{halo_by_circuit}
+use Rattle.soundness.proofs.JobSignals.{Known, Owner, known_job, owner_of, meets_for_circuit_wires, live_renumbered}
+use Rattle.soundness.proofs.JobSignals.{rim_edge_dead, outer_halo_dead, edge_by_circuit, halo_by_circuit}
 use Rattle.soundness.proofs.LayoutCells.{live_start, start_outside, whole_inside, whole_even, mirror_inside, IsOutput}
 use Rattle.soundness.proofs.LayoutCells.{is_output, met_mirror, met_output, met_other}
 use Rattle.local_run.specs.declared.fault.Kind.TheVariants.{Edge, End, Stop as AtStop}
@@ -99,16 +98,7 @@ local_stays : (lines : List CircuitLine) (p : Pattern) (ms : List ModuleLines) (
 unfolding local_run
 local_stays lines p ms i j u zero k x y out = ap (is_live u) (own.start_outside j x y out)
 local_stays lines p ms i j u (suc t) k x y out =
-    grind (
-      arith,
-      common_steps,
-      even_or_odd,
-      local_even,
-      even_stays,
-      job_even,
-      local_odd,
-      (local_stays lines p ms i j u t k),
-    )
+    grind (arith, common_steps, even_or_odd, local_even, even_stays, local_odd, (local_stays lines p ms i j u t k))
 
 -- what is outside the rectangle is outside every box
 outer : (lines : List CircuitLine) (p : Pattern) (ms : List ModuleLines) (jobs : List JobView) (x y : ℤ)
@@ -161,7 +151,7 @@ module _ (lines : List CircuitLine) (p : Pattern) (ms : List ModuleLines) (jobs 
   unfolding run local_run
   even_inside t i j set e now at x y h =
       let k = known_job lines p ms jobs i j set.bundle at in
-      grind (arith, common_steps, even_local, job_even, local_even)
+      grind (arith, common_steps, even_local, local_even)
 
   -- ---- an odd step
 
