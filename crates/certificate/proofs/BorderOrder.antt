@@ -3,7 +3,7 @@ use Rattle.certificate.proofs.Imports.{AllTimesSignal, AreInOrder, Bool, BorderL
 use Rattle.certificate.proofs.Imports.{Option, Ordering, Pairs, Signal, TimedSignal, [], all_times_of_line, and_parts}
 use Rattle.certificate.proofs.Imports.{arith, cell_cmp, cell_of, common_steps, edge_in, events_of_line, false, halo_in}
 use Rattle.certificate.proofs.Imports.{is_cut, line_cmp, list_all, may_precede, moment_cmp, ordering_then, pairs_flat}
-use Rattle.certificate.proofs.Imports.{rank_of, sort_number_of, time_rank, true, ℕ, ◌+◌, ◌||◌, ◌∷◌, ◌≡◌}
+use Rattle.certificate.proofs.Imports.{rank_of, sort_number_of, time_rank, true, ℕ, ◌||◌, ◌∷◌, ◌≡◌}
 use Rattle.std.specs.List.{flat_map}
 use Rattle.std.specs.Ordering.{nat_cmp, is_lt}
 
@@ -55,10 +55,6 @@ HeldBefore a b = cell_cmp a.cell b.cell ≡ Less
 abbrev pub EventBefore : TimedSignal → TimedSignal → Type 0
 EventBefore a b = moment_cmp a.at b.at ≡ Less
 
-earlier_later : (a b : ℕ) (o : Ordering) → nat_cmp (a + 1) (b + 1) ≡ o → nat_cmp a b ≡ o
-earlier_later a b Less h = grind arith
-earlier_later a b _ h = grind arith
-
 pub all_times_first : (s s' : Signal) (d e : BorderLine) (t u : Option ℕ) →
     ordering_then (nat_cmp (time_rank t) (time_rank u)) (cell_cmp d.cell e.cell) ≡ Less →
     Each (λ a. Each (HeldBefore a) (all_times_of_line e u s')) (all_times_of_line d t s)
@@ -69,7 +65,7 @@ pub event_first : (s s' : Signal) (d e : BorderLine) (t u : Option ℕ) →
     ordering_then (nat_cmp (time_rank t) (time_rank u)) (cell_cmp d.cell e.cell) ≡ Less →
     Each (λ a. Each (EventBefore a) (events_of_line e u s')) (events_of_line d t s)
 unfolding Each moment_cmp
-event_first s s' d e t u h1 = grind (arith, common_steps, earlier_later)
+event_first s s' d e t u h1 = grind (arith, common_steps)
 
 pub all_times_alone : (s : Signal) (d : BorderLine) (t : Option ℕ) → Pairs HeldBefore (all_times_of_line d t s)
 unfolding Each Pairs

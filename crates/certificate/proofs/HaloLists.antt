@@ -49,12 +49,6 @@ module _ {X : Type 0} (f : X → List EdgePlace) where
 
 module _ (boxes : List Box2) (o : OwnersView) (good : AreOwners o boxes) (x y : ℤ)
     (inside : in_box (rectangle o) x y ≡ true) where
-  owner_is : (i : ℕ) (b : Box2) → slice_get boxes i ≡ Some b → in_box b x y ≡ true → i ≡ owner_of o x y
-  owner_is i b at here = grind (arith, common_steps)
-
-  owner_box : (b : Box2) → slice_get boxes (owner_of o x y) ≡ Some b → in_box b x y ≡ true
-  owner_box b at = grind (arith, common_steps, some_is)
-
   same_box : (i : ℕ) (b a : Box2) → slice_get boxes i ≡ Some b → slice_get boxes (owner_of o x y) ≡ Some a →
       i ≡ owner_of o x y → b ≡ a
   same_box i b a at own is = some_is b a (sym at ∙ ap (slice_get boxes) is ∙ own)
@@ -64,19 +58,8 @@ module _ (boxes : List Box2) (o : OwnersView) (good : AreOwners o boxes) (x y : 
         list_at_or_empty new (owner_of o x y) ≡ list_at_or_empty old (owner_of o x y) ++ place ∷ [] →
         ((i : ℕ) → (i ≡ owner_of o x y → ⊥) → list_at_or_empty new i ≡ list_at_or_empty old i) →
         AddsPlaceWhere boxes (λ b. in_box b x y && not (q b)) place old new
-    one_place old new free count here others = grind (
-      arith,
-      common_steps,
-      cases_Bool,
-      eqb-true,
-      same_box,
-      owner_box,
-      cond-true,
-      eqb-false,
-      owner_is,
-      append-nil,
-      cond-false,
-    )
+    one_place old new free count here others =
+        grind (arith, common_steps, cases_Bool, eqb-true, same_box, cond-true, eqb-false, append-nil, cond-false)
 
 pub same_test : (boxes : List Box2) (p q : Box2 → Bool) (place : EdgePlace) (old new : List (List EdgePlace)) →
     ((b : Box2) → p b ≡ q b) → AddsPlaceWhere boxes p place old new → AddsPlaceWhere boxes q place old new

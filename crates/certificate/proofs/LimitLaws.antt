@@ -31,16 +31,10 @@ first_limits_are_kept g version before i = grind (arith, common_steps, counted)
 
 -- ---- the second limits
 
--- a count within the largest limit is within the second one
-count_second : (i w h b : Bool) (place cells : Option RefusalCode) →
-    or_else (or_else (code_if i SomethingMissing) (or_else (code_if (w || h || b) PastLimit) place)) cells ≡ None →
-    code_if (b && not i) PastLimit ≡ None
-count_second i w h b place cells passes = grind (arith, common_steps)
-
 within_second : (g : Setting) (before : List CertificateLine) (i : CertificateLine) → entry_fault g before i ≡ None →
     module_limit_fault Second g before i ≡ None
 unfolding entry_fault module_limit_fault module_line_code module_box_code
-within_second g before i h1 = grind (arith, common_steps, count_second)
+within_second g before i h1 = grind (arith, common_steps)
 
 all_pass : (a b c : Option RefusalCode) → a ≡ None → b ≡ None → c ≡ None → or_else a (or_else b c) ≡ None
 all_pass a b c first second third = grind (arith, common_steps)

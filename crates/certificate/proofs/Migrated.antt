@@ -209,11 +209,6 @@ without_one : (before : List CertificateLine) (i : CertificateLine) → is_halo 
 unfolding is_halo without_halos
 without_one before i h1 = grind (arith, common_steps, without_append)
 
-without_last : (before : List CertificateLine) (e : BorderLine) →
-    without_halos (before ++ Halo e ∷ []) ≡ without_halos before
-unfolding is_halo without_halos
-without_last before e = without_append before (Halo e ∷ []) ∙ append-nil (without_halos before)
-
 good_more : (g : Setting) (i : CertificateLine) (es before : List CertificateLine) → is_halo i ≡ false →
     entry_fault g before i ≡ None →
     AreGoodLines g (without_halos (before ++ i ∷ [])) (without_halos es) →
@@ -225,7 +220,7 @@ pub good_on : (g : Setting) (es before : List CertificateLine) → AreGoodLines 
 unfolding without_halos is_halo
 good_on g [] before good = tt
 good_on g (Halo e ∷ es) before good =
-    grind (arith, common_steps, good_on g es (before ++ Halo e ∷ []) good.1, without_last)
+    grind (arith, common_steps, good_on g es (before ++ Halo e ∷ []) good.1)
 good_on g (i ∷ es) before good = good_more g i es before refl good.0 (good_on g es (before ++ i ∷ []) good.1)
 
 pub good_without_halos : GoodWithoutHalos
@@ -323,7 +318,7 @@ few_on : (l : Limits) (g : Setting) (es before : List CertificateLine) → AreFe
 unfolding without_halos is_halo
 few_on l g [] before few = tt
 few_on l g (Halo e ∷ es) before few =
-    grind (arith, common_steps, few_on l g es (before ++ Halo e ∷ []) few.1, without_last)
+    grind (arith, common_steps, few_on l g es (before ++ Halo e ∷ []) few.1)
 few_on l g (i ∷ es) before few = few_more l g i es before refl few.0 (few_on l g es (before ++ i ∷ []) few.1)
 
 few_without : (l : Limits) (g : Setting) (es : List CertificateLine) → AreFewModules l g [] es →

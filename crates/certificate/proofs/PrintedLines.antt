@@ -27,10 +27,6 @@ module_text : (c : Circuit) (m : StoredModule) (hs : List StoredBorder) →
     ++ flat_map (λ s. line_text (codes "stop") (stop_words (stop_line c s))) m.stops.items)))))
 module_text c m hs = ap (λ l. line_text (codes "module") (box_words m.area) ++ l) (kinds c m hs entry_text)
 
-eight_parts : (o a b c d e f g : List ℕ) → ((((((o ++ a) ++ b) ++ c) ++ d) ++ e) ++ f) ++ g
-    ≡ o ++ (a ++ (b ++ (c ++ (d ++ (e ++ (f ++ g))))))
-eight_parts o a b c d e f g = simp append_assoc
-
 pub module_printed : {a b d e f g new cs us ks : List ℕ} {es : List StoredBorder} {ss : List StoredStop}
     (c : Circuit) (m : StoredModule) (hs : List StoredBorder) (old : List ℕ) →
     a ≡ old ++ line_text (codes "module") (box_words m.area) →
@@ -42,7 +38,7 @@ pub module_printed : {a b d e f g new cs us ks : List ℕ} {es : List StoredBord
     new ≡ g ++ flat_map (λ s. line_text (codes "stop") (stop_words (stop_line c s))) ss → ss ≡ m.stops.items →
     new ≡ old ++ flat_map entry_text (Module m.area ∷ body_lines_with c m hs)
 module_printed c m hs old ia ib cuts id uses ie keeps ie' edges ig inew stops =
-    grind (arith, common_steps, module_text, eight_parts)
+    grind (arith, common_steps, module_text)
 
 -- one module more
 pub module_more : (c : Circuit) (ms : List StoredModule) (i : ℕ) (m : StoredModule) → i < length ms →
