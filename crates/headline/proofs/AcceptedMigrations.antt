@@ -1,14 +1,14 @@
 -- A text that is reported with a yes is so too after it is migrated.
-use Rattle.headline.proofs.Imports.{Accepts, AnswersOrRefuses, AreFaultless, AreJobsOf, Bool, Bundle, CertView}
-use Rattle.headline.proofs.Imports.{CertificateLine, CircuitLine, IsFaultless, IsReportOf, IsVerdict, IsVerdictOn, List}
-use Rattle.headline.proofs.Imports.{ModuleLines, Ok, Pattern, Refusal, Result, SaysReport, Setting, Yes, [], ap, ap₂}
-use Rattle.headline.proofs.Imports.{arith, bundle_of, certificate_grammar, circuit_of, common_steps, false}
-use Rattle.headline.proofs.Imports.{faultless_modules, is_haloless_version, lacks_edge_wire_beside, layout_of}
-use Rattle.headline.proofs.Imports.{layout_section, meant_modules, meant_old, migrate_of, migrated_bundle, modules_in}
-use Rattle.headline.proofs.Imports.{modules_of, nat_tests, read_complete, refl, report_text, setting_of, subst, sym}
-use Rattle.headline.proofs.Imports.{true, without_halos, ℕ, ◌++◌, ◌==◌, ◌∙◌, ◌∷◌, ◌≡◌, ◌≤◌}
+use Rattle.headline.proofs.Imports.{Accepts, AnswersOrRefuses, AreJobsOf, Bool, Bundle, CertView, CircuitLine}
+use Rattle.headline.proofs.Imports.{IsFaultless, IsReportOf, IsVerdict, IsVerdictOn, List, ModuleLines, Ok, Pattern}
+use Rattle.headline.proofs.Imports.{Refusal, Result, SaysReport, Setting, Yes, ap, ap₂, arith, bundle_of}
+use Rattle.headline.proofs.Imports.{certificate_grammar, circuit_of, common_steps, false, faultless_modules}
+use Rattle.headline.proofs.Imports.{is_haloless_version, lacks_edge_wire_beside, layout_of, layout_section}
+use Rattle.headline.proofs.Imports.{meant_modules, meant_old, migrate_of, migrated_bundle, modules_in, modules_of}
+use Rattle.headline.proofs.Imports.{nat_tests, read_complete, refl, report_text, setting_of, subst, sym, true}
+use Rattle.headline.proofs.Imports.{without_halos, ℕ, ◌++◌, ◌==◌, ◌∙◌, ◌≡◌, ◌≤◌}
 use Rattle.certificate.specs.Grammars.{migrated}
-use Rattle.certificate.specs.Laws.{AreFaultlessLines, IsSectionOf}
+use Rattle.certificate.specs.Laws.{IsSectionOf}
 use Rattle.certificate.proofs.Migrated.{faultless_lines, migrated_lacks, migrated_modules}
 use Rattle.certificate.proofs.Soundness.{read_version}
 use Rattle.soundness.specs.MigrationLaws.{IsAcceptedMigration}
@@ -24,12 +24,6 @@ use Rattle.meaning.specs.Design.{front_text, text_limits}
 use Rattle.core_book.specs.declared.verdict.Verdict.TheVariants as verdict
 
 -- ---- two words for good lines
-
-as_lines : (l : Limits) (g : Setting) (v : ℕ) (es before : List CertificateLine) →
-    AreFaultless (certificate_grammar l g) v before es →
-    AreFaultlessLines l g v before es
-as_lines l g v [] before h = tt
-as_lines l g v (i ∷ es) before h = (h.0, as_lines l g v es (before ++ i ∷ []) h.1)
 
 -- ---- the certificate of a report
 
@@ -72,7 +66,7 @@ module _ (text report output : List ℕ) (b : Bundle) (read : bundle_of text ≡
   faultless = grind (arith, common_steps, own, good)
 
   section : IsSectionOf l g 1 c.entries
-  section = grind (arith, common_steps, faultless, as_lines)
+  section = grind (arith, common_steps, faultless)
 
   accepts : Accepts g (modules_in c) says.is_verdict.jobs
   unfolding IsVerdict

@@ -20,11 +20,9 @@ use Rattle.section_text.specs.declared.limits.Limits.TheVariants.{First, Second}
 use Rattle.section_text.specs.declared.section.Form.{Form}
 use Rattle.meaning.specs.Design.{front_text, text_limits}
 use Rattle.meaning.proofs.Fronts.{has_front}
-use Rattle.circuit.proofs.LimitLaws.{second_limits_are_wider as wider_circuit_line}
 use Rattle.pattern.proofs.LimitLaws.{second_limits_are_wider as wider_layout}
 use Rattle.certificate.proofs.LimitLaws.{second_limits_are_wider as wider_certificate_line}
 use Rattle.headline.specs.Fronts.{FrontLineKeepsReports}
-use Rattle.section_text.proofs.Codes.{no_code_first, no_code_second}
 
 -- ---- grammars of one form, of which the second accepts more
 
@@ -92,13 +90,8 @@ module _ {H I : Type 0} (g g' : Grammar H I) (wider : IsWider g g') where
 
 -- ---- the three sections
 
--- the order of a line is no matter of limits
-wider_circuit_item : (before : List CircuitLine) (i : CircuitLine) →
-    (circuit_grammar First).item_fault tt before i ≡ None → (circuit_grammar Second).item_fault tt before i ≡ None
-wider_circuit_item before i e = grind (arith, common_steps, no_code_first, no_code_second, wider_circuit_line)
-
 wider_circuit : IsWider (circuit_grammar First) (circuit_grammar Second)
-wider_circuit = grind (arith, common_steps, wider_circuit_item)
+wider_circuit = grind (arith, common_steps)
 
 wider_layout_section : (ports : _) → IsWider (layout_grammar First ports) (layout_grammar Second ports)
 wider_layout_section ports = record {
@@ -110,11 +103,6 @@ wider_layout_section ports = record {
 
 wider_certificate : (s : _) → IsWider (certificate_grammar First s) (certificate_grammar Second s)
 wider_certificate s = grind (arith, common_steps, wider_certificate_line)
-
--- the end of a text, whose number of lines is another one
-end_later : {B : Type 0} (n m : ℕ) (ls : List (List ℕ)) (rest : List ℕ) (value b : B) →
-    value_if_at_end n ls rest value ≡ Ok b → value_if_at_end m ls rest value ≡ Ok b
-end_later n m ls rest value b h1 = grind (arith, common_steps)
 
 -- ---- bundles
 
@@ -145,7 +133,7 @@ module _ (rest : List ℕ) (b : Bundle) (circuit : List CircuitLine) where
   wider_end size parts n m later e =
       then_wider _ _ (wider_certificate (setting_of circuit (layout_of size parts))) n m later
       (ended rest circuit size parts) (ended rest circuit size parts) b e
-      (λ version entries last. grind (arith, common_steps, end_later))
+      (λ version entries last. grind (arith, common_steps))
 
   wider_rest : (n m : ℕ) (ahead : List (List ℕ)) → after_circuit First rest tt circuit n ahead ≡ Ok b →
       after_circuit Second rest tt circuit m ahead ≡ Ok b

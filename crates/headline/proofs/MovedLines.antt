@@ -1,12 +1,11 @@
 -- The lines of a moved layout keep the rules of lines
-use Rattle.headline.proofs.Imports.{Ball, Bool, In, LayoutHeader, LayoutLine, List, Mirror, None, Out, Pattern}
-use Rattle.headline.proofs.Imports.{TakenCell, Waste, [], and_parts, ap₂, arith, cell_fault, cells_of}
-use Rattle.headline.proofs.Imports.{cells_taken_at_start, code_if, common_steps, enlarged, flat_map, in_layout, in_span}
-use Rattle.headline.proofs.Imports.{in_span-negsuc, ints, is_inside, is_layout_side, is_taken, limit_fault, map}
-use Rattle.headline.proofs.Imports.{map-append, moved, moved_by_two, nat_tests, negsuc, not, parts_of}
+use Rattle.headline.proofs.Imports.{Ball, In, LayoutHeader, LayoutLine, List, Mirror, None, Out, Pattern, Waste, []}
+use Rattle.headline.proofs.Imports.{and_parts, ap₂, arith, cell_fault, cells_of, cells_taken_at_start, common_steps}
+use Rattle.headline.proofs.Imports.{enlarged, flat_map, in_layout, in_span, in_span-negsuc, ints, is_inside, is_taken}
+use Rattle.headline.proofs.Imports.{limit_fault, map, map-append, moved, moved_by_two, negsuc, parts_of}
 use Rattle.headline.proofs.Imports.{port_moved_by_two, pos, range_with_len, rectangle_cells, rectangle_moved_by_two}
 use Rattle.headline.proofs.Imports.{refl, size_fault, span_from, span_parts, suc, sym, takes_at_start, true, zero, ℕ, ℤ}
-use Rattle.headline.proofs.Imports.{◌++◌, ◌+ℤ◌, ◌+◌, ◌||◌, ◌∙◌, ◌∷◌, ◌≡◌, ◌≤◌, no_code}
+use Rattle.headline.proofs.Imports.{◌++◌, ◌+ℤ◌, ◌+◌, ◌∙◌, ◌∷◌, ◌≡◌, ◌≤◌, no_code}
 use Rattle.bbm_rule.specs.CellLists.{row_cells}
 use Rattle.pattern.specs.Lines.{AreGoodAfter, cells_taken_at_end, takes_at_end, holds}
 use Rattle.headline.proofs.MovedPlanes.{any_map, cells_moved}
@@ -29,13 +28,8 @@ map_both : {X Y Z W : Type 0} (f : X → Y) (g : Y → Z) (h : X → W) (k : W �
 map_both f g h k e [] = refl
 map_both f g h k e (x ∷ xs) = ap₂ (λ a b. a ∷ b) (e x) (map_both f g h k e xs)
 
--- the lines of five lists are moved list by list
-all_moved : (a b c d e : List LayoutLine) → moved_lines (a ++ (b ++ (c ++ (d ++ e))))
-    ≡ moved_lines a ++ (moved_lines b ++ (moved_lines c ++ (moved_lines d ++ moved_lines e)))
-all_moved a b c d e = grind (arith, common_steps, map-append)
-
 parts_moved : (p : Pattern) → parts_of (moved p) ≡ moved_lines (parts_of p)
-parts_moved p = grind (arith, common_steps, map_both, all_moved)
+parts_moved p = grind (arith, common_steps, map_both)
 
 -- ---- the cells of a line
 
@@ -106,14 +100,10 @@ limit_moved : (part : LayoutLine) → limit_fault (moved_line part) ≡ limit_fa
 unfolding limit_fault
 limit_moved part = grind (arith, common_steps)
 
-fault_none : (a a' b b' : Bool) → (a ≡ true → a' ≡ true) → b' ≡ b → code_if (not a || b) TakenCell ≡ None →
-    code_if (not a' || b') TakenCell ≡ None
-fault_none a a' b b' h1 h2 h3 = grind (arith, common_steps)
-
 cell_moved : (s : LayoutHeader) (before : List LayoutLine) (part : LayoutLine) → cell_fault s before part ≡ None →
     cell_fault (enlarged s) (moved_lines before) (moved_line part) ≡ None
 unfolding cell_fault
-cell_moved s before part none = grind (arith, common_steps, fault_none, inside_moved, taken_moved)
+cell_moved s before part none = grind (arith, common_steps, inside_moved, taken_moved)
 
 lines_good : (s : LayoutHeader) (before parts : List LayoutLine) → AreGoodAfter s before parts →
     AreGoodAfter (enlarged s) (moved_lines before) (moved_lines parts)
@@ -126,10 +116,7 @@ pub moved_good : (p : Pattern) → AreGoodAfter p.size [] (parts_of p) →
     AreGoodAfter (moved p).size [] (parts_of (moved p))
 moved_good p good = grind (arith, common_steps, parts_moved, lines_good)
 
-side_more : (n : ℕ) → is_layout_side n ≡ true → n ≤ 60 → is_layout_side (n + 4) ≡ true
-side_more n side few = grind (arith, nat_tests, side)
-
 -- and its size is within the limits
 pub enlarged_good : (s : LayoutHeader) → size_fault s ≡ None → s.w ≤ 60 → s.h ≤ 60 → size_fault (enlarged s) ≡ None
 unfolding size_fault
-enlarged_good s none wide high = grind (arith, common_steps, no_code, and_parts, side_more)
+enlarged_good s none wide high = grind (arith, common_steps, no_code, and_parts)

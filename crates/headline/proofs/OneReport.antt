@@ -2,8 +2,8 @@
 use Rattle.headline.proofs.Imports.{AreJobsOf, AreModules, Bundle, CertView, HasAtMostOneAnswerToEachText, IsReportOf}
 use Rattle.headline.proofs.Imports.{IsVerdict, IsVerdictOn, JobView, List, ModuleLines, None, Option, Outcome}
 use Rattle.headline.proofs.Imports.{SaysReport, Some, Verdict, arith, circuit_of, common_steps, length, modules_in}
-use Rattle.headline.proofs.Imports.{refl, report_text, setting_of, slice_get, slice_get_within, subst, sym}
-use Rattle.headline.proofs.Imports.{verdict_outcome, ℕ, ◌<◌, ◌∙◌, ◌≡◌}
+use Rattle.headline.proofs.Imports.{refl, report_text, setting_of, slice_get, slice_get_within, subst, sym, ℕ, ◌<◌, ◌∙◌}
+use Rattle.headline.proofs.Imports.{◌≡◌}
 use Rattle.soundness.proofs.ModuleJobs.{one_job}
 use Rattle.core_book.specs.CoreLaws.{AreSameVerdicts}
 use Rattle.core_book.proofs.OneVerdict.{none-past, same-elements, verdict-is-one}
@@ -53,9 +53,6 @@ same_lines c verdict.Yes (verdict.No lines) same = absurd same
 same_lines c (verdict.No lines) verdict.Yes same = absurd same
 same_lines c (verdict.No lines) (verdict.No others) same = grind (arith, common_steps, c.entries)
 
-same_outcome : (v w : Verdict) → AreSameVerdicts v w → verdict_outcome v ≡ verdict_outcome w
-same_outcome v w h1 = grind (arith, common_steps)
-
 same_certificate : (bundle : Bundle) (c d : CertView) → IsCertificateOf bundle c → IsCertificateOf bundle d → c ≡ d
 same_certificate bundle c d a b = grind (arith, common_steps, (one_layout c.layout d.layout (a.layout ∙ sym b.layout)))
 
@@ -67,7 +64,7 @@ one_said bundle output output' outcome outcome' h h' =
     let said : AreSameVerdicts h.verdict h'.verdict =
     one_verdict h.certificate h.verdict h'.verdict h.is_verdict
     (subst (λ c. IsVerdictOn c h'.verdict) (sym same) h'.is_verdict) in
-    grind (arith, common_steps, same_lines, same_outcome)
+    grind (arith, common_steps, same_lines)
 
 pub one_report : HasAtMostOneAnswerToEachText IsReportOf
 one_report text output output' outcome outcome' h h' = grind (arith, common_steps, answered_once, one_said)

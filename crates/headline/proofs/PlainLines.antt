@@ -3,11 +3,11 @@ use Rattle.headline.proofs.Imports.{All, All-cons, All-nil, AreGoodCircuitLines,
 use Rattle.headline.proofs.Imports.{CircuitLine, Cut, IsGoodDesign, IsInputName, IsPlaced, IsPlain, Keep, List}
 use Rattle.headline.proofs.Imports.{ModuleLines, Pattern, SaysPlain, Some, Use, [], add_line, and_parts, any_at, ap}
 use Rattle.headline.proofs.Imports.{append-nil, append_assoc, ap₂, arith, bytes_same, cases_Bool, common_steps, cuts}
-use Rattle.headline.proofs.Imports.{defined, edges, eq-eqb, eqb, eqb-true, false, filter, flat_map, flat_map-append}
-use Rattle.headline.proofs.Imports.{gate_numbers, has, input_names, inputs_are_first, is_among, is_inverse_gate}
-use Rattle.headline.proofs.Imports.{is_module, list_all, map, modules_of, netlist_of, not, placed, plain_lines}
-use Rattle.headline.proofs.Imports.{range_with_len, refl, slice_get, slice_get_within, subst, suc, sym, true, whole}
-use Rattle.headline.proofs.Imports.{zero, ℕ, ◌&&◌, ◌++◌, ◌+◌, ◌<◌, ◌∙◌, ◌∷◌, ◌≡◌, ◌≤◌}
+use Rattle.headline.proofs.Imports.{defined, edges, eq-eqb, eqb, eqb-true, false, filter, flat_map, gate_numbers, has}
+use Rattle.headline.proofs.Imports.{input_names, inputs_are_first, is_among, is_inverse_gate, is_module, list_all, map}
+use Rattle.headline.proofs.Imports.{modules_of, netlist_of, not, placed, plain_lines, range_with_len, refl, slice_get}
+use Rattle.headline.proofs.Imports.{slice_get_within, subst, suc, sym, true, whole, zero, ℕ, ◌&&◌, ◌++◌, ◌+◌, ◌<◌, ◌∙◌}
+use Rattle.headline.proofs.Imports.{◌∷◌, ◌≡◌, ◌≤◌}
 use Rattle.lemmas.proofs.Common.{fold, false_from_not}
 use Rattle.certificate_lines.specs.Entries.{change_last, keeps}
 use Rattle.headline.specs.PlainLaws.{PlainLinesTextIsDecided}
@@ -49,16 +49,6 @@ module _ {X : Type 0} (mk : X → CertificateLine) where
   own_of f h [] = refl
   own_of f h (x ∷ xs) = ap₂ (λ a b. a ++ b) (h x) (own_of f h xs)
 
-pub both_true : (xs ys : List CertificateLine) → list_all (λ i. not (is_module i)) xs ≡ true →
-    list_all (λ i. not (is_module i)) ys ≡ true → list_all (λ i. not (is_module i)) (xs ++ ys) ≡ true
-both_true [] ys h k = k
-both_true (x ∷ xs) ys h k =
-    grind (arith, (both_true xs ys (and_parts (not (is_module x)) (list_all (λ i. not (is_module i)) xs) h).1 k))
-
-three_parts : {Y : Type 0} (f : CertificateLine → List Y) (xs ys zs : List CertificateLine) →
-    flat_map f (xs ++ ys ++ zs) ≡ flat_map f xs ++ flat_map f ys ++ flat_map f zs
-three_parts f xs ys zs = grind (arith, common_steps, flat_map-append)
-
 -- ---- numbers among those that pass a test
 
 pub among_range : (n a k : ℕ) → a ≤ k → k < a + n → is_among (range_with_len a n) k ≡ true
@@ -96,16 +86,16 @@ module _ (circuit : List CircuitLine) (p : Pattern) (good : AreGoodCircuitLines 
 
   pub is_one : modules_of (plain_lines circuit p) ≡ one ∷ []
   unfolding modules_of add_line
-  is_one = grind (arith, common_steps, all_inner, whole, both_true, all_mapped)
+  is_one = grind (arith, common_steps, all_inner, whole, all_mapped)
 
   its_cuts : cuts one ≡ input_names circuit
-  its_cuts = grind (arith, common_steps, three_parts, own_of, none_of)
+  its_cuts = grind (arith, common_steps, own_of, none_of)
 
   its_keeps : keeps one ≡ kept
-  its_keeps = grind (arith, common_steps, three_parts, none_of, own_of)
+  its_keeps = grind (arith, common_steps, none_of, own_of)
 
   its_edges : edges one ≡ []
-  its_edges = grind (arith, common_steps, three_parts, none_of)
+  its_edges = grind (arith, common_steps, none_of)
 
   input_name : (k : ℕ) (n : List ℕ) → slice_get (input_names circuit) k ≡ Some n → IsInputName circuit n
   input_name k n at =

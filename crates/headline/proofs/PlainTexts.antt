@@ -1,17 +1,16 @@
 -- The report on a plain text
 use Rattle.headline.proofs.Imports.{Accepts, All, AnswersOrRefuses, AreOnTime, BelongTogether, Bundle, CertView}
 use Rattle.headline.proofs.Imports.{CertificateLine, Circuit, CircuitLine, Err, Fault, HasRightStops, HasRimTouch}
-use Rattle.headline.proofs.Imports.{IsCorrect, IsInputName, IsPlain, IsRead, IsRight, IsVerdict, Kind, LineMeans, List}
-use Rattle.headline.proofs.Imports.{Local, Meet, ModuleLines, No, Ok, Outcome, Pattern, Refusal, Refused, ReportLine}
-use Rattle.headline.proofs.Imports.{Result, Satisfies, SaysBundle, SaysDesign, SaysNoWith, SaysPlain, SaysReport}
-use Rattle.headline.proofs.Imports.{Setting, Some, StopHolds, TouchesRim, Valuation, Verdict, Yes, [], all_in_modules}
-use Rattle.headline.proofs.Imports.{all_stops, ap, arith, bundle_of, cases_Bool, certificate_text, circuit_of}
-use Rattle.headline.proofs.Imports.{common_steps, cut_name_in, cuts, edge_in, edges, flat_map, inl, inr}
-use Rattle.headline.proofs.Imports.{is_haloless_version, length, map, meant_old, modules_in, modules_of, netlist_of}
-use Rattle.headline.proofs.Imports.{option_map, read_layout-names, refl, report_text, setting_of, sha256, slice_get}
-use Rattle.headline.proofs.Imports.{slice_get-map, stop_in, stops_meant, subst, sym, verdict_outcome, with_halos, ℕ, ℤ}
-use Rattle.headline.proofs.Imports.{◌∙◌, ◌∷◌, ◌≡◌}
-use Rattle.lemmas.proofs.Common.{Contains, Global, Vec}
+use Rattle.headline.proofs.Imports.{IsCorrect, IsInputName, IsPlain, IsRead, IsRight, IsVerdict, LineMeans, List, Local}
+use Rattle.headline.proofs.Imports.{Meet, ModuleLines, No, Ok, Outcome, Pattern, Refusal, Refused, ReportLine, Result}
+use Rattle.headline.proofs.Imports.{Satisfies, SaysBundle, SaysDesign, SaysNoWith, SaysPlain, SaysReport, Setting, Some}
+use Rattle.headline.proofs.Imports.{StopHolds, TouchesRim, Valuation, Verdict, Yes, [], all_in_modules, all_stops, ap}
+use Rattle.headline.proofs.Imports.{arith, bundle_of, cases_Bool, certificate_text, circuit_of, common_steps}
+use Rattle.headline.proofs.Imports.{cut_name_in, cuts, edge_in, edges, flat_map, inl, inr, is_haloless_version, length}
+use Rattle.headline.proofs.Imports.{map, meant_old, modules_in, modules_of, netlist_of, option_map, read_layout-names}
+use Rattle.headline.proofs.Imports.{refl, report_text, setting_of, sha256, slice_get, slice_get-map, stop_in}
+use Rattle.headline.proofs.Imports.{stops_meant, subst, sym, verdict_outcome, with_halos, ℕ, ◌∙◌, ◌∷◌, ◌≡◌}
+use Rattle.lemmas.proofs.Common.{Global, Vec}
 use Rattle.certificate_lines.specs.Entries.{stops}
 use Rattle.certificate_lines.specs.Versions.{edge_lines_beside, sorted_border_lines, modules_by_version}
 use Rattle.certificate.proofs.FullModules.{meant_new, other_lines, stop_lines}
@@ -20,7 +19,7 @@ use Rattle.headline.specs.Plain.{IsWrongIfPlain, IsWrongText}
 use Rattle.headline.specs.ReportLines.{EarliestIsReal, LinesMeanIfPlain, LinesHaveMeaning}
 use Rattle.headline.specs.PlainLaws.{LinesOfNoHaveMeaning, PlainIsDecided, PlainNoMeansWrong, YesKeepsOffRim}
 use Rattle.core_book.specs.declared.verdict.ReportLine.TheVariants.{Keep, Delay}
-use Rattle.soundness.specs.FirstFaults.{IsModuleAssignmentOf, IsAsCertified, IsEarliestLine, IsReal}
+use Rattle.soundness.specs.FirstFaults.{IsModuleAssignmentOf, IsEarliestLine, IsReal}
 use Rattle.soundness.specs.HeadlineLaws.{HasInputNames}
 use Rattle.soundness.specs.PlainCertificates.{IsWrongDesign}
 use Rattle.soundness.specs.OnTime.{IsOnTime}
@@ -31,7 +30,6 @@ use Rattle.headline.proofs.Designs.{one_certificate, one_design}
 use Rattle.headline.proofs.YesIsRight.{bundle_good, by_outcome, certificate_faultless, known, yes_has_right_stops}
 use Rattle.headline.proofs.Printed.{printed_is_read}
 use Rattle.headline.proofs.YesIsPrinted.{yes_is_right}
-use Rattle.local_run.specs.declared.fault.Kind.TheVariants.{Edge, End, Stop as AtStop}
 use Rattle.meaning.specs.Design.{text_limits}
 use Rattle.core_book.specs.declared.verdict.Verdict.TheVariants as verdict
 
@@ -85,15 +83,9 @@ means_module version g ms i m at = elim (cases_Bool (is_haloless_version version
   }
 ]
 
-certified_same : (c : Circuit) (p : Pattern) (full m : ModuleLines) (v : Valuation) (t : ℕ) (kind : Kind) (x y : ℤ) →
-    HaveSameLines full m → IsAsCertified c p m v t kind x y → IsAsCertified c p full v t kind x y
-certified_same c p full m v t Edge x y same h = grind (arith, common_steps)
-certified_same c p full m v t AtStop x y same h = λ s has. h s (subst (λ ss. Contains ss s) same.stops_same has)
-certified_same c p full m v t End x y same h = h
-
 real_same : (lines : List CircuitLine) (p : Pattern) (full m : ModuleLines) (inputs v : Valuation) (f : Fault) →
     HaveSameLines full m → IsReal lines p full inputs v f → IsReal lines p m inputs v f
-real_same lines p full m inputs v f same real = grind (arith, common_steps, certified_same)
+real_same lines p full m inputs v f same real = grind (arith, common_steps)
 
 assignment_same : (c : Circuit) (full m : ModuleLines) (v : Valuation) (a : ℕ) → HaveSameLines full m →
     IsModuleAssignmentOf c m v a → IsModuleAssignmentOf c full v a

@@ -4,8 +4,8 @@ use Rattle.headline.proofs.Imports.{FitsKind, Header, In, IsForm, IsLine, IsTrue
 use Rattle.headline.proofs.Imports.{Out, Pattern, Waste, [], ap, append-nil, append_assoc, ap₂, arith, circuit_grammar}
 use Rattle.headline.proofs.Imports.{clean_both, codes, common_steps, ended-cons, entry, flat_map, flat_map-append}
 use Rattle.headline.proofs.Imports.{is_name, layout_grammar, length, line_text, lines_of, map, part_form, parts_of, pos}
-use Rattle.headline.proofs.Imports.{refl, slice_split_at, some_part, subst, sym, text_said, true, with_line_feed, ℕ, ℤ}
-use Rattle.headline.proofs.Imports.{◌&&◌, ◌++◌, ◌<◌, ◌^◌, ◌∙◌, ◌∷◌, ◌≡◌}
+use Rattle.headline.proofs.Imports.{refl, slice_split_at, some_part, sym, text_said, true, with_line_feed, ℕ, ℤ, ◌&&◌}
+use Rattle.headline.proofs.Imports.{◌++◌, ◌<◌, ◌^◌, ◌∙◌, ◌∷◌, ◌≡◌}
 use Rattle.lemmas.proofs.Common.{signed_decimal}
 use Rattle.lemmas.proofs.Common.{inl, inr}
 use Rattle.circuit.specs.Bridge.{kind_in_count, kind_out_count}
@@ -91,9 +91,6 @@ IsNumber z = (n : ℕ) × (z ≡ pos n) × (n < 10 ^ 9)
 small : (n : ℕ) → IsNumber (pos n) → n < 10 ^ 9
 small n h = grind (arith, common_steps)
 
-cell_numbered : (c : Cell) → IsNumber c.x → IsNumber c.y → IsNumbered c
-cell_numbered c h k = grind (arith, common_steps)
-
 -- the cells of a part have numbers
 abbrev pub IsPart : LayoutLine → Type 0
 IsPart (Mirror r) = Unit {0}
@@ -102,16 +99,11 @@ IsPart (In q) = IsNumbered q.cell
 IsPart (Out q) = IsNumbered q.cell
 IsPart (Waste c) = IsNumbered c
 
-part_printed : (part : LayoutLine) → IsPart part → form_printed (part_form part) ≡ part_text part
-part_printed (Mirror r) h = refl
-part_printed (Ball c) h = subst (λ (d : Cell). form_printed (part_form (Ball d)) ≡ part_text (Ball d)) (sym h.is) refl
-part_printed _ h = grind (arith, common_steps)
-
 parts_printed : (parts : List LayoutLine) → AllByRecursion IsPart parts →
     flat_map form_printed (map part_form parts ++ (codes "end", [], []) ∷ [])
     ≡ flat_map part_text parts ++ line_text (codes "end") []
 parts_printed [] h = refl
-parts_printed (part ∷ parts) h = grind (arith, common_steps, part_printed, append_assoc, (parts_printed parts h.1))
+parts_printed (part ∷ parts) h = grind (arith, common_steps, append_assoc, (parts_printed parts h.1))
 
 -- the printing of a layout is the text of its section
 pub layout_same : (p : Pattern) → AllByRecursion IsPart (parts_of p) → layout_printed p ≡ layout_text p
@@ -142,7 +134,7 @@ other_numbers : (z : ℤ) (zs : List ℤ) → All IsNumber (z ∷ zs) → All Is
 other_numbers z zs h = All-tail IsNumber z zs h
 
 numbered_by : (c : Cell) → All IsNumber (c.x ∷ c.y ∷ []) → IsNumbered c
-numbered_by c h = grind (arith, common_steps, cell_numbered, first_number, other_numbers, c.x, c.y)
+numbered_by c h = grind (arith, common_steps, first_number, other_numbers, c.x, c.y)
 
 one_name : (n : List ℕ) → All (λ n. IsTrue (is_name n)) (n ∷ []) → is_name n ≡ true
 one_name n h = All-head (λ n. IsTrue (is_name n)) n [] h

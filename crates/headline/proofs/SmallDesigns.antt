@@ -11,14 +11,13 @@ use Rattle.headline.proofs.Imports.{common_steps, cut_name_in, cuts, defined, de
 use Rattle.headline.proofs.Imports.{faultless_named, filter, flat_map, flat_map-append, gate_numbers, gates_are_ordered}
 use Rattle.headline.proofs.Imports.{has, inl, input_names, inputs_are_first, inr, is_among, is_inverse_gate}
 use Rattle.headline.proofs.Imports.{is_layout_side, is_module, kept, known, layout_grammar, layout_section, length}
-use Rattle.headline.proofs.Imports.{length-append, list_all, list_any, map, map-append, modules_of, names_pass, nat_lt}
-use Rattle.headline.proofs.Imports.{nat_tests, netlist_of, no_code, not, number, option_map, or_else, output_names}
-use Rattle.headline.proofs.Imports.{parts_of, placed, plain_lines, port_names_of, push_cons, range_with_len}
-use Rattle.headline.proofs.Imports.{read_faultless, read_layout-is_named, read_layout-names, refl, same_Some}
-use Rattle.headline.proofs.Imports.{section_made, section_of, setting_of, size_fault, slice_get, slice_get-map}
-use Rattle.headline.proofs.Imports.{slice_get_within, subst, suc, sym, take, take-append-drop, true, true≢false}
-use Rattle.headline.proofs.Imports.{verdict_outcome, whole, zero, ℕ, ◌&&◌, ◌++◌, ◌+◌, ◌<◌, ◌||◌, ◌∙◌, ◌∷◌, ◌≡◌, ◌≢◌}
-use Rattle.headline.proofs.Imports.{◌≤◌}
+use Rattle.headline.proofs.Imports.{length-append, list_all, list_any, map, map-append, modules_of, names_pass}
+use Rattle.headline.proofs.Imports.{netlist_of, no_code, not, number, option_map, or_else, output_names, parts_of}
+use Rattle.headline.proofs.Imports.{placed, plain_lines, port_names_of, push_cons, range_with_len, read_faultless}
+use Rattle.headline.proofs.Imports.{read_layout-is_named, read_layout-names, refl, same_Some, section_made, section_of}
+use Rattle.headline.proofs.Imports.{setting_of, size_fault, slice_get, slice_get-map, slice_get_within, subst, suc, sym}
+use Rattle.headline.proofs.Imports.{take, take-append-drop, true, true≢false, verdict_outcome, whole, zero, ℕ, ◌&&◌}
+use Rattle.headline.proofs.Imports.{◌++◌, ◌+◌, ◌<◌, ◌||◌, ◌∙◌, ◌∷◌, ◌≡◌, ◌≢◌, ◌≤◌}
 use Rattle.lemmas.proofs.Common.{is_lt, option_to_list, All-append, and-false, list_any-append, or-true, ordering_then}
 use Rattle.lemmas.proofs.Common.{take-length, less_nat, not_le_test}
 use Rattle.lemmas.proofs.Common.{length-range_with_len, list_all-append}
@@ -32,8 +31,7 @@ use Rattle.certificate_lines.specs.Orders.{is_cut, line_cmp, may_follow, may_pre
 use Rattle.certificate_lines.specs.Rules.{are_new_and_distinct, cut_line_code, entry_fault, used_gate_fault}
 use Rattle.certificate_lines.specs.Rules.{keep_line_code, line_fault, use_line_code, content_code, module_box_code}
 use Rattle.certificate_lines.specs.Rules.{end_fault, is_last_module_incomplete, is_local, is_local_wire}
-use Rattle.certificate_lines.specs.Rules.{is_bad_box_side, has_nonlocal_port, leaves_gap, module_line_code}
-use Rattle.certificate_lines.specs.Rules.{module_limit_fault}
+use Rattle.certificate_lines.specs.Rules.{has_nonlocal_port, leaves_gap, module_line_code, module_limit_fault}
 use Rattle.certificate_lines.proofs.LocalLemmas.{local_more}
 use Rattle.pattern.specs.Lines.{AreNamed}
 use Rattle.certificate_lines.proofs.BoxPlaces.{cells_inside}
@@ -486,14 +484,6 @@ all_pass : {X : Type 0} (test : X → Bool) (xs : List X) → ((k : ℕ) (x : X)
 all_pass test [] h = refl
 all_pass test (x ∷ xs) h = ap₂ (λ a b. a && b) (h 0 x refl) (all_pass test xs (λ k. h (suc k)))
 
-length_taken : {X : Type 0} (n : ℕ) (xs : List X) → n ≤ length xs → length (take n xs) ≡ n
-length_taken zero xs h = refl
-length_taken (suc n) [] h = absurd (omega (arith, h))
-length_taken (suc n) (x ∷ xs) h = ap suc (length_taken n xs (omega (arith, h)))
-
-side_ok : (n : ℕ) → is_layout_side n ≡ true → n ≤ 64 → is_bad_box_side n ≡ false
-side_ok n side few = grind (arith, common_steps, eqb-true)
-
 module _ (k : Limits) (circuit : List CircuitLine) (p : Pattern) (good : AreGoodCircuitLines circuit)
     (layout_good : IsFaultless (layout_grammar k (Some (port_names_of circuit))) p.size (parts_of p))
     (small : IsSmallDesign circuit p) where
@@ -510,7 +500,7 @@ module _ (k : Limits) (circuit : List CircuitLine) (p : Pattern) (good : AreGood
   }
 
   pub its_given : length (input_names circuit) ≡ (netlist_of circuit).given
-  its_given = grind (arith, common_steps, wires_are_named, wires_grow, inputs_are_first, length_taken)
+  its_given = grind (arith, common_steps, wires_are_named, wires_grow, inputs_are_first)
 
   abbrev names_are : AreNamed (Some (port_names_of circuit)) (parts_of p)
   names_are = faultless_named k (Some (port_names_of circuit)) p.size (parts_of p) layout_good
@@ -560,12 +550,9 @@ module _ (k : Limits) (circuit : List CircuitLine) (p : Pattern) (good : AreGood
   unfolding size_fault
   sides = grind (arith, common_steps, no_code)
 
-  not_past : (n : ℕ) → nat_lt n (0 + n) ≡ false
-  not_past n = grind (arith, nat_tests)
-
   module_good : entry_fault its_setting [] (Module (whole p.size)) ≡ None
   unfolding entry_fault module_line_code module_box_code modules_of last_of
-  module_good = grind (arith, common_steps, side_ok, sides, not_past, none_any, whole)
+  module_good = grind (arith, common_steps, sides, none_any, whole)
 
   end_good : end_fault its_setting (plain_lines circuit p) ≡ None
   unfolding end_fault last_of

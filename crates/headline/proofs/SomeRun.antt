@@ -72,11 +72,8 @@ module _ (s : LayoutHeader) where
         (in_whole _ _ (stays _ _ live))
         (inr (inr (inl (λ i. record { x = x; y = partner_twice t y i }))))
 
-    own_dead : (x y : ℤ) → in_layout s x y ≡ false → (b : Bool) → state x y ≡ b → state x y ≡ false
-    own_dead x y h1 b h2 = grind (arith, common_steps)
-
     near : (x y : ℤ) → step t state x y ≡ true → in_layout s x y ≡ false → In (record { x = x; y = y }) near_cells
-    near x y live out = grind (arith, common_steps, cases_Bool, by_opposite, by_column, by_row, step_dead, own_dead)
+    near x y live out = grind (arith, common_steps, cases_Bool, by_opposite, by_column, by_row, step_dead)
 
     none_out : ¬ HasOne IsOut near_cells → IsDeadOutside s (step t state)
     none_out none x y live = elim (cases_Bool (in_layout s x y)) [

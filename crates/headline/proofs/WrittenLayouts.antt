@@ -5,12 +5,11 @@ use Rattle.headline.proofs.Imports.{None, Option, Out, Pattern, Port, PortNameLi
 use Rattle.headline.proofs.Imports.{SomethingMissing, TakenCell, Waste, [], and_parts, any_at, ap, append-nil, ap₂}
 use Rattle.headline.proofs.Imports.{arith, box_of, bytes_same, cell, cell_fault, code_if, codes, common_steps}
 use Rattle.headline.proofs.Imports.{corner_and_sides, decimal, false, has, if_one_word, in_box, in_layout, input_names}
-use Rattle.headline.proofs.Imports.{is_inside, is_layout_side, is_name, is_taken, is_word_at, layout_grammar}
-use Rattle.headline.proofs.Imports.{layout_line_fault, limit_fault, line_fault, list_all, list_any, map, name_at}
-use Rattle.headline.proofs.Imports.{nat_tests, no_code, not, number_at, number_written, option_map}
-use Rattle.headline.proofs.Imports.{or_else, output_names, parts_of, port_names_of, refl, size_fault, slice_get}
-use Rattle.headline.proofs.Imports.{slice_get-map, subst, suc, sym, true, whole, ℕ, ◌&&◌, ◌++◌, ◌+◌, ◌<◌, ◌>>=◌, ◌^◌}
-use Rattle.headline.proofs.Imports.{◌||◌, ◌∙◌, ◌∷◌, ◌≡◌, ◌≤◌}
+use Rattle.headline.proofs.Imports.{is_inside, is_name, is_taken, is_word_at, layout_grammar, layout_line_fault}
+use Rattle.headline.proofs.Imports.{limit_fault, line_fault, list_all, list_any, map, name_at, nat_tests, no_code, not}
+use Rattle.headline.proofs.Imports.{number_at, number_written, option_map, or_else, output_names, parts_of}
+use Rattle.headline.proofs.Imports.{port_names_of, refl, size_fault, slice_get, slice_get-map, subst, suc, sym, true}
+use Rattle.headline.proofs.Imports.{whole, ℕ, ◌&&◌, ◌++◌, ◌+◌, ◌<◌, ◌>>=◌, ◌^◌, ◌||◌, ◌∙◌, ◌∷◌, ◌≡◌, ◌≤◌}
 use Rattle.lemmas.proofs.Common.{at_most_by_test}
 use Rattle.lemmas.proofs.Common.{not_lt_test}
 use Rattle.module_box.proofs.BoxCells.{in_box_nats}
@@ -33,12 +32,9 @@ pub record HasLimits (s : LayoutHeader) : Type 0 where
   pub high : s.h ≤ max_side
   pub long : s.steps ≤ max_steps
 
-side_below : (n : ℕ) → is_layout_side n ≡ true → n ≤ max_side
-side_below n h = grind (arith, nat_tests, h)
-
 pub has_limits : (s : LayoutHeader) → size_fault s ≡ None → HasLimits s
 unfolding size_fault
-has_limits s e = grind (arith, common_steps, no_code, and_parts, side_below, at_most_by_test)
+has_limits s e = grind (arith, common_steps, no_code, and_parts, at_most_by_test)
 
 -- ---- lines
 

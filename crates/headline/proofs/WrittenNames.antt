@@ -1,25 +1,15 @@
 -- The inputs and the outputs of a good circuit have names, if its wires do
-use Rattle.headline.proofs.Imports.{AreGoodAfter, Bool, CircuitLine, Have, List, [], arith, common_steps, cond}
-use Rattle.headline.proofs.Imports.{consume_have, consumed, defined, flat_map-append, if◌then◌else◌, input_names}
-use Rattle.headline.proofs.Imports.{names_pass, output_names, push_cons, refl, subst, sym, ℕ, ◌++◌, ◌∷◌}
+use Rattle.headline.proofs.Imports.{AreGoodAfter, Bool, CircuitLine, Have, List, [], arith, common_steps, consume_have}
+use Rattle.headline.proofs.Imports.{consumed, defined, flat_map-append, if◌then◌else◌, input_names, names_pass}
+use Rattle.headline.proofs.Imports.{output_names, push_cons, refl, subst, sym, ℕ, ◌++◌, ◌∷◌}
 use Rattle.circuit.specs.Bridge.{is_output}
 use Rattle.circuit.proofs.Places.{have_left}
 use Rattle.headline.proofs.WrittenCircuits.{AreNames, have_names, names_both, names_left, names_right}
 
-if_names : (b : Bool) (ns : List (List ℕ)) → AreNames ns → AreNames (cond b ns [])
-if_names b ns h1 = grind (arith, common_steps)
-
 pub input_named : (circuit : List CircuitLine) → AreNames (defined circuit) → AreNames (input_names circuit)
 input_named [] h = refl
 input_named (r ∷ circuit) h =
-    grind (
-      arith,
-      names_both,
-      if_names,
-      names_left,
-      names_right,
-      (input_named circuit (names_right r.outs (defined circuit) h)),
-    )
+    grind (arith, names_both, names_left, names_right, (input_named circuit (names_right r.outs (defined circuit) h)))
 
 have_append : (d xs ys : List (List ℕ)) → Have d xs → Have d ys → Have d (xs ++ ys)
 have_append d [] ys h k = k
