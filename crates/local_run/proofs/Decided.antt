@@ -12,7 +12,6 @@ use Rattle.bbm_rule.proofs.SameCells.{cell_same, cell_itself}
 use Rattle.local_run.specs.Laws.{OneValuationDecidesFault}
 use Rattle.local_run.proofs.LocalRuns.{AgreeBelow, live_same, run_same}
 use Rattle.local_run.proofs.OwnWires.{demand_below}
-use Rattle.module_job.specs.declared.job.Demand.TheVariants as Demanded
 use Rattle.module_job.specs.declared.job.Stop as listed
 use Rattle.module_job.proofs.OwnSignals.{edge_below}
 

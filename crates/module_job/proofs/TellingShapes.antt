@@ -11,7 +11,6 @@ use Rattle.module_box.proofs.InjectiveNumbers.{counted_tell, listed, lists_tell,
 use Rattle.module_job.specs.Keys.{BytesDetermineNumbers, NumbersDetermineShapes, cell_numbers, zigzag_number}
 use Rattle.module_job.specs.Keys.{shape_numbers, signals_numbers}
 use Rattle.module_job.proofs.CellEntries.{cells_tell_all}
-use Rattle.module_job.specs.declared.job.Demand.TheVariants as Demanded
 
 -- ---- one number
 one_tells : {A : Type 0} (f : A → ℕ) → ((a b : A) → f a ≡ f b → a ≡ b) → IsPrefixFree (λ (a : A). f a ∷ [])

@@ -14,7 +14,6 @@ use Rattle.soundness.specs.FirstFaults.{EarliestLineIsFirstFault, EarliestLineIs
 use Rattle.core_book.specs.declared.verdict.ReportLine.TheVariants.{Local, Keep, Border}
 use Rattle.soundness.proofs.FirstFaults.{assigned, first_means}
 use Rattle.soundness.proofs.PlainCertificates.{greater, nat_greater}
-use Rattle.certificate.specs.declared.times.TimeLine.TheVariants as times
 
 -- ---- which line a list has
 

@@ -22,7 +22,6 @@ use Rattle.soundness.proofs.InputRuns.{at_place, inputs_decide}
 use Rattle.soundness.proofs.JobSignals.{Known, edge_by_circuit}
 use Rattle.soundness.proofs.StopParts.{all_flat}
 use Rattle.soundness.proofs.WholeRuns.{starts, steps_with_good_borders}
-use Rattle.module_job.specs.declared.job.Demand.TheVariants as Demanded
 use Rattle.module_job.specs.declared.job.Stop as listed
 use Rattle.local_run.specs.declared.fault.Kind.TheVariants.{Edge, End, Stop as AtStop}
 use Rattle.bbm_rule.proofs.RingTests.{ring_in_box}

@@ -11,7 +11,6 @@ use Rattle.soundness.proofs.Imports.{slice_get_within, some_at, sym, true, true�
 use Rattle.soundness.proofs.Imports.{ℤ, ◌++◌, ◌∙◌, ◌∷◌, ◌≡◌}
 use Rattle.lemmas.proofs.Common.{cond-false, and-false}
 use Rattle.border_match.proofs.Bridge.{edge_same}
-use Rattle.module_job.specs.declared.job.Demand.TheVariants as Demanded
 
 -- ---- signals by the wires of the circuit
 

@@ -34,10 +34,6 @@ abbrev wire_in : Signal → ℕ
 wire_in (Wire w) = w
 wire_in _ = 0
 
-abbrev demanded_in : Demand → ℕ
-demanded_in (Demanded.Wire w) = w
-demanded_in _ = 0
-
 module _ (ws : List ℕ) (different : AreDistinct ws) where
   abbrev f : ℕ → ℕ
   f = slice_index ws

@@ -22,7 +22,6 @@ use Rattle.soundness.proofs.SomeLeast.{some_decided, true_decided}
 use Rattle.soundness.proofs.SomeValues.{HasStop, HasValues, values_or_stop}
 use Rattle.bbm_rule.proofs.RingTests.{ring_in_box}
 use Rattle.local_run.proofs.Least.{fault_total, keep_total}
-use Rattle.module_job.specs.declared.job.Demand.TheVariants as Demanded
 use Rattle.module_job.specs.declared.job.Stop as listed
 
 in_cells_of_box : (b : Box2) (d : Cell) → in_box b d.x d.y ≡ true → In d (rectangle_cells b)

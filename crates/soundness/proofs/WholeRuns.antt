@@ -37,7 +37,6 @@ use Rattle.soundness.proofs.LayoutCells.{live_start, start_outside, whole_inside
 use Rattle.soundness.proofs.LayoutCells.{is_output, met_mirror, met_output, met_other}
 use Rattle.local_run.specs.declared.fault.Kind.TheVariants.{Edge, End, Stop as AtStop}
 use Rattle.module_job.specs.declared.job.Stop as listed
-use Rattle.module_job.specs.declared.job.Demand.TheVariants as Demanded
 use Rattle.local_run.proofs.OwnWires as own
 
 stable : (a b : Bool) → ¬ (a ≢ b) → a ≡ b
