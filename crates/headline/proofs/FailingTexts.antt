@@ -37,7 +37,6 @@ use Rattle.report.specs.ReportText.{lines_before_verdict}
 use Rattle.headline.proofs.SomeReport.{certificate_by, limits, modules_good}
 use Rattle.headline.proofs.YesIsRight.{bundle_good, known}
 use Rattle.bbm_rule.proofs.RingTests.{ring_in_box}
-use Rattle.module_job.specs.declared.job.Demand.TheVariants as Demanded
 use Rattle.core_book.specs.declared.verdict.Verdict.TheVariants as verdict
 
 -- ---- tests of all elements

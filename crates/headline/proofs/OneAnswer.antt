@@ -1,9 +1,8 @@
 -- A text has one answer.
 use Rattle.headline.proofs.Imports.{AnswersOrRefuses, Err, HasAtMostOneAnswerToEachText, IsDeadOutside, IsLiveOutside}
 use Rattle.headline.proofs.Imports.{IsRunOf, LayoutHeader, LayoutLine, List, Ok, Outcome, Pattern, Refusal, Result}
-use Rattle.headline.proofs.Imports.{RunEnd, RunQuestion, SaysRunEnd, State, ap, arith, common_steps, layout_of}
-use Rattle.headline.proofs.Imports.{layout_section, parts_of, run_end_outcome, run_end_text, sym, true≢false, ℕ, ◌∙◌}
-use Rattle.headline.proofs.Imports.{◌≡◌}
+use Rattle.headline.proofs.Imports.{RunQuestion, SaysRunEnd, State, ap, arith, common_steps, layout_of, layout_section}
+use Rattle.headline.proofs.Imports.{parts_of, sym, true≢false, ℕ, ◌∙◌, ◌≡◌}
 use Rattle.answers.proofs.Bundles.{layout_again}
 
 -- a layout is what its lines make, so they are those of one layout
@@ -15,9 +14,6 @@ pub one_layout : (p q : Pattern) → layout_section p ≡ layout_section q → p
 one_layout p q e = sym (layout_from p q.size (parts_of q) e) ∙ layout_again q
 
 -- ---- a run ends in one way
-
-abbrev SameEnd : RunEnd → RunEnd → Type 0
-SameEnd e e' = (run_end_text e ≡ run_end_text e') × (run_end_outcome e ≡ run_end_outcome e')
 
 clash : (s : LayoutHeader) (state : State) → IsDeadOutside s state → IsLiveOutside s state → ⊥
 clash s state stays goes = true≢false (sym (stays goes.x goes.y goes.lives) ∙ goes.outside)
