@@ -75,9 +75,7 @@ others_kept p s r k marks old new whole run calm i l other free =
     pair_kept (p + 2 * (i * s)) s old new whole same (calm i l free)
   where
     same : (q : ℕ) → p + 2 * (i * s) ≤ q → q < p + 2 * (i * s) + 2 * s → cell_at new q ≡ cell_at old q
-    same q low high = by_lt_or_le i k
-        (λ before. let h = after_pair i k s before in run.before q (omega arith))
-        (λ le. let h = after_pair k i s (omega (arith, other)) in run.after q (omega arith))
+    same q low high = grind (arith, common_steps, after_pair)
 
 -- all of them but pair k, which gets a mark
 pub calm_marked : (p s r k : ℕ) (marks marks' old new : List ℕ) → s % 2 ≡ 0 →
@@ -106,10 +104,7 @@ but_marked : (p s r from to : ℕ) (first second old new : List ℕ) → s % 2 �
     IsUnmarked first i × ((p + 2 * (i * s) + 2 * s ≤ from) ⊎ (to ≤ p + 2 * (i * s)))) →
     AreRowPairsStable p s r first old → AreRowPairsStable p s r second new
 but_marked p s r from to first second old new whole before after apart calm i l free =
-    pair_kept (p + 2 * (i * s)) s old new whole (λ q low high. elim (apart i free).1 [
-      | inl h ↦ before q (omega arith)
-      | inr h ↦ after q (omega arith)
-    ]) (calm i l (apart i free).0)
+    grind (arith, common_steps, pair_kept)
 
 -- the pairs of the odd partition stay, while pair k of the even partition is turned, but for the two that share its
 -- rows

@@ -33,13 +33,10 @@ xor false true = true
 xor false false = false
 
 pub xor_false : (a : Bool) → xor a false ≡ a
-xor_false true = refl
-xor_false false = refl
+xor_false a = grind (arith, common_steps)
 
 pub zero_or_one : (n : ℕ) → n < 2 → (n ≡ 0) ⊎ (n ≡ 1)
-zero_or_one zero h = inl refl
-zero_or_one (suc zero) h = inr refl
-zero_or_one (suc (suc n)) h = absurd (omega arith)
+zero_or_one n h1 = grind (arith, common_steps)
 
 -- the bits of the library
 pub bit-is : (n j : ℕ) → bit n j ≡ nat_eq (bit_at n j) 1

@@ -39,8 +39,7 @@ word_set words i v room = record {
 }
   where
     elsewhere : (k b : ℕ) → b < 64 → k ≢ i → cell_at (set words i v) (64 * k + b) ≡ cell_at words (64 * k + b)
-    elsewhere k b l other =
-        rw (cell_in_word (set words i v) k b l, cell_in_word words k b l, get_or-set_other words i k v 0 other) refl
+    elsewhere k b l other = grind (arith, common_steps, cell_in_word, get_or-set_other)
 
 pub windows_turned : (p s : ℕ) (va vb a b : ℕ) (old mid new : List ℕ) → 64 ≤ s → HasWordAt old p va →
     HasWordAt old (p + s) vb → ArePairsTurned va vb a b → SetsWordAt p a old mid → SetsWordAt (p + s) b mid new →
@@ -127,25 +126,13 @@ rows_join p s r first second third whole rows run = record {
         cell_at third (p + 2 * (i * s) + j)
         ≡ turned (cell_at first (p + 2 * (i * s) + j)) (cell_at first (p + 2 * (i * s) + s + mate j))
         (cell_at first (p + 2 * (i * s) + mate j)) (cell_at first (p + 2 * (i * s) + s + j))
-    upper_at i j e m = rw (
-      e,
-      sym (kept (p + 2 * (r * s) + j) (omega arith)),
-      sym (kept (p + 2 * (r * s) + mate j) (omega arith)),
-      sym (kept (p + 2 * (r * s) + s + j) (omega arith)),
-      sym (kept (p + 2 * (r * s) + s + mate j) (omega arith)),
-    ) (run.upper j m)
+    upper_at i j e m = grind (arith, common_steps, kept)
 
     lower_at : (i j : ℕ) → i ≡ r → j < s →
         cell_at third (p + 2 * (i * s) + s + j)
         ≡ turned (cell_at first (p + 2 * (i * s) + s + j)) (cell_at first (p + 2 * (i * s) + mate j))
         (cell_at first (p + 2 * (i * s) + s + mate j)) (cell_at first (p + 2 * (i * s) + j))
-    lower_at i j e m = rw (
-      e,
-      sym (kept (p + 2 * (r * s) + j) (omega arith)),
-      sym (kept (p + 2 * (r * s) + mate j) (omega arith)),
-      sym (kept (p + 2 * (r * s) + s + j) (omega arith)),
-      sym (kept (p + 2 * (r * s) + s + mate j) (omega arith)),
-    ) (run.lower j m)
+    lower_at i j e m = grind (arith, common_steps, kept)
 
 -- ---- the steps of the loops
 pub aligned_step : (upper k stride : ℕ) (first second : List ℕ) (a b : ℕ) → k < stride →

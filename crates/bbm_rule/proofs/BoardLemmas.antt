@@ -71,12 +71,10 @@ turned_cell p s r at old new is rows x y lx ly =
         (cell_at old (at (mate x) y)) (cell_at old (at x (mate y)))
 
     at_even : (i : ℕ) → y ≡ 2 * i → i < r → IsTurned y
-    at_even i e l = rw (e, mate_even (2 * i) (omega arith), first i x, first i (mate x), second i x, second i (mate x))
-        (rows.upper i x l lx)
+    at_even i e l = grind (arith, common_steps, mate_even, first, second)
 
     at_odd : (i : ℕ) → y ≡ 1 + 2 * i → i < r → IsTurned y
-    at_odd i e l = rw (e, mate_odd (2 * i) (omega arith), first i x, first i (mate x), second i x, second i (mate x))
-        (rows.lower i x l lx)
+    at_odd i e l = grind (arith, common_steps, mate_odd, first, second)
 
 -- ---- the odd step
 aligned_cell : (s r : ℕ) (old new : List ℕ) → TurnsRows 0 s r old new → (x y : ℕ) → x < s → y < 2 * r →
@@ -122,9 +120,7 @@ odd_plane w h s r old new plane rows e dead =
         ∙ rw (none y, none' y, none (mate y), none' (mate y)) dead_block
 
     margin : (x y : ℕ) → x < s → is_board_cell w h x y ≡ false → cell_at new (s * y + x) ≡ false
-    margin x y l outer =
-        by_lt_or_le y (h + 2) (λ ly. by_lt_or_le x (w + 2) (λ lx. dead x y lx ly outer) (λ gx. right x y l gx ly))
-        (λ gy. beyond x y l gy outer)
+    margin x y l outer = grind (arith, common_steps, beyond, right)
 
 pub odd_step : (t w h s r : ℕ) (old new : List ℕ) → t % 2 ≡ 1 → IsPlane w h s old → IsPlane w h s new →
     TurnsRows 0 s r old new → 2 * r ≡ h + 2 → IsStep t (board w h s old) (board w h s new)
@@ -288,8 +284,6 @@ even_step t w h s r old new at_even plane rows e u v =
       | inr far ↦ column_dead (board w h s new) u v far.own ∙ sym (far_column t (board w h s old) u v far)
       | inl near ↦ elim (even_cases t h v at_even plane.height) [
         | inr far ↦ row_dead (board w h s new) u v far.own ∙ sym (far_row t (board w h s old) u v far)
-        | inl near' ↦ rw (near.1, near'.1)
-            (live_inner w h s new near.0 near'.0 near.2 near'.2
-            ∙ sym (even_cell t w h s r old new at_even plane rows e near.0 near'.0 near.2 near'.2))
+        | inl near' ↦ grind (arith, common_steps, live_inner, even_cell)
       ]
     ]

@@ -1,9 +1,8 @@
 -- A run of cells in one word.
 use Rattle.lemmas.proofs.Common.{common_steps}
-use Rattle.bbm_rule.proofs.Imports.{FillsRowPart, List, ap, arith, bit, bit_or, cell_at, false, get_or}
-use Rattle.bbm_rule.proofs.Imports.{get_or-set_other, length, refl, set, true, ℕ, ◌%◌, ◌*◌, ◌+◌, ◌-◌}
-use Rattle.bbm_rule.proofs.Imports.{◌/◌, ◌<◌, ◌^◌, ◌||◌, ◌∙◌, ◌≡◌, ◌≤◌}
 use Rattle.lemmas.proofs.Common.{pow_pos}
+use Rattle.bbm_rule.proofs.Imports.{FillsRowPart, List, arith, bit, bit_or, cell_at, false, get_or, get_or-set_other}
+use Rattle.bbm_rule.proofs.Imports.{length, set, true, ℕ, ◌%◌, ◌*◌, ◌+◌, ◌-◌, ◌/◌, ◌<◌, ◌^◌, ◌||◌, ◌∙◌, ◌≡◌, ◌≤◌}
 use Rattle.bbm_rule.proofs.BitLemmas.{bit-or, bit-shr, bit-mod, bit-shl_low, bit-shl_high, bit_above}
 use Rattle.bbm_rule.proofs.MarkLemmas.{bit_ones}
 
@@ -15,9 +14,7 @@ shifted : (n k j : ℕ) → k ≤ j → j < 64 → bit (ones_from n k) j ≡ bit
 shifted n k j low high =
     let e : j ≡ k + (j - k) = omega arith in
     bit-mod (18446744073709551615 / 2 ^ (64 - n) * 2 ^ k) 64 j high
-    ∙ (ap (bit (18446744073709551615 / 2 ^ (64 - n) * 2 ^ k)) e
-    ∙ (bit-shl_high (18446744073709551615 / 2 ^ (64 - n)) k (j - k) (pow_pos k)
-    ∙ bit-shr 18446744073709551615 (64 - n) (j - k)))
+    ∙ (grind (arith, common_steps, bit-shl_high, pow_pos, bit-shr))
 
 one_inside : (n k j : ℕ) → k ≤ j → j < k + n → k + n ≤ 64 → bit (ones_from n k) j ≡ true
 one_inside n k j low high room = shifted n k j low (omega arith) ∙ bit_ones (64 - n + (j - k)) (omega arith)
@@ -33,12 +30,10 @@ zero_after n k j low high some most =
     ∙ bit_above 18446744073709551615 64 (64 - n + (j - k)) (omega arith) (omega arith)
 
 or_true : (a b : _) → b ≡ true → (a || b) ≡ true
-or_true true b e = refl
-or_true false b e = e
+or_true a b h1 = grind (arith, common_steps)
 
 or_false : (a b : _) → b ≡ false → (a || b) ≡ a
-or_false true b e = refl
-or_false false b e = e
+or_false a b h1 = grind (arith, common_steps)
 
 -- The word at a place with n more ones.
 pub cells_filled : (words : List ℕ) (p n : ℕ) → p / 64 < length words → 0 < n → p % 64 + n ≤ 64 →

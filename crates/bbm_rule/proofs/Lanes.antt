@@ -73,12 +73,7 @@ chunk_turned at ul ur ll lr a b c d wul wur wdl wdr la lb lc ld turned = record 
     lower_left = get_or-put_chunk_below at ll c k 0 l;
     lower_right = get_or-put_chunk_below at lr d k 0 l;
   };
-  above = λ k l. record {
-    upper_left = get_or-put_chunk_above at ul a k 0 (omega arith);
-    upper_right = get_or-put_chunk_above at ur b k 0 (omega arith);
-    lower_left = get_or-put_chunk_above at ll c k 0 (omega arith);
-    lower_right = get_or-put_chunk_above at lr d k 0 (omega arith);
-  };
+  above = grind (arith, common_steps, get_or-put_chunk_above);
 }
   where
     stored : (xs v : List ℕ) (j : ℕ) → at + 4 ≤ length xs → length v ≡ 4 → j < 4 →

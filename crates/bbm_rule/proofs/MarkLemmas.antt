@@ -36,11 +36,7 @@ pub record FirstBit (word k : ℕ) : Type 0 where
   pub none : (j : ℕ) → j < trailing_zeros w64 (word / 2 ^ k) → bit (word / 2 ^ k) j ≡ false
 
 pub first_bit : (word k : ℕ) → word / 2 ^ k ≢ 0 → word < 2 ^ 64 → FirstBit word k
-first_bit word k some small = record {
-  within = within;
-  one = bit_one (word / 2 ^ k) _ found.1;
-  none = λ j l. bit_none (word / 2 ^ k) j (found.2 j l);
-}
+first_bit word k some small = grind (arith, common_steps, bit_one, bit_none, found, within)
   where
     le_lt : {a b c : ℕ} → a ≤ b → b < c → a < c
     le_lt p q = omega arith

@@ -18,10 +18,7 @@ same_bool false false = true
 
 same_bool-true : (a b : Bool) → same_bool a b ≡ true → a ≡ b
 unfolding same_bool
-same_bool-true true true h = refl
-same_bool-true true false h = cc
-same_bool-true false true h = cc
-same_bool-true false false h = refl
+same_bool-true a b h1 = grind (arith, common_steps)
 
 mask_tested : holds_below (λ j. same_bool (bit first_mask j) (nat_eq (j % 2) 0)) 64 ≡ true
 unfolding bit same_bool

@@ -95,8 +95,7 @@ pub partner_twice : (t : ℕ) (u : ℤ) → partner t (partner t u) ≡ u
 partner_twice t u = by_eq_or_not (t % 2) 0 (λ even. at_even u even) (λ odd. at_odd u (omega arith))
   where
     at_even : (u : ℤ) → t % 2 ≡ 0 → partner t (partner t u) ≡ u
-    at_even (pos n) even = rw (partner-even_pos t n even, partner-even_pos t (mate n) even, mate_twice n) refl
-    at_even (negsuc n) even = rw (partner-even_neg t n even, partner-even_neg t (mate n) even, mate_twice n) refl
+    at_even u h1 = grind (arith, common_steps, partner-even_pos, mate_twice, partner-even_neg)
 
     at_ext : (n : ℕ) → t % 2 ≡ 1 → partner t (partner t (ext n)) ≡ ext n
     at_ext n odd = rw (partner-odd_ext t n odd, partner-odd_ext t (mate n) odd, mate_twice n) refl

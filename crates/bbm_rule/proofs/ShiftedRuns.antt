@@ -23,8 +23,7 @@ flip_twice i f g words room = grind (arith, common_steps, get_or-set_same, set-s
 
 flip_swap : (i k f g : ℕ) (words : List ℕ) → i < length words → k < length words →
     flip k g (flip i f words) ≡ flip i f (flip k g words)
-flip_swap i k f g words room room' =
-    grind (arith, common_steps, common_steps, by_eq_or_not, flip_twice, xor_swap, get_or-set_other, set_comm)
+flip_swap i k f g words room room' = grind (arith, common_steps, flip_twice, xor_swap, get_or-set_other, set_comm)
 
 -- two words that get what is carried to them and then flips of their own
 stored : (i k f f' g g' : ℕ) (words : List ℕ) → i ≢ k → i < length words → k < length words →

@@ -21,79 +21,19 @@ anti_flips_of ul ur ll lr =
 -- one bit of each answer
 by_cases_ul : (a b c d : Bool) → xor a (xor (xor (a || d) (b || c)) (xor (a || d) (b || c) && xor b c)) ≡ turned a d b c
 unfolding turned
-by_cases_ul true true true true = refl
-by_cases_ul true true true false = refl
-by_cases_ul true true false true = refl
-by_cases_ul true true false false = refl
-by_cases_ul true false true true = refl
-by_cases_ul true false true false = refl
-by_cases_ul true false false true = refl
-by_cases_ul true false false false = refl
-by_cases_ul false true true true = refl
-by_cases_ul false true true false = refl
-by_cases_ul false true false true = refl
-by_cases_ul false true false false = refl
-by_cases_ul false false true true = refl
-by_cases_ul false false true false = refl
-by_cases_ul false false false true = refl
-by_cases_ul false false false false = refl
+by_cases_ul a b c d = grind (arith, common_steps)
 
 by_cases_ur : (a b c d : Bool) → xor b (xor (xor (a || d) (b || c)) (xor (a || d) (b || c) && xor a d)) ≡ turned b c a d
 unfolding turned
-by_cases_ur true true true true = refl
-by_cases_ur true true true false = refl
-by_cases_ur true true false true = refl
-by_cases_ur true true false false = refl
-by_cases_ur true false true true = refl
-by_cases_ur true false true false = refl
-by_cases_ur true false false true = refl
-by_cases_ur true false false false = refl
-by_cases_ur false true true true = refl
-by_cases_ur false true true false = refl
-by_cases_ur false true false true = refl
-by_cases_ur false true false false = refl
-by_cases_ur false false true true = refl
-by_cases_ur false false true false = refl
-by_cases_ur false false false true = refl
-by_cases_ur false false false false = refl
+by_cases_ur a b c d = grind (arith, common_steps)
 
 by_cases_ll : (a b c d : Bool) → xor c (xor (xor (a || d) (b || c)) (xor (a || d) (b || c) && xor a d)) ≡ turned c b d a
 unfolding turned
-by_cases_ll true true true true = refl
-by_cases_ll true true true false = refl
-by_cases_ll true true false true = refl
-by_cases_ll true true false false = refl
-by_cases_ll true false true true = refl
-by_cases_ll true false true false = refl
-by_cases_ll true false false true = refl
-by_cases_ll true false false false = refl
-by_cases_ll false true true true = refl
-by_cases_ll false true true false = refl
-by_cases_ll false true false true = refl
-by_cases_ll false true false false = refl
-by_cases_ll false false true true = refl
-by_cases_ll false false true false = refl
-by_cases_ll false false false true = refl
-by_cases_ll false false false false = refl
+by_cases_ll a b c d = grind (arith, common_steps)
 
 by_cases_lr : (a b c d : Bool) → xor d (xor (xor (a || d) (b || c)) (xor (a || d) (b || c) && xor b c)) ≡ turned d a c b
 unfolding turned
-by_cases_lr true true true true = refl
-by_cases_lr true true true false = refl
-by_cases_lr true true false true = refl
-by_cases_lr true true false false = refl
-by_cases_lr true false true true = refl
-by_cases_lr true false true false = refl
-by_cases_lr true false false true = refl
-by_cases_lr true false false false = refl
-by_cases_lr false true true true = refl
-by_cases_lr false true true false = refl
-by_cases_lr false true false true = refl
-by_cases_lr false true false false = refl
-by_cases_lr false false true true = refl
-by_cases_lr false false true false = refl
-by_cases_lr false false false true = refl
-by_cases_lr false false false false = refl
+by_cases_lr a b c d = grind (arith, common_steps)
 
 pub words_turned : (ul ur ll lr : ℕ) →
     AreTurned ul ur ll lr (bit_xor ul (main_flips_of ul ur ll lr)) (bit_xor ur (anti_flips_of ul ur ll lr))
@@ -113,20 +53,19 @@ no_flips changed main anti none = (λ j. flip_none changed anti j (none j), λ j
 pub flips_found : (f a n b m : ℕ) → let changed = bit_and (changed_of a n b m) f in
     AreFlips f a n b m (bit_xor changed (bit_and changed (bit_xor n b)))
     (bit_xor changed (bit_and changed (bit_xor a m)))
-flips_found f a n b m =
-    grind (
-      arith,
-      common_steps,
-      bit-xor,
-      bit-or,
-      bit-and,
-      and-true,
-      by_cases_ul,
-      by_cases_ur,
-      by_cases_ll,
-      by_cases_lr,
-      and-false,
-    )
+flips_found f a n b m = grind (
+  arith,
+  common_steps,
+  bit-xor,
+  bit-or,
+  bit-and,
+  and-true,
+  by_cases_ul,
+  by_cases_ur,
+  by_cases_ll,
+  by_cases_lr,
+  and-false,
+)
 
 abbrev pub turns : List ℕ
 turns = 0 ∷ 8 ∷ 4 ∷ 3 ∷ 2 ∷ 5 ∷ 9 ∷ 7 ∷ 1 ∷ 6 ∷ 10 ∷ 11 ∷ 12 ∷ 13 ∷ 14 ∷ 15 ∷ []

@@ -2,13 +2,11 @@
 use Rattle.border_match.proofs.Imports.{All, AreJobOwners, AreModules, BorderFault, BorderLine, Box2, Cell, Halo}
 use Rattle.border_match.proofs.Imports.{IfSome, IsBorderFault, IsBorderFaultOfJob, IsLeast, IsLeastBorderFault}
 use Rattle.border_match.proofs.Imports.{IsListed, JobView, List, ModuleLines, None, Option, Ring, Signal, Signals, Some}
-use Rattle.border_match.proofs.Imports.{TimedSignal, [], ap, ap₂, areas, arith, circuit_wire, common_steps}
-use Rattle.border_match.proofs.Imports.{edge_signal, event_at, events_of_line, get_or_from_slice_get, halo_signal}
-use Rattle.border_match.proofs.Imports.{in_box, in_halo, line_signals, mapped_from, option_map, owner_of, rectangle_of}
-use Rattle.border_match.proofs.Imports.{renumber_event, renumber_signals, same_some, setting_of, slice_get}
-use Rattle.border_match.proofs.Imports.{slice_get-map, slice_get_within, some_at, subst, sym, true, whole, ℕ, ℤ, ◌%◌}
-use Rattle.border_match.proofs.Imports.{◌<◌, ◌∙◌, ◌≡◌}
-use Rattle.lemmas.proofs.Common.{All-cons, All-nil}
+use Rattle.border_match.proofs.Imports.{TimedSignal, ap, ap₂, areas, arith, circuit_wire, common_steps, edge_signal}
+use Rattle.border_match.proofs.Imports.{event_at, events_of_line, get_or_from_slice_get, halo_signal, in_box}
+use Rattle.border_match.proofs.Imports.{line_signals, mapped_from, option_map, owner_of, rectangle_of, renumber_event}
+use Rattle.border_match.proofs.Imports.{renumber_signals, same_some, setting_of, slice_get, slice_get-map}
+use Rattle.border_match.proofs.Imports.{slice_get_within, some_at, subst, sym, true, whole, ℕ, ℤ, ◌%◌, ◌<◌, ◌∙◌, ◌≡◌}
 use Rattle.circuit.specs.Bridge.{circuit_of}
 use Rattle.circuit.specs.declared.circuit_line.CircuitLine.{CircuitLine}
 use Rattle.pattern.specs.Layout.{Pattern}
@@ -43,8 +41,7 @@ module _ (cs : List CircuitLine) (p : Pattern) where
   -- what holds of the cells of lines holds of those of their events
   one_cell : (P : Cell → Type 0) (d : BorderLine) (t : Option ℕ) (s : Signal) → P d.cell →
       All (λ (h : TimedSignal). P h.at.cell) (events_of_line d t s)
-  one_cell P d None s here = All-nil _
-  one_cell P d (Some t) s here = All-cons (λ (h : TimedSignal). P h.at.cell) _ [] here (All-nil _)
+  one_cell P d t s h1 = grind (arith, common_steps)
 
   listed_cell : (P : Cell → Type 0) (j : JobView) (s : Signals) (es : List BorderLine) (e : TimedSignal) →
       renumber_signals (circuit_wire j.locals) s ≡ line_signals (circuit_of cs) es → All (λ d. P d.cell) es →
@@ -131,20 +128,7 @@ module _ (cs : List CircuitLine) (p : Pattern) where
         let d = g.different in
         let n = holder x y g.inside in
         let by = made.each _ n.lines d.owner n.numbered d.numbered in
-        record {
-          odd = g.odd;
-          early = subst (λ s. f.time < s) is.steps g.early;
-          inside = g.inside;
-          lines = m.0;
-          numbered = m.1;
-          halo = ap (λ (b : Box2). in_halo b x y) (sym is.area) ∙ g.halo;
-          owner_number = owner_of o x y;
-          owner = n.lines;
-          owner_numbered = n.numbered;
-          owned = n.has;
-          differ = λ alike. d.differ (halo_same m.0 j f.time x y is ∙ alike
-              ∙ sym (edge_same n.lines d.owner f.time x y by));
-        }
+        grind (arith, common_steps, halo_same, edge_same)
 
     fault_by_jobs : (i : ℕ) (j : JobView) (f : BorderFault) → slice_get js i ≡ Some j →
         IsBorderFault (setting_of cs p) ms i f → IsBorderFaultOfJob (whole p.size) o js j f
@@ -160,22 +144,8 @@ module _ (cs : List CircuitLine) (p : Pattern) where
         let by = made.each k n.lines own.0 n.numbered own.1 in
         let same : n.lines ≡ g.owner =
         same_some (slice_get ms k) n.lines g.owner n.numbered (ap (slice_get ms) number ∙ g.owner_numbered) in
-        record {
-          odd = g.odd;
-          early = subst (λ s. f.time < s) (sym is.steps) g.early;
-          inside = g.inside;
-          halo = ap (λ (b : Box2). in_halo b x y) is.area ∙ g.halo;
-          different = record {
-            owner = own.0;
-            numbered = own.1;
-            differ = λ alike. g.differ (
-                sym (halo_same g.lines j f.time x y is) ∙ alike ∙ edge_same n.lines own.0 f.time x y by
-                ∙ ap (λ (m : ModuleLines). edge_signal (circuit_of cs) m f.time x y) same);
-          };
-        }
+        grind (arith, common_steps, halo_same, edge_same)
 
     pub least_by_lines : (i : ℕ) (j : JobView) (r : Option BorderFault) → slice_get js i ≡ Some j →
         IsLeast (IsBorderFaultOfJob (whole p.size) o js j) r → IsLeastBorderFault (setting_of cs p) ms i r
-    least_by_lines i j None e least = λ f g. least.least f (fault_by_jobs i j f e g)
-    least_by_lines i j (Some m) e least =
-        (fault_by_lines i j m e least.sound, λ f g. least.least f (fault_by_jobs i j f e g))
+    least_by_lines i j r h1 h2 = grind (arith, common_steps, fault_by_jobs, fault_by_lines)

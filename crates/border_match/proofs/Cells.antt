@@ -1,10 +1,10 @@
 -- Cells of a halo, and the modules that have them
 use Rattle.border_match.proofs.Imports.{AreReadyBorders, BorderFault, Borders, Box2, Cell, IsFaultOfSearchedJob}
 use Rattle.border_match.proofs.Imports.{IsInOrAround, IsJob, JobView, List, Some, and_parts, ap, ap₂, arith, cases_Bool}
-use Rattle.border_match.proofs.Imports.{common_steps, false, false≢true, get_or, in_box, in_halo, inl, inr, ints}
-use Rattle.border_match.proofs.Imports.{jobs_of, length, length-map, map, option_map, owner_of, pos, same_some}
-use Rattle.border_match.proofs.Imports.{slice_get, slice_get-get_or, slice_get-map, slice_get_within, sym, true, ℕ, ℤ}
-use Rattle.border_match.proofs.Imports.{◌&&◌, ◌+ℤ◌, ◌+◌, ◌-◌, ◌<◌, ◌∙◌, ◌≡◌, ◌≤◌, ◌⊎◌}
+use Rattle.border_match.proofs.Imports.{common_steps, false, false≢true, get_or, in_box, in_halo, ints, jobs_of, length}
+use Rattle.border_match.proofs.Imports.{length-map, map, option_map, owner_of, pos, same_some, slice_get}
+use Rattle.border_match.proofs.Imports.{slice_get-get_or, slice_get-map, slice_get_within, sym, true, ℕ, ℤ, ◌&&◌, ◌+ℤ◌}
+use Rattle.border_match.proofs.Imports.{◌+◌, ◌-◌, ◌<◌, ◌∙◌, ◌≡◌, ◌≤◌, ◌⊎◌}
 use Rattle.lemmas.proofs.Common.{◌-ℤ◌, ◌||◌, and_from}
 use Rattle.bbm_rule.specs.Spans.{in_span}
 use Rattle.bbm_rule.proofs.Spans.{span_from, span_parts}
@@ -37,9 +37,7 @@ owned_near b c owner ready inside got is = grind (arith, common_steps, same_some
 
 near_bounds : (f n k j : ℕ) (x y : ℤ) → x ≡ pos k → y ≡ pos j → (y ≡ x -ℤ pos 1) ⊎ ((y ≡ x) ⊎ (y ≡ x +ℤ pos 1)) →
     f ≤ j → j < f + n → (f - 1 ≤ k) × (k < f + n + 1)
-near_bounds f n k j x y p q (inl e) c d = (omega (arith, ints), omega (arith, ints))
-near_bounds f n k j x y p q (inr (inl e)) c d = (omega (arith, ints), omega (arith, ints))
-near_bounds f n k j x y p q (inr (inr e)) c d = (omega (arith, ints), omega (arith, ints))
+near_bounds f n k j x y h1 h2 h3 h4 h5 = grind (arith, common_steps, ints)
 
 near_nat : (f n : ℕ) (x : ℤ) (k : ℕ) → x ≡ pos k →
     (in_span f n (x -ℤ pos 1) || in_span f n x || in_span f n (x +ℤ pos 1)) ≡ true → (f - 1 ≤ k) × (k < f + n + 1)
@@ -111,9 +109,4 @@ fault_around b f g =
     let p = placed b f g in
     let px = p.x in let py = p.y in
     let left = p.left in let right = p.right in let top = p.top in let bottom = p.bottom in
-    record {
-      left = omega (arith, ints, px, left);
-      right = omega (arith, ints, px, right);
-      top = omega (arith, ints, py, top);
-      bottom = omega (arith, ints, py, bottom);
-    }
+    grind (arith, common_steps, ints)

@@ -1,15 +1,14 @@
 -- Candidates for a least border fault
-use Rattle.border_match.proofs.Imports.{BorderFault, Greater, HasCandidateAtMost, IsLeast, IsNextBest}
-use Rattle.border_match.proofs.Imports.{None, Option, Ordering, Some, arith, border_cmp, common_steps, false, refl}
-use Rattle.border_match.proofs.Imports.{tied_itself, ◌≡◌, ◌≢◌, ◌⊎◌}
+use Rattle.border_match.proofs.Imports.{BorderFault, Greater, HasCandidateAtMost, IsLeast, IsNextBest, None, Option}
+use Rattle.border_match.proofs.Imports.{Ordering, Some, arith, border_cmp, common_steps, false, tied_itself, ◌≡◌, ◌≢◌}
+use Rattle.border_match.proofs.Imports.{◌⊎◌}
 use Rattle.lemmas.proofs.Common.{is_gt, upto}
 use Rattle.border_match.proofs.FaultOrder.{border_total}
 
 -- ---- the order
 
 not_gt : (o : Ordering) → o ≢ Greater → is_gt o ≡ false
-not_gt Greater n = absurd (n refl)
-not_gt _ n = refl
+not_gt o h1 = grind (arith, common_steps)
 
 from_not_gt : (o : Ordering) → is_gt o ≡ false → o ≢ Greater
 from_not_gt o e g = grind (arith, common_steps)
@@ -26,8 +25,7 @@ lesser_kept o m best is greater h c = grind (arith, common_steps, border_total, 
 
 pub covers_after : (o : Option BorderFault) (m h : BorderFault) → HasCandidateAtMost o m → border_cmp m h ≢ Greater →
     HasCandidateAtMost o h
-covers_after None m h c l = c
-covers_after (Some b) m h c l = at_most_trans b m h c l
+covers_after o m h h1 h2 = grind (arith, common_steps, at_most_trans)
 
 -- ---- steps of a search
 

@@ -4,9 +4,9 @@ use Rattle.border_match.proofs.Imports.{CellDiffersWithoutEvent, IsAtOwnersEdgeE
 use Rattle.border_match.proofs.Imports.{IsFaultOfSearchedJob, IsListed, JobView, List, Moment, Signals, Some}
 use Rattle.border_match.proofs.Imports.{TimedSignal, ap, ap₂, arith, below_or_same, cell_back, common_steps, false}
 use Rattle.border_match.proofs.Imports.{false≢true, inl, inr, ints, jobs_of, length, map, mapped_from, moved_cell}
-use Rattle.border_match.proofs.Imports.{moved_event, moved_signals, owner_of, pos, refl, same_some}
-use Rattle.border_match.proofs.Imports.{shift_to_origin, slice_get, slice_get_within, some_at, sym, take, true}
-use Rattle.border_match.proofs.Imports.{ℕ, ℤ, ◌++◌, ◌+◌, ◌∙◌, ◌≡◌, ◌≤◌, ◌⊎◌}
+use Rattle.border_match.proofs.Imports.{moved_event, moved_signals, owner_of, pos, same_some, shift_to_origin}
+use Rattle.border_match.proofs.Imports.{slice_get, slice_get_within, some_at, sym, take, true, ℕ, ℤ, ◌++◌, ◌+◌, ◌∙◌}
+use Rattle.border_match.proofs.Imports.{◌≡◌, ◌≤◌, ◌⊎◌}
 use Rattle.lemmas.proofs.Common.{take-append_seam}
 use Rattle.border_match.specs.Boards.{AddsOnlyMarksAt, IsAtEvent, IsPlaceOf, IsAtUnmarkedEvent}
 use Rattle.border_match.proofs.Steps.{fault_covered, same_fault}
@@ -26,9 +26,7 @@ local_place x y dx dy cell s moved es at place ex ey by same are is =
     let here = ap (λ (z : TimedSignal). z.at) v.2 ∙ is.same in
     let back : (c : Cell) → moved_cell (pos x) (pos y) (moved_cell sx sy c) ≡ c =
     λ c. cell_back sx sy (pos x) (pos y) c (omega (arith, ints)) (omega (arith, ints)) in
-    let cells : v.0.at.cell ≡ at.cell = sym (back v.0.at.cell)
-    ∙ ap (moved_cell (pos x) (pos y)) (ap (λ (m : Moment). m.cell) here ∙ by
-    ∙ ap₂ (λ p q. moved_cell p q at.cell) ex ey) ∙ back at.cell in
+    let cells : v.0.at.cell ≡ at.cell = grind (arith, common_steps) in
     let mk : ℕ → Cell → Moment = λ t c. record { time = t; cell = c } in
     record { event = v.0; got = v.1; same = ap₂ mk (ap (λ (m : Moment). m.time) here) cells }
 
@@ -61,10 +59,7 @@ pub event_step : (seen : List Bool) (events : List TimedSignal) (i : ℕ) (e : T
 event_step seen events i e f got h = elim (below_or_same h.unmarked.named.place i h.below) [
   | inl lt ↦ inl (record { unmarked = h.unmarked; below = lt })
   | inr same ↦
-      let named = h.unmarked.named in
-      let is = same_some (slice_get events i) named.event e (ap (slice_get events) (sym same) ∙ named.got) got in
-      inr (same_fault e.at.time e.at.cell f (sym named.time ∙ ap (λ (z : TimedSignal). z.at.time) is)
-      (sym named.cell ∙ ap (λ (z : TimedSignal). z.at.cell) is))
+      grind (arith, common_steps, same_some, slice_get, same_fault)
 ]
 
 pub unmarked_all : (seen : List Bool) (events : List TimedSignal) (k : ℕ) (f : BorderFault) → length events ≤ k →
@@ -76,8 +71,7 @@ unmarked_all seen events k f le h =
 -- ---- what a fault is named by
 
 mark_cases : (o : Bool) → (o ≡ true) ⊎ (o ≡ false)
-mark_cases true = inl refl
-mark_cases false = inr refl
+mark_cases o = grind (arith, common_steps)
 
 pub fault_unmarked : (b : Borders) (seen : List Bool) (f : BorderFault) → AreReadyBorders b → AreHaloMarks b seen →
     IsFaultOfSearchedJob b f →

@@ -3,9 +3,9 @@ use Rattle.border_match.proofs.Imports.{AreHaloOwnersListed, AreModuleNumbers, A
 use Rattle.border_match.proofs.Imports.{AreOwnersListedToColumn, AreReadyBorders, Bool, Borders, Box2, JobView}
 use Rattle.border_match.proofs.Imports.{KeepsAllNumbers, List, Some, [], and_parts, ap₂, arith, below_or_from}
 use Rattle.border_match.proofs.Imports.{cases_Bool, common_steps, cond-false, cond-true, false, false≢true, in_box}
-use Rattle.border_match.proofs.Imports.{in_halo, inl, inr, is_among, jobs_of, length, nat_tests, owner_of, pos}
-use Rattle.border_match.proofs.Imports.{same_some, slice_get, subst, sym, true, ℕ, ℤ, ◌++◌, ◌+◌, ◌-◌, ◌<◌, ◌==◌, ◌∙◌}
-use Rattle.border_match.proofs.Imports.{◌∷◌, ◌≡◌, ◌≤◌, ◌⊎◌}
+use Rattle.border_match.proofs.Imports.{in_halo, is_among, jobs_of, length, nat_tests, owner_of, pos, same_some}
+use Rattle.border_match.proofs.Imports.{slice_get, subst, sym, true, ℕ, ℤ, ◌++◌, ◌+◌, ◌-◌, ◌<◌, ◌==◌, ◌∙◌, ◌∷◌, ◌≡◌}
+use Rattle.border_match.proofs.Imports.{◌≤◌, ◌⊎◌}
 use Rattle.lemmas.proofs.Common.{list_any-append, or_cases, or_left, or_right}
 use Rattle.border_match.specs.Boards.{AreOutsideOwnersListed, IsOwnerListedIfOutsideBox, with_number_once}
 use Rattle.border_match.proofs.Cells.{area_at, cell_placed, halo_out, whole_parts}
@@ -94,11 +94,7 @@ all_rows b ks y ready end above x z there =
     let inside : in_box b.whole (pos p.column) (pos p.row) ≡ true = sym (ap₂ (in_box b.whole) p.x p.y) ∙ both.0 in
     let out : in_box area (pos p.column) (pos p.row) ≡ false =
     sym (ap₂ (in_box area) p.x p.y) ∙ halo_out area x z both.1 in
-    let noted : is_among ks (owner_of b.owners.now (pos p.column) (pos p.row)) ≡ true = elim (below_or_from p.row y) [
-      | inl l ↦ above p.column p.row p.left p.right p.top l inside out
-      | inr from ↦
-          let outside = end p.row from p.bottom in
-          let within = (whole_parts b p.column p.row ready inside).1 in absurd (omega (arith, outside, within))
-    ] in
+    let noted : is_among ks (owner_of b.owners.now (pos p.column) (pos p.row)) ≡ true =
+    grind (arith, common_steps, below_or_from, whole_parts) in
     let P : ℕ → Type 0 = λ n. is_among ks n ≡ true in
     subst P (sym (ap₂ (owner_of b.owners.now) p.x p.y)) noted

@@ -1,8 +1,8 @@
 -- Signals by other numbers of their wires, and times without an event
 use Rattle.border_match.proofs.Imports.{All, All-head, All-tail, AllTimesSignal, Bool, BorderLine, IfSome, List, None}
-use Rattle.border_match.proofs.Imports.{Option, Signal, Signals, Some, TimedSignal, Zero, [], all_times_at, ap, arith}
+use Rattle.border_match.proofs.Imports.{Option, Signal, Signals, TimedSignal, Zero, [], all_times_at, ap, arith}
 use Rattle.border_match.proofs.Imports.{cases_Bool, common_steps, cond-false, cond-true, event_at, events_of_line}
-use Rattle.border_match.proofs.Imports.{false, is_at, map, nat_tests, option_map, refl, renumber_event, renumber_signal}
+use Rattle.border_match.proofs.Imports.{false, map, nat_tests, option_map, refl, renumber_event, renumber_signal}
 use Rattle.border_match.proofs.Imports.{renumber_signals, signal_at, sym, unwrap_or, ℕ, ℤ, ◌%◌, ◌&&◌, ◌++◌, ◌<◌, ◌==◌}
 use Rattle.border_match.proofs.Imports.{◌∙◌, ◌∷◌, ◌≡◌}
 use Rattle.lemmas.proofs.Common.{flat_map}
@@ -26,9 +26,7 @@ module _ (f : ℕ → ℕ) where
   either : (a b : Option Signal) →
       unwrap_or (option_map (renumber_signal f) a) (unwrap_or (option_map (renumber_signal f) b) Zero)
       ≡ renumber_signal f (unwrap_or a (unwrap_or b Zero))
-  either (Some s) b = refl
-  either None (Some s) = refl
-  either None None = refl
+  either a b = grind (arith, common_steps)
 
   pub signal_renumbered : (s : Signals) (t : ℕ) (x y : ℤ) →
       renumber_signal f (signal_at s t x y) ≡ signal_at (renumber_signals f s) t x y
@@ -36,8 +34,7 @@ module _ (f : ℕ → ℕ) where
   signal_renumbered s t x y = grind (arith, common_steps, either, all_times_renumbered, event_renumbered)
 
   none_back : (o : Option Signal) → option_map (renumber_signal f) o ≡ None → o ≡ None
-  none_back None e = refl
-  none_back (Some s) e = cc
+  none_back o h1 = grind (arith, common_steps)
 
   pub no_event_back : (es : List TimedSignal) (t : ℕ) (x y : ℤ) → event_at (map (renumber_event f) es) t x y ≡ None →
       event_at es t x y ≡ None
@@ -55,8 +52,7 @@ one_quiet : (n : ℕ) (e : BorderLine) (t : Option ℕ) (s : Signal) (rest : Lis
     IfSome t (λ t. (t % 2 ≡ 1) × (t < n)) → event_at rest 0 x y ≡ None →
     event_at (events_of_line e t s ++ rest) 0 x y ≡ None
 unfolding event_at
-one_quiet n e None s rest x y h r = r
-one_quiet n e (Some t) s rest x y h r = cond-false _ _ _ (not_then t (is_at e.cell x y) h.0) ∙ r
+one_quiet n e t s rest x y h1 h2 = grind (arith, common_steps, cond-false, not_then)
 
 pub lines_quiet : (n : ℕ) (signal : BorderLine → Signal) (es : List BorderLine) (x y : ℤ) →
     All (λ e. IfSome e.time (λ t. (t % 2 ≡ 1) × (t < n))) es →

@@ -3,12 +3,11 @@ use Rattle.border_match.proofs.Imports.{AllTimesSignal, AreHaloOwnersListed, Are
 use Rattle.border_match.proofs.Imports.{Box2, Cell, CellDiffersWithoutEvent, DiffersAtStarBelow, DiffersAtStarOfAny}
 use Rattle.border_match.proofs.Imports.{IsFaultOfSearchedJob, IsInOrAround, JobView, List, None, Signals, Some, Zero}
 use Rattle.border_match.proofs.Imports.{[], all_times_at, ap, ap₂, arith, below_or_same, cases_Bool, circuit_wire}
-use Rattle.border_match.proofs.Imports.{common_steps, cond-false, event_at, get_or, inl, inr, ints, is_among, is_at}
-use Rattle.border_match.proofs.Imports.{jobs_of, length, length-map, map, moved_all_times, moved_cell, moved_signals}
-use Rattle.border_match.proofs.Imports.{owner_of, pos, refl, renumber_signal, same_some, shift_to_origin, signal_at}
-use Rattle.border_match.proofs.Imports.{signals_back, slice_get, slice_get-get_or, slice_get-map, slice_get_within}
-use Rattle.border_match.proofs.Imports.{subst, suc, sym, take, take_all, take_more, unwrap_or, ℕ, ℤ, ◌+◌, ◌<◌, ◌∙◌, ◌∷◌}
-use Rattle.border_match.proofs.Imports.{◌≡◌, ◌≤◌, ◌⊎◌}
+use Rattle.border_match.proofs.Imports.{common_steps, cond-false, event_at, get_or, inl, inr, ints, is_at, jobs_of}
+use Rattle.border_match.proofs.Imports.{length, length-map, map, moved_all_times, moved_cell, moved_signals, pos, refl}
+use Rattle.border_match.proofs.Imports.{renumber_signal, same_some, shift_to_origin, signal_at, signals_back, slice_get}
+use Rattle.border_match.proofs.Imports.{slice_get-get_or, slice_get-map, slice_get_within, subst, suc, sym, take}
+use Rattle.border_match.proofs.Imports.{take_all, take_more, unwrap_or, ℕ, ℤ, ◌+◌, ◌<◌, ◌∙◌, ◌∷◌, ◌≡◌, ◌≤◌, ◌⊎◌}
 use Rattle.bbm_rule.proofs.SameCells.{cell_same}
 use Rattle.border_match.specs.Boards.{DiffersWithoutEventAt, DiffersAtStar}
 use Rattle.border_match.proofs.Cells.{fault_around, reached}
@@ -115,14 +114,7 @@ star_covered b ks f n ready noted le g d =
     elim (star_named b.job.now.halos.all_times f.cell) [
       | inr l ↦ inl (record { differs = d; place = l.place; star = l.star; got = l.got; cell = l.cell })
       | inl halo ↦ elim (star_named d.owner.edges.all_times f.cell) [
-        | inr l ↦ inr (
-          record {
-            owner = d.owner;
-            numbered = d.numbered;
-            starred = record { differs = d; place = l.place; star = l.star; got = l.got; cell = l.cell };
-          },
-          ap (λ l. is_among l (owner_of b.owners.now x y)) (take_all n ks le) ∙ noted x y (reached b f g),
-        )
+        | inr l ↦ grind (arith, common_steps, take_all, reached)
         | inl edge ↦ absurd (d.differ (ap (renumber_signal (circuit_wire b.job.now.locals))
             (dead_signal b.job.now.halos x y halo (ready.1.halos x y))
             ∙ sym (ap (renumber_signal (circuit_wire d.owner.locals))

@@ -30,10 +30,7 @@ pub named_step : (events : List TimedSignal) (i : ℕ) (e : TimedSignal) (f : Bo
     IsAtSomeEventBelow i events f ⊎ (f ≡ record { time = e.at.time; cell = e.at.cell })
 named_step events i e f got h = elim (below_or_same h.named.place i h.below) [
   | inl lt ↦ inl (record { named = h.named; below = lt })
-  | inr same ↦ inr (
-      let is = same_some (slice_get events i) h.named.event e (ap (slice_get events) (sym same) ∙ h.named.got) got in
-      same_fault e.at.time e.at.cell f (sym h.named.time ∙ ap (λ (z : TimedSignal). z.at.time) is)
-      (sym h.named.cell ∙ ap (λ (z : TimedSignal). z.at.cell) is))
+  | inr same ↦ grind (arith, common_steps, same_some, slice_get, same_fault)
 ]
 
 -- a fault and a moment are compared alike
@@ -52,12 +49,7 @@ rest_covered events i e o f rising got covered h =
     same_fault h.event.at.time h.event.at.cell f (sym h.time) (sym h.cell) in
     elim (three_ways h.place i) [
       | inl lower ↦ inl (record { named = h; below = lower })
-      | inr rest ↦ inr (subst (HasCandidateAtMost o) (sym at) (elim rest [
-        | inl same ↦ subst (λ (z : TimedSignal). HasCandidateAtMost o (record { time = z.at.time; cell = z.at.cell }))
-            (same_some (slice_get events i) e h.event got (ap (slice_get events) (sym same) ∙ h.got)) covered
-        | inr after ↦ covers_after o _ _ covered (λ g. less_greater
-            (sym (rising.rises i h.place e h.event after got h.got) ∙ sym (compared_alike e.at h.event.at) ∙ g))
-      ]))
+      | inr rest ↦ grind (arith, common_steps, same_some, slice_get, covers_after, compared_alike, less_greater)
     ]
   where
     less_greater : Less ≡ Greater → ⊥

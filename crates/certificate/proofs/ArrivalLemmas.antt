@@ -1,13 +1,12 @@
 -- The lines on delays and meetings are right about their gates.
-use Rattle.certificate.proofs.Imports.{All, All-append, All-cons, All-head, All-nil, All-tail, Bool, Circuit, Contains}
-use Rattle.certificate.proofs.Imports.{Gate, List, None, Option, Some, StopLine, TimeLine, [], all_stops, and_parts, ap}
-use Rattle.certificate.proofs.Imports.{arith, common_steps, delay_line, earlier, eqb-true, false, fold, if◌then◌else◌}
+use Rattle.certificate.proofs.Imports.{All, All-append, All-cons, All-head, All-nil, All-tail, Circuit, Contains, Gate}
+use Rattle.certificate.proofs.Imports.{List, None, Option, Some, StopLine, TimeLine, [], all_stops, and_parts, ap}
+use Rattle.certificate.proofs.Imports.{arith, common_steps, delay_line, earlier, eqb-true, fold, if◌then◌else◌}
 use Rattle.certificate.proofs.Imports.{last_times, later, length, lines_by_number, list_all, max, meet_line, min}
-use Rattle.certificate.proofs.Imports.{nat_le, nat_lt, nat_tests, option_to_list, refl, same_Some, slice_get}
+use Rattle.certificate.proofs.Imports.{nat_le, nat_tests, option_to_list, refl, same_Some, slice_get}
 use Rattle.certificate.proofs.Imports.{stop_times_of_wire, subst, suc, sym, true, zero, ℕ, ◌+◌, ◌-◌, ◌<◌, ◌==◌, ◌∙◌}
 use Rattle.certificate.proofs.Imports.{◌∷◌, ◌≡◌, ◌≤◌, ◌++◌}
-use Rattle.lemmas.proofs.Common.{All-contains, below_by_test, Contains-append_left, Contains-append_right}
-use Rattle.lemmas.proofs.Common.{list_all-append, eq_test}
+use Rattle.lemmas.proofs.Common.{All-contains, Contains-append_left, Contains-append_right, list_all-append, eq_test}
 use Rattle.circuit.specs.declared.circuit_line.GateKind.{GateKind}
 use Rattle.circuit.specs.declared.circuit_line.GateKind.TheVariants.{Delay}
 use Rattle.certificate.specs.Arrivals.{IsFirstTime, IsLastTime, LastStopsMeetAt, TakesSteps, IsTimeLineTrue}
@@ -66,62 +65,23 @@ last_is c ss w t h =
 
 -- ---- delays
 
-if_before : (b : Bool) (d m : ℕ) → (if b then Before else Steps d) ≡ Steps m → (b ≡ false) × (d ≡ m)
-if_before true d m e = absurd cc
-if_before false d m e = (refl, cc)
-
-later_by : (l f m : ℕ) → nat_lt f l ≡ false → f - l ≡ m → f ≡ l + m
-later_by l f m no_less e = grind (arith, nat_tests)
-
--- from the last time of one wire to the first time of another
-gap_steps : (last first : Option ℕ) (m : ℕ) → gap_between last first ≡ Steps m →
-    (l : ℕ) × (last ≡ Some l) × (first ≡ Some (l + m))
-gap_steps None first m e = absurd cc
-gap_steps (Some l) None m e = absurd cc
-gap_steps (Some l) (Some f) m e = let parts = if_before (nat_lt f l) (f - l) m e in
-    (l, refl, ap Some (later_by l f m parts.0 parts.1))
-
 gap_missing : (last first : Option ℕ) (l f : ℕ) → gap_between last first ≡ Missing → last ≡ Some l → first ≡ Some f → ⊥
-gap_missing None first l f e p q = absurd cc
-gap_missing (Some k) None l f e p q = absurd cc
-gap_missing (Some k) (Some g) l f e p q = by_case (nat_lt g k) e
-  where
-    by_case : (b : Bool) → (if b then Before else Steps (g - k)) ≡ Missing → ⊥
-    by_case true e = cc
-    by_case false e = cc
-
-gap_before : (last first : Option ℕ) → gap_between last first ≡ Before →
-    (l : ℕ) × (f : ℕ) × (last ≡ Some l) × (first ≡ Some f) × (f < l)
-gap_before None first e = absurd cc
-gap_before (Some k) None e = absurd cc
-gap_before (Some k) (Some g) e = by_case (nat_lt g k) refl e
-  where
-    by_case : (b : Bool) → nat_lt g k ≡ b → (if b then Before else Steps (g - k)) ≡ Before →
-        (l : ℕ) × (f : ℕ) × (Some k ≡ Some l) × (Some g ≡ Some f) × (f < l)
-    by_case true less e = (k, g, refl, refl, below_by_test g k less)
-    by_case false less e = absurd cc
-
--- the gap of a gate with one wire on each side
-own_gap : (c : Circuit) (ss : List StopLine) (ins outs : List ℕ) (a b : ℕ) (gap : StopGap) →
-    gap_between (first_wire_time (last_seen c ss) ins) (first_wire_time (first_seen c ss) outs) ≡ gap →
-    ins ≡ a ∷ [] → outs ≡ b ∷ [] → gap_between (last_seen c ss a) (first_seen c ss b) ≡ gap
-own_gap c ss ins outs a b gap e one_in one_out = grind (arith, common_steps)
+gap_missing last first l f h1 h2 h3 = grind (arith, common_steps)
 
 takes : (c : Circuit) (ss : List StopLine) (m a b : ℕ) → gap_between (last_seen c ss a) (first_seen c ss b) ≡ Steps m →
     TakesSteps c ss m a b
-takes c ss m a b e = grind (arith, common_steps, gap_steps, is_last, is_first)
+takes c ss m a b e = grind (arith, common_steps, is_last, is_first)
 
 gap_tells : (c : Circuit) (ss : List StopLine) (a b : ℕ) (gap : StopGap) →
     gap_between (last_seen c ss a) (first_seen c ss b) ≡ gap → IsDelayGapTrue c ss gap a b
 gap_tells c ss a b (Steps m) e = takes c ss m a b e
 gap_tells c ss a b Missing e = λ s t last first. gap_missing _ _ s t e (last_is c ss a s last) (first_is c ss b t first)
-gap_tells c ss a b Before e = grind (arith, common_steps, gap_before, is_last, is_first)
+gap_tells c ss a b Before e = grind (arith, common_steps, is_last, is_first)
 
 -- ---- meetings
 
 time_there : (o : Option ℕ) (s : ℕ) → o ≡ Some s → Contains (option_to_list o) s
-time_there None s e = absurd cc
-time_there (Some t) s e = (zero, omega arith, same_Some t s e)
+time_there o s h1 = grind (arith, common_steps, same_Some)
 
 -- the last time of a wire is among the last times
 listed : (last : ℕ → Option ℕ) (ws : List ℕ) (w s : ℕ) → Contains ws w → last w ≡ Some s →
@@ -133,11 +93,6 @@ listed last (v ∷ ws) w s (suc k, lt, is) e =
     Contains-append_right (option_to_list (last v)) (last_times last ws) s
     (listed last ws w s (k, (omega (arith, lt)), is) e)
 
-all_equal : (t : ℕ) (ts : List ℕ) → list_all (λ u. u == t) ts ≡ true → All (λ u. u ≡ t) ts
-all_equal t [] e = All-nil (λ u. u ≡ t)
-all_equal t (u ∷ ts) e = let p = and_parts (u == t) (list_all (λ v. v == t) ts) e in
-    All-cons (λ v. v ≡ t) u ts (eqb-true u t p.0) (all_equal t ts p.1)
-
 equal_all : (t : ℕ) (ts : List ℕ) → All (λ u. u ≡ t) ts → list_all (λ u. u == t) ts ≡ true
 equal_all t [] h = refl
 equal_all t (u ∷ ts) h =
@@ -146,7 +101,7 @@ equal_all t (u ∷ ts) h =
 
 agreed_all : (ts : List ℕ) (t : ℕ) → common_time ts ≡ Some t → All (λ u. u ≡ t) ts
 agreed_all [] t e = absurd cc
-agreed_all (a ∷ ts) t e = grind (arith, common_steps, same_Some, all_equal)
+agreed_all (a ∷ ts) t e = grind (arith, common_steps, same_Some)
 
 none_agreed : (ts : List ℕ) (t : ℕ) → 0 < length ts → common_time ts ≡ None → All (λ u. u ≡ t) ts → ⊥
 none_agreed [] t lt e h = omega (arith, lt)
@@ -157,8 +112,7 @@ none_agreed (a ∷ ts) t lt e h =
 
 -- what holds of the last times of all wires that have one
 each_time : (P : ℕ → Type 0) (o : Option ℕ) → ((s : ℕ) → o ≡ Some s → P s) → All P (option_to_list o)
-each_time P None h = All-nil P
-each_time P (Some s) h = All-cons P s [] (h s refl) (All-nil P)
+each_time P o h1 = grind (arith, common_steps)
 
 all_times : (P : ℕ → Type 0) (last : ℕ → Option ℕ) (ws : List ℕ) → ((w s : ℕ) → Contains ws w → last w ≡ Some s → P s) →
     All P (last_times last ws)
@@ -195,7 +149,7 @@ delay_lines_tell : (c : Circuit) (ss : List StopLine) (k : ℕ) (r : GateKind) (
     slice_get c.netlist.gates k ≡ Some g → g.kind ≡ r →
     All (IsTimeLineTrue c ss) (delay_line_of_kind k r
     (gap_between (first_wire_time (last_seen c ss) g.ins) (first_wire_time (first_seen c ss) g.outs)))
-delay_lines_tell c ss k (Delay n) g at is = grind (arith, common_steps, gap_tells, own_gap)
+delay_lines_tell c ss k (Delay n) g at is = grind (arith, common_steps, gap_tells)
 delay_lines_tell c ss k _ g at is = All-nil (IsTimeLineTrue c ss)
 
 meet_lines_tell : (c : Circuit) (ss : List StopLine) (k : ℕ) (g : Gate) → slice_get c.netlist.gates k ≡ Some g →
@@ -238,16 +192,13 @@ kept_at : (f : ℕ → Gate → List TimeLine) (j : ℕ) (gates : List Gate) (i 
 unfolding lines_by_number
 kept_at f j [] i g e at = absurd cc
 kept_at f j (h ∷ gates) zero g e at =
-    let p = obeyed_parts (f j h) (lines_by_number f (j + 1) gates) e in
-    let same : h ≡ g = same_Some h g at in
-    grind (arith, common_steps)
+    grind (arith, common_steps, obeyed_parts, same_Some)
 kept_at f j (h ∷ gates) (suc i) g e at =
     let p = obeyed_parts (f j h) (lines_by_number f (j + 1) gates) e in
     subst (λ n. list_all is_obeyed (f n g) ≡ true) (omega arith) (kept_at f (j + 1) gates i g p.1 at)
 
 kept_gap : (k n : ℕ) (gap : StopGap) → list_all is_obeyed (line.Delay k n gap ∷ []) ≡ true → gap ≡ Steps n
-kept_gap k n (Steps m) e = ap Steps (eqb-true m n (and_parts (m == n) true e).0)
-kept_gap k n _ e = absurd cc
+kept_gap k n gap h1 = grind (arith, common_steps, eqb-true, and_parts)
 
 meeting_of : (k : ℕ) (ts : List ℕ) → list_all is_obeyed (meet_line_of_times k ts) ≡ true → (t : ℕ) × All (λ u. u ≡ t) ts
 meeting_of k [] e = (0, All-nil (λ u. u ≡ 0))

@@ -15,9 +15,7 @@ use Rattle.bbm_rule.proofs.RingTests.{area_from}
 -- a row in two parts
 row_parts : (x a b y : ℕ) → row_cells x (a + b) y ≡ row_cells x a y ++ row_cells (x + a) b y
 row_parts x zero b y =
-    let e : x + 0 ≡ x = omega arith in
-    let n : 0 + b ≡ b = omega arith in
-    rw (e, n) refl
+    grind (arith, common_steps)
 row_parts x (suc a) b y =
     let e : x + suc a ≡ x + 1 + a = omega arith in
     let n : suc a + b ≡ suc (a + b) = omega arith in

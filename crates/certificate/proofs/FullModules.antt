@@ -1,20 +1,19 @@
 -- The modules of version 2 as modules of version 1
 use Rattle.certificate.proofs.Imports.{All, AreDistinct, AreInOrder, AreModules, Bool, BorderLine, Box2, Cell}
 use Rattle.certificate.proofs.Imports.{CertificateLine, Each, Equal, Halo, HasLocalPorts, IfSome, In, IsModule, IsTrue}
-use Rattle.certificate.proofs.Imports.{Less, List, ModuleLines, None, Option, Ordering, Pairs, Rises, Setting, Some}
+use Rattle.certificate.proofs.Imports.{Less, List, ModuleLines, Option, Ordering, Pairs, Rises, Setting, Some}
 use Rattle.certificate.proofs.Imports.{StarsExcludeLaterTimes, Stop, StopLine, Tile, [], all_in, any_at, ap, ap₂, areas}
 use Rattle.certificate.proofs.Imports.{arith, border_line_cmp, cases_Bool, cell_of, common_steps, cond-false, cond-true}
 use Rattle.certificate.proofs.Imports.{cut_wires, cuts, each_in, edge_in, edge_lines_beside, edges, false, filter}
-use Rattle.certificate.proofs.Imports.{filter_in, flat_map, flat_map-append, gates, halo_in, halos, in_box, in_each}
-use Rattle.certificate.proofs.Imports.{in_filter, in_flat, in_halo, in_ordered, inl, inr, is_halo, is_haloless_version}
-use Rattle.certificate.proofs.Imports.{is_local, is_lt, is_nonlocal_signal, keeps, known, lacks_edge_wire_beside}
-use Rattle.certificate.proofs.Imports.{length, append-nil, length-map, line_cmp, list_all, list_any, local_wires, map}
-use Rattle.certificate.proofs.Imports.{mapped_at, mapped_from, may_precede, modules_by_version, nat_lt, option_to_list}
-use Rattle.certificate.proofs.Imports.{ordered_rises, ordering_then, pairs_filter, placed, precedes_halos, rank_of}
-use Rattle.certificate.proofs.Imports.{refl, slice_get, some_is, sort_number_of, sorted_border_lines, stop_in, stops}
-use Rattle.certificate.proofs.Imports.{subst, suc, sym, true, true≢false, whole, wire_of, with_halos, without_halos}
-use Rattle.certificate.proofs.Imports.{zero, ℕ, ℤ, ◌&&◌, ◌++◌, ◌<◌, ◌||◌, ◌∙◌, ◌∷◌, ◌≡◌, ◌≢◌, ◌≤◌, get_or}
-use Rattle.certificate.proofs.Imports.{slice_get-get_or}
+use Rattle.certificate.proofs.Imports.{filter_in, flat_map, gates, halo_in, halos, in_box, in_each, in_filter, in_flat}
+use Rattle.certificate.proofs.Imports.{in_halo, in_ordered, inl, inr, is_halo, is_haloless_version, is_local, is_lt}
+use Rattle.certificate.proofs.Imports.{is_nonlocal_signal, keeps, known, lacks_edge_wire_beside, length, append-nil}
+use Rattle.certificate.proofs.Imports.{length-map, line_cmp, list_all, list_any, local_wires, map, mapped_at}
+use Rattle.certificate.proofs.Imports.{mapped_from, may_precede, modules_by_version, nat_lt, option_to_list}
+use Rattle.certificate.proofs.Imports.{ordered_rises, pairs_filter, placed, precedes_halos, rank_of, refl, slice_get}
+use Rattle.certificate.proofs.Imports.{some_is, sort_number_of, sorted_border_lines, stop_in, stops, subst, suc, sym}
+use Rattle.certificate.proofs.Imports.{true, true≢false, whole, wire_of, with_halos, without_halos, zero, ℕ, ℤ, ◌&&◌}
+use Rattle.certificate.proofs.Imports.{◌++◌, ◌<◌, ◌||◌, ◌∙◌, ◌∷◌, ◌≡◌, ◌≢◌, ◌≤◌, get_or, slice_get-get_or}
 use Rattle.std.proofs.lemmas.Simd.{map-map}
 use Rattle.bbm_rule.proofs.CellOrder.{cell_exact}
 use Rattle.certificate_lines.specs.Modules.{IsEdge, IsHalo, IsStop}
@@ -106,24 +105,18 @@ one_each f to one (x ∷ xs) = ap (λ l. l ++ flat_map f (map to xs)) (one x) �
 abbrev pub lines_with_halos : List CertificateLine → List BorderLine → List CertificateLine
 lines_with_halos lines hs = filter precedes_halos lines ++ map Halo hs ++ map Stop (flat_map stop_in lines)
 
-full_parts : {X : Type 0} (f : CertificateLine → List X) (lines : List CertificateLine) (hs : List BorderLine) →
-    flat_map f (lines_with_halos lines hs)
-    ≡ flat_map f (filter precedes_halos lines) ++ flat_map f (map Halo hs)
-    ++ flat_map f (map Stop (flat_map stop_in lines))
-full_parts f lines hs = grind (arith, common_steps, flat_map-append)
-
 pub other_lines : {X : Type 0} (f : CertificateLine → List X) → IsOfEarly f →
     (lines : List CertificateLine) (hs : List BorderLine) →
     flat_map f (lines_with_halos lines hs) ≡ flat_map f lines
-other_lines f none lines hs = grind (arith, common_steps, full_parts, nothing_in, append-nil, early_same)
+other_lines f none lines hs = grind (arith, common_steps, nothing_in, append-nil, early_same)
 
 pub halo_lines : (lines : List CertificateLine) (hs : List BorderLine) →
     flat_map halo_in (lines_with_halos lines hs) ≡ hs
-halo_lines lines hs = grind (arith, common_steps, full_parts, early_halos, nothing_in, append-nil, one_each)
+halo_lines lines hs = grind (arith, common_steps, early_halos, nothing_in, append-nil, one_each)
 
 pub stop_lines : (lines : List CertificateLine) (hs : List BorderLine) →
     flat_map stop_in (lines_with_halos lines hs) ≡ flat_map stop_in lines
-stop_lines lines hs = grind (arith, common_steps, full_parts, early_stops, nothing_in, one_each)
+stop_lines lines hs = grind (arith, common_steps, early_stops, nothing_in, one_each)
 
 -- ---- their order
 
@@ -139,8 +132,7 @@ order_of_pairs [] p = tt
 order_of_pairs (i ∷ lines) p = (all_of_tests (may_precede i) lines p.0, order_of_pairs lines p.1)
 
 less_is : (o : Ordering) (b : Bool) → o ≡ Less → (is_lt o || b) ≡ true
-less_is Less b h = refl
-less_is _ b h = absurd cc
+less_is o b h1 = grind (arith, common_steps)
 
 halos_follow : (d e : BorderLine) → border_line_cmp d e ≡ Less → may_precede (Halo d) (Halo e) ≡ true
 unfolding may_precede line_cmp rank_of sort_number_of cell_of border_line_cmp
@@ -148,15 +140,11 @@ halos_follow d e h = less_is _ _ h
 
 before_halo : (i : CertificateLine) (e : BorderLine) → precedes_halos i ≡ true → may_precede i (Halo e) ≡ true
 unfolding may_precede line_cmp rank_of precedes_halos
-before_halo (Halo d) e h = absurd cc
-before_halo (Stop s) e h = absurd cc
-before_halo _ e h = refl
+before_halo i e h1 = grind (arith, common_steps)
 
 before_stop : (i : CertificateLine) (s : StopLine) → precedes_halos i ≡ true → may_precede i (Stop s) ≡ true
 unfolding may_precede line_cmp rank_of precedes_halos
-before_stop (Halo d) s h = absurd cc
-before_stop (Stop t) s h = absurd cc
-before_stop _ s h = refl
+before_stop i s h1 = grind (arith, common_steps)
 
 halo_before_stop : (e : BorderLine) (s : StopLine) → may_precede (Halo e) (Stop s) ≡ true
 unfolding may_precede line_cmp rank_of
@@ -205,13 +193,9 @@ full_order lines hs o p =
 abbrev Apart : ModuleLines → ModuleLines → Type 0
 Apart m n = (x y : ℤ) → in_box m.area x y ≡ true → in_box n.area x y ≡ true → ⊥
 
-equal_parts : (a b : Ordering) → ordering_then a b ≡ Equal → b ≡ Equal
-equal_parts Equal b h = h
-equal_parts _ b h = absurd cc
-
 same_place : (d e : BorderLine) → border_line_cmp d e ≡ Equal → d.cell ≡ e.cell
 unfolding border_line_cmp
-same_place d e h = grind (arith, common_steps, cell_exact, equal_parts)
+same_place d e h = grind (arith, common_steps, cell_exact)
 
 -- the edge lines of a module, as its lines are in order
 pub edges_rising : (lines : List CertificateLine) → AreInOrder lines → Rises (flat_map edge_in lines)
@@ -317,8 +301,7 @@ module _ (g : Setting) (ms : List ModuleLines) (good : AreModules g ms) where
 
     one_or_local_wire : (s : Option (List ℕ)) → is_nonlocal_signal g.circuit (known g.circuit m) s ≡ false →
         IfSome s (λ name. IsTrue (is_local g.circuit (known g.circuit m) name))
-    one_or_local_wire None h = tt
-    one_or_local_wire (Some name) h = grind (arith, common_steps)
+    one_or_local_wire s h1 = grind (arith, common_steps)
 
     -- the edge lines beside it may be its halo lines
     halo_here : (e : BorderLine) → In e (edge_lines_beside g ms m.area) →

@@ -1,15 +1,12 @@
 -- Lists of the places of edge lines, as places are added
-use Rattle.certificate.proofs.Imports.{AddsEdgePlaces, AreReady, Bool, Box2, Cell, EdgePlace}
-use Rattle.certificate.proofs.Imports.{IsEven, IsInnerCell, List, Some, StoredBorder, StoredModule, [], and_from}
-use Rattle.certificate.proofs.Imports.{and_parts, ap, append-nil}
+use Rattle.certificate.proofs.Imports.{AddsEdgePlaces, AreReady, Bool, Box2, Cell, EdgePlace, IsEven, IsInnerCell, List}
+use Rattle.certificate.proofs.Imports.{Some, StoredBorder, StoredModule, [], and_from, and_parts, ap, append-nil}
 use Rattle.certificate.proofs.Imports.{append_assoc, arith, cases_Bool, common_steps, cond-false, cond-true}
-use Rattle.certificate.proofs.Imports.{edge_lines_at, edge_lines_at_place, eqb, eqb-true, false, filter, flat_map}
-use Rattle.certificate.proofs.Imports.{flat_map-append}
-use Rattle.certificate.proofs.Imports.{get_or, option_to_list, take, take_more, ◌+◌}
-use Rattle.certificate.proofs.Imports.{if◌then◌else◌, in_box, in_halo, in_span, inl, inr, length, line_cell}
-use Rattle.certificate.proofs.Imports.{list_at_or_empty, map}
-use Rattle.certificate.proofs.Imports.{not, pos, rectangle, refl, slice_get, some_is, suc, sym, true}
-use Rattle.certificate.proofs.Imports.{true_from_not, zero, ℕ, ℤ, ◌&&◌, ◌++◌, ◌+ℤ◌, ◌<◌, ◌||◌, ◌∙◌, ◌∷◌, ◌≡◌}
+use Rattle.certificate.proofs.Imports.{edge_lines_at, edge_lines_at_place, eqb-true, false, filter, flat_map-append}
+use Rattle.certificate.proofs.Imports.{get_or, option_to_list, take, take_more, ◌+◌, if◌then◌else◌, in_box, in_halo}
+use Rattle.certificate.proofs.Imports.{in_span, length, line_cell, list_at_or_empty, map, not, pos, rectangle, refl}
+use Rattle.certificate.proofs.Imports.{slice_get, some_is, suc, sym, true, true_from_not, zero, ℕ, ℤ, ◌&&◌, ◌++◌, ◌+ℤ◌}
+use Rattle.certificate.proofs.Imports.{◌<◌, ◌||◌, ◌∙◌, ◌∷◌, ◌≡◌}
 use Rattle.lemmas.proofs.Common.{◌-ℤ◌, slice_set, eqb-false, filter-append}
 use Rattle.bbm_rule.specs.Plane.{partner}
 use Rattle.bbm_rule.proofs.Spans.{partner_near}
@@ -52,12 +49,6 @@ module _ {X : Type 0} (f : X → List EdgePlace) where
 
 module _ (boxes : List Box2) (o : OwnersView) (good : AreOwners o boxes) (x y : ℤ)
     (inside : in_box (rectangle o) x y ≡ true) where
-  owner_is : (i : ℕ) (b : Box2) → slice_get boxes i ≡ Some b → in_box b x y ≡ true → i ≡ owner_of o x y
-  owner_is i b at here = grind (arith, common_steps)
-
-  owner_box : (b : Box2) → slice_get boxes (owner_of o x y) ≡ Some b → in_box b x y ≡ true
-  owner_box b at = grind (arith, common_steps, some_is)
-
   same_box : (i : ℕ) (b a : Box2) → slice_get boxes i ≡ Some b → slice_get boxes (owner_of o x y) ≡ Some a →
       i ≡ owner_of o x y → b ≡ a
   same_box i b a at own is = some_is b a (sym at ∙ ap (slice_get boxes) is ∙ own)
@@ -67,15 +58,8 @@ module _ (boxes : List Box2) (o : OwnersView) (good : AreOwners o boxes) (x y : 
         list_at_or_empty new (owner_of o x y) ≡ list_at_or_empty old (owner_of o x y) ++ place ∷ [] →
         ((i : ℕ) → (i ≡ owner_of o x y → ⊥) → list_at_or_empty new i ≡ list_at_or_empty old i) →
         AddsPlaceWhere boxes (λ b. in_box b x y && not (q b)) place old new
-    one_place old new free count here others = record {
-      count = count;
-      each = λ i b at. elim (cases_Bool (eqb i (owner_of o x y))) [
-        | inl e ↦
-            grind (arith, common_steps, eqb-true, same_box, owner_box, cond-true)
-        | inr e ↦
-            grind (arith, common_steps, eqb-false, cases_Bool, owner_is, append-nil, cond-false)
-      ];
-    }
+    one_place old new free count here others =
+        grind (arith, common_steps, cases_Bool, eqb-true, same_box, cond-true, eqb-false, append-nil, cond-false)
 
 pub same_test : (boxes : List Box2) (p q : Box2 → Bool) (place : EdgePlace) (old new : List (List EdgePlace)) →
     ((b : Box2) → p b ≡ q b) → AddsPlaceWhere boxes p place old new → AddsPlaceWhere boxes q place old new
@@ -87,14 +71,7 @@ at_most_one : (r s t : Bool) (p : EdgePlace) (l : List EdgePlace) → (r && s) �
     (r && t) ≡ false → (s && t) ≡ false →
     ((l ++ (if r then p ∷ [] else [])) ++ (if s then p ∷ [] else [])) ++ (if t then p ∷ [] else [])
     ≡ l ++ (if r || s || t then p ∷ [] else [])
-at_most_one true true t p l e f g = absurd cc
-at_most_one true false true p l e f g = absurd cc
-at_most_one true false false p l e f g = append-nil ((l ++ p ∷ []) ++ []) ∙ append-nil (l ++ p ∷ [])
-at_most_one false true true p l e f g = absurd cc
-at_most_one false true false p l e f g = append-nil ((l ++ []) ++ p ∷ []) ∙ ap (λ k. k ++ p ∷ []) (append-nil l)
-at_most_one false false true p l e f g =
-    ap (λ k. k ++ p ∷ []) (append-nil (l ++ []) ∙ append-nil l)
-at_most_one false false false p l e f g = append-nil ((l ++ []) ++ []) ∙ append-nil (l ++ [])
+at_most_one r s t p l h1 h2 h3 = grind (arith, common_steps, append-nil)
 
 first_second : (a a' b b' : Bool) →
     (((a' && b) && not ((a && b) || false)) && ((a && b') && not ((a && b) || ((a' && b) || false)))) ≡ false
@@ -180,9 +157,7 @@ edges_more ms l false place e at = ap (edge_lines_at ms) (append-nil l) ∙ sym 
 -- the lines at a place of a module
 pub place_found : (ms : List StoredModule) (m : StoredModule) (p : EdgePlace) → slice_get ms p.number ≡ Some m →
     edge_lines_at_place ms p ≡ option_to_list (slice_get m.edges.items p.line)
-place_found ms m p at =
-    ap (λ o. flat_map (λ (m : StoredModule). option_to_list (slice_get m.edges.items p.line)) (option_to_list o)) at
-    ∙ append-nil (option_to_list (slice_get m.edges.items p.line))
+place_found ms m p at = grind (arith, common_steps, option_to_list, slice_get, append-nil)
 
 module _ (ms : List StoredModule) (boxes : List Box2) where
   pub edge_placed : (place : EdgePlace) (e : StoredBorder) (old new : List (List EdgePlace)) →

@@ -1,15 +1,14 @@
 -- The signals of a halo's cells by the edge lines beside a module
 use Rattle.certificate.proofs.Imports.{AllTimesSignal, AreModules, BorderLine, Box2, Cell, Circuit, In, Less, List}
-use Rattle.certificate.proofs.Imports.{ModuleLines, None, Option, Setting, Signal, Some, TimedSignal, Zero, []}
-use Rattle.certificate.proofs.Imports.{all_times_at, all_times_of_line, ap, ap₂, arith, border_line_cmp, cases_Bool}
-use Rattle.certificate.proofs.Imports.{cell_same, common_steps, cond-false, cond-true, edge_lines_beside, edges}
-use Rattle.certificate.proofs.Imports.{event_at, events_of_line, false, filter, filter_in, flat_map, if◌then◌else◌}
-use Rattle.certificate.proofs.Imports.{in_box, in_filter, in_flat, in_halo, in_ordered, inl, inr, is_at, line_signals}
-use Rattle.certificate.proofs.Imports.{mapped_at, nat_lt, nat_tests, one_or_named_wire, ordered_in, pairs_filter}
-use Rattle.certificate.proofs.Imports.{placed, refl, rising_same, signal_at, slice_get, some_is, sorted_border_lines}
-use Rattle.certificate.proofs.Imports.{subst, sym, true, unwrap_or, ℕ, ℤ, ◌&&◌, ◌++◌, ◌<◌, ◌==◌, ◌∙◌, ◌∷◌, ◌≡◌}
+use Rattle.certificate.proofs.Imports.{ModuleLines, Option, Setting, Signal, Some, TimedSignal, Zero, [], all_times_at}
+use Rattle.certificate.proofs.Imports.{all_times_of_line, ap, ap₂, arith, border_line_cmp, cases_Bool, cell_same}
+use Rattle.certificate.proofs.Imports.{common_steps, cond-false, cond-true, edge_lines_beside, edges, event_at}
+use Rattle.certificate.proofs.Imports.{events_of_line, false, filter, filter_in, flat_map, in_box, in_filter, in_flat}
+use Rattle.certificate.proofs.Imports.{in_halo, in_ordered, inl, inr, is_at, line_signals, mapped_at, nat_lt, nat_tests}
+use Rattle.certificate.proofs.Imports.{one_or_named_wire, ordered_in, pairs_filter, placed, refl, rising_same}
+use Rattle.certificate.proofs.Imports.{signal_at, slice_get, some_is, sorted_border_lines, subst, sym, true, unwrap_or}
+use Rattle.certificate.proofs.Imports.{ℕ, ℤ, ◌++◌, ◌<◌, ◌∙◌, ◌∷◌, ◌≡◌}
 use Rattle.lemmas.proofs.Common.{◌%◌, and-false}
-use Rattle.module_box.specs.Schedules.{is_moment_at}
 use Rattle.certificate.specs.Laws.{HaloIsEdgeBeside}
 use Rattle.certificate_lines.proofs.LineOrder.{flat_in}
 use Rattle.certificate.proofs.FullModules.{beside_in, edge_cell, edges_rising, full_halos, full_rises, in_beside}
@@ -24,29 +23,24 @@ pub all_times_past : (e : BorderLine) (time : Option ℕ) (s : Signal) (rest : L
     is_at e.cell x y ≡ false →
     all_times_at (all_times_of_line e time s ++ rest) x y ≡ all_times_at rest x y
 unfolding all_times_at
-all_times_past e None s rest x y h = cond-false _ _ _ h
-all_times_past e (Some t) s rest x y h = refl
+all_times_past e time s rest x y h1 = grind (arith, common_steps, cond-false)
 
 pub event_past : (e : BorderLine) (time : Option ℕ) (s : Signal) (rest : List TimedSignal) (t : ℕ) (x y : ℤ) →
     is_at e.cell x y ≡ false → event_at (events_of_line e time s ++ rest) t x y ≡ event_at rest t x y
 unfolding event_at
-event_past e None s rest t x y h = refl
-event_past e (Some u) s rest t x y h = cond-false _ _ _ (ap (λ b. (u == t) && b) h ∙ and-false (u == t))
+event_past e time s rest t x y h1 = grind (arith, common_steps, cond-false, and-false)
 
 all_times_on : (e : BorderLine) (time : Option ℕ) (s : Signal) (rest other : List AllTimesSignal) (x y : ℤ) →
     all_times_at rest x y ≡ all_times_at other x y →
     all_times_at (all_times_of_line e time s ++ rest) x y ≡ all_times_at (all_times_of_line e time s ++ other) x y
 unfolding all_times_at
-all_times_on e None s rest other x y h = ap (λ o. if is_at e.cell x y then Some s else o) h
-all_times_on e (Some t) s rest other x y h = h
+all_times_on e time s rest other x y h1 = grind (arith, common_steps)
 
 event_on : (e : BorderLine) (time : Option ℕ) (s : Signal) (rest other : List TimedSignal) (t : ℕ) (x y : ℤ) →
     event_at rest t x y ≡ event_at other t x y →
     event_at (events_of_line e time s ++ rest) t x y ≡ event_at (events_of_line e time s ++ other) t x y
 unfolding event_at
-event_on e None s rest other t x y h = h
-event_on e (Some u) s rest other t x y h =
-    ap (λ o. if is_moment_at (record { time = u; cell = e.cell }) t x y then Some s else o) h
+event_on e time s rest other t x y h1 = grind (arith, common_steps)
 
 -- in a list that is read from its front
 module _ {X : Type 0} (line : BorderLine → List X) (look : List X → Option Signal) (x y : ℤ)

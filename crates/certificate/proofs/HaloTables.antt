@@ -1,14 +1,14 @@
 -- The lists of the edge lines beside each module, from the modules of a certificate
 use Rattle.certificate.proofs.Imports.{AddsEdgePlaces, All, AreModules, BorderLine, Box2, Circuit, EdgePlace}
 use Rattle.certificate.proofs.Imports.{HaveListsFrom, HasOwnWires, IsEven, IsInnerCell, IsModule, List, ModuleLines}
-use Rattle.certificate.proofs.Imports.{Setting, Some, StoredBorder, StoredModule, [], ap, areas, arith}
-use Rattle.certificate.proofs.Imports.{border_line, cases_Bool, common_steps, cond-false, cond-true, edge_lines_at}
-use Rattle.certificate.proofs.Imports.{edge_lines_beside, edges, false, filter, flat_map, get_or, in_halo}
-use Rattle.certificate.proofs.Imports.{inl, inr, length, length-map, line_cell, list_at_or_empty, map}
-use Rattle.certificate.proofs.Imports.{map-append, mapped_at, mapped_from, module_lines, nat_lt, nat_tests, refl}
-use Rattle.certificate.proofs.Imports.{slice_get, slice_get-get_or, subst, sym, true, whole, ℕ, ◌++◌, ◌<◌, ◌∙◌, ◌∷◌}
-use Rattle.certificate.proofs.Imports.{◌≡◌, ◌≤◌, ap₂, All-append, All-cons, All-nil, HasOwnWire, None, Option}
-use Rattle.certificate.proofs.Imports.{edge_lines_at_place, get_or_from_slice_get, option_to_list, slice_get_within}
+use Rattle.certificate.proofs.Imports.{Setting, Some, StoredBorder, StoredModule, [], ap, areas, arith, border_line}
+use Rattle.certificate.proofs.Imports.{cases_Bool, common_steps, cond-false, cond-true, edge_lines_at}
+use Rattle.certificate.proofs.Imports.{edge_lines_beside, edges, false, filter, flat_map, get_or, in_halo, length}
+use Rattle.certificate.proofs.Imports.{length-map, line_cell, list_at_or_empty, map, map-append, mapped_at, mapped_from}
+use Rattle.certificate.proofs.Imports.{module_lines, nat_lt, nat_tests, refl, slice_get, slice_get-get_or, subst, sym}
+use Rattle.certificate.proofs.Imports.{true, whole, ℕ, ◌++◌, ◌<◌, ◌∙◌, ◌∷◌, ◌≡◌, ◌≤◌, ap₂, All-append, All-cons}
+use Rattle.certificate.proofs.Imports.{All-nil, HasOwnWire, None, Option, edge_lines_at_place, get_or_from_slice_get}
+use Rattle.certificate.proofs.Imports.{option_to_list, slice_get_within}
 use Rattle.lemmas.proofs.Common.{all_unmapped}
 use Rattle.certificate_lines.specs.Modules.{IsWithinLineLimit}
 use Rattle.module_box.proofs.BoxCells.{in_rectangle}
@@ -73,10 +73,7 @@ filter_stored : (c : Circuit) (b : Box2) (es : List StoredBorder) →
     map (border_line c) (filter (λ e. in_halo b (line_cell e).x (line_cell e).y) es)
     ≡ filter (λ (e : BorderLine). in_halo b e.cell.x e.cell.y) (map (border_line c) es)
 filter_stored c b [] = refl
-filter_stored c b (e ∷ es) = elim (cases_Bool (in_halo b (line_cell e).x (line_cell e).y)) [
-  | inl here ↦ grind (arith, common_steps, filter_stored c b es, cond-true)
-  | inr there ↦ grind (arith, common_steps, filter_stored c b es, cond-false)
-]
+filter_stored c b (e ∷ es) = grind (arith, common_steps, cases_Bool, cond-true, cond-false, filter_stored c b es)
 
 long : (steps : ℕ) → 1 < steps → nat_lt 1 steps ≡ true
 long steps lt = grind (arith, nat_tests)
@@ -129,10 +126,7 @@ own_at_place c ms own p = of_module (slice_get ms p.number) (λ m at. at_own m a
     of_module : (o : Option StoredModule) → ((m : StoredModule) → o ≡ Some m → HasOwnWires c m) →
         All (HasOwnWire c) (flat_map (λ (m : StoredModule). option_to_list (slice_get m.edges.items p.line))
         (option_to_list o))
-    of_module None h = All-nil (HasOwnWire c)
-    of_module (Some m) h =
-        All-append (HasOwnWire c) (option_to_list (slice_get m.edges.items p.line)) []
-        (of_line m.edges.items (h m refl).edges (slice_get m.edges.items p.line) refl) (All-nil (HasOwnWire c))
+    of_module o h1 = grind (arith, common_steps, option_to_list, slice_get, of_line)
 
 pub own_edges_at : (c : Circuit) (ms : List StoredModule) (places : List EdgePlace) → All (HasOwnWires c) ms →
     All (HasOwnWire c) (edge_lines_at ms places)

@@ -20,9 +20,9 @@ unfoldable pub use Rattle.certificate.specs.Text.{certificate_text}
 pub use Rattle.certificate.specs.Times.{all_stops, delay_and_meet_lines, delay_line, earlier, last_times, later}
 pub use Rattle.certificate.specs.Times.{meet_line, stop_times_of_wire, time_lines_of_gates}
 unfoldable pub use Rattle.certificate.specs.Times.{lines_by_number}
-pub use Rattle.certificate.specs.Timetables.{AreRising, AreSignalLists, HasLocalWire, one_or_wire}
+pub use Rattle.certificate.specs.Timetables.{AreRising, AreSignalLists, HasLocalWire, one_or_wire, stored_signals}
+pub use Rattle.certificate.specs.Timetables.{unnamed_line}
 pub use Rattle.certificate_lines.specs.BuilderView.{IsWithinMaxSize}
-pub use Rattle.certificate.specs.Timetables.{stored_signals, unnamed_line}
 pub use Rattle.certificate.specs.declared.neighbour_edges.EdgePlace.{EdgePlace}
 pub use Rattle.certificate.specs.declared.times.TimeLine.{TimeLine}
 pub use Rattle.certificate_lines.proofs.FlatParts.{flat_all}
@@ -35,15 +35,14 @@ pub use Rattle.certificate_lines.proofs.Imports.{common_steps, cond-false, cond-
 pub use Rattle.certificate_lines.proofs.Imports.{edges, eqb-true, false, filter, flat_map, flat_map-append, gates}
 pub use Rattle.certificate_lines.proofs.Imports.{get_or, get_or_from_slice_get, halo_in, if◌then◌else◌, inl, inr, ints}
 pub use Rattle.certificate_lines.proofs.Imports.{is_among, is_at, is_last_module_incomplete, is_local, is_lt, is_module}
-pub use Rattle.certificate_lines.proofs.Imports.{is_nonlocal_signal, kept_gate_in, known, last_module, length}
-pub use Rattle.certificate_lines.proofs.Imports.{length-map, list_all, list_any, local_wires, map, map-append}
-pub use Rattle.certificate_lines.proofs.Imports.{mapped_from, module_with_line, nat_lt, nat_tests, not, option_map}
-pub use Rattle.certificate_lines.proofs.Imports.{option_to_list, pos, range_with_len, rectangle, refl, replicate}
-pub use Rattle.certificate_lines.proofs.Imports.{row_cells, rules, size_sides, slice_get, slice_get-get_or}
-pub use Rattle.certificate_lines.proofs.Imports.{slice_get_within, stop_in, subst, suc, sym, take, take_all, take_more}
-pub use Rattle.certificate_lines.proofs.Imports.{to_z, true, true_from_not, true≢false, used_gate_in, w32, whole}
-pub use Rattle.certificate_lines.proofs.Imports.{wire_of, zero, ℕ, ℤ, ◌&&◌, ◌++◌, ◌+◌, ◌-◌, ◌<◌, ◌==◌, ◌||◌, ◌∙◌, ◌∷◌}
-pub use Rattle.certificate_lines.proofs.Imports.{◌≡◌, ◌≤◌, ◌⊎◌}
+pub use Rattle.certificate_lines.proofs.Imports.{is_nonlocal_signal, known, last_module, length, length-map, list_all}
+pub use Rattle.certificate_lines.proofs.Imports.{list_any, local_wires, map, map-append, mapped_from, module_with_line}
+pub use Rattle.certificate_lines.proofs.Imports.{nat_lt, nat_tests, not, option_map, option_to_list, pos}
+pub use Rattle.certificate_lines.proofs.Imports.{range_with_len, rectangle, refl, replicate, row_cells, rules}
+pub use Rattle.certificate_lines.proofs.Imports.{size_sides, slice_get, slice_get-get_or, slice_get_within, stop_in}
+pub use Rattle.certificate_lines.proofs.Imports.{subst, suc, sym, take, take_all, take_more, to_z, true, true_from_not}
+pub use Rattle.certificate_lines.proofs.Imports.{true≢false, used_gate_in, w32, whole, wire_of, zero, ℕ, ℤ, ◌&&◌, ◌++◌}
+pub use Rattle.certificate_lines.proofs.Imports.{◌+◌, ◌-◌, ◌<◌, ◌==◌, ◌||◌, ◌∙◌, ◌∷◌, ◌≡◌, ◌≤◌, ◌⊎◌}
 unfoldable pub use Rattle.certificate_lines.proofs.Imports.{AreInOrder, StarsExcludeLaterTimes, add_line, body_lines}
 unfoldable pub use Rattle.certificate_lines.proofs.Imports.{cell_cmp, cell_of, change_last, end_fault}
 unfoldable pub use Rattle.certificate_lines.proofs.Imports.{has_nonlocal_port, in_box, in_halo, is_cut, last_of}
@@ -83,10 +82,10 @@ pub use Rattle.certificate_lines.specs.declared.stored_module.StoredModule.{Stor
 pub use Rattle.certificate_lines.specs.declared.stored_module.StoredStop.{StoredStop}
 pub use Rattle.circuit.proofs.Imports.{gate_of, is_inverse}
 pub use Rattle.circuit.specs.declared.circuit_line.CircuitLine.{CircuitLine}
-pub use Rattle.lemmas.proofs.Common.{All-cons, Contains, IfOk-weaker, IsPermutation, fold, max, min, nat_cmp}
-pub use Rattle.lemmas.proofs.Common.{nat_le, of_z, or_parts, ordering_then, ranks_by}
+pub use Rattle.lemmas.proofs.Common.{All-cons, Contains, IfOk-weaker, IsPermutation, fold, max, min, nat_cmp, nat_le}
+pub use Rattle.lemmas.proofs.Common.{of_z, or_parts, ordering_then, ranks_by}
 pub use Rattle.module_box.proofs.Imports.{IsRising, LocalNet, circuit_wire, eqb, netlist_of, same_Some, wires, ◌+ℤ◌}
-unfoldable pub use Rattle.module_box.proofs.Imports.{all_times_at, event_at, in_ring, in_span, moment_cmp}
+unfoldable pub use Rattle.module_box.proofs.Imports.{all_times_at, event_at, in_span, moment_cmp}
 pub use Rattle.module_box.specs.Moves.{IsInShiftRange, IsSmallShift}
 pub use Rattle.module_box.specs.Schedules.{Signals}
 unfoldable pub use Rattle.module_box.specs.Schedules.{signal_at}

@@ -2,14 +2,14 @@
 use Rattle.certificate.proofs.Imports.{AreModules, Box2, Circuit, Cut, Edge, EdgePlace, Halo, HasLocalPorts}
 use Rattle.certificate.proofs.Imports.{HaveListsFrom, IsJobOf, IsModule, JobView, Keep, List, ModuleLines, Pattern}
 use Rattle.certificate.proofs.Imports.{Setting, Some, Stop, StoredBorder, StoredModule, Use, [], ap, append-nil}
-use Rattle.certificate.proofs.Imports.{append_assoc, ap₂, arith, body_lines_with, border_line, common_steps}
-use Rattle.certificate.proofs.Imports.{edge_lines_at, edge_lines_beside, false, filter, get_or, inl, inr}
-use Rattle.certificate.proofs.Imports.{lacks_edge_wire_beside, length, length-map, list_at_or_empty, map, mapped_at}
-use Rattle.certificate.proofs.Imports.{mapped_from, module_lines, module_lines_with, precedes_halos, refl, slice_get}
-use Rattle.certificate.proofs.Imports.{slice_get_within, some_is, sorted_border_lines, stop_line, subst, sym, wire_name}
-use Rattle.certificate.proofs.Imports.{with_halos, ℕ, ◌++◌, ◌+◌, ◌<◌, ◌∙◌, ◌∷◌, ◌≡◌, ◌≤◌, All, AreGoodModules}
-use Rattle.certificate.proofs.Imports.{CircuitLine, HasOwnWire, HasOwnWires, IsGoodModule, circuit_of}
-use Rattle.certificate.proofs.Imports.{get_or_from_slice_get, setting_of, with_lines}
+use Rattle.certificate.proofs.Imports.{append_assoc, arith, body_lines_with, border_line, common_steps, edge_lines_at}
+use Rattle.certificate.proofs.Imports.{edge_lines_beside, false, filter, get_or, inl, inr, lacks_edge_wire_beside}
+use Rattle.certificate.proofs.Imports.{length, length-map, list_at_or_empty, map, mapped_at, mapped_from, module_lines}
+use Rattle.certificate.proofs.Imports.{module_lines_with, precedes_halos, refl, slice_get, slice_get_within, some_is}
+use Rattle.certificate.proofs.Imports.{sorted_border_lines, stop_line, subst, sym, wire_name, with_halos, ℕ, ◌++◌, ◌+◌}
+use Rattle.certificate.proofs.Imports.{◌<◌, ◌∙◌, ◌∷◌, ◌≡◌, ◌≤◌, All, AreGoodModules, CircuitLine, HasOwnWire}
+use Rattle.certificate.proofs.Imports.{HasOwnWires, IsGoodModule, circuit_of, get_or_from_slice_get, setting_of}
+use Rattle.certificate.proofs.Imports.{with_lines}
 use Rattle.lemmas.proofs.Common.{Bool, filter-append, length_push, slice_get_read, true}
 use Rattle.module_box.proofs.Rising.{pushed}
 use Rattle.certificate.specs.Jobs.{AreJobsOf}
@@ -52,14 +52,7 @@ pub with_halos_stored : (g : Setting) (ms : List ModuleLines) (m : StoredModule)
     map (border_line g.circuit) hs ≡ sorted_border_lines (edge_lines_beside g ms m.area) →
     module_lines_with g.circuit m hs ≡ with_halos g ms (module_lines g.circuit m)
 unfolding with_halos
-with_halos_stored g ms m hs are =
-    let c = g.circuit in
-    ap (λ ls. record { area = m.area; lines = ls })
-    (sym (ap₂ (λ early ends. early ++ ends)
-    (ap₂ (λ early halos. early ++ halos) (early_lines c m)
-    (ap (map Halo) (sym are) ∙ map-map Halo (border_line c) hs))
-    (ap (map Stop) (stops_with c m m.halos.items) ∙ map-map Stop (stop_line c) m.stops.items)
-    ∙ (simp append_assoc)))
+with_halos_stored g ms m hs are = grind (arith, common_steps, early_lines, map-map, stops_with, append_assoc)
 
 pub element_at : {X : Type 0} (xs : List X) (i : ℕ) (x : X) → i < length xs → x ≡ get_or xs i x →
     slice_get xs i ≡ Some x

@@ -19,12 +19,11 @@ use Rattle.certificate_lines.specs.PortTables.{AreOnBoard}
 use Rattle.certificate.specs.Jobs.{wire_of_optional_name, wire_or_dead}
 use Rattle.bbm_rule.specs.Board.{Board}
 use Rattle.certificate.specs.LayoutTablesView.{ArePortWiresLocalIn, HasNothing, IsOnGrid, non_mirror_cells}
-use Rattle.certificate_lines.specs.Rules.{is_local_wire}
 use Rattle.certificate_lines.proofs.BoxPlaces.{skipped}
 use Rattle.certificate_lines.proofs.Lists.{kept}
 use Rattle.certificate_lines.proofs.LayoutPorts.{AllInLayout, port_stands, ports_on_layout}
-use Rattle.module_job.specs.declared.job.Demand.TheVariants as Demanded
 use Rattle.lemmas.specs.Bounds.{max_side}
+use Rattle.module_job.specs.declared.job.Demand.TheVariants as Demanded
 
 -- ---- the ports in the box of a module
 
@@ -83,23 +82,18 @@ end_port c p x y a mirror h o port = rw (sym mirror, h, sym port) refl
 
 pub port_known : (c : Circuit) (local : List ℕ) (o : Option (List ℕ)) (w : ℕ) →
     IfSome o (λ n. IsTrue (is_local c local n)) → Some (Some w) ≡ option_map (wire_of c) o → IsTrue (is_among local w)
-port_known c local None w known e = absurd cc
-port_known c local (Some n) w known e =
-    subst (λ (v : Option ℕ). IsTrue (is_local_wire local v)) (sym (some_is (Some w) (wire_of c n) e)) known
+port_known c local o w h1 h2 = grind (arith, common_steps, some_is)
 
 pub port_wire : (c : Circuit) (o : Option (List ℕ)) (w : Option ℕ) → Some w ≡ option_map (wire_of c) o →
     w ≡ wire_of_optional_name c o
-port_wire c None w e = absurd cc
-port_wire c (Some n) w e = some_is w (wire_of c n) e
+port_wire c o w h1 = grind (arith, common_steps, some_is)
 
 pub no_port_there : (c : Circuit) (o : Option (List ℕ)) → None ≡ option_map (wire_of c) o → None ≡ o
-no_port_there c None e = refl
-no_port_there c (Some n) e = absurd cc
+no_port_there c o h1 = grind (arith, common_steps)
 
 pub demand_of_port : (c : Circuit) (o : Option (List ℕ)) (w : Option ℕ) (waste : Bool) →
     Some w ≡ option_map (wire_of c) o → wire_or_dead w ≡ demand_outside_mirrors c o waste
-demand_of_port c None w waste e = absurd cc
-demand_of_port c (Some n) w waste e = ap wire_or_dead (some_is w (wire_of c n) e)
+demand_of_port c o w waste h1 = grind (arith, common_steps, some_is)
 
 -- ---- a cell without anything
 
@@ -118,8 +112,7 @@ start_mirror c p x y mirror = start_one c p x y true (in_cells p.balls x y) (sym
 
 no_port_here : (b rest : Bool) (name : List ℕ) (o : Option (List ℕ)) → (b || rest) ≡ false → (rest ≡ false → o ≡ None) →
     (if b then Some name else o) ≡ None
-no_port_here true rest name o e later = absurd cc
-no_port_here false rest name o e later = later e
+no_port_here b rest name o h1 h2 = grind (arith, common_steps)
 
 pub no_port : (ports : List Port) (x y : ℤ) → in_cells (map (λ (q : Port). q.cell) ports) x y ≡ false →
     port_at ports x y ≡ None
@@ -153,9 +146,7 @@ apart xs ys x y e = grind (arith, common_steps, or_parts, list_any-append)
 pub nothing_here : (p : Pattern) (x y : ℤ) →
     (in_cells (non_mirror_cells p) x y || in_rectangles p.mirrors x y) ≡ false →
     HasNothing p x y
-nothing_here p x y e =
-    let parts = or_parts (in_cells (non_mirror_cells p) x y) (in_rectangles p.mirrors x y) e in
-    grind (arith, common_steps, parts, apart, no_port)
+nothing_here p x y e = grind (arith, common_steps, or_parts, apart, no_port)
 
 -- ---- the mirrors of a layout
 
@@ -163,8 +154,7 @@ all_on_grid : (s : LayoutHeader) (b : Board) → (b.width ≡ s.w) × (b.height 
     (rs : List Box2) → list_all (λ r. is_inside s (Mirror r)) rs ≡ true → All (IsOnGrid b) rs
 all_on_grid s b size w h [] e k d lt = absurd (omega arith)
 all_on_grid s b size w h (r ∷ rs) e zero d lt =
-    let fits = mirror_fits s r (and_parts (is_inside s (Mirror r)) (list_all (λ r. is_inside s (Mirror r)) rs) e).0 in
-    grind (arith, common_steps, fits)
+    grind (arith, common_steps, mirror_fits, and_parts)
 all_on_grid s b size w h (r ∷ rs) e (suc k) d lt =
     all_on_grid s b size w h rs (and_parts (is_inside s (Mirror r)) (list_all (λ r. is_inside s (Mirror r)) rs) e).1
     k d (omega arith)

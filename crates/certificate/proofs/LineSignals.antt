@@ -1,12 +1,11 @@
 -- The signal of one line for its cell at its time
-use Rattle.certificate.proofs.Imports.{AllTimesSignal, Bool, BorderLine, Cell, Circuit, Each, Greater, In, Less, List}
-use Rattle.certificate.proofs.Imports.{None, Option, Ordering, Pairs, Rises, Signal, Some, StarsExcludeLaterTimes}
-use Rattle.certificate.proofs.Imports.{TimedSignal, Zero, [], all_times_at, all_times_of_line, ap, ap₂}
-use Rattle.certificate.proofs.Imports.{arith, border_line_cmp, cases_Bool, cell_cmp, cell_same, common_steps}
-use Rattle.certificate.proofs.Imports.{cond-false, cond-true, each_in, eqb-true, event_at, events_of_line, false}
-use Rattle.certificate.proofs.Imports.{flat_map, inl, inr, is_at, line_signals, nat_cmp, not}
-use Rattle.certificate.proofs.Imports.{one_or_named_wire, ordering_then, refl, signal_at, subst, sym, time_rank, true}
-use Rattle.certificate.proofs.Imports.{unwrap_or, ℕ, ◌&&◌, ◌++◌, ◌+◌, ◌||◌, ◌∙◌, ◌∷◌, ◌≡◌}
+use Rattle.certificate.proofs.Imports.{AllTimesSignal, Bool, BorderLine, Circuit, Each, Greater, In, Less, List, None}
+use Rattle.certificate.proofs.Imports.{Option, Ordering, Pairs, Rises, Signal, Some, StarsExcludeLaterTimes}
+use Rattle.certificate.proofs.Imports.{TimedSignal, Zero, [], all_times_at, all_times_of_line, ap, arith}
+use Rattle.certificate.proofs.Imports.{border_line_cmp, cases_Bool, cell_same, common_steps, cond-false, cond-true}
+use Rattle.certificate.proofs.Imports.{each_in, eqb-true, event_at, events_of_line, false, flat_map, inl, inr, is_at}
+use Rattle.certificate.proofs.Imports.{line_signals, nat_cmp, not, one_or_named_wire, ordering_then, refl, signal_at}
+use Rattle.certificate.proofs.Imports.{subst, sym, true, unwrap_or, ℕ, ◌&&◌, ◌++◌, ◌+◌, ◌||◌, ◌∙◌, ◌∷◌, ◌≡◌}
 use Rattle.certificate_lines.specs.Rules.{is_star, is_starred_line_at, same_cell}
 use Rattle.certificate_lines.proofs.LineOrder.{not_itself}
 use Rattle.bbm_rule.proofs.SameCells.{cell_itself}
@@ -22,9 +21,7 @@ SaysAt t (Some u) = u ≡ t
 -- lines of the same time, or both with a `*`, for the same cell are nowhere apart in the order
 same_key : (d e : BorderLine) → d.time ≡ e.time → d.cell ≡ e.cell → border_line_cmp d e ≡ Less → ⊥
 unfolding border_line_cmp
-same_key d e time cell less =
-    not_itself e (ap₂ (λ t c. ordering_then (nat_cmp (time_rank t) (time_rank e.time)) (cell_cmp c e.cell)) (sym time)
-    (sym cell) ∙ less)
+same_key d e time cell less = grind (arith, common_steps, not_itself, nat_cmp)
 
 other_cell : (d e : BorderLine) → d.time ≡ e.time → border_line_cmp d e ≡ Less → is_at d.cell e.cell.x e.cell.y ≡ false
 other_cell d e time less = grind (arith, common_steps, cases_Bool, same_key, cell_same)
@@ -36,9 +33,7 @@ ranked a o h = let z : nat_cmp (a + 1) 0 ≡ Greater = grind arith in
 
 timed_first : (d e : BorderLine) (t : ℕ) → d.time ≡ Some t → e.time ≡ None → border_line_cmp d e ≡ Less → ⊥
 unfolding border_line_cmp
-timed_first d e t dt et less =
-    ranked t (cell_cmp d.cell e.cell)
-    (ap₂ (λ a b. ordering_then (nat_cmp (time_rank a) (time_rank b)) (cell_cmp d.cell e.cell)) (sym dt) (sym et) ∙ less)
+timed_first d e t dt et less = grind (arith, common_steps, ranked, nat_cmp)
 
 module _ (c : Circuit) where
   abbrev all_times_of : List BorderLine → List AllTimesSignal
@@ -52,15 +47,12 @@ module _ (c : Circuit) where
   all_times_first : (e : BorderLine) (time : Option ℕ) (s : Signal) (rest : List AllTimesSignal) → time ≡ None →
       all_times_at (all_times_of_line e time s ++ rest) e.cell.x e.cell.y ≡ Some s
   unfolding all_times_at
-  all_times_first e None s rest none = cond-true _ _ _ (cell_itself e.cell)
-  all_times_first e (Some t) s rest none = absurd cc
+  all_times_first e time s rest h1 = grind (arith, common_steps, cond-true, cell_itself)
 
   all_times_skips : (d e : BorderLine) (time : Option ℕ) → d.time ≡ time → e.time ≡ None → border_line_cmp d e ≡ Less →
       (s : Signal) (rest : List AllTimesSignal) →
       all_times_at (all_times_of_line d time s ++ rest) e.cell.x e.cell.y ≡ all_times_at rest e.cell.x e.cell.y
-  all_times_skips d e None dt et less s rest =
-      all_times_past d None s rest e.cell.x e.cell.y (other_cell d e (dt ∙ sym et) less)
-  all_times_skips d e (Some t) dt et less s rest = refl
+  all_times_skips d e time h1 h2 h3 s rest = grind (arith, common_steps, all_times_past, other_cell)
 
   -- a list that is read from its front says what a line says, if the lines before it say nothing
   found : {X : Type 0} (line : BorderLine → List X) (look : List X → Option Signal) (e : BorderLine) (s : Signal) →
@@ -80,14 +72,7 @@ module _ (c : Circuit) where
   not_starred : (e d : BorderLine) (time : Option ℕ) → d.time ≡ time → is_starred_line_at e.cell d ≡ false →
       (s : Signal) (rest : List AllTimesSignal) →
       all_times_at (all_times_of_line d time s ++ rest) e.cell.x e.cell.y ≡ all_times_at rest e.cell.x e.cell.y
-  not_starred e d None dt other s rest =
-      all_times_past d None s rest e.cell.x e.cell.y
-      (sym (turned_cell d.cell e.cell) ∙ ap (λ t. is_star t && same_cell e.cell d.cell) (sym dt) ∙ other)
-    where
-      turned_cell : (a b : Cell) → same_cell b a ≡ is_at a b.x b.y
-      turned_cell a b = same_truth _ _ (λ h. ap (λ (c : Cell). is_at a c.x c.y) (cell_same b a h) ∙ cell_itself a)
-          (λ h. ap (λ (c : Cell). same_cell b c) (cell_same a b h) ∙ cell_itself b)
-  not_starred e d (Some t) dt other s rest = refl
+  not_starred e d time h1 h2 s rest = grind (arith, common_steps, all_times_past, same_truth, cell_same, cell_itself)
 
   free_head : (star here : Bool) → star ≡ false → (star || not here) ≡ true → here ≡ false
   free_head star here e h = grind arith
@@ -128,16 +113,14 @@ module _ (c : Circuit) where
   event_first : (e : BorderLine) (time : Option ℕ) (t : ℕ) (s : Signal) (rest : List TimedSignal) → time ≡ Some t →
       event_at (events_of_line e time s ++ rest) t e.cell.x e.cell.y ≡ Some s
   unfolding event_at
-  event_first e None t s rest et = absurd cc
-  event_first e (Some u) t s rest et = grind (arith, common_steps, cond-true, cell_itself)
+  event_first e time t s rest h1 = grind (arith, common_steps, cond-true, cell_itself)
 
   event_skips : (d e : BorderLine) (time : Option ℕ) (t : ℕ) → d.time ≡ time → e.time ≡ Some t →
       border_line_cmp d e ≡ Less →
       (s : Signal) (rest : List TimedSignal) →
       event_at (events_of_line d time s ++ rest) t e.cell.x e.cell.y ≡ event_at rest t e.cell.x e.cell.y
   unfolding event_at
-  event_skips d e None t dt et less s rest = refl
-  event_skips d e (Some u) t dt et less s rest =
+  event_skips d e time t h1 h2 h3 s rest =
       grind (arith, common_steps, cases_Bool, event_past, other_cell, eqb-true, cond-false)
 
   -- ---- either

@@ -1,16 +1,15 @@
 -- Lines that are good are good without the halo lines
 use Rattle.certificate.proofs.Imports.{AreFaultless, AreModules, Bool, BorderLine, Box2, CertificateLine, Circuit, Cut}
-use Rattle.certificate.proofs.Imports.{Edge, Halo, Keep, List, Module, ModuleLines, None, Option, Setting, Some}
-use Rattle.certificate.proofs.Imports.{SomethingMissing, Stop, Use, [], add_line, and_parts, ap, append-nil, ap₂, areas}
-use Rattle.certificate.proofs.Imports.{arith, both_none, certificate_grammar, change_last, common_steps, cut_name_in}
-use Rattle.certificate.proofs.Imports.{cuts, edge_in, edge_lines_beside, edges, end_fault, entry_fault, false, filter}
-use Rattle.certificate.proofs.Imports.{flat_map, fold, gates, halos, has_nonlocal_port, is_halo, is_haloless_version}
-use Rattle.certificate.proofs.Imports.{is_last_module_incomplete, is_nonlocal_signal, known, lacks_edge_wire_beside}
-use Rattle.certificate.proofs.Imports.{last_module, last_of, length, length-map, list_all, list_any, map, map-append}
-use Rattle.certificate.proofs.Imports.{may_precede, module_with_line, modules_by_version, modules_of, nat_le, nat_tests}
-use Rattle.certificate.proofs.Imports.{no_code, option_map, precedes_halos, refl, stop_in, stops, sym, true}
-use Rattle.certificate.proofs.Imports.{true_from_not, used_gate_in, with_halos, without_halos, ℕ, ◌&&◌, ◌++◌, ◌||◌, ◌∙◌}
-use Rattle.certificate.proofs.Imports.{◌∷◌, ◌≡◌, ◌≤◌, not}
+use Rattle.certificate.proofs.Imports.{Edge, Halo, Keep, List, Module, ModuleLines, None, Option, Setting, Some, Stop}
+use Rattle.certificate.proofs.Imports.{Use, [], add_line, and_parts, ap, append-nil, ap₂, areas, arith, both_none}
+use Rattle.certificate.proofs.Imports.{certificate_grammar, change_last, common_steps, cut_name_in, cuts, edge_in}
+use Rattle.certificate.proofs.Imports.{edge_lines_beside, edges, end_fault, entry_fault, false, filter, flat_map, fold}
+use Rattle.certificate.proofs.Imports.{gates, halos, has_nonlocal_port, is_halo, is_last_module_incomplete}
+use Rattle.certificate.proofs.Imports.{is_nonlocal_signal, known, lacks_edge_wire_beside, last_module, last_of, length}
+use Rattle.certificate.proofs.Imports.{length-map, list_all, list_any, map, map-append, may_precede, module_with_line}
+use Rattle.certificate.proofs.Imports.{modules_by_version, modules_of, nat_le, nat_tests, no_code, option_map}
+use Rattle.certificate.proofs.Imports.{precedes_halos, refl, stop_in, stops, sym, true, true_from_not, used_gate_in}
+use Rattle.certificate.proofs.Imports.{with_halos, without_halos, ℕ, ◌++◌, ◌||◌, ◌∙◌, ◌∷◌, ◌≡◌, ◌≤◌, not}
 use Rattle.lemmas.proofs.Common.{filter-append}
 use Rattle.std.proofs.lemmas.Simd.{map-map}
 use Rattle.section_text.specs.Codes.{code_if}
@@ -35,8 +34,7 @@ without_append xs ys = filter-append (λ i. not (is_halo i)) xs ys
 
 alone : (i : CertificateLine) → is_halo i ≡ false → without_halos (i ∷ []) ≡ i ∷ []
 unfolding without_halos is_halo
-alone (Halo e) o = absurd cc
-alone _ o = refl
+alone i h1 = grind (arith, common_steps)
 
 stored_line : (i : CertificateLine) → is_halo i ≡ false → (m : ModuleLines) →
     haloless_module (module_with_line i m) ≡ module_with_line i (haloless_module m)
@@ -138,8 +136,7 @@ follow_less (k ∷ lines) i h =
     rw (both.0, follow_less lines i both.1) refl
 
 coded : (b : Bool) (code : RefusalCode) → b ≡ false → code_if b code ≡ None
-coded true code h = absurd cc
-coded false code h = refl
+coded b code h1 = grind (arith, common_steps)
 
 smaller : (limit n k : ℕ) → n ≤ k → nat_le limit k ≡ false → nat_le limit n ≡ false
 smaller limit n k le h = grind (arith, nat_tests)
@@ -170,8 +167,7 @@ line_kept g m i o h = grind (arith, common_steps, both_none, none_both, follow_l
 inner_kept : (g : Setting) (p : Option ModuleLines) (i : CertificateLine) → is_halo i ≡ false →
     body_line_code g p i ≡ None →
     body_line_code g (option_map haloless_module p) i ≡ None
-inner_kept g None i o h = absurd cc
-inner_kept g (Some m) i o h = line_kept g m i o h
+inner_kept g p i h1 h2 = grind (arith, common_steps, line_kept)
 
 module _ (g : Setting) (before : List CertificateLine) where
   present_without : last_module (without_halos before) ≡ option_map haloless_module (last_module before)
@@ -195,9 +191,7 @@ module _ (g : Setting) (before : List CertificateLine) where
   entry_kept : (i : CertificateLine) → is_halo i ≡ false → entry_fault g before i ≡ None →
       entry_fault g (without_halos before) i ≡ None
   unfolding entry_fault is_halo
-  entry_kept (Module b) o h = module_kept b h
-  entry_kept (Halo e) o h = absurd cc
-  entry_kept i o h = inner_line i refl h
+  entry_kept i h1 h2 = grind (arith, common_steps, module_kept, inner_line)
 
   pub end_kept : end_fault g before ≡ None → end_fault g (without_halos before) ≡ None
   unfolding end_fault
@@ -213,13 +207,7 @@ module _ (g : Setting) (before : List CertificateLine) where
 without_one : (before : List CertificateLine) (i : CertificateLine) → is_halo i ≡ false →
     without_halos (before ++ i ∷ []) ≡ without_halos before ++ i ∷ []
 unfolding is_halo without_halos
-without_one before (Halo e) o = absurd cc
-without_one before i o = without_append before (i ∷ [])
-
-without_last : (before : List CertificateLine) (e : BorderLine) →
-    without_halos (before ++ Halo e ∷ []) ≡ without_halos before
-unfolding is_halo without_halos
-without_last before e = without_append before (Halo e ∷ []) ∙ append-nil (without_halos before)
+without_one before i h1 = grind (arith, common_steps, without_append)
 
 good_more : (g : Setting) (i : CertificateLine) (es before : List CertificateLine) → is_halo i ≡ false →
     entry_fault g before i ≡ None →
@@ -232,7 +220,7 @@ pub good_on : (g : Setting) (es before : List CertificateLine) → AreGoodLines 
 unfolding without_halos is_halo
 good_on g [] before good = tt
 good_on g (Halo e ∷ es) before good =
-    grind (arith, common_steps, good_on g es (before ++ Halo e ∷ []) good.1, without_last)
+    grind (arith, common_steps, good_on g es (before ++ Halo e ∷ []) good.1)
 good_on g (i ∷ es) before good = good_more g i es before refl good.0 (good_on g es (before ++ i ∷ []) good.1)
 
 pub good_without_halos : GoodWithoutHalos
@@ -317,13 +305,7 @@ few_of l g (i ∷ es) before h = ((passed_line l g 1 before i h.0).0, few_of l g
 few_kept : (l : Limits) (g : Setting) (before : List CertificateLine) (i : CertificateLine) →
     module_limit_fault l g before i ≡ None → module_limit_fault l g (without_halos before) i ≡ None
 unfolding module_limit_fault
-few_kept l g before (Module b) h = rw (
-  modules_without before,
-  last_mapped haloless_module (modules_of before),
-  incomplete_kept g (last_module before),
-  length-map (modules_of before) haloless_module,
-) h
-few_kept l g before i h = refl
+few_kept l g before i h1 = grind (arith, common_steps, modules_without, last_mapped, incomplete_kept, length-map)
 
 few_more : (l : Limits) (g : Setting) (i : CertificateLine) (es before : List CertificateLine) → is_halo i ≡ false →
     module_limit_fault l g before i ≡ None →
@@ -336,7 +318,7 @@ few_on : (l : Limits) (g : Setting) (es before : List CertificateLine) → AreFe
 unfolding without_halos is_halo
 few_on l g [] before few = tt
 few_on l g (Halo e ∷ es) before few =
-    grind (arith, common_steps, few_on l g es (before ++ Halo e ∷ []) few.1, without_last)
+    grind (arith, common_steps, few_on l g es (before ++ Halo e ∷ []) few.1)
 few_on l g (i ∷ es) before few = few_more l g i es before refl few.0 (few_on l g es (before ++ i ∷ []) few.1)
 
 few_without : (l : Limits) (g : Setting) (es : List CertificateLine) → AreFewModules l g [] es →
@@ -350,26 +332,13 @@ faultless_two : (l : Limits) (g : Setting) (es before : List CertificateLine) �
 unfolding without_halos is_halo
 faultless_two l g [] before h few = tt
 faultless_two l g (Halo e ∷ es) before h few = faultless_two l g es before h few
-faultless_two l g (i ∷ es) before h few = (
-  none_both (module_limit_fault l g before i) (entry_fault g before i) few.0 h.0,
-  faultless_two l g es (before ++ i ∷ []) h.1 few.1,
-)
+faultless_two l g (i ∷ es) before h few =
+    grind (arith, common_steps, none_both, faultless_two l g es (before ++ i ∷ []) h.1 few.1)
 
 pub section_without_halos : SectionWithoutHalos
 section_without_halos l g es is knows =
-    let good = good_without_halos g es (record {
-      lines = good_of l g es [] is.lines;
-      end = (both_none (end_fault g es)
-          (code_if (is_haloless_version 1 && lacks_edge_wire_beside g (modules_of es)) SomethingMissing) is.end).0;
-    }) in
-    record {
-      header = refl;
-      lines = faultless_two l g es [] good.lines (few_without l g es (few_of l g es [] is.lines));
-      end = none_both (end_fault g (without_halos es))
-          (code_if (is_haloless_version 2 && lacks_edge_wire_beside g (modules_of (without_halos es))) SomethingMissing)
-          good.end
-          (coded _ SomethingMissing (migrated_lacks g es ∙ knows));
-    }
+    let good = good_without_halos g es (grind (arith, common_steps, good_of, both_none)) in
+    grind (arith, common_steps, faultless_two, few_without, few_of, none_both, coded, migrated_lacks)
 
 pub faultless_lines : (l : Limits) (g : Setting) (v : ℕ) (es before : List CertificateLine) →
     AreFaultlessLines l g v before es → AreFaultless (certificate_grammar l g) v before es

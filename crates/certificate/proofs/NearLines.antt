@@ -1,12 +1,12 @@
 -- The cells of a module's edge and halo lines lie within 4096 columns and rows.
-use Rattle.certificate.proofs.Imports.{All, All-cons, All-nil, AllTimesSignal, BorderLine, Box2, Cell, IsInShiftRange}
-use Rattle.certificate.proofs.Imports.{IsModule, IsSmallShift, IsWithinMaxSize, LayoutHeader, List, ModuleLines, None}
-use Rattle.certificate.proofs.Imports.{Option, Setting, Signal, Signals, Some, StoredBorder, TimedSignal, []}
-use Rattle.certificate.proofs.Imports.{all_times_of_line, ap, arith, common_steps, edges, events_of_line}
-use Rattle.certificate.proofs.Imports.{flat_all, get_or, halos, in_box, ints, is_sized, map, moved_stop}
-use Rattle.certificate.proofs.Imports.{one_or_wire, pos, renumber_all_times, renumber_event, renumber_signals}
-use Rattle.certificate.proofs.Imports.{shift_to_origin, size_fault, stops, stored_signals, subst, sym, true}
-use Rattle.certificate.proofs.Imports.{unnamed_line, ℕ, ℤ, ◌+ℤ◌, ◌+◌, ◌≡◌, ◌≤◌, StoredStop, cell_at, stored_stop}
+use Rattle.certificate.proofs.Imports.{All, AllTimesSignal, BorderLine, Box2, Cell, IsInShiftRange, IsModule}
+use Rattle.certificate.proofs.Imports.{IsSmallShift, IsWithinMaxSize, LayoutHeader, List, ModuleLines, None, Option}
+use Rattle.certificate.proofs.Imports.{Setting, Signal, Signals, StoredBorder, TimedSignal, all_times_of_line, ap}
+use Rattle.certificate.proofs.Imports.{arith, common_steps, edges, events_of_line, flat_all, get_or, halos, in_box}
+use Rattle.certificate.proofs.Imports.{ints, is_sized, map, moved_stop, one_or_wire, pos, renumber_all_times}
+use Rattle.certificate.proofs.Imports.{renumber_event, renumber_signals, shift_to_origin, size_fault, stops}
+use Rattle.certificate.proofs.Imports.{stored_signals, subst, sym, true, unnamed_line, ℕ, ℤ, ◌+ℤ◌, ◌+◌, ◌≡◌, ◌≤◌}
+use Rattle.certificate.proofs.Imports.{StoredStop, cell_at, stored_stop}
 use Rattle.lemmas.proofs.Common.{All-map, All-weaker, all_unmapped, low_number, ◌≤ℤ◌}
 use Rattle.module_box.specs.Moves.{moved_event}
 use Rattle.module_box.proofs.BoxCells.{in_box_nats}
@@ -44,13 +44,11 @@ low_stops g m s is limits h k d lt = grind (arith, common_steps, within_512, low
 -- ---- what holds of the cells of lines holds of those of their signals
 all_times_low : (e : BorderLine) (t : Option ℕ) (s : Signal) → IsWithinMaxSize e.cell →
     All (λ (h : AllTimesSignal). IsWithinMaxSize h.cell) (all_times_of_line e t s)
-all_times_low e None s low = All-cons (λ (h : AllTimesSignal). IsWithinMaxSize h.cell) _ [] low (All-nil _)
-all_times_low e (Some t) s low = All-nil _
+all_times_low e t s h1 = grind (arith, common_steps)
 
 event_low : (e : BorderLine) (t : Option ℕ) (s : Signal) → IsWithinMaxSize e.cell →
     All (λ (h : TimedSignal). IsWithinMaxSize h.at.cell) (events_of_line e t s)
-event_low e None s low = All-nil _
-event_low e (Some t) s low = All-cons (λ (h : TimedSignal). IsWithinMaxSize h.at.cell) _ [] low (All-nil _)
+event_low e t s h1 = grind (arith, common_steps)
 
 pub low_all_times : (f : ℕ → ℕ) (bs : List StoredBorder) (s : Signals) → renumber_signals f s ≡ stored_signals bs →
     All (λ b. IsWithinMaxSize (unnamed_line b).cell) bs →

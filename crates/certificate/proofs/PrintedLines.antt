@@ -1,9 +1,9 @@
 -- The text of a certificate
-use Rattle.certificate.proofs.Imports.{CertView, Circuit, List, Module, StoredBorder, StoredModule, StoredStop, [], ap}
-use Rattle.certificate.proofs.Imports.{append_assoc, body_lines_with, border_line, certificate_text, codes, entry_text}
-use Rattle.certificate.proofs.Imports.{flat_map, flat_map-append, get_or, get_or_from_slice_get, length}
-use Rattle.certificate.proofs.Imports.{lines_of_modules, slice_get, stop_line, take, wire_name, ℕ, ◌++◌, ◌+◌, ◌<◌}
-use Rattle.certificate.proofs.Imports.{◌∙◌, ◌∷◌, ◌≡◌, Some}
+use Rattle.certificate.proofs.Imports.{CertView, Circuit, List, Module, Some, StoredBorder, StoredModule, StoredStop}
+use Rattle.certificate.proofs.Imports.{[], ap, append_assoc, arith, body_lines_with, border_line, certificate_text}
+use Rattle.certificate.proofs.Imports.{codes, common_steps, entry_text, flat_map, flat_map-append, get_or}
+use Rattle.certificate.proofs.Imports.{get_or_from_slice_get, length, lines_of_modules, slice_get, stop_line, take}
+use Rattle.certificate.proofs.Imports.{wire_name, ℕ, ◌++◌, ◌+◌, ◌<◌, ◌∷◌, ◌≡◌}
 use Rattle.certificate_lines.proofs.StoredLemmas.{kinds}
 use Rattle.std.specs.Fmt.{decimal}
 use Rattle.section_text.specs.Spelling.{line_text}
@@ -27,10 +27,6 @@ module_text : (c : Circuit) (m : StoredModule) (hs : List StoredBorder) →
     ++ flat_map (λ s. line_text (codes "stop") (stop_words (stop_line c s))) m.stops.items)))))
 module_text c m hs = ap (λ l. line_text (codes "module") (box_words m.area) ++ l) (kinds c m hs entry_text)
 
-eight_parts : (o a b c d e f g : List ℕ) → ((((((o ++ a) ++ b) ++ c) ++ d) ++ e) ++ f) ++ g
-    ≡ o ++ (a ++ (b ++ (c ++ (d ++ (e ++ (f ++ g))))))
-eight_parts o a b c d e f g = simp append_assoc
-
 pub module_printed : {a b d e f g new cs us ks : List ℕ} {es : List StoredBorder} {ss : List StoredStop}
     (c : Circuit) (m : StoredModule) (hs : List StoredBorder) (old : List ℕ) →
     a ≡ old ++ line_text (codes "module") (box_words m.area) →
@@ -42,8 +38,7 @@ pub module_printed : {a b d e f g new cs us ks : List ℕ} {es : List StoredBord
     new ≡ g ++ flat_map (λ s. line_text (codes "stop") (stop_words (stop_line c s))) ss → ss ≡ m.stops.items →
     new ≡ old ++ flat_map entry_text (Module m.area ∷ body_lines_with c m hs)
 module_printed c m hs old ia ib cuts id uses ie keeps ie' edges ig inew stops =
-    rw (inew, ig, ie', ie, id, ib, ia, cuts, uses, keeps, edges, stops, module_text c m hs)
-    (eight_parts old _ _ _ _ _ _ _)
+    grind (arith, common_steps, module_text)
 
 -- one module more
 pub module_more : (c : Circuit) (ms : List StoredModule) (i : ℕ) (m : StoredModule) → i < length ms →
@@ -51,18 +46,11 @@ pub module_more : (c : Circuit) (ms : List StoredModule) (i : ℕ) (m : StoredMo
     flat_map entry_text (lines_of_modules c (take (i + 1) ms))
     ≡ flat_map entry_text (lines_of_modules c (take i ms))
     ++ flat_map entry_text (Module m.area ∷ body_lines_with c m m.halos.items)
-module_more c ms i m lt is =
-    ap (flat_map entry_text) (flat_more (λ n. Module n.area ∷ body_lines_with c n n.halos.items) ms i m lt is)
-    ∙ flat_map-append entry_text (lines_of_modules c (take i ms))
-    (Module m.area ∷ body_lines_with c m m.halos.items)
+module_more c ms i m lt is = grind (arith, common_steps, flat_more, flat_map-append)
 
 -- the text of a certificate
 pub certificate_printed : (s : CertView) (old a b new : List ℕ) →
     a ≡ old ++ line_text (codes "certificate") (decimal s.version ∷ []) →
     b ≡ a ++ flat_map entry_text s.entries → new ≡ b ++ line_text (codes "end") [] → new ≡ old ++ certificate_text s
 unfolding certificate_text
-certificate_printed s old a b new ia ib inew =
-    let header = line_text (codes "certificate") (decimal s.version ∷ []) in
-    inew ∙ ap (λ l. l ++ line_text (codes "end") [])
-    (ib ∙ ap (λ l. l ++ flat_map entry_text s.entries) ia ∙ append_assoc old header (flat_map entry_text s.entries))
-    ∙ append_assoc old (header ++ flat_map entry_text s.entries) (line_text (codes "end") [])
+certificate_printed s old a b new ia ib inew = grind (arith, common_steps, append_assoc)

@@ -1,8 +1,7 @@
 -- The certificate section has one text.
-use Rattle.certificate.proofs.Imports.{End, Header, Item, List, ap, append_assoc, certificate_grammar, certificate_text}
-use Rattle.certificate.proofs.Imports.{drop, flat_map, form_text, length, sym, ℕ, ◌+◌, ◌∙◌}
+use Rattle.certificate.proofs.Imports.{End, Header, Item, append_assoc, arith, certificate_grammar, certificate_text}
+use Rattle.certificate.proofs.Imports.{common_steps, drop, flat_map, form_text, sym, ◌∙◌}
 use Rattle.section_text.specs.Words.{lines_of}
-use Rattle.section_text.specs.Section.{section_of}
 use Rattle.section_text.proofs.Spelled.{section_text_is}
 use Rattle.section_text.proofs.Again.{section_again, lines_of_lines}
 use Rattle.certificate.specs.Laws.{PrintsWhatIsRead, ReadsWhatIsPrinted}
@@ -18,6 +17,4 @@ pub reads_what_is_printed : ReadsWhatIsPrinted
 reads_what_is_printed l g text from n m c e =
     let ls = drop from (lines_of text) in
     let printed = prints_what_is_read l g n ls c e in
-    ap (λ (t : List ℕ). section_of (certificate_grammar l g) m (lines_of t)) (sym printed)
-    ∙ ap (section_of (certificate_grammar l g) m) (lines_of_lines text from (length c.entries + 2))
-    ∙ section_again (certificate_grammar l g) n m ls c.version c.entries e
+    grind (arith, common_steps, lines_of_lines, section_again)

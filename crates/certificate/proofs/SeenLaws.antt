@@ -14,12 +14,9 @@ record IsLeastWith (a : ℕ) (ts : List ℕ) (t : ℕ) : Type 0 where
   first : t ≤ a
   rest : All (λ u. t ≤ u) ts
 
-min_cases : (a u : ℕ) → (min a u ≡ a) ⊎ (min a u ≡ u)
-min_cases a u = grind arith
-
 least_with : (a : ℕ) (ts : List ℕ) (t : ℕ) → fold earlier (Some a) ts ≡ Some t → IsLeastWith a ts t
 least_with a [] t e = (grind (arith, common_steps, same_Some))
-least_with a (u ∷ us) t e = grind (arith, common_steps, least_with (min a u) us t e, min_cases, here, there)
+least_with a (u ∷ us) t e = grind (arith, common_steps, least_with (min a u) us t e, here, there)
 
 least_of : (ts : List ℕ) (t : ℕ) → fold earlier None ts ≡ Some t → Contains ts t × All (λ u. t ≤ u) ts
 least_of [] t e = absurd cc
@@ -34,12 +31,9 @@ record IsGreatestWith (a : ℕ) (ts : List ℕ) (t : ℕ) : Type 0 where
   first : a ≤ t
   rest : All (λ u. u ≤ t) ts
 
-max_cases : (a u : ℕ) → (max a u ≡ a) ⊎ (max a u ≡ u)
-max_cases a u = grind arith
-
 greatest_with : (a : ℕ) (ts : List ℕ) (t : ℕ) → fold later (Some a) ts ≡ Some t → IsGreatestWith a ts t
 greatest_with a [] t e = (grind (arith, common_steps, same_Some))
-greatest_with a (u ∷ us) t e = grind (arith, common_steps, greatest_with (max a u) us t e, max_cases, here, there)
+greatest_with a (u ∷ us) t e = grind (arith, common_steps, greatest_with (max a u) us t e, here, there)
 
 greatest_of : (ts : List ℕ) (t : ℕ) → fold later None ts ≡ Some t → Contains ts t × All (λ u. u ≤ t) ts
 greatest_of [] t e = absurd cc

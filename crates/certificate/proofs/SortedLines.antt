@@ -2,8 +2,8 @@
 use Rattle.certificate.proofs.Imports.{AreDistinct, BorderLine, Equal, In, IsPermutation, Less, List, Ordering, Rises}
 use Rattle.certificate.proofs.Imports.{all_in, ap, arith, border_line_cmp, common_steps, false, get_or}
 use Rattle.certificate.proofs.Imports.{get_or_from_slice_get, in_ordered, is_lt, line_total, ordered_in, ordered_rises}
-use Rattle.certificate.proofs.Imports.{ranks_by, refl, rising_same, slice_get_within, sorted_border_lines, ◌+◌, ◌≡◌}
-use Rattle.certificate.proofs.Imports.{◌≢◌, Bool, slice_get-get_or, sym, true≢false, Circuit, None, StoredBorder, ap₂}
+use Rattle.certificate.proofs.Imports.{ranks_by, rising_same, slice_get_within, sorted_border_lines, ◌+◌, ◌≡◌, ◌≢◌}
+use Rattle.certificate.proofs.Imports.{Bool, slice_get-get_or, sym, true≢false, Circuit, None, StoredBorder, ap₂}
 use Rattle.certificate.proofs.Imports.{border_line, length-map, map, ◌∙◌}
 use Rattle.lemmas.proofs.Common.{is_eq, All-permutation, IsPermutation-sym, IsSortedBy, sorted_far, get_or-map}
 use Rattle.std.proofs.lemmas.Cmp.{eq_by_cmp_equiv}
@@ -18,8 +18,7 @@ abbrev same : BorderLine → BorderLine → Bool
 same d e = is_eq (border_line_cmp d e)
 
 not_eq : (o : Ordering) → o ≢ Equal → is_eq o ≡ false
-not_eq Equal h = absurd (h refl)
-not_eq _ h = refl
+not_eq o h1 = grind (arith, common_steps)
 
 apart : (o : Ordering) → is_eq o ≡ false → o ≢ Equal
 apart o h e = true≢false (sym (ap is_eq e) ∙ h)

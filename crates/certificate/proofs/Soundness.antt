@@ -1,16 +1,14 @@
 -- Lines that are good one after the other make good modules.
-use Rattle.certificate.proofs.Imports.{All, AreFaultless, AreModules, Box2, CertificateLine, HasLocalPorts}
-use Rattle.certificate.proofs.Imports.{IsFaultless, List, Module, ModuleLines, None, PastLimit, Setting, Some}
-use Rattle.certificate.proofs.Imports.{SomethingMissing, Tile, [], add_line, any_at, append-nil}
-use Rattle.certificate.proofs.Imports.{append_assoc, areas, arith, both_none, certificate_grammar}
-use Rattle.certificate.proofs.Imports.{common_steps, end_fault, entry_fault, eqb-true, false, has_nonlocal_port, in_box}
-use Rattle.certificate.proofs.Imports.{is_haloless_version, is_last_module_incomplete}
-use Rattle.certificate.proofs.Imports.{lacks_edge_wire_beside, last_module, last_of, leaves_gap, modules_of}
-use Rattle.certificate.proofs.Imports.{no_code, or_parts, rectangle_cells, slice_get, slice_get-get_or}
-use Rattle.certificate.proofs.Imports.{slice_get_within, some_is, subst, sym, true, true_from_not, true≢false, whole, ℕ}
-use Rattle.certificate.proofs.Imports.{◌&&◌, ◌++◌, ◌+◌, ◌<◌, ◌==◌, ◌||◌, ◌∙◌, ◌∷◌, ◌≡◌, ◌≤◌, ◌⊎◌, mapped_from}
+use Rattle.certificate.proofs.Imports.{All, AreFaultless, AreModules, Box2, CertificateLine, HasLocalPorts, IsFaultless}
+use Rattle.certificate.proofs.Imports.{List, Module, ModuleLines, None, PastLimit, Setting, Some, SomethingMissing}
+use Rattle.certificate.proofs.Imports.{Tile, [], add_line, any_at, append-nil, append_assoc, areas, arith, both_none}
+use Rattle.certificate.proofs.Imports.{certificate_grammar, common_steps, end_fault, entry_fault, eqb-true, false}
+use Rattle.certificate.proofs.Imports.{has_nonlocal_port, in_box, is_haloless_version, is_last_module_incomplete}
+use Rattle.certificate.proofs.Imports.{lacks_edge_wire_beside, last_module, last_of, leaves_gap, modules_of, no_code}
+use Rattle.certificate.proofs.Imports.{or_parts, rectangle_cells, slice_get, slice_get-get_or, slice_get_within}
+use Rattle.certificate.proofs.Imports.{some_is, subst, sym, true, true_from_not, true≢false, whole, ℕ, ◌&&◌, ◌++◌, ◌+◌}
+use Rattle.certificate.proofs.Imports.{◌==◌, ◌||◌, ◌∙◌, ◌∷◌, ◌≡◌, ◌≤◌, mapped_from}
 use Rattle.lemmas.proofs.Common.{or_cases}
-use Rattle.section_text.specs.Codes.{or_else}
 use Rattle.section_text.specs.declared.limits.Limits.{Limits}
 use Rattle.module_box.specs.Tiling.{IsInside}
 use Rattle.certificate_lines.specs.Rules.{in_boxes, module_limit_fault}
@@ -38,16 +36,14 @@ module _ (g : Setting) (es : List CertificateLine) (sound : AreGoodModulesSoFar 
   sound_push : (i : CertificateLine) → entry_fault g es i ≡ None → AreGoodModulesSoFar g (modules_of (es ++ i ∷ []))
   unfolding entry_fault add_line
   sound_push (Module b) e =
-      subst (AreGoodModulesSoFar g) (sym (modules_push es (Module b)))
-      (module_sound g (modules_of es) b sound (good_module g (modules_of es) (last_module es) b e))
+      grind (arith, common_steps, modules_push, module_sound, good_module)
   sound_push i e = inner_sound i tt (good_line g es i e)
 
 -- a line without a fault passes the tests of a line, and that of the limits of its text
 pub passed_line : (l : Limits) (g : Setting) (v : ℕ) (before : List CertificateLine) (i : CertificateLine) →
     (certificate_grammar l g).item_fault v before i ≡ None →
     (module_limit_fault l g before i ≡ None) × (entry_fault g before i ≡ None)
-passed_line l g v before i e = both_none (module_limit_fault l g before i) (entry_fault g before i)
-    (both_none _ (or_else (module_limit_fault l g before i) (entry_fault g before i)) e).1
+passed_line l g v before i e = grind (arith, common_steps, both_none)
 
 sound_all : (l : Limits) (g : Setting) (v : ℕ) (more before : List CertificateLine) →
     AreGoodModulesSoFar g (modules_of before) →
@@ -85,12 +81,9 @@ module _ (g : Setting) (ms : List ModuleLines) (sound : AreGoodModulesSoFar g ms
   unfolding has_nonlocal_port
   has_ports m none = grind (arith, common_steps, true≢false, any_at)
 
-  here_or_before : (i n : ℕ) → i < n → (i + 1 < n) ⊎ (i + 1 ≡ n)
-  here_or_before i n h = grind arith
-
   all_ported : is_last_module_incomplete g (last_of ms) ≡ false → (k : ℕ) (m : ModuleLines) → slice_get ms k ≡ Some m →
       has_nonlocal_port g m ≡ false
-  all_ported whole k m e = grind (arith, common_steps, here_or_before, slice_get_within, last_is)
+  all_ported whole k m e = grind (arith, common_steps, slice_get_within, last_is)
 
   pub good_modules : is_last_module_incomplete g (last_of ms) ≡ false → leaves_gap g.size (areas ms) ≡ false →
       AreModules g ms

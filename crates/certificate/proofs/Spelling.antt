@@ -1,8 +1,7 @@
 -- Each line of the certificate section is the spelling of its form.
 use Rattle.certificate.proofs.Imports.{BorderLine, Cut, Edge, End, Halo, Header, Item, Keep, List, Module, Option, Some}
-use Rattle.certificate.proofs.Imports.{Stop, StopLine, Use, [], ap, arith, codes, common_steps, eqb, eqb-true}
-use Rattle.certificate.proofs.Imports.{form_text, length, refl, same_Some, slice_get, subst, true, ℕ, ◌∷◌}
-use Rattle.certificate.proofs.Imports.{Bool, false, if◌then◌else◌, ◌≡◌}
+use Rattle.certificate.proofs.Imports.{Stop, StopLine, Use, [], arith, codes, common_steps, eqb, eqb-true, form_text}
+use Rattle.certificate.proofs.Imports.{length, same_Some, slice_get, subst, true, ℕ, ◌∷◌, Bool, if◌then◌else◌, ◌≡◌}
 use Rattle.pattern.specs.Forms.{cell_of_words_from}
 use Rattle.lemmas.proofs.Common.{decimal, option_and_then_some}
 use Rattle.section_text.specs.Words.{◌>>=◌, words_of, is_word_at, if_one_word, number_after_keyword}
@@ -86,8 +85,7 @@ SpelledAs ws f = ws ≡ (spelled f).0 ∷ (spelled f).1
 
 by_test : {Q : Type 0} (b : Bool) (x y : Option CertificateForm) (f : CertificateForm) → (if b then x else y) ≡ Some f →
     (b ≡ true → x ≡ Some f → Q) → (y ≡ Some f → Q) → Q
-by_test true x y f e here later = here refl e
-by_test false x y f e here later = later e
+by_test b x y f h1 h2 h3 = grind (arith, common_steps)
 
 form_words : (ws : List (List ℕ)) (f : CertificateForm) → form_of ws ≡ Some f → SpelledAs ws f
 unfolding form_of if_one_word spelled
@@ -121,9 +119,7 @@ form_words ws f e =
 
 text_of : (f : CertificateForm) → form_text f ≡ line_text (spelled f).0 (spelled f).1
 unfolding spelled
-text_of (Item (Module b)) = refl
-text_of _ = refl
+text_of f = grind (arith, common_steps)
 
 pub form_line : (l : List ℕ) (f : CertificateForm) → form_of (words_of l) ≡ Some f → with_line_feed l ≡ form_text f
-form_line l f e =
-    rw (text_of f) (ap with_line_feed (line_from_words l (spelled f).0 (spelled f).1 (form_words (words_of l) f e)))
+form_line l f e = grind (arith, common_steps, text_of, line_from_words, spelled, form_words)

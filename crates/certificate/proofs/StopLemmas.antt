@@ -1,9 +1,9 @@
 -- The stops of a module: what its lines give, and their order.
-use Rattle.certificate.proofs.Imports.{All, All-cons, All-nil, AreInOrder, AreStops, CertificateLine, Circuit, Each}
-use Rattle.certificate.proofs.Imports.{IsRising, Less, List, LocalNet, None, Option, Pairs, Some, Stop, StopLine, []}
-use Rattle.certificate.proofs.Imports.{arith, cell_cmp, cell_of, circuit_wire, common_steps, false, flat_map, is_cut}
-use Rattle.certificate.proofs.Imports.{line_cmp, may_precede, moment_cmp, nat_cmp, ordering_then, pairs_flat, rank_of}
-use Rattle.certificate.proofs.Imports.{refl, rising_of, sort_number_of, stop_in, subst, sym, true, wire_of, ℕ, ◌≡◌}
+use Rattle.certificate.proofs.Imports.{All, AreInOrder, AreStops, CertificateLine, Circuit, Each, IsRising, Less, List}
+use Rattle.certificate.proofs.Imports.{LocalNet, Option, Pairs, Stop, StopLine, arith, cell_cmp, cell_of, circuit_wire}
+use Rattle.certificate.proofs.Imports.{common_steps, flat_map, is_cut, line_cmp, may_precede, moment_cmp, nat_cmp}
+use Rattle.certificate.proofs.Imports.{ordering_then, pairs_flat, rank_of, refl, rising_of, sort_number_of, stop_in}
+use Rattle.certificate.proofs.Imports.{subst, sym, true, wire_of, ℕ, ◌≡◌}
 use Rattle.lemmas.proofs.Common.{all_unmapped}
 use Rattle.certificate_lines.proofs.FlatParts.{flat_all}
 use Rattle.module_box.specs.declared.schedules.Moment.{Moment}
@@ -21,14 +21,11 @@ StopBefore s t = ordering_then (nat_cmp s.time t.time) (cell_cmp s.cell t.cell) 
 stops_between : (i j : CertificateLine) → may_precede i j ≡ true →
     Each (λ s. Each (StopBefore s) (stop_in j)) (stop_in i)
 unfolding Each may_precede line_cmp rank_of sort_number_of cell_of is_cut
-stops_between (Stop s) (Stop t) h = ((is_less _ false refl h, tt), tt)
-stops_between (Stop s) j h = (tt, tt)
-stops_between i j h = tt
+stops_between i j h1 = grind (arith, common_steps, is_less)
 
 stop_alone : (i : CertificateLine) → Pairs StopBefore (stop_in i)
 unfolding Each Pairs
-stop_alone (Stop s) = (tt, tt)
-stop_alone _ = tt
+stop_alone i = grind (arith, common_steps)
 
 stop_lines_rise : (lines : List CertificateLine) → AreInOrder lines → Pairs StopBefore (flat_map stop_in lines)
 stop_lines_rise lines o = grind (arith, common_steps, pairs_flat, stops_between, stop_alone, pairs_of_order)
@@ -39,14 +36,11 @@ MomentBefore a b = moment_cmp (stop_moment a) (stop_moment b) ≡ Less
 numbered_between : (s : StopLine) (o : Option ℕ) (t : StopLine) (p : Option ℕ) → StopBefore s t →
     Each (λ a. Each (MomentBefore a) (stop_with_wire_number t p)) (stop_with_wire_number s o)
 unfolding Each moment_cmp
-numbered_between s (Some w) t (Some v) h = ((h, tt), tt)
-numbered_between s (Some w) t None h = (tt, tt)
-numbered_between s None t p h = tt
+numbered_between s o t p h1 = grind (arith, common_steps)
 
 numbered_alone : (s : StopLine) (o : Option ℕ) → Pairs MomentBefore (stop_with_wire_number s o)
 unfolding Each Pairs
-numbered_alone s None = tt
-numbered_alone s (Some w) = (tt, tt)
+numbered_alone s o = grind (arith, common_steps)
 
 pub stops_rise : (c : Circuit) (l : LocalNet) (lines : List CertificateLine) (ss : List listed.Stop) →
     AreInOrder lines →
@@ -62,8 +56,7 @@ stops_rise c l lines ss o are =
 
 all_numbered : (P : Moment → Type 0) (s : StopLine) (o : Option ℕ) → P (record { time = s.time; cell = s.cell }) →
     All (λ r. P r.at) (stop_with_wire_number s o)
-all_numbered P s None h = All-nil (λ r. P r.at)
-all_numbered P s (Some w) h = All-cons (λ r. P r.at) _ [] h (All-nil (λ r. P r.at))
+all_numbered P s o h1 = grind (arith, common_steps)
 
 pub stops_stand : (P : Moment → Type 0) (c : Circuit) (l : LocalNet) (lines : List StopLine) (ss : List listed.Stop) →
     AreStops c l lines ss → All (λ s. P (record { time = s.time; cell = s.cell })) lines → All (λ r. P r.at) ss

@@ -3,16 +3,15 @@ use Rattle.certificate.proofs.Imports.{All, All-head, All-tail, AreLocalLines, A
 use Rattle.certificate.proofs.Imports.{CircuitLine, HasLocalWire, HasOwnWire, IfSome, IsOwnWire, IsTrue, List, LocalNet}
 use Rattle.certificate.proofs.Imports.{ModuleLines, None, Option, Pairs, Pattern, Setting, Signal, Some, StopLine}
 use Rattle.certificate.proofs.Imports.{StoredBorder, StoredModule, StoredStop, [], all_times_of_line, ap, ap₂, arith}
-use Rattle.certificate.proofs.Imports.{border_line, border_line_cmp, circuit_of, cut_wires, cuts, edges, events_of_line}
-use Rattle.certificate.proofs.Imports.{get_or, halos, is_among, is_local, keeps, known, length, length-map}
-use Rattle.certificate.proofs.Imports.{line_signals, local_wires, map, mapped_at, module_lines_with, netlist_of}
-use Rattle.certificate.proofs.Imports.{one_or_named_wire, one_or_wire, option_map, refl, setting_of, stop_line, stops}
-use Rattle.certificate.proofs.Imports.{stops_of_lines, stored_signals, stored_stop, subst, sym, unnamed_line, wire_name}
-use Rattle.certificate.proofs.Imports.{wire_or_zero, ℕ, ◌++◌, ◌<◌, ◌∙◌, ◌∷◌, ◌≡◌, IsGoodModule, IsWithinMaxSize}
-use Rattle.certificate.proofs.Imports.{LayoutHeader, cell_at, size_fault, suc, zero, ◌+◌, ◌≤◌, flat_map}
+use Rattle.certificate.proofs.Imports.{border_line, border_line_cmp, circuit_of, cuts, edges, events_of_line, get_or}
+use Rattle.certificate.proofs.Imports.{halos, is_among, is_local, keeps, known, length, length-map, line_signals}
+use Rattle.certificate.proofs.Imports.{local_wires, map, mapped_at, module_lines_with, netlist_of, one_or_named_wire}
+use Rattle.certificate.proofs.Imports.{one_or_wire, option_map, refl, setting_of, stop_line, stops, stops_of_lines}
+use Rattle.certificate.proofs.Imports.{stored_signals, stored_stop, subst, sym, unnamed_line, wire_name, ℕ, ◌++◌, ◌<◌}
+use Rattle.certificate.proofs.Imports.{◌∙◌, ◌∷◌, ◌≡◌, IsGoodModule, IsWithinMaxSize, LayoutHeader, cell_at, size_fault}
+use Rattle.certificate.proofs.Imports.{suc, zero, ◌+◌, ◌≤◌, flat_map, common_steps}
 use Rattle.lemmas.proofs.Common.{all_unmapped}
 use Rattle.certificate_lines.specs.Modules.{IsEdge, IsHalo, IsKeep, IsStop}
-use Rattle.certificate_lines.specs.Rules.{is_local_wire}
 use Rattle.certificate_lines.proofs.Pairs.{pairs_at}
 use Rattle.certificate_lines.proofs.StoredLemmas.{cut_wires_with, cuts_with, edges_with, gates_with, halos_with}
 use Rattle.certificate_lines.proofs.StoredLemmas.{keeps_with, stops_with}
@@ -35,18 +34,15 @@ item_is (x ∷ xs) (suc i) d lt = item_is xs i d (omega (arith, lt))
 
 own_signal : (c : Circuit) (w : Option ℕ) → IfSome w (IsOwnWire c) →
     one_or_wire w ≡ one_or_named_wire c (option_map (wire_name c) w)
-own_signal c None own = refl
-own_signal c (Some w) own = sym (ap wire_or_zero own)
+own_signal c w h1 = grind (arith, common_steps)
 
 same_all_times : (d e : BorderLine) (t : Option ℕ) (s : Signal) → d.cell ≡ e.cell →
     all_times_of_line d t s ≡ all_times_of_line e t s
-same_all_times d e None s same = ap (λ c. record { cell = c; signal = s } ∷ []) same
-same_all_times d e (Some t) s same = refl
+same_all_times d e t s h1 = grind (arith, common_steps)
 
 same_events : (d e : BorderLine) (t : Option ℕ) (s : Signal) → d.cell ≡ e.cell →
     events_of_line d t s ≡ events_of_line e t s
-same_events d e None s same = refl
-same_events d e (Some t) s same = ap (λ c. record { at = record { time = t; cell = c }; signal = s } ∷ []) same
+same_events d e t s h1 = grind (arith, common_steps)
 
 module _ (c : Circuit) where
   said_flat : {X : Type 0} (f : BorderLine → Option ℕ → Signal → List X) → ((d e : BorderLine) (t : Option ℕ)
@@ -77,8 +73,7 @@ module _ (c : Circuit) where
 
   known_wire : (ws : List ℕ) (w : Option ℕ) → IfSome w (IsOwnWire c) →
       IfSome (option_map (wire_name c) w) (λ name. IsTrue (is_local c ws name)) → IfSome w (λ v. IsTrue (is_among ws v))
-  known_wire ws None own h = tt
-  known_wire ws (Some w) own h = subst (λ o. IsTrue (is_local_wire ws o)) own h
+  known_wire ws w h1 h2 = grind (arith, common_steps)
 
   rising : (bs : List StoredBorder) → Pairs Before (map (border_line c) bs) → AreRising bs
   unfolding border_line_cmp
@@ -101,9 +96,7 @@ module _ {cs : List CircuitLine} {p : Pattern} {m : StoredModule} {hs : List Sto
   lines = module_lines_with (circuit_of cs) m hs
 
   pub local_lines : AreLocalLines (netlist_of cs) m.cuts.items m.gates.items
-  local_lines =
-      subst (λ ws. AreLocalLines (netlist_of cs) ws m.gates.items) (cut_wires_with c m hs good.wires.cuts)
-      (subst (AreLocalLines (netlist_of cs) (cut_wires c lines)) (gates_with c m hs) good.lines.local)
+  local_lines = grind (arith, common_steps, cut_wires_with, gates_with)
 
   pub known_wires : {ls : List CircuitLine} {ws cw us : List ℕ} → ls ≡ cs → cw ≡ m.cuts.items → us ≡ m.gates.items →
       ws ≡ local_wires (netlist_of ls) cw us → ws ≡ known c lines
@@ -120,8 +113,7 @@ module _ {cs : List CircuitLine} {p : Pattern} {m : StoredModule} {hs : List Sto
       (subst (λ us. All (IsKeep g us) (keeps lines)) (gates_with c m hs) good.lines.keep_lines) k d lt).among
 
   pub edges_rising : AreRising m.edges.items
-  edges_rising = rising c m.edges.items
-      (subst (Pairs Before) (edges_with c m hs) (edges_rise lines.lines good.lines.order))
+  edges_rising = grind (arith, common_steps, rising, edges_with, edges_rise)
 
   pub halos_rising : AreRising hs
   halos_rising = rising c hs (subst (Pairs Before) (halos_with c m hs) (halos_rise lines.lines good.lines.order))

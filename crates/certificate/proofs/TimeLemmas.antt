@@ -1,13 +1,13 @@
 -- Tables of times, line by line, and the lines of gates one after the other.
 use Rattle.certificate.proofs.Imports.{AreFaultless, CertificateLine, Circuit, Gate, IsFaultless, IsStopTimeTable, List}
 use Rattle.certificate.proofs.Imports.{Module, ModuleLines, Option, Setting, Some, StopLine, TimeLine, [], all_stops}
-use Rattle.certificate.proofs.Imports.{ap, arith, body_lines, certificate_grammar, common_steps}
-use Rattle.certificate.proofs.Imports.{delay_and_meet_lines, drop, drop_all, entry_fault, false, flat_map, get_or}
-use Rattle.certificate.proofs.Imports.{is_module, last_of, length, lines_by_number, modules_of, refl, same_Some}
-use Rattle.certificate.proofs.Imports.{slice_get, slice_get-get_or, slice_get_within, split_module, split_other}
-use Rattle.certificate.proofs.Imports.{stop_in, sym, time_in_table, time_lines_of_gates, ℕ, ◌++◌, ◌+◌, ◌<◌, ◌∙◌, ◌∷◌}
-use Rattle.certificate.proofs.Imports.{◌≡◌, ◌≤◌, StoredModule, StoredStop, append_assoc, ap₂, map, map-append}
-use Rattle.certificate.proofs.Imports.{module_lines, stop_line, stops, take, take_more}
+use Rattle.certificate.proofs.Imports.{ap, arith, body_lines, certificate_grammar, common_steps, delay_and_meet_lines}
+use Rattle.certificate.proofs.Imports.{drop, drop_all, entry_fault, false, flat_map, get_or, is_module, last_of, length}
+use Rattle.certificate.proofs.Imports.{lines_by_number, modules_of, refl, same_Some, slice_get, slice_get-get_or}
+use Rattle.certificate.proofs.Imports.{slice_get_within, split_module, split_other, stop_in, sym, time_in_table}
+use Rattle.certificate.proofs.Imports.{time_lines_of_gates, ℕ, ◌++◌, ◌+◌, ◌<◌, ◌∙◌, ◌∷◌, ◌≡◌, ◌≤◌, StoredModule}
+use Rattle.certificate.proofs.Imports.{StoredStop, append_assoc, map, map-append, module_lines, stop_line, stops, take}
+use Rattle.certificate.proofs.Imports.{take_more}
 use Rattle.std.proofs.lemmas.List.Folds.{flat_map-map}
 use Rattle.section_text.specs.declared.limits.Limits.{Limits}
 use Rattle.certificate.proofs.Soundness.{passed_line}
@@ -96,10 +96,7 @@ pub stops_more : (c : Circuit) (ms : List StoredModule) (i : ℕ) (m : StoredMod
     m ≡ get_or ms i m →
     all_stops (map (module_lines c) (take (i + 1) ms))
     ≡ all_stops (map (module_lines c) (take i ms)) ++ map (stop_line c) m.stops.items
-stops_more c ms i m lt is =
-    flat_map-map stops (module_lines c) (take (i + 1) ms)
-    ∙ flat_more (λ (m : StoredModule). stops (module_lines c m)) ms i m lt is
-    ∙ ap₂ (λ ss ts. ss ++ ts) (sym (flat_map-map stops (module_lines c) (take i ms))) (stops_with c m m.halos.items)
+stops_more c ms i m lt is = grind (arith, common_steps, flat_map-map, flat_more, stops_with)
 
 pub stop_more : (c : Circuit) (ss : List StopLine) (stops : List StoredStop) (i : ℕ) (s : StoredStop) →
     i < length stops → s ≡ get_or stops i s →

@@ -1,11 +1,9 @@
 -- The signals of a module after one more line.
-use Rattle.certificate.proofs.Imports.{All, All-nil, AllTimesSignal, AreRising, AreSignalLists, BorderLine, IsRising}
-use Rattle.certificate.proofs.Imports.{IsSignalWireBelow, List, LocalNet, None, Option, Pairs, Signal, Some}
-use Rattle.certificate.proofs.Imports.{StoredBorder, TimedSignal, [], all_times_of_line, append-nil, arith}
+use Rattle.certificate.proofs.Imports.{All, AreRising, AreSignalLists, BorderLine, IsRising, IsSignalWireBelow, List}
+use Rattle.certificate.proofs.Imports.{LocalNet, Option, Pairs, Signal, StoredBorder, [], all_times_of_line, arith}
 use Rattle.certificate.proofs.Imports.{border_line_cmp, cell_cmp, circuit_wire, common_steps, events_of_line}
-use Rattle.certificate.proofs.Imports.{flat_map-append, map, map-append, moment_cmp, one_or_wire, refl}
-use Rattle.certificate.proofs.Imports.{renumber_all_times, renumber_event, renumber_signal, stored_signals}
-use Rattle.certificate.proofs.Imports.{unnamed_line, wires, ℕ, ◌++◌, ◌∷◌, ◌≡◌, pairs_flat, rising_of}
+use Rattle.certificate.proofs.Imports.{moment_cmp, one_or_wire, refl, renumber_all_times, renumber_event}
+use Rattle.certificate.proofs.Imports.{renumber_signal, unnamed_line, wires, ℕ, ◌++◌, ◌∷◌, ◌≡◌, pairs_flat, rising_of}
 use Rattle.module_box.specs.Schedules.{moment_of, cell_of}
 use Rattle.certificate_lines.proofs.ModulePushes.{all_one}
 use Rattle.certificate.specs.declared.signal_lists.SignalLists.{SignalLists}
@@ -15,50 +13,18 @@ use Rattle.certificate.proofs.FullModules.{pairs_by_place}
 
 -- ---- one line
 
-renumbered_all_times : (f : ℕ → ℕ) (e : BorderLine) (t : Option ℕ) (s : Signal) →
-    map (renumber_all_times f) (all_times_of_line e t s) ≡ all_times_of_line e t (renumber_signal f s)
-renumbered_all_times f e None s = refl
-renumbered_all_times f e (Some t) s = refl
-
-renumbered_event : (f : ℕ → ℕ) (e : BorderLine) (t : Option ℕ) (s : Signal) →
-    map (renumber_event f) (events_of_line e t s) ≡ events_of_line e t (renumber_signal f s)
-renumbered_event f e None s = refl
-renumbered_event f e (Some t) s = refl
-
 own_all_times : (n : ℕ) (e : BorderLine) (t : Option ℕ) (s : Signal) → IsSignalWireBelow n s →
     All (λ h. IsSignalWireBelow n h.signal) (all_times_of_line e t s)
-own_all_times n e None s b = all_one (λ h. IsSignalWireBelow n h.signal) _ b
-own_all_times n e (Some t) s b = All-nil (λ h. IsSignalWireBelow n h.signal)
-
-own_event : (n : ℕ) (e : BorderLine) (t : Option ℕ) (s : Signal) → IsSignalWireBelow n s →
-    All (λ h. IsSignalWireBelow n h.signal) (events_of_line e t s)
-own_event n e None s b = All-nil (λ h. IsSignalWireBelow n h.signal)
-own_event n e (Some t) s b = all_one (λ h. IsSignalWireBelow n h.signal) _ b
+own_all_times n e t s h1 = grind (arith, common_steps, all_one)
 
 module _ (l : LocalNet) where
-  more_all_times : (bs : List StoredBorder) (b : StoredBorder) (s : Signal) (hs ns : List AllTimesSignal) →
-      renumber_signal (circuit_wire l) s ≡ one_or_wire b.wire →
-      ns ≡ hs ++ all_times_of_line (unnamed_line b) b.time s →
-      map (renumber_all_times (circuit_wire l)) hs ≡ (stored_signals bs).all_times →
-      map (renumber_all_times (circuit_wire l)) ns ≡ (stored_signals (bs ++ b ∷ [])).all_times
-  more_all_times bs b s hs ns same grown h =
-      grind (arith, common_steps, map-append, renumbered_all_times, append-nil, flat_map-append)
-
-  more_events : (bs : List StoredBorder) (b : StoredBorder) (s : Signal) (hs ns : List TimedSignal) →
-      renumber_signal (circuit_wire l) s ≡ one_or_wire b.wire →
-      ns ≡ hs ++ events_of_line (unnamed_line b) b.time s →
-      map (renumber_event (circuit_wire l)) hs ≡ (stored_signals bs).events →
-      map (renumber_event (circuit_wire l)) ns ≡ (stored_signals (bs ++ b ∷ [])).events
-  more_events bs b s hs ns same grown h =
-      grind (arith, common_steps, map-append, renumbered_event, append-nil, flat_map-append)
-
   pub with_border : (bs : List StoredBorder) (b : StoredBorder) (s : Signal) (old new : SignalLists) →
       renumber_signal (circuit_wire l) s ≡ one_or_wire b.wire → IsSignalWireBelow (wires l.netlist) s →
       new.all_times.items ≡ old.all_times.items ++ all_times_of_line (unnamed_line b) b.time s →
       new.events.items ≡ old.events.items ++ events_of_line (unnamed_line b) b.time s →
       AreSignalLists l bs old → AreSignalLists l (bs ++ b ∷ []) new
   with_border bs b s old new same own all_times events t =
-      grind (arith, common_steps, more_all_times, more_events, own_all_times, own_event)
+      grind (arith, common_steps, own_all_times)
 
 -- ---- all lines
 

@@ -1,12 +1,11 @@
 -- Whether some line of some module passes a test
-use Rattle.certificate_lines.proofs.Imports.{Bool, List, [], ap, false, if◌then◌else◌, list_any, list_any-append, refl}
-use Rattle.certificate_lines.proofs.Imports.{true, ◌&&◌, ◌||◌, ◌∙◌, ◌∷◌, ◌≡◌}
+use Rattle.certificate_lines.proofs.Imports.{Bool, List, [], ap, arith, common_steps, if◌then◌else◌, list_any}
+use Rattle.certificate_lines.proofs.Imports.{list_any-append, refl, ◌&&◌, ◌||◌, ◌∙◌, ◌∷◌, ◌≡◌}
 use Rattle.std.specs.List.{filter, flat_map}
 
 passes_if : {A : Type 0} (test : A → Bool) (b : Bool) (x : A) (xs : List A) (more : Bool) → list_any test xs ≡ more →
     list_any test (if b then x ∷ xs else xs) ≡ ((b && test x) || more)
-passes_if test true x xs more h = ap (λ m. test x || m) h
-passes_if test false x xs more h = h
+passes_if test b x xs more h1 = grind (arith, common_steps)
 
 pub any_filter : {A : Type 0} (keep test : A → Bool) (xs : List A) →
     list_any test (filter keep xs) ≡ list_any (λ x. keep x && test x) xs

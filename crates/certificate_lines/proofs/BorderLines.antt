@@ -1,19 +1,14 @@
 -- The form of a line by whether it has five words
-use Rattle.certificate_lines.proofs.Imports.{Bool, BorderLine, Edge, Halo, Item, List, Module, None, Option, Some, Stop}
-use Rattle.certificate_lines.proofs.Imports.{StopLine, ap, arith, border_of, bytes_eq, bytes_eq-Decides, cases_Bool}
-use Rattle.certificate_lines.proofs.Imports.{codes, common_steps, cond-false, cond-true, false, form_of, if◌then◌else◌}
-use Rattle.certificate_lines.proofs.Imports.{is_word_at, length, refl, stop_of, sym, true, ℕ, ◌==◌, ◌>>=◌, ◌∙◌, ◌≡◌}
+use Rattle.certificate_lines.proofs.Imports.{BorderLine, Edge, Halo, Item, List, None, Option, Some, Stop, StopLine, ap}
+use Rattle.certificate_lines.proofs.Imports.{arith, border_of, bytes_eq, bytes_eq-Decides, cases_Bool, codes}
+use Rattle.certificate_lines.proofs.Imports.{common_steps, cond-false, cond-true, false, form_of, is_word_at, length}
+use Rattle.certificate_lines.proofs.Imports.{stop_of, sym, true, ℕ, ◌==◌, ◌>>=◌, ◌∙◌, ◌≡◌}
 use Rattle.pattern.specs.Forms.{box_of}
 use Rattle.lemmas.proofs.Common.{test_failed, tested_value}
 use Rattle.section_text.specs.Listed.{list_of_five_words}
 use Rattle.section_text.specs.Words.{words_of_five, is_word, if_one_word, name_after_keyword, number_after_keyword}
 use Rattle.section_text.specs.declared.words.FiveWords.{FiveWords}
-use Rattle.section_text.specs.declared.section.Form.TheVariants.{Header, End}
-use Rattle.certificate_lines.specs.Forms.{CertificateForm, form_of_not_five_words}
-
-same_none : (b : Bool) (x : Option CertificateForm) → x ≡ None → (if b then None else x) ≡ None
-same_none true x e = refl
-same_none false x e = e
+use Rattle.certificate_lines.specs.Forms.{form_of_not_five_words}
 
 -- ---- lines of five words
 
@@ -34,7 +29,7 @@ pub no_long_form : (w : FiveWords) → bytes_eq w.first.now (codes "edge") ≡ f
     bytes_eq w.first.now (codes "halo") ≡ false → bytes_eq w.first.now (codes "stop") ≡ false →
     bytes_eq w.first.now (codes "module") ≡ false → None ≡ form_of (list_of_five_words w)
 unfolding form_of is_word_at if_one_word name_after_keyword number_after_keyword
-no_long_form w e h s m = grind (arith, common_steps, cond-false, same_none)
+no_long_form w e h s m = grind (arith, common_steps, cond-false)
 
 -- a line that begins with `stop`
 pub stop_form : (ws : List (List ℕ)) (o : Option StopLine) → is_word_at ws 0 (codes "edge") ≡ false →
@@ -61,8 +56,7 @@ no_stop ws e = sym (cond-false _ _ _ (test_failed (length ws == 5) ws (sym e)))
 
 -- a word that is one keyword is no other
 other_word : (o : Option (List ℕ)) (k m : List ℕ) → bytes_eq k m ≡ false → is_word o k ≡ true → is_word o m ≡ false
-other_word None k m d e = refl
-other_word (Some w) k m d e = ap (λ z. bytes_eq z m) ((bytes_eq-Decides w k).0 e) ∙ d
+other_word o k m h1 h2 = grind (arith, common_steps, bytes_eq-Decides)
 
 -- a line that begins with the keyword of a line of five words
 no_short_form : (ws : List (List ℕ)) (k : List ℕ) → is_word_at ws 0 k ≡ true → bytes_eq k (codes "cut") ≡ false →
@@ -71,23 +65,11 @@ no_short_form : (ws : List (List ℕ)) (k : List ℕ) → is_word_at ws 0 k ≡ 
 unfolding form_of_not_five_words is_word_at
 no_short_form ws k is a b c d e = grind (arith, common_steps, cond-false, other_word)
 
--- the tests from that of `module` on
-from_module : (ws : List (List ℕ)) → box_of ws ≡ None →
-    (if is_word_at ws 0 (codes "module") then (box_of ws >>= λ b. Some (Item (Module b)))
-    else if is_word_at ws 0 (codes "certificate") then (number_after_keyword ws >>= λ v. Some (Header v))
-    else if is_word_at ws 0 (codes "end") then if_one_word ws End
-    else None)
-    ≡ (if is_word_at ws 0 (codes "certificate") then (number_after_keyword ws >>= λ v. Some (Header v))
-    else if is_word_at ws 0 (codes "end") then if_one_word ws End
-    else None)
-unfolding is_word_at
-from_module ws none = grind (arith, common_steps, cases_Bool, cond-true, cond-false, other_word)
-
 short_is : (ws : List (List ℕ)) → border_of ws ≡ None → stop_of ws ≡ None → box_of ws ≡ None →
     form_of_not_five_words ws ≡ form_of ws
 unfolding form_of_not_five_words form_of
 short_is ws border stop area =
-    grind (arith, common_steps, cases_Bool, no_short_form, cond-true, cond-false, from_module)
+    grind (arith, common_steps, cases_Bool, no_short_form, cond-true, cond-false)
 
 pub short_form_is : (ws : List (List ℕ)) → None ≡ words_of_five ws → form_of_not_five_words ws ≡ form_of ws
 unfolding words_of_five border_of stop_of box_of

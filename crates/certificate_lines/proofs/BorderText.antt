@@ -2,13 +2,12 @@
 use Rattle.certificate_lines.proofs.Imports.{BorderLine, Cut, Edge, Halo, Item, List, None, Option, Some, Stop}
 use Rattle.certificate_lines.proofs.Imports.{StopLine, Use, [], and_parts, ap, arith, border_of, bytes_eq}
 use Rattle.certificate_lines.proofs.Imports.{bytes_eq-Decides, cases_Bool, cell, codes, common_steps, cond-false, drop}
-use Rattle.certificate_lines.proofs.Imports.{false, false≢true, form_of, inl, inr, is_word_at, length, list_all}
-use Rattle.certificate_lines.proofs.Imports.{nat_tests, refl, stop_of, subst, suc, sym, take, take_rest, true, words_of}
-use Rattle.certificate_lines.proofs.Imports.{ℕ, ◌++◌, ◌-◌, ◌<◌, ◌==◌, ◌>>=◌, ◌∙◌, ◌∷◌, ◌≡◌}
-use Rattle.lemmas.proofs.Common.{begins_with, join_with_byte, join_with_byte-slice_split, onto_first}
-use Rattle.lemmas.proofs.Common.{slice_split-cons_no}
+use Rattle.certificate_lines.proofs.Imports.{false, false≢true, form_of, inl, inr, is_word_at, length, list_all, refl}
+use Rattle.certificate_lines.proofs.Imports.{stop_of, subst, suc, sym, take, take_rest, true, words_of, ℕ, ◌++◌, ◌-◌}
+use Rattle.certificate_lines.proofs.Imports.{◌<◌, ◌==◌, ◌>>=◌, ◌∙◌, ◌∷◌, ◌≡◌}
+use Rattle.lemmas.proofs.Common.{begins_with, join_with_byte, join_with_byte-slice_split, slice_split-cons_no}
 use Rattle.section_text.specs.Leading.{leading_number}
-use Rattle.section_text.specs.Words.{is_lower, is_name, is_name_byte, is_space, name_at, name_of, number_at, number_of}
+use Rattle.section_text.specs.Words.{is_name, is_name_byte, name_at, name_of, number_at, number_of}
 use Rattle.section_text.proofs.Splitting.{letter_is_no_space, lone_name_is, lone_number_is, some_words}
 use Rattle.pattern.specs.Forms.{cell_of_words_from}
 use Rattle.certificate_lines.specs.BorderWords.{leading_star_or_time, one_or_name_of_one_word, one_or_name_from_word}
@@ -34,25 +33,14 @@ other_first k m l n is other w v vs e = elim (cases_Bool (bytes_eq w k)) [
 
 -- ---- steps that may fail
 
-step_in_step : {A B C : Type 0} (o : Option A) (f : A → Option B) (g : B → Option C) →
-    ((o >>= f) >>= g) ≡ (o >>= λ a. f a >>= g)
-step_in_step None f g = refl
-step_in_step (Some a) f g = refl
-
 same_steps : {A B : Type 0} (o : Option A) (f g : A → Option B) → ((a : A) → f a ≡ g a) → (o >>= f) ≡ (o >>= g)
-same_steps None f g same = refl
-same_steps (Some a) f g same = same a
-
-no_step : {A B : Type 0} (o : Option A) (f : A → Option B) → ((a : A) → f a ≡ None) → (o >>= f) ≡ None
-no_step None f none = refl
-no_step (Some a) f none = none a
+same_steps o f g h1 = grind (arith, common_steps)
 
 -- ---- the time
 
 star_leads : (ws : List (List ℕ)) → 0 < length ws → Some (None, ws) ≡ leading_star_or_time (codes "*" ∷ ws)
 unfolding leading_star_or_time star_or_time_from_word
-star_leads [] some = absurd (omega arith)
-star_leads (v ∷ vs) some = refl
+star_leads ws h1 = grind (arith, common_steps)
 
 pub star_time : (l : List ℕ) → bytes_eq (take 2 l) (codes "* ") ≡ true →
     Some (None, words_of (drop 2 l)) ≡ leading_star_or_time (words_of l)
@@ -65,12 +53,7 @@ time_leads : (ws : List (List ℕ)) →
     ((w v : List ℕ) (vs : List (List ℕ)) → ws ≡ w ∷ v ∷ vs → bytes_eq w (codes "*") ≡ false) →
     (leading_number ws >>= timed) ≡ leading_star_or_time ws
 unfolding leading_number leading_star_or_time star_or_time_from_word
-time_leads [] other = refl
-time_leads (w ∷ []) other = refl
-time_leads (w ∷ v ∷ vs) other =
-    step_in_step (number_of w) (λ n. Some (n, v ∷ vs)) timed
-    ∙ sym (step_in_step (number_of w) (λ t. Some (Some t)) (λ t. Some (t, v ∷ vs)))
-    ∙ ap (λ o. o >>= λ t. Some (t, v ∷ vs)) (sym (cond-false _ _ _ (other w v vs refl)))
+time_leads ws h1 = grind (arith, common_steps, cond-false)
 
 pub number_time : (l : List ℕ) (o : Option (ℕ × List (List ℕ))) → bytes_eq (take 2 l) (codes "* ") ≡ false →
     o ≡ leading_number (words_of l) → (o >>= timed) ≡ leading_star_or_time (words_of l)
@@ -79,18 +62,14 @@ number_time l o other is = ap (λ r. r >>= timed) is
 
 -- ---- the signal
 
-small_letter : (b : ℕ) → is_lower b ≡ true → is_space b ≡ false
-small_letter b e = grind (arith, nat_tests)
-
 letters : (bs : List ℕ) → list_all is_name_byte bs ≡ true → words_of bs ≡ bs ∷ []
 letters [] e = refl
 letters (b ∷ bs) e =
-    let all = and_parts (is_name_byte b) (list_all is_name_byte bs) e in
-    slice_split-cons_no is_space b bs (letter_is_no_space b all.0) ∙ ap (onto_first b) (letters bs all.1)
+    grind (arith, common_steps, and_parts, slice_split-cons_no, letter_is_no_space, letters bs)
 
 name_word : (w : List ℕ) → is_name w ≡ true → words_of w ≡ w ∷ []
 name_word [] e = absurd cc
-name_word (b ∷ bs) e = grind (arith, common_steps, and_parts, slice_split-cons_no, small_letter, letters)
+name_word (b ∷ bs) e = grind (arith, common_steps, and_parts, slice_split-cons_no, letters)
 
 no_signal : (l : List ℕ) → one_or_name_from_word l ≡ None → (ws : List (List ℕ)) → words_of l ≡ ws →
     one_or_name_of_one_word ws ≡ one_or_name_from_word l
@@ -142,12 +121,12 @@ unfolding border_of border_of_five_words star_or_time_at_word one_or_name_at_wor
     one_or_name_of_one_word star_or_time_from_word one_or_name_from_word after_time after_column after_row after_signal
 steps k [] = refl
 steps k (a ∷ []) = refl
-steps k (a ∷ b ∷ []) = sym (grind (arith, common_steps, step_in_step, after_time, no_step))
-steps k (a ∷ b ∷ c ∷ []) = grind (arith, common_steps, step_in_step, after_time, no_step, after_column)
+steps k (a ∷ b ∷ []) = sym (grind (arith, common_steps, after_time))
+steps k (a ∷ b ∷ c ∷ []) = grind (arith, common_steps, after_time, after_column)
 steps k (a ∷ b ∷ c ∷ d ∷ []) =
-    grind (arith, common_steps, same_steps, step_in_step, after_time, after_column, after_row)
+    grind (arith, common_steps, same_steps, after_time, after_column, after_row)
 steps k (a ∷ b ∷ c ∷ d ∷ e ∷ ws) =
-    grind (arith, common_steps, cond-false, not_five, step_in_step, after_time, no_step, after_column, after_row)
+    grind (arith, common_steps, cond-false, not_five, after_time, after_column, after_row)
 
 pub no_time : (k : List ℕ) (ws : List (List ℕ)) → leading_star_or_time ws ≡ None → None ≡ border_of (k ∷ ws)
 no_time k ws t = sym (steps k ws ∙ ap (λ o. o >>= after_time) t)
@@ -194,9 +173,7 @@ halo_line l o halo is =
 pub stop_line : (l : List ℕ) (o : Option StopLine) → bytes_eq (take 5 l) (codes "stop ") ≡ true →
     o ≡ stop_of (words_of l) → (o >>= λ s. Some (Item (Stop s))) ≡ form_of (words_of l)
 unfolding is_word_at
-stop_line l o stop is =
-    let words : words_of l ≡ codes "stop" ∷ words_of (drop 5 l) = ap words_of (begins_with (codes "stop ") l 5 stop) in
-    grind (arith, common_steps, stop_form)
+stop_line l o stop is = grind (arith, common_steps, begins_with, stop_form)
 
 pub cut_line : (l : List ℕ) (o : Option (List ℕ)) → bytes_eq (take 4 l) (codes "cut ") ≡ true →
     o ≡ name_of (take (length l - 4) (drop 4 l)) → (o >>= λ n. Some (Item (Cut n))) ≡ form_of (words_of l)

@@ -1,24 +1,20 @@
 -- The modules so far, after one more module and after one more line.
-use Rattle.certificate_lines.proofs.Imports.{AreApart, AreBuilt, AreGoodModulesSoFar, AreInOrder, Box2}
-use Rattle.certificate_lines.proofs.Imports.{Cell, CertificateLine, IsEven, IsInside, IsModule}
-use Rattle.certificate_lines.proofs.Imports.{IsModuleInLimits, LayoutHeader, List, ModuleLines, None, Option}
-use Rattle.certificate_lines.proofs.Imports.{RefusalCode, Setting, Some, StarsExcludeLaterTimes, []}
-use Rattle.certificate_lines.proofs.Imports.{ap, areas, arith, module_box_code, change_last, common_steps}
-use Rattle.certificate_lines.proofs.Imports.{false, has_nonlocal_port, in_box, inl, inr}
-use Rattle.certificate_lines.proofs.Imports.{is_last_module_incomplete, is_odd, last_of, length, length-map}
-use Rattle.certificate_lines.proofs.Imports.{length_push}
-use Rattle.certificate_lines.proofs.Imports.{map-append, module_line_code}
-use Rattle.certificate_lines.proofs.Imports.{module_with_line, nat_tests, none_at, pushed}
-use Rattle.certificate_lines.proofs.Imports.{rectangle_cells, refl, slice_get, slice_get_within}
-use Rattle.certificate_lines.proofs.Imports.{subst, sym, true, true≢false, ℕ, ℤ, ◌%◌, ◌++◌, ◌+◌, ◌-◌, ◌<◌}
-use Rattle.certificate_lines.proofs.Imports.{◌∙◌, ◌∷◌, ◌≡◌, ◌≤◌}
-use Rattle.lemmas.proofs.Common.{not_below_by_test, or_parts}
-use Rattle.certificate_lines.specs.Rules.{is_bad_box_side, is_misplaced, overlaps, in_boxes}
+use Rattle.certificate_lines.proofs.Imports.{AreApart, AreBuilt, AreGoodModulesSoFar, AreInOrder, Box2, Cell}
+use Rattle.certificate_lines.proofs.Imports.{CertificateLine, IsEven, IsInside, IsModule, IsModuleInLimits}
+use Rattle.certificate_lines.proofs.Imports.{LayoutHeader, List, ModuleLines, None, Option, RefusalCode, Setting, Some}
+use Rattle.certificate_lines.proofs.Imports.{StarsExcludeLaterTimes, [], ap, areas, arith, module_box_code, change_last}
+use Rattle.certificate_lines.proofs.Imports.{common_steps, false, has_nonlocal_port, in_box, inl, inr}
+use Rattle.certificate_lines.proofs.Imports.{is_last_module_incomplete, last_of, length, length-map, length_push}
+use Rattle.certificate_lines.proofs.Imports.{map-append, module_line_code, module_with_line, nat_tests, none_at, pushed}
+use Rattle.certificate_lines.proofs.Imports.{rectangle_cells, refl, slice_get, slice_get_within, subst, sym, true}
+use Rattle.certificate_lines.proofs.Imports.{true≢false, ℕ, ℤ, ◌%◌, ◌++◌, ◌+◌, ◌-◌, ◌<◌, ◌∙◌, ◌∷◌, ◌≡◌, ◌≤◌}
+use Rattle.lemmas.proofs.Common.{or_parts}
+use Rattle.certificate_lines.specs.Rules.{is_bad_box_side, overlaps, in_boxes}
 use Rattle.certificate_lines.proofs.Growing.{areas_changed, length_changed, changed_at, last_at, last_by_place}
 use Rattle.certificate_lines.proofs.Lists.{any_at}
 use Rattle.certificate_lines.proofs.ModulePushes.{no_code, less}
 use Rattle.certificate_lines.proofs.PortLemmas.{has_cell}
-use Rattle.module_box.specs.Tiling.{ArePartOwners, OwnersView, PutsBox}
+use Rattle.module_box.specs.Tiling.{OwnersView, PutsBox}
 use Rattle.bbm_rule.proofs.RectangleLemmas.{in_box_cells}
 use Rattle.lemmas.specs.Bounds.{max_modules}
 use Rattle.section_text.proofs.Codes.{both_none}
@@ -33,14 +29,6 @@ pub record IsGoodBox (s : LayoutHeader) (b : Box2) : Type 0 where
 
 side : (n : ℕ) → is_bad_box_side n ≡ false → (n % 2 ≡ 0) × (2 ≤ n) × (n ≤ 64)
 side n e = (grind (arith, nat_tests), grind (arith, nat_tests), grind (arith, nat_tests))
-
-even_by : (n : ℕ) → is_odd n ≡ false → n % 2 ≡ 0
-even_by n e = grind (arith, nat_tests)
-
-box_good : (s : LayoutHeader) (b : Box2) → is_bad_box_side b.w ≡ false → is_bad_box_side b.h ≡ false →
-    is_misplaced s b ≡ false →
-    IsGoodBox s b
-box_good s b wide high placed = grind (arith, common_steps, side, or_parts, even_by, not_below_by_test)
 
 -- what the tests of a `module` line say
 pub record IsGoodModule (g : Setting) (ms : List ModuleLines) (before : Option ModuleLines) (b : Box2) : Type 0 where
@@ -59,7 +47,7 @@ pub passes_alone : (g : Setting) (count : ℕ) (before : Option ModuleLines) (b 
     module_box_code g count before b ≡ None →
     PassesAlone g count before b
 unfolding module_box_code
-passes_alone g count before b e = grind (arith, common_steps, both_none, or_parts, no_code, less, box_good)
+passes_alone g count before b e = grind (arith, common_steps, both_none, or_parts, no_code, less)
 
 pub good_module : (g : Setting) (ms : List ModuleLines) (before : Option ModuleLines) (b : Box2) →
     module_line_code g ms before b ≡ None → IsGoodModule g ms before b
@@ -111,9 +99,6 @@ module _ (g : Setting) (ms : List ModuleLines) where
   pub sound_none : AreGoodModulesSoFar g []
   sound_none = grind (arith, common_steps, none_at)
 
-  pub built_none : (o : OwnersView) → o.width ≡ g.size.w → o.height ≡ g.size.h → ArePartOwners o [] → AreBuilt g [] o
-  built_none o w h none = record { sound = sound_none; owners = record { width = w; height = h; boxes = none } }
-
   abbrev new_module : Box2 → ModuleLines
   new_module b = record { area = b; lines = [] }
 
@@ -121,8 +106,7 @@ module _ (g : Setting) (ms : List ModuleLines) where
       has_nonlocal_port g m ≡ false) → is_last_module_incomplete g (last_of ms) ≡ false
       → (i : ℕ) (m : ModuleLines) → i + 1 < length (ms ++ new_module b ∷ []) →
       slice_get (ms ++ new_module b ∷ []) i ≡ Some m → has_nonlocal_port g m ≡ false
-  ported_push b before complete i m lt e =
-      grind (arith, common_steps, pushed, new_module, slice_get_within, length_push, last_is)
+  ported_push b before complete i m lt e = grind (arith, common_steps, pushed, slice_get_within, length_push, last_is)
 
   pub module_sound : (b : Box2) → AreGoodModulesSoFar g ms → IsGoodModule g ms (last_of ms) b →
       AreGoodModulesSoFar g (ms ++ new_module b ∷ [])
@@ -138,15 +122,7 @@ module _ (g : Setting) (ms : List ModuleLines) where
 
   pub module_built : (b : Box2) (old new : OwnersView) → AreBuilt g ms old → IsGoodModule g ms (last_of ms) b →
       (number : ℕ) → number ≡ length ms → PutsBox b number old new → AreBuilt g (ms ++ new_module b ∷ []) new
-  module_built b old new built good number is puts = record {
-    sound = module_sound b built.sound good;
-    owners = record {
-      width = puts.width ∙ built.owners.width;
-      height = puts.height ∙ built.owners.height;
-      boxes = subst (ArePartOwners new) (sym (areas_push ms (new_module b))) (puts.boxes (areas ms) built.owners.boxes
-          (is ∙ sym (length-map ms (λ (m : ModuleLines). m.area))) (let few = good.few in omega (arith, is, few)));
-    };
-  }
+  module_built b old new built good number is puts = grind (arith, common_steps, module_sound, areas_push, length-map)
 
   -- one more line of the last module
   pub line_sound : (i : CertificateLine) → AreGoodModulesSoFar g ms →
@@ -168,9 +144,5 @@ module _ (g : Setting) (ms : List ModuleLines) where
       AreBuilt g (change_last (module_with_line i) ms) o
   line_built i o built grows = record {
     sound = line_sound i built.sound grows;
-    owners = record {
-      width = built.owners.width;
-      height = built.owners.height;
-      boxes = subst (ArePartOwners o) (sym (areas_changed i ms)) built.owners.boxes;
-    };
+    owners = grind (arith, common_steps, areas_changed);
   }

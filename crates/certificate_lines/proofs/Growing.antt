@@ -1,9 +1,9 @@
 -- The modules of lines after one more line.
-use Rattle.certificate_lines.proofs.Imports.{CertificateLine, IsBodyLine, List, Module, ModuleLines, Some, [], add_line}
-use Rattle.certificate_lines.proofs.Imports.{ap, append-nil}
-use Rattle.certificate_lines.proofs.Imports.{areas, arith, change_last, common_steps, flat_map, flat_map-append, inl}
-use Rattle.certificate_lines.proofs.Imports.{inr, last_of, length, map, module_with_line, modules_of, option_map, refl}
-use Rattle.certificate_lines.proofs.Imports.{slice_get, suc, sym, zero, ℕ, ◌++◌, ◌+◌, ◌-◌, ◌<◌, ◌∙◌, ◌∷◌, ◌≡◌, ◌⊎◌}
+use Rattle.certificate_lines.proofs.Imports.{CertificateLine, IsBodyLine, List, ModuleLines, Some, [], add_line, ap}
+use Rattle.certificate_lines.proofs.Imports.{append-nil, areas, arith, change_last, common_steps, flat_map}
+use Rattle.certificate_lines.proofs.Imports.{flat_map-append, inl, inr, last_of, length, map, module_with_line}
+use Rattle.certificate_lines.proofs.Imports.{modules_of, option_map, refl, slice_get, suc, sym, zero, ℕ, ◌++◌, ◌+◌, ◌-◌}
+use Rattle.certificate_lines.proofs.Imports.{◌<◌, ◌∙◌, ◌∷◌, ◌≡◌, ◌⊎◌}
 use Rattle.lemmas.proofs.Common.{fold_push}
 use Rattle.certificate_lines.proofs.Lists.{some_is}
 
@@ -16,8 +16,7 @@ modules_push es i = fold_push add_line [] es i
 pub body_step : (i : CertificateLine) → IsBodyLine i → (ms : List ModuleLines) →
     add_line ms i ≡ change_last (module_with_line i) ms
 unfolding add_line
-body_step (Module b) body ms = absurd body
-body_step _ body ms = refl
+body_step i h1 ms = grind (arith, common_steps)
 
 pub flat_push : {X A : Type 0} (f : X → List A) (xs : List X) (x : X) → flat_map f (xs ++ x ∷ []) ≡ flat_map f xs ++ f x
 flat_push f xs x = flat_map-append f xs (x ∷ []) ∙ ap (λ l. flat_map f xs ++ l) (append-nil (f x))

@@ -1,47 +1,34 @@
 -- The tables of the lines after one more line.
-use Rattle.certificate_lines.proofs.Imports.{AreBuilt, AreInOrder, AreLocalWiresOfModules, Bool, BorderLine}
-use Rattle.certificate_lines.proofs.Imports.{Box2, Cell, CertificateLine, Circuit, Cut, Edge, Halo}
-use Rattle.certificate_lines.proofs.Imports.{IsBodyLine, IsModule, IsModuleInLimits, Keep, LineKey, List, Module}
-use Rattle.certificate_lines.proofs.Imports.{ModuleLines, None, Option, OutOfOrder, Port, RefusalCode, Setting, Some}
-use Rattle.certificate_lines.proofs.Imports.{Stop, Use, [], add_line, ap, append-nil, arith, body_line_code}
-use Rattle.certificate_lines.proofs.Imports.{change_last, code_if, common_steps, content_code, edge_in, false, flat_map}
-use Rattle.certificate_lines.proofs.Imports.{halo_in, has_nonlocal_port, in_box, is_last_module_incomplete, is_local}
-use Rattle.certificate_lines.proofs.Imports.{is_starred_line_at, key_of, key_or_first, known, last_body_line}
-use Rattle.certificate_lines.proofs.Imports.{last_module, last_of, list_any, list_any-append, may_follow}
-use Rattle.certificate_lines.proofs.Imports.{module_line_code, module_with_line, modules_of, not, IfSome, option_map}
-use Rattle.certificate_lines.proofs.Imports.{option_to_list, or_else, refl, same_cell, size_fault, size_sides, subst}
-use Rattle.certificate_lines.proofs.Imports.{sym, true, true_from_not, ℕ, ◌&&◌, ◌++◌, ◌+◌, ◌||◌, ◌∙◌, ◌∷◌, ◌≡◌, ◌≤◌}
-use Rattle.certificate_lines.proofs.Imports.{length}
+use Rattle.certificate_lines.proofs.Imports.{AreBuilt, AreInOrder, AreLocalWiresOfModules, Bool, BorderLine, Box2, Cell}
+use Rattle.certificate_lines.proofs.Imports.{CertificateLine, Circuit, Cut, IsBodyLine, IsModule, IsModuleInLimits}
+use Rattle.certificate_lines.proofs.Imports.{LineKey, List, Module, ModuleLines, None, Option, OutOfOrder, Port}
+use Rattle.certificate_lines.proofs.Imports.{RefusalCode, Setting, Some, Use, [], add_line, ap, append-nil, arith}
+use Rattle.certificate_lines.proofs.Imports.{body_line_code, change_last, code_if, common_steps, content_code, edge_in}
+use Rattle.certificate_lines.proofs.Imports.{false, halo_in, has_nonlocal_port, in_box, is_last_module_incomplete}
+use Rattle.certificate_lines.proofs.Imports.{is_local, is_starred_line_at, key_of, key_or_first, known, last_body_line}
+use Rattle.certificate_lines.proofs.Imports.{last_module, last_of, list_any, may_follow, module_line_code}
+use Rattle.certificate_lines.proofs.Imports.{module_with_line, modules_of, not, IfSome, option_map, option_to_list}
+use Rattle.certificate_lines.proofs.Imports.{or_else, refl, same_cell, size_fault, size_sides, subst, sym, true}
+use Rattle.certificate_lines.proofs.Imports.{true_from_not, ℕ, ◌&&◌, ◌++◌, ◌+◌, ◌||◌, ◌∙◌, ◌∷◌, ◌≡◌, ◌≤◌, length}
 use Rattle.certificate_lines.specs.Modules.{IsWithinLineLimit}
 use Rattle.certificate_lines.specs.Rules.{line_fault}
 use Rattle.certificate_lines.specs.BuilderView.{IsEdgeHaloOrStopLine, IsLastModule, IsTracked, IsTrackedWith}
-use Rattle.certificate_lines.specs.BuilderView.{optional_gate_outs, wires_made_local}
-use Rattle.certificate_lines.proofs.BuiltLemmas.{built_none, module_built, line_built, good_module}
-use Rattle.certificate_lines.proofs.Growing.{modules_push, flat_push, last_at, last_pushed, last_changed, body_step}
+use Rattle.certificate_lines.specs.BuilderView.{wires_made_local}
+use Rattle.certificate_lines.proofs.BuiltLemmas.{module_built, line_built, good_module}
+use Rattle.certificate_lines.proofs.Growing.{modules_push, last_at, last_pushed, last_changed, body_step}
 use Rattle.certificate_lines.proofs.Lists.{some_is}
 use Rattle.certificate_lines.proofs.OrderLemmas.{inner_pushed, key_pushed, module_key, module_pushed}
-use Rattle.certificate_lines.proofs.LackedWires.{wires_begun, wires_more}
-use Rattle.certificate_lines.proofs.ModulePushes.{no_code, new_wire, good_use, known_cut, known_use}
-use Rattle.certificate_lines.proofs.ModulePushes.{known_same, pushed}
+use Rattle.certificate_lines.proofs.LackedWires.{wires_more}
+use Rattle.certificate_lines.proofs.ModulePushes.{no_code, new_wire, good_use, known_cut, known_same, pushed}
 use Rattle.module_box.specs.Tiling.{ArePartOwners, OwnersView, PutsBox}
 use Rattle.lemmas.specs.Bounds.{max_side}
 use Rattle.section_text.proofs.Codes.{both_none}
-
-no_last : {X : Type 0} (x : X) → None ≡ Some x → ⊥
-no_last x e = cc
-
-pub kept_none : (g : Setting) (owners : OwnersView) → owners.width ≡ g.size.w → owners.height ≡ g.size.h →
-    ArePartOwners owners [] → (local : List ℕ) (e h : List Cell) →
-    IsTracked g [] owners None local e h
-unfolding modules_of last_of
-kept_none g owners w h dead local e f = grind (arith, common_steps, built_none, no_last)
 
 -- ---- the last module
 
 pub mapped_some : {X Y : Type 0} (f : X → Y) (o : Option X) (y : Y) → option_map f o ≡ Some y →
     (x : X) × (o ≡ Some x) × (y ≡ f x)
-mapped_some f None y e = absurd cc
-mapped_some f (Some x) y e = (x, refl, sym (some_is (f x) y e))
+mapped_some f o y h1 = grind (arith, common_steps, some_is)
 
 -- ---- a line of the last module
 
@@ -72,9 +59,7 @@ made_local g m is (Cut n) inner follows good =
     known_cut g m is n follows words.wire words.named
     ∙ ap (λ o. known g.circuit m ++ option_to_list o) (sym words.named)
 made_local g m is (Use k) inner follows good =
-    let words = (good_use g.circuit _ _ k good).1 in
-    known_use g m k words.gate words.numbered
-    ∙ ap (λ o. known g.circuit m ++ optional_gate_outs o) (sym words.numbered)
+    grind (arith, common_steps, good_use)
 made_local g m is i inner follows good = known_same g m i refl refl ∙ sym (append-nil (known g.circuit m))
 
 -- a list of the cells of starred lines, after one more line
@@ -96,8 +81,7 @@ module _ (g : Setting) (es : List CertificateLine) (owners : OwnersView) (last :
     where
       within : (o : Option ModuleLines) → ((m : ModuleLines) → o ≡ Some m → IsWithinLineLimit m) →
           IfSome o IsWithinLineLimit
-      within None h = tt
-      within (Some m) h = h m refl
+      within o h1 = grind (arith, common_steps)
 
   pub last_known : (m : ModuleLines) → last_module es ≡ Some m → local ≡ known g.circuit m
   last_known m some = (kept.last_module m some).wires
@@ -152,22 +136,15 @@ module _ (g : Setting) (es : List CertificateLine) (owners : OwnersView) (last :
 
     pub wires_after : known g.circuit (module_with_line i good.module_lines)
         ≡ known g.circuit good.module_lines ++ wires_made_local g.circuit i
-    wires_after = made_local g good.module_lines
-        (last_good good.module_lines good.last) i inner good.follows good.words
+    wires_after = grind (arith, common_steps, made_local, last_good)
 
     the_same : (m : ModuleLines) → last_module es ≡ Some m → good.module_lines ≡ m
     the_same m some = some_is good.module_lines m (sym good.last ∙ some)
 
-    more_stars : (c : Cell) (f : CertificateLine → List BorderLine) (m : ModuleLines) (old new : List Cell) →
-        list_any (same_cell c) old ≡ list_any (is_starred_line_at c) (flat_map f m.lines)
-        → list_any (same_cell c) new ≡ (list_any (same_cell c) old || list_any (is_starred_line_at c) (f i)) →
-        list_any (same_cell c) new ≡ list_any (is_starred_line_at c) (flat_map f (m.lines ++ i ∷ []))
-    more_stars c f m old new before after = grind (arith, common_steps, list_any-append, flat_push)
-
     last_after : (e' h' : List Cell) → AreStarsWith edge_in i e e' → AreStarsWith halo_in i h h' →
         IsLastModule g good.module_lines last local e h →
         IsLastModule g (module_with_line i good.module_lines) (Some i) (local ++ wires_made_local g.circuit i) e' h'
-    last_after e' h' stars halo_stars p = grind (arith, common_steps, last_pushed, more_stars, wires_after)
+    last_after e' h' stars halo_stars p = grind (arith, common_steps, last_pushed, wires_after)
 
     pub kept_inner : (e' h' : List Cell) → AreStarsWith edge_in i e e' → AreStarsWith halo_in i h h' →
         IsTracked g (es ++ i ∷ []) owners (Some i) (local ++ wires_made_local g.circuit i) e' h'
@@ -202,25 +179,17 @@ module _ (g : Setting) (es : List CertificateLine) (owners : OwnersView) (last :
     kept_module good number is puts =
         let more : modules_of (es ++ Module b ∷ []) ≡ modules_of es ++ begun_lines ∷ [] = modules_push es (Module b) in
         record {
-          built = subst (λ ms. AreBuilt g ms new_owners) (sym more)
-              (module_built g (modules_of es) b owners new_owners kept.built
-              (good_module g (modules_of es) (last_module es) b good) number is puts);
+          built = grind (arith, common_steps, module_built, good_module);
           last_module = grind (arith, common_steps, some_is, begun_lines, last_pushed, begun_present);
         }
 
 -- ---- edge, halo and stop lines
 
 pub border_is_inner : (i : CertificateLine) → IsEdgeHaloOrStopLine i → IsBodyLine i
-border_is_inner (Cut n) border = absurd border
-border_is_inner (Use k) border = absurd border
-border_is_inner (Keep k) border = absurd border
-border_is_inner _ border = border
+border_is_inner i h1 = grind (arith, common_steps)
 
 border_wires : (c : Circuit) (i : CertificateLine) → IsEdgeHaloOrStopLine i → wires_made_local c i ≡ []
-border_wires c (Edge e) border = refl
-border_wires c (Halo e) border = refl
-border_wires c (Stop s) border = refl
-border_wires c _ border = absurd border
+border_wires c i h1 = grind (arith, common_steps)
 
 -- ---- with the wires of all modules
 
@@ -228,7 +197,7 @@ pub with_none : (g : Setting) (owners : OwnersView) → owners.width ≡ g.size.
     ArePartOwners owners [] → (e h : List Cell) → (key : LineKey) → key ≡ key_or_first None →
     IsTrackedWith g [] owners (last_body_line []) key [] [] e h
 unfolding modules_of last_of
-with_none g owners w high dead e h key first = grind (arith, common_steps, kept_none)
+with_none g owners w high dead e h key first = grind (arith, common_steps)
 
 module _ (g : Setting) (es : List CertificateLine) (owners : OwnersView) (last : Option CertificateLine)
     (key : LineKey) (earlier : List (List ℕ)) (local : List ℕ) (e h : List Cell)
@@ -270,6 +239,6 @@ module _ (g : Setting) (es : List CertificateLine) (owners : OwnersView) (last :
       l (key_or_first None)
       (earlier ++ local ∷ []) [] [] []) (sym (module_pushed es b)) (record {
         kept = kept_module g es owners last local e h was.kept new_owners b good number is puts;
-        wires = grind (arith, common_steps, modules_push, wires_begun);
+        wires = grind (arith, common_steps, modules_push);
         key_is = module_key es b;
       })

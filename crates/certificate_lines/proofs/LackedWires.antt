@@ -17,11 +17,7 @@ use Rattle.certificate_lines.proofs.Lists.{some_is}
 -- ---- tests of two lists
 
 or_exchange : (a b c d : Bool) → ((a || b) || (c || d)) ≡ ((a || c) || (b || d))
-or_exchange true b c d = refl
-or_exchange false true true d = refl
-or_exchange false true false d = refl
-or_exchange false false true d = refl
-or_exchange false false false d = refl
+or_exchange a b c d = grind (arith, common_steps)
 
 module _ {X : Type 0} where
   pub any_either : (f g : X → Bool) (xs : List X) → list_any (λ x. f x || g x) xs ≡ (list_any f xs || list_any g xs)
@@ -89,11 +85,6 @@ split_last f (y ∷ []) x e =
 split_last f (y ∷ z ∷ xs) x e =
     let rest = split_last f (z ∷ xs) x e in
     record { start = y ∷ rest.start; was = ap (λ l. y ∷ l) rest.was; now = ap (λ l. y ∷ l) rest.now }
-
-pub wires_begun : (c : Circuit) (ms : List ModuleLines) (m : ModuleLines) (earlier : List (List ℕ)) (local : List ℕ) →
-    known c m ≡ [] → AreLocalWiresOfModules c ms earlier local →
-    AreLocalWiresOfModules c (ms ++ m ∷ []) (earlier ++ local ∷ []) []
-wires_begun c ms m earlier local none h = grind (arith, common_steps, map-append)
 
 pub wires_more : (c : Circuit) (f : ModuleLines → ModuleLines) (ms : List ModuleLines) (m : ModuleLines)
     (earlier : List (List ℕ)) (local more : List ℕ) → last_of ms ≡ Some m → known c (f m) ≡ known c m ++ more →

@@ -40,8 +40,7 @@ port_stands (p ∷ ports) x y name e =
 
 absent_here : (b : Bool) (n : List ℕ) (o : Option (List ℕ)) → (if b then Some n else o) ≡ None →
     (b ≡ false) × (o ≡ None)
-absent_here true n o e = absurd cc
-absent_here false n o e = (refl, e)
+absent_here b n o h1 = grind (arith, common_steps)
 
 -- where no port is found, none stands
 pub none_stands : (ports : List Port) (x y : ℤ) → port_at ports x y ≡ None → (i : ℕ) (p : Port) →
@@ -49,11 +48,7 @@ pub none_stands : (ports : List Port) (x y : ℤ) → port_at ports x y ≡ None
 unfolding port_at
 none_stands [] x y e i p at h = cc
 none_stands (q ∷ ports) x y e zero p at h =
-    let r = absent_here (is_at q.cell x y) q.name (port_at ports x y) e in
-    let same : q ≡ p = cc in
-    let there : is_at q.cell x y ≡ true = ap (λ (s : Port). is_at s.cell x y) same ∙ h in
-    let not_there : is_at q.cell x y ≡ false = r.0 in
-    cc (there, not_there)
+    grind (arith, common_steps, absent_here)
 none_stands (q ∷ ports) x y e (suc i) p at h =
     none_stands ports x y (absent_here (is_at q.cell x y) q.name (port_at ports x y) e).1 i p at h
 

@@ -41,10 +41,7 @@ pub in_append : {A : Type 0} (x : A) (xs ys : List A) → In x (xs ++ ys) → In
 unfolding In
 in_append x [] ys i = inr i
 in_append x (y ∷ xs) ys (inl same) = inl (inl same)
-in_append x (y ∷ xs) ys (inr later) = elim (in_append x xs ys later) [
-  | inl first ↦ inl (inr first)
-  | inr second ↦ inr second
-]
+in_append x (y ∷ xs) ys (inr later) = grind (arith, common_steps, in_append x xs ys later)
 
 -- an element of a list that a function makes of each element
 pub in_flat : {A B : Type 0} (f : A → List B) (b : B) (xs : List A) → In b (flat_map f xs) →
@@ -63,22 +60,13 @@ flat_in f b [] a i j = absurd i
 flat_in f b (x ∷ xs) a (inl same) j = in_left b (f x) (flat_map f xs) (subst (λ y. In b (f y)) (sym same) j)
 flat_in f b (x ∷ xs) a (inr later) j = in_right b (f x) (flat_map f xs) (flat_in f b xs a later j)
 
-head_or_later : {A : Type 0} (x y : A) (ys : List A) → In x (y ∷ ys) → (y ≡ x) ⊎ In x ys
-unfolding In
-head_or_later x y ys i = i
-
 -- ---- the elements that pass a test
 
 pub in_filter : {A : Type 0} (test : A → Bool) (x : A) (xs : List A) → In x (filter test xs) → In x xs × (test x ≡ true)
 unfolding In
 in_filter test x [] i = absurd i
-in_filter test x (y ∷ ys) i = elim (cases_Bool (test y)) [
-  | inl holds ↦ elim (head_or_later x y (filter test ys) (subst (In x) (cond-true _ _ _ holds) i)) [
-    | inl same ↦ (inl same, sym (ap test same) ∙ holds)
-    | inr later ↦ let r = in_filter test x ys later in (inr r.0, r.1)
-  ]
-  | inr fails ↦ let r = in_filter test x ys (subst (In x) (cond-false _ _ _ fails) i) in (inr r.0, r.1)
-]
+in_filter test x (y ∷ ys) i =
+    grind (arith, common_steps, cases_Bool, cond-true, cond-false, in_filter test x ys)
 
 pub filter_in : {A : Type 0} (test : A → Bool) (x : A) (xs : List A) → In x xs → test x ≡ true → In x (filter test xs)
 unfolding In
@@ -110,10 +98,6 @@ Rises = Pairs (λ d e. border_line_cmp d e ≡ Less)
 abbrev pub AreDistinct : List BorderLine → Type 0
 AreDistinct = Pairs (λ d e. border_line_cmp d e ≢ Equal)
 
-less_apart : (o : Ordering) → o ≡ Less → o ≢ Equal
-less_apart Less e h = cc
-less_apart _ e h = cc
-
 pub pairs_each : {A : Type 0} (R S : A → A → Type 0) → ((a b : A) → R a b → S a b) → (xs : List A) → Pairs R xs →
     Pairs S xs
 unfolding Pairs
@@ -121,18 +105,12 @@ pairs_each R S h [] p = p
 pairs_each R S h (x ∷ xs) p = (each_map (R x) (S x) (h x) xs p.0, pairs_each R S h xs p.1)
 
 pub rising_distinct : (es : List BorderLine) → Rises es → AreDistinct es
-rising_distinct es p = grind (arith, common_steps, pairs_each, less_apart)
+rising_distinct es p = grind (arith, common_steps, pairs_each)
 
 -- ---- a line more
 
 after_line : (o : Ordering) → o ≢ Equal → is_lt o ≡ false → o ≡ Greater
-after_line Less n h = absurd cc
-after_line Equal n h = absurd (n refl)
-after_line Greater n h = refl
-
-pub is_before : (o : Ordering) → is_lt o ≡ true → o ≡ Less
-is_before Less h = refl
-is_before _ h = absurd cc
+after_line o h1 h2 = grind (arith, common_steps)
 
 turned : (d e : BorderLine) → border_line_cmp d e ≡ Greater → border_line_cmp e d ≡ Less
 turned d e h = line_total.antisymm e d ∙ ap ordering_reverse h
@@ -149,10 +127,7 @@ put_back : (x d e : BorderLine) (es : List BorderLine) (b : Bool) →
     ((d ≡ x) ⊎ In x es → In x (insert_border_line d es)) →
     (d ≡ x) ⊎ In x (e ∷ es) → In x (if b then d ∷ e ∷ es else e ∷ insert_border_line d es)
 unfolding In
-put_back x d e es true h i = i
-put_back x d e es false h (inl same) = inr (h (inl same))
-put_back x d e es false h (inr (inl same)) = inl same
-put_back x d e es false h (inr (inr later)) = inr (h (inr later))
+put_back x d e es b h1 h2 = grind (arith, common_steps)
 
 pub in_put : (x d : BorderLine) (es : List BorderLine) → In x (insert_border_line d es) → (d ≡ x) ⊎ In x es
 unfolding insert_border_line In
@@ -170,7 +145,7 @@ unfolding insert_border_line Each Pairs
 put_rises d [] p n = (tt, tt)
 put_rises d (e ∷ es) p n = elim (cases_Bool (is_lt (border_line_cmp d e))) [
   | inl holds ↦
-      grind (arith, common_steps, is_before, cond-true, each_map, line_total)
+      grind (arith, common_steps, cond-true, each_map, line_total)
   | inr fails ↦
       grind (arith, common_steps, put_rises d es p.1 n.1, turned, after_line, cond-false, in_each, in_put, each_in)
 ]
@@ -180,10 +155,7 @@ put_rises d (e ∷ es) p n = elim (cases_Bool (is_lt (border_line_cmp d e))) [
 pub in_ordered : (x : BorderLine) (ds : List BorderLine) → In x (sorted_border_lines ds) → In x ds
 unfolding sorted_border_lines In
 in_ordered x [] i = i
-in_ordered x (d ∷ ds) i = elim (in_put x d (sorted_border_lines ds) i) [
-  | inl same ↦ inl same
-  | inr later ↦ inr (in_ordered x ds later)
-]
+in_ordered x (d ∷ ds) i = grind (arith, common_steps, in_put, in_ordered x ds)
 
 pub ordered_in : (x : BorderLine) (ds : List BorderLine) → In x ds → In x (sorted_border_lines ds)
 unfolding sorted_border_lines In

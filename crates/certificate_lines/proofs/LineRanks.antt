@@ -1,8 +1,7 @@
 -- The ranks of lines: lines in order rise by rank, and the lines of one kind have one rank.
-use Rattle.certificate_lines.proofs.Imports.{CertificateLine, Cut, Edge, Halo, Keep, Stop, Use, [], arith, common_steps}
-use Rattle.certificate_lines.proofs.Imports.{edge_in, false, halo_in, is_cut, kept_gate_in, line_cmp, may_precede}
-use Rattle.certificate_lines.proofs.Imports.{rank_of, refl, stop_in, sym, true, used_gate_in, ◌&&◌, ◌==◌, ◌<◌, ◌≡◌, ◌≤◌}
-use Rattle.certificate_lines.proofs.Imports.{Greater, nat_tests}
+use Rattle.certificate_lines.proofs.Imports.{CertificateLine, [], arith, common_steps, edge_in, false, halo_in, is_cut}
+use Rattle.certificate_lines.proofs.Imports.{kept_gate_in, line_cmp, may_precede, rank_of, stop_in, sym, true}
+use Rattle.certificate_lines.proofs.Imports.{used_gate_in, ◌&&◌, ◌==◌, ◌<◌, ◌≡◌, ◌≤◌, Greater, nat_tests}
 use Rattle.lemmas.proofs.Common.{◌≢◌}
 use Rattle.std.specs.Cmp.{nat_cmp_is}
 use Rattle.bbm_rule.proofs.BitLemmas.{by_lt_or_le}
@@ -10,8 +9,7 @@ use Rattle.bbm_rule.proofs.BitLemmas.{by_lt_or_le}
 -- cuts have a rank of their own
 pub cut_rank : (i : CertificateLine) → is_cut i ≡ (rank_of i == 1)
 unfolding is_cut rank_of
-cut_rank (Cut n) = refl
-cut_rank _ = refl
+cut_rank i = grind (arith, common_steps)
 
 not_both_cuts : (i j : CertificateLine) → rank_of j < rank_of i → (is_cut i && is_cut j) ≡ false
 not_both_cuts i j lt = grind (arith, common_steps, cut_rank, nat_tests)
@@ -25,25 +23,20 @@ rank_rises i j h = grind (arith, common_steps, by_lt_or_le, no_higher_first)
 
 pub only_uses : (i : CertificateLine) → rank_of i ≢ 2 → used_gate_in i ≡ []
 unfolding rank_of
-only_uses (Use k) other = absurd (other refl)
-only_uses _ other = refl
+only_uses i h1 = grind (arith, common_steps)
 
 pub only_keeps : (i : CertificateLine) → rank_of i ≢ 3 → kept_gate_in i ≡ []
 unfolding rank_of
-only_keeps (Keep k) other = absurd (other refl)
-only_keeps _ other = refl
+only_keeps i h1 = grind (arith, common_steps)
 
 pub only_edges : (i : CertificateLine) → rank_of i ≢ 4 → edge_in i ≡ []
 unfolding rank_of
-only_edges (Edge e) other = absurd (other refl)
-only_edges _ other = refl
+only_edges i h1 = grind (arith, common_steps)
 
 pub only_halos : (i : CertificateLine) → rank_of i ≢ 5 → halo_in i ≡ []
 unfolding rank_of
-only_halos (Halo e) other = absurd (other refl)
-only_halos _ other = refl
+only_halos i h1 = grind (arith, common_steps)
 
 pub only_stops : (i : CertificateLine) → rank_of i ≢ 6 → stop_in i ≡ []
 unfolding rank_of
-only_stops (Stop s) other = absurd (other refl)
-only_stops _ other = refl
+only_stops i h1 = grind (arith, common_steps)

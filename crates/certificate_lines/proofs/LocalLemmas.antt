@@ -1,12 +1,12 @@
 -- The lines of local wires after one more cut, and after one more used gate.
-use Rattle.certificate_lines.proofs.Imports.{AreLocalLines, Gate, List, Netlist, Option, Some, [], and_parts, ap}
-use Rattle.certificate_lines.proofs.Imports.{append-nil, append_assoc, are_new_and_distinct, arith, common_steps, false}
+use Rattle.certificate_lines.proofs.Imports.{AreLocalLines, Gate, List, Netlist, Some, [], and_parts, append-nil}
+use Rattle.certificate_lines.proofs.Imports.{append_assoc, are_new_and_distinct, arith, common_steps, false}
 use Rattle.certificate_lines.proofs.Imports.{false_from_not, get_or_from_slice_get, inl, inr, is_among, length}
 use Rattle.certificate_lines.proofs.Imports.{length_push, list_all, local_wires, none_at, not, pushed, slice_get}
 use Rattle.certificate_lines.proofs.Imports.{slice_get_within, subst, sym, take, true, ℕ, ◌++◌, ◌<◌, ◌∷◌, ◌≡◌}
-use Rattle.lemmas.proofs.Common.{All-get_or, option_map_or, take-append_seam}
+use Rattle.lemmas.proofs.Common.{All-get_or, take-append_seam}
 use Rattle.std.specs.List.{All}
-use Rattle.module_box.specs.Locals.{AreDistinct, UsesOnlyKnownWires, outs_of}
+use Rattle.module_box.specs.Locals.{AreDistinct, UsesOnlyKnownWires}
 use Rattle.std.proofs.lemmas.List.{take-append-le}
 use Rattle.module_box.proofs.WireLists.{different_push}
 use Rattle.certificate_lines.proofs.Growing.{flat_push}
@@ -29,12 +29,9 @@ local_cut n cw w l few fresh = grind (arith, common_steps, length_push, none_at,
 
 -- ---- used gates
 
-pub outs_is : (n : Netlist) (k : ℕ) (g : Gate) → slice_get n.gates k ≡ Some g → outs_of n k ≡ g.outs
-outs_is n k g e = ap (λ (o : Option Gate). option_map_or (λ x. x.outs) o []) e
-
 pub local_more : (n : Netlist) (cw gs : List ℕ) (k : ℕ) (g : Gate) → slice_get n.gates k ≡ Some g →
     local_wires n cw (gs ++ k ∷ []) ≡ local_wires n cw gs ++ g.outs
-local_more n cw gs k g e = grind (arith, common_steps, flat_push, outs_is)
+local_more n cw gs k g e = grind (arith, common_steps, flat_push)
 
 at_all : (P : ℕ → Type 0) (xs : List ℕ) (i x : ℕ) → All P xs → slice_get xs i ≡ Some x → P x
 at_all P xs i x all e = subst P (get_or_from_slice_get xs i x x e) (All-get_or P xs i x (slice_get_within xs i x e) all)

@@ -1,11 +1,10 @@
 -- The boxes of modules in a table of their owners
-use Rattle.certificate_lines.proofs.Imports.{Bool, Box2, Cell, CertificateLine, IsEven, List}
-use Rattle.certificate_lines.proofs.Imports.{ModuleLines, None, Option, Setting, SomethingMissing, ap, ap₂, areas}
-use Rattle.certificate_lines.proofs.Imports.{arith, cases_Bool, code_if, end_fault, eqb-true, false, false≢true, in_box}
-use Rattle.certificate_lines.proofs.Imports.{inl, inr, is_last_module_incomplete, last_module, length, list_all}
-use Rattle.certificate_lines.proofs.Imports.{module_box_code, module_line_code, modules_of, nat_eq, not, rectangle}
-use Rattle.certificate_lines.proofs.Imports.{rectangle_cells, rectangle_of, slice_get_within, sym, true}
-use Rattle.certificate_lines.proofs.Imports.{whole, ℕ, ℤ, ◌||◌, ◌∙◌, ◌≡◌}
+use Rattle.certificate_lines.proofs.Imports.{Bool, Box2, Cell, CertificateLine, IsEven, List, ModuleLines, None, Option}
+use Rattle.certificate_lines.proofs.Imports.{Setting, SomethingMissing, ap, ap₂, areas, arith, cases_Bool, code_if}
+use Rattle.certificate_lines.proofs.Imports.{common_steps, end_fault, eqb-true, false, false≢true, in_box, inl, inr}
+use Rattle.certificate_lines.proofs.Imports.{is_last_module_incomplete, last_module, length, list_all, module_box_code}
+use Rattle.certificate_lines.proofs.Imports.{module_line_code, modules_of, nat_eq, not, rectangle, rectangle_cells}
+use Rattle.certificate_lines.proofs.Imports.{rectangle_of, slice_get_within, sym, true, whole, ℕ, ℤ, ◌||◌, ◌∙◌, ◌≡◌}
 use Rattle.lemmas.proofs.Common.{eq-eqb, false_from_ne_true, same_truth, slice_index}
 use Rattle.std.specs.Prelude.{◌/◌, ◌↔◌}
 use Rattle.bbm_rule.proofs.RectangleLemmas.{in_box_cells}
@@ -79,11 +78,7 @@ module _ (g : Setting) (ms : List ModuleLines) (o : OwnersView) (owners : AreMod
       (passes_alone g (length ms) before b e).box.even r is))
 
   pub may_put : (before : Option ModuleLines) (b : Box2) → IsGoodModule g ms before b → MayPut o b
-  may_put before b good = record {
-    even = good.box.even;
-    inside = rw (owners.width, owners.height) good.box.inside;
-    free = free_box o (areas ms) owners.boxes b good.free;
-  }
+  may_put before b good = grind (arith, common_steps, free_box)
 
 pub end_by : (g : Setting) (entries : List CertificateLine) (o : OwnersView) →
     AreModuleOwners g (modules_of entries) o → (lacks r : Bool) →

@@ -1,9 +1,9 @@
 -- A module after one more line.
 use Rattle.certificate_lines.proofs.Imports.{All-append, All-nil, AreInOrder, Bool, CertificateLine, Equal, Less, List}
-use Rattle.certificate_lines.proofs.Imports.{Ordering, Use, [], and_parts, ap₂, cell_cmp, cell_of, false, is_cut}
-use Rattle.certificate_lines.proofs.Imports.{line_cmp, list_all, list_all-append, may_follow, may_precede, rank_of}
-use Rattle.certificate_lines.proofs.Imports.{refl, sort_number_of, true, used_gate_in, ℕ, ◌++◌, ◌<◌, ◌||◌, ◌∙◌, ◌∷◌}
-use Rattle.certificate_lines.proofs.Imports.{◌≡◌}
+use Rattle.certificate_lines.proofs.Imports.{Ordering, Use, [], and_parts, ap₂, cell_cmp, cell_of, common_steps, false}
+use Rattle.certificate_lines.proofs.Imports.{is_cut, line_cmp, list_all, list_all-append, may_follow, may_precede}
+use Rattle.certificate_lines.proofs.Imports.{rank_of, refl, sort_number_of, true, used_gate_in, ℕ, ◌++◌, ◌<◌, ◌||◌, ◌∙◌}
+use Rattle.certificate_lines.proofs.Imports.{◌∷◌, ◌≡◌}
 use Rattle.lemmas.proofs.Common.{All-push, arith, ordering_then, nat_less, ◌≢◌}
 use Rattle.certificate_lines.proofs.LineRanks.{rank_rises}
 use Rattle.std.specs.List.{All, flat_map}
@@ -35,8 +35,7 @@ all_before f k P each (j ∷ lines) h =
 -- ---- used gates rise
 
 less_by : (o : Ordering) → is_lt (ordering_then o Equal) ≡ true → o ≡ Less
-less_by Less h = refl
-less_by _ h = cc
+less_by o h1 = grind (arith, common_steps)
 
 or_false : (a : Bool) → (a || false) ≡ true → a ≡ true
 or_false a h = grind arith

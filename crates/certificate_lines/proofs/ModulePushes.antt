@@ -1,31 +1,30 @@
 -- A module that is good stays so after one more line that is good.
 use Rattle.certificate_lines.proofs.Imports.{All, All-nil, AreLocalLines, Bool, BorderLine, Box2, CertificateLine}
 use Rattle.certificate_lines.proofs.Imports.{Circuit, Cut, Edge, Gate, Halo, IfSome, IsModule, IsModuleInLimits, IsTrue}
-use Rattle.certificate_lines.proofs.Imports.{Keep, List, ModuleLines, None, Option, RefusalCode, Setting, Some}
+use Rattle.certificate_lines.proofs.Imports.{Keep, List, ModuleLines, None, Option, Setting, Some}
 use Rattle.certificate_lines.proofs.Imports.{StarsExcludeLaterTimes, Stop, StopLine, Use, [], and_parts, ap, ap₂}
 use Rattle.certificate_lines.proofs.Imports.{are_new_and_distinct, arith, common_steps, cut_name_in, cuts, edge_in}
 use Rattle.certificate_lines.proofs.Imports.{edges, eqb-true, false, false_from_not, flat_map, gates, halo_in, in_box}
 use Rattle.certificate_lines.proofs.Imports.{is_among, is_local, is_odd, is_star, is_starred_line_at, kept_gate_in}
 use Rattle.certificate_lines.proofs.Imports.{known, length, length_push, list_all, list_any, local_wires, may_follow}
-use Rattle.certificate_lines.proofs.Imports.{module_with_line, rank_of, nat_lt, nat_tests, not, option_to_list}
-use Rattle.certificate_lines.proofs.Imports.{refl, slice_get, stop_in, subst, sym, true, true_from_not, used_gate_in}
-use Rattle.certificate_lines.proofs.Imports.{wire_of, ℕ, ◌%◌, ◌&&◌, ◌++◌, ◌<◌, ◌||◌, ◌∙◌, ◌∷◌, ◌≡◌, IsBodyLine, Module}
-use Rattle.certificate_lines.proofs.Imports.{append-nil, content_code, ◌+◌, ◌≤◌}
+use Rattle.certificate_lines.proofs.Imports.{module_with_line, rank_of, nat_tests, not, option_to_list, refl, slice_get}
+use Rattle.certificate_lines.proofs.Imports.{stop_in, subst, sym, true, true_from_not, used_gate_in, wire_of, ℕ, ◌%◌}
+use Rattle.certificate_lines.proofs.Imports.{◌++◌, ◌<◌, ◌||◌, ◌∙◌, ◌∷◌, ◌≡◌, IsBodyLine, Module, append-nil}
+use Rattle.certificate_lines.proofs.Imports.{content_code, ◌+◌, ◌≤◌}
 use Rattle.lemmas.proofs.Common.{nat_le, at_most_by_test, below_by_test, All-append, All-cons, ◌≢◌}
 use Rattle.certificate_lines.specs.Entries.{keeps, halos, stops, cut_wires}
-use Rattle.certificate_lines.specs.Rules.{cut_line_code, cut_wire_fault, used_gate_fault, use_line_code, keep_line_code}
+use Rattle.certificate_lines.specs.Rules.{cut_line_code, used_gate_fault, use_line_code, keep_line_code}
 use Rattle.certificate_lines.specs.Rules.{is_line_time_allowed, is_edge_place_and_time, is_halo_place_and_time}
 use Rattle.certificate_lines.specs.Rules.{is_stop_place_and_time, signal_fault, wire_fault, border_line_code}
 use Rattle.certificate_lines.specs.Rules.{timed_line_count, timed_line_limit, edge_line_code, halo_line_code}
 use Rattle.certificate_lines.specs.Rules.{stop_line_code}
 use Rattle.certificate_lines.specs.Modules.{IsEdge, IsHalo, IsKeep, IsStop}
 use Rattle.std.proofs.Common.{length-append}
-use Rattle.section_text.specs.declared.code.RefusalCode.TheVariants.{DefinedTwice, NotLocal}
 pub use Rattle.pattern.proofs.Added.{no_code}
 use Rattle.certificate_lines.proofs.Growing.{flat_push, flat_same}
 use Rattle.certificate_lines.proofs.LineRanks.{only_uses, only_keeps, only_edges, only_halos, only_stops}
 use Rattle.certificate_lines.proofs.ModuleLemmas.{all_before, list_all_push, lower_uses, none_before, order_push}
-use Rattle.certificate_lines.proofs.LocalLemmas.{local_cut, local_use, local_more}
+use Rattle.certificate_lines.proofs.LocalLemmas.{local_cut, local_use}
 use Rattle.section_text.proofs.Codes.{both_none}
 
 -- ---- tests that a line passed
@@ -47,24 +46,12 @@ pub record IsNewWire (c : Circuit) (local : List ℕ) (name : List ℕ) : Type 0
   pub named : wire_of c name ≡ Some wire
   pub new : is_among local wire ≡ false
 
-new_by : (local : List ℕ) (o : Option ℕ) → cut_wire_fault local o ≡ None →
-    (w : ℕ) × (o ≡ Some w) × (is_among local w ≡ false)
-new_by local None e = absurd cc
-new_by local (Some w) e = (w, refl, no_code (is_among local w) DefinedTwice e)
-
 pub new_wire : (c : Circuit) (count : ℕ) (local : List ℕ) (name : List ℕ) → cut_line_code c count local name ≡ None →
     (count < 12) × IsNewWire c local name
 unfolding cut_line_code
-new_wire c count local name e = grind (arith, common_steps, both_none, new_by, less, no_code)
-
-pub cut_wires_cut : (c : Circuit) (m : ModuleLines) (n : List ℕ) (w : ℕ) → wire_of c n ≡ Some w →
-    cut_wires c (module_with_line (Cut n) m) ≡ cut_wires c m ++ w ∷ []
-cut_wires_cut c m n w e = grind (arith, common_steps, flat_push)
+new_wire c count local name e = grind (arith, common_steps, both_none, less, no_code)
 
 -- ---- lines with a time beside those with a `*`
-
-kept_free : (star here more : Bool) → (star || not (here || more)) ≡ true → (star || not more) ≡ true
-kept_free star here more h = grind arith
 
 first_free : (star here more : Bool) → (star || not (here || more)) ≡ true → (star || not here) ≡ true
 first_free star here more h = grind arith
@@ -76,14 +63,13 @@ unstarred_push [] e u h = (refl, tt)
 unstarred_push (d ∷ es) e u h = (
   list_all_push (λ e. is_star e.time || not (is_starred_line_at e.cell d)) es e u.0
       (first_free (is_star e.time) (is_starred_line_at e.cell d) (list_any (is_starred_line_at e.cell) es) h),
-  unstarred_push es e u.1 (grind (arith, common_steps, kept_free)),
+  unstarred_push es e u.1 (grind (arith, common_steps)),
 )
 
 free_time : (steps : ℕ) (starred : Bool) (t : Option ℕ) → is_line_time_allowed steps starred t ≡ true →
     (is_star t || not starred) ≡ true
 unfolding is_line_time_allowed
-free_time steps starred None e = refl
-free_time steps starred (Some t) e = (and_parts (is_odd t && nat_lt t steps) (not starred) e).1
+free_time steps starred t h1 = grind (arith, common_steps, and_parts)
 
 free_of_star : (g : Setting) (area : Box2) (starred : Bool) (e : BorderLine) →
     is_edge_place_and_time g.size area starred e ≡ true →
@@ -148,7 +134,7 @@ module _ (g : Setting) (m : ModuleLines) (is : IsModule g m) (n : List ℕ)
     known_none = ap (local_wires g.circuit.netlist (cut_wires g.circuit m)) no_gates
 
     pub known_cut : known g.circuit cut ≡ known g.circuit m ++ w ∷ []
-    known_cut = grind (arith, common_steps, cut_wires_cut, gates_are, known_none)
+    known_cut = grind (arith, common_steps, gates_are, known_none)
 
     cut_pushed : length (cuts m) < 12 → is_among (known g.circuit m) w ≡ false → IsModuleInLimits g cut
     unfolding rank_of
@@ -159,8 +145,8 @@ module _ (g : Setting) (m : ModuleLines) (is : IsModule g m) (n : List ℕ)
         let after = local_cut g.circuit.netlist (cut_wires g.circuit m) w before room
         (ap (λ l. is_among l w) (sym known_none) ∙ new) in
         early_pushed g m is (Cut n) follows (omega arith)
-        (grind (arith, common_steps, cut_wires_cut, length_push, flat_push))
-        (grind (arith, common_steps, cut, gates_are, cut_wires_cut))
+        (grind (arith, common_steps, length_push, flat_push))
+        (grind (arith, common_steps, cut, gates_are))
 
 -- ---- a used gate
 
@@ -189,10 +175,6 @@ module _ (g : Setting) (m : ModuleLines) (k : ℕ) where
   cut_wires_use : cut_wires g.circuit used ≡ cut_wires g.circuit m
   cut_wires_use = ap (flat_map (λ n. option_to_list (wire_of g.circuit n))) (flat_same cut_name_in m.lines (Use k) refl)
 
-  pub known_use : (gate : Gate) → slice_get g.circuit.netlist.gates k ≡ Some gate →
-      known g.circuit used ≡ known g.circuit m ++ gate.outs
-  known_use gate at = grind (arith, common_steps, cut_wires_use, flat_push, local_more)
-
   use_pushed : IsModule g m → may_follow m.lines (Use k) ≡ true → length (gates m) < 64 →
       IsGoodUse g.circuit (known g.circuit m) k → IsModuleInLimits g used
   unfolding rank_of
@@ -217,15 +199,13 @@ time_good steps starred (Some t) e = grind (arith, common_steps, and_parts, odd,
 
 local_by : (c : Circuit) (local : List ℕ) (name : List ℕ) (o : Option ℕ) → wire_of c name ≡ o →
     wire_fault local o ≡ None → IsTrue (is_local c local name)
-local_by c local name None is e = absurd cc
-local_by c local name (Some w) is e = rw is (true_from_not _ (no_code _ NotLocal e))
+local_by c local name o h1 h2 = grind (arith, common_steps, true_from_not, no_code)
 
 -- a signal that is good is `1` or names a wire that is local
 pub signal_good : (c : Circuit) (local : List ℕ) (s : Option (List ℕ)) → signal_fault c local s ≡ None →
     IfSome s (λ name. IsTrue (is_local c local name))
 unfolding signal_fault
-signal_good c local None e = tt
-signal_good c local (Some name) e = local_by c local name (wire_of c name) refl e
+signal_good c local s h1 = grind (arith, common_steps, local_by)
 
 -- what the tests of an edge or halo line say
 pub record IsGoodBorder (c : Circuit) (count : ℕ) (local : List ℕ) (placed : Bool)
@@ -299,16 +279,11 @@ module _ (g : Setting) (m : ModuleLines) where
 
   stars_in : (i : CertificateLine) → content_code g m i ≡ None → StarsExcludeLaterTimes (edges m) →
       StarsExcludeLaterTimes (edges m ++ edge_in i)
-  stars_in (Edge e) good free =
-      unstarred_push (edges m) e free (free_of_star g m.area _ e (good_border _ _ _ _ _ good).place)
-  stars_in i good free = subst StarsExcludeLaterTimes (sym (append-nil (edges m))) free
+  stars_in i h1 h2 = grind (arith, common_steps, unstarred_push, free_of_star, good_border, append-nil)
 
   few_in : (i : CertificateLine) → content_code g m i ≡ None → timed_line_count m ≤ timed_line_limit →
       timed_line_count m + length (edge_in i) + length (halo_in i) + length (stop_in i) ≤ timed_line_limit
-  few_in (Edge e) good few = let less = (good_border _ _ _ _ _ good).few in omega (arith, less)
-  few_in (Halo e) good few = let less = (good_border _ _ _ _ _ good).few in omega (arith, less)
-  few_in (Stop s) good few = let less = (good_border _ _ _ _ _ good).few in omega (arith, less)
-  few_in i good few = omega (arith, few)
+  few_in i h1 h2 = grind (arith, common_steps, less, good_border)
 
 -- it leaves the local wires
 module _ (g : Setting) (m : ModuleLines) (i : CertificateLine) (no_cut : cut_name_in i ≡ [])

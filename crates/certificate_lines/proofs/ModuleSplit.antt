@@ -28,8 +28,7 @@ change_pushed f (y ∷ z ∷ xs) x = ap (λ ys. y ∷ ys) (change_pushed f (z �
 before_last : (ms : List ModuleLines) (m : ModuleLines) (e : CertificateLine) →
     add_line (ms ++ m ∷ []) e ≡ ms ++ add_line (m ∷ []) e
 unfolding add_line change_last
-before_last ms m (Module b) = append_assoc ms (m ∷ []) (record { area = b; lines = [] } ∷ [])
-before_last ms m e = change_pushed (module_with_line e) ms m
+before_last ms m e = grind (arith, common_steps, append_assoc, change_pushed)
 
 -- further lines leave them too
 abbrev Apart : List CertificateLine → Type 0
@@ -58,8 +57,7 @@ extended m es = record m { lines = m.lines ++ es }
 pub split_other : (e : CertificateLine) (es : List CertificateLine) → is_module e ≡ false →
     modules_of (e ∷ es) ≡ modules_of es
 unfolding modules_of add_line change_last
-split_other (Module b) es h = absurd cc
-split_other _ es h = refl
+split_other e es h1 = grind (arith, common_steps)
 
 module_first : (b : Box2) (es : List CertificateLine) →
     modules_of (Module b ∷ es) ≡ onward (record { area = b; lines = [] } ∷ []) es

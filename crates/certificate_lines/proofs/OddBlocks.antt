@@ -87,12 +87,10 @@ odd_halo b x y s even = grind (arith, common_steps, three_cells, halo_either)
 -- ---- one element at most passes a test
 
 false_and : (p q : Bool) → (p ≡ true → ⊥) → (p && q) ≡ false
-false_and true q h = absurd (h refl)
-false_and false q h = refl
+false_and p q h1 = grind (arith, common_steps)
 
 true_and : (p q : Bool) → p ≡ true → (p && q) ≡ q
-true_and true q h = refl
-true_and false q h = absurd cc
+true_and p q h1 = grind (arith, common_steps)
 
 pub none_passes : {X : Type 0} (p q : X → Bool) (xs : List X) →
     ((i : ℕ) (x : X) → slice_get xs i ≡ Some x → p x ≡ true → ⊥) → list_any (λ x. p x && q x) xs ≡ false
@@ -149,8 +147,7 @@ module _ (ms : List ModuleLines) (apart : AreApart (areas ms)) (c : Cell) (q : M
 
 -- the number of a box is that of a module
 pub owner_within : (ms : List ModuleLines) (x y : ℤ) (k : ℕ) → Holds (areas ms) x y k → k < length ms
-owner_within ms x y k h =
-    let m = mapped_from (λ (m : ModuleLines). m.area) ms k h.area h.numbered in slice_get_within ms k m.0 m.1
+owner_within ms x y k h = grind (arith, common_steps, mapped_from, slice_get_within)
 
 -- ---- the modules that lack the wire of an edge line
 

@@ -1,16 +1,14 @@
 -- Lines in order: what comes after the last comes after all.
-use Rattle.certificate_lines.proofs.Imports.{AreInOrder, Bool, Box2, CertificateLine, Cut, Equal, IsBodyLine}
-use Rattle.certificate_lines.proofs.Imports.{IsTotalOrder, Less, LineKey, List, Module, None, Option, Some, []}
-use Rattle.certificate_lines.proofs.Imports.{and_parts, ap, arith, cell_cmp, cell_of, cell_total, common_steps, false}
-use Rattle.certificate_lines.proofs.Imports.{inl, inr, is_cut, is_lt, key_of, key_or_first, last_body_line, last_of}
-use Rattle.certificate_lines.proofs.Imports.{line_cmp, list_all, may_follow, may_precede, nat_cmp_total, ne_eqb}
-use Rattle.certificate_lines.proofs.Imports.{on_total, or-false, or_cases, or_right, rank_of, refl, sort_number_of, sym}
-use Rattle.certificate_lines.proofs.Imports.{then_total, true, ◌&&◌, ◌++◌, ◌∙◌, ◌∷◌, ◌≡◌, ◌⊎◌}
+use Rattle.certificate_lines.proofs.Imports.{AreInOrder, Bool, Box2, CertificateLine, Cut, IsBodyLine, IsTotalOrder}
+use Rattle.certificate_lines.proofs.Imports.{Less, LineKey, List, Module, None, Option, Some, [], and_parts, ap, arith}
+use Rattle.certificate_lines.proofs.Imports.{cell_cmp, cell_of, cell_total, common_steps, inl, inr, is_cut, is_lt}
+use Rattle.certificate_lines.proofs.Imports.{key_of, key_or_first, last_body_line, last_of, line_cmp, list_all}
+use Rattle.certificate_lines.proofs.Imports.{may_follow, may_precede, nat_cmp_total, ne_eqb, on_total, or-false}
+use Rattle.certificate_lines.proofs.Imports.{or_cases, or_right, rank_of, refl, sort_number_of, sym, then_total, true}
+use Rattle.certificate_lines.proofs.Imports.{◌&&◌, ◌++◌, ◌∙◌, ◌∷◌, ◌≡◌, ◌⊎◌}
 use Rattle.lemmas.proofs.Common.{nat_cmp, and-true}
-use Rattle.std.specs.Cmp.{nat_cmp_is}
 use Rattle.certificate_lines.specs.BuilderView.{body_line_or_none}
 use Rattle.certificate_lines.proofs.Growing.{last_pushed}
-use Rattle.certificate_lines.proofs.LineOrder.{is_before}
 use Rattle.certificate_lines.proofs.LineRanks.{cut_rank}
 
 line_total : IsTotalOrder line_cmp
@@ -30,18 +28,13 @@ by_cuts i j h k = or_right _ (is_cut i && is_cut j) (rw (h, k) refl)
 pub cells_precede : (i j : CertificateLine) → rank_of i ≡ rank_of j → (rank_of i ≡ 1 → ⊥) →
     sort_number_of i ≡ sort_number_of j → is_lt (cell_cmp (cell_of i) (cell_of j)) ≡ may_precede i j
 unfolding may_precede line_cmp
-cells_precede i j ranks uncut numbers =
-    let a : nat_cmp (rank_of i) (rank_of j) ≡ Equal = sym (nat_cmp_is (rank_of i) (rank_of j) Equal ranks) in
-    let b : nat_cmp (sort_number_of i) (sort_number_of j) ≡ Equal =
-    sym (nat_cmp_is (sort_number_of i) (sort_number_of j) Equal numbers) in
-    let c : is_cut i ≡ false = cut_rank i ∙ ne_eqb (rank_of i) 1 uncut in
-    rw (a, b, c) (sym (or-false _))
+cells_precede i j ranks uncut numbers = grind (arith, common_steps, nat_cmp, cut_rank, ne_eqb, or-false)
 
 -- how two lines may stand one before the other
 precede_parts : (i j : CertificateLine) → may_precede i j ≡ true →
     (line_cmp i j ≡ Less) ⊎ ((is_cut i ≡ true) × (is_cut j ≡ true))
 unfolding may_precede
-precede_parts i j h = grind (arith, common_steps, or_cases, is_before, and_parts)
+precede_parts i j h = grind (arith, common_steps, or_cases, and_parts)
 
 less_then_cut : (i j k : CertificateLine) → line_cmp i j ≡ Less → is_cut j ≡ true → is_cut k ≡ true →
     line_cmp i k ≡ Less
@@ -84,8 +77,7 @@ follows : (x : CertificateLine) (lines : List CertificateLine) (l i : Certificat
     may_follow (x ∷ lines) i ≡ may_precede l i
 unfolding AreInOrder may_follow last_of
 follows x [] l i order last =
-    let same : x ≡ l = cc in
-    and-true (may_precede x i) ∙ ap (λ (z : CertificateLine). may_precede z i) same
+    grind (arith, common_steps, and-true)
 follows x (y ∷ lines) l i order last =
     let rest : may_follow (y ∷ lines) i ≡ may_precede l i = follows y lines l i order.1 last in
     let first : may_precede x l ≡ true = last_passes (may_precede x) y lines l order.0 last in
@@ -114,13 +106,11 @@ follows_none (x ∷ lines) i none = absurd (has_last x lines none)
 -- a `module` line comes before every other line
 module_first : (b : Box2) (i : CertificateLine) → IsBodyLine i → may_precede (Module b) i ≡ true
 unfolding may_precede line_cmp rank_of sort_number_of cell_of is_cut
-module_first b (Module b') inner = absurd inner
-module_first b _ inner = refl
+module_first b i h1 = grind (arith, common_steps)
 
 pub follows_inner : (lines : List CertificateLine) (l i : CertificateLine) → IsBodyLine i → AreInOrder lines →
     last_of lines ≡ body_line_or_none (Some l) → may_precede l i ≡ may_follow lines i
-follows_inner lines (Module b) i inner order last = module_first b i inner ∙ follows_none lines i last
-follows_inner lines l i inner order last = follows_last lines l i order last
+follows_inner lines l i h1 h2 h3 = grind (arith, common_steps, module_first, follows_none, follows_last)
 
 -- whether a line may come after the others, by the key of the last
 pub follows_key : (o : Option CertificateLine) (k : LineKey) (i : CertificateLine) (b : Bool) → IsBodyLine i →

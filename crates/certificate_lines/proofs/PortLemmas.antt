@@ -1,7 +1,7 @@
 -- The cells of a box.
-use Rattle.certificate_lines.proofs.Imports.{Bool, Cell, List, [], and_parts, ap, cell_itself, cell_same, inl, inr}
-use Rattle.certificate_lines.proofs.Imports.{is_at}
-use Rattle.certificate_lines.proofs.Imports.{list_all, list_any, or_cases, or_right, refl, sym, true, ◌∙◌, ◌∷◌, ◌≡◌}
+use Rattle.certificate_lines.proofs.Imports.{Bool, Cell, List, [], and_parts, ap, arith, cell_itself, cell_same}
+use Rattle.certificate_lines.proofs.Imports.{common_steps, inl, inr, is_at, list_all, list_any, or_cases, or_right}
+use Rattle.certificate_lines.proofs.Imports.{refl, true, ◌∙◌, ◌∷◌, ◌≡◌}
 use Rattle.lemmas.proofs.Common.{or_left}
 use Rattle.bbm_rule.specs.CellLists.{in_cells}
 
@@ -11,10 +11,8 @@ use Rattle.bbm_rule.specs.CellLists.{in_cells}
 pub cell_passed : (test : Cell → Bool) (cells : List Cell) → list_any test cells ≡ true →
     (c : Cell) × (in_cells cells c.x c.y ≡ true) × (test c ≡ true)
 cell_passed test [] h = absurd cc
-cell_passed test (c ∷ cells) h = elim (or_cases (test c) (list_any test cells) h) [
-  | inl here ↦ (c, or_left (is_at c c.x c.y) _ (cell_itself c), here)
-  | inr more ↦ let r = cell_passed test cells more in (r.0, or_right (is_at c r.0.x r.0.y) _ r.1, r.2)
-]
+cell_passed test (c ∷ cells) h =
+    grind (arith, common_steps, or_cases, or_left, cell_itself, or_right, cell_passed test cells)
 
 pub has_cell : (test : Cell → Bool) (cells : List Cell) (d : Cell) → in_cells cells d.x d.y ≡ true → test d ≡ true →
     list_any test cells ≡ true
@@ -29,11 +27,7 @@ pub cell_passes : (test : Cell → Bool) (cells : List Cell) (d : Cell) → list
     in_cells cells d.x d.y ≡ true → test d ≡ true
 cell_passes test [] d all there = absurd cc
 cell_passes test (c ∷ cells) d all there =
-    let both = and_parts (test c) (list_all test cells) all in
-    elim (or_cases (is_at c d.x d.y) (in_cells cells d.x d.y) there) [
-      | inl here ↦ sym (ap test (cell_same c d here)) ∙ both.0
-      | inr more ↦ cell_passes test cells d both.1 more
-    ]
+    grind (arith, common_steps, and_parts, or_cases, cell_same, cell_passes test cells d)
 
 pub cells_pass : (test : Cell → Bool) (cells : List Cell) →
     ((d : Cell) → in_cells cells d.x d.y ≡ true → test d ≡ true) → list_all test cells ≡ true

@@ -47,11 +47,6 @@ filled_less (suc n ∷ xs) zero d lt e = absurd (omega arith)
 filled_less (zero ∷ xs) (suc i) d lt e = let m = filled_less xs i d (omega arith) e in omega (arith, m)
 filled_less (suc n ∷ xs) (suc i) d lt e = let m = filled_less xs i d (omega arith) e in omega (arith, m)
 
-pub all_zero : (n i : ℕ) → get_or {A = ℕ} (replicate n zero) i zero ≡ zero
-all_zero zero i = refl
-all_zero (suc n) zero = refl
-all_zero (suc n) (suc i) = all_zero n i
-
 -- ---- the rows of a box
 
 -- a cell of a box is in one of its rows and columns
@@ -66,10 +61,7 @@ set_at [] i j v lt = absurd (omega arith)
 set_at (x ∷ xs) zero zero v lt = inl (refl, refl)
 set_at (x ∷ xs) zero (suc j) v lt = inr refl
 set_at (x ∷ xs) (suc i) zero v lt = inr refl
-set_at (x ∷ xs) (suc i) (suc j) v lt = elim (set_at xs i j v (omega arith)) [
-  | inl here ↦ inl (ap suc here.0, here.1)
-  | inr there ↦ inr there
-]
+set_at (x ∷ xs) (suc i) (suc j) v lt = grind (arith, common_steps, set_at xs i j v (omega arith))
 
 -- the rows of the first k ports have numbers
 pub record AreRowsSoFar (b : Box2) (ports : List Port) (k : ℕ) (rows : List ℕ) (count : ℕ) : Type 0 where
@@ -81,7 +73,7 @@ pub record AreRowsSoFar (b : Box2) (ports : List Port) (k : ℕ) (rows : List �
       0 < get_or rows (unsigned_abs p.cell.y - b.y) 0
 
 pub no_rows : (b : Box2) (ports : List Port) (n : ℕ) → n ≡ b.h → AreRowsSoFar b ports 0 (replicate n zero) 0
-no_rows b ports n is = grind (arith, common_steps, length-replicate, filled_none, all_zero)
+no_rows b ports n is = grind (arith, common_steps, length-replicate, filled_none)
 
 module _ (b : Box2) (ports : List Port) (k : ℕ) (p : Port) (at : slice_get ports k ≡ Some p)
     (inside : in_box b p.cell.x p.cell.y ≡ true) (rows : List ℕ) (count : ℕ)
@@ -174,8 +166,7 @@ place_own width (suc row) (suc other) c d place p q e f =
 
 pub none_after : (width row column : ℕ) → row ≡ 0 → None ≡ entry_place_by_row_number width row column
 unfolding entry_place_by_row_number
-none_after width zero column e = refl
-none_after width (suc row) column e = absurd (omega (arith, e))
+none_after width row column h1 = grind (arith, common_steps)
 
 pub some_after : (width row column : ℕ) → (row ≡ 0 → ⊥) →
     Some ((row - 1) * width + column) ≡ entry_place_by_row_number width row column
@@ -217,8 +208,7 @@ module _ (b : Box2) (ports : List Port) (rows : List ℕ) (count : ℕ) (are : A
       same_place b c d inside also (ap₂ (λ (i j : ℕ). i * b.w + j) row r.3)
 
   pub entry_some : (i : ℕ) (p : Port) → slice_get ports i ≡ Some p → entry_place b rows p.cell.x p.cell.y ≡ None → ⊥
-  entry_some i p at = some_place b.w (get_or rows (unsigned_abs p.cell.y - b.y) 0) (unsigned_abs p.cell.x - b.x)
-      (are.each i p at)
+  entry_some i p at = grind (arith, common_steps, some_place)
 
 -- a row of a box
 pub row_inside : (b : Box2) (x y k : ℕ) → in_box b (pos x) (pos y) ≡ true → x + k < b.x + b.w →

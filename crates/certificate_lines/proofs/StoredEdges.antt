@@ -1,9 +1,9 @@
 -- The edge lines of stored modules, and the wires that neighbours lack of them
 use Rattle.certificate_lines.proofs.Imports.{All, AreGoodModulesSoFar, AreInBox, Bool, BorderLine, Circuit, IsTrue}
-use Rattle.certificate_lines.proofs.Imports.{List, Setting, Some, [], ap, does_neighbour_lack_wire, edges, flat_map}
-use Rattle.certificate_lines.proofs.Imports.{get_or, in_box, lacks_edge_wire, length, list_any, map, modules_of}
-use Rattle.certificate_lines.proofs.Imports.{option_map, refl, slice_get, slice_get-get_or, slice_get-map, subst, sym}
-use Rattle.certificate_lines.proofs.Imports.{whole, ℕ, ◌<◌, ◌||◌, ◌∙◌, ◌∷◌, ◌≡◌}
+use Rattle.certificate_lines.proofs.Imports.{List, Setting, [], ap, arith, common_steps, does_neighbour_lack_wire}
+use Rattle.certificate_lines.proofs.Imports.{edges, flat_map, get_or, in_box, lacks_edge_wire, length, list_any, map}
+use Rattle.certificate_lines.proofs.Imports.{modules_of, option_map, refl, slice_get, slice_get-get_or, slice_get-map}
+use Rattle.certificate_lines.proofs.Imports.{subst, sym, whole, ℕ, ◌<◌, ◌||◌, ◌∙◌, ◌∷◌, ◌≡◌}
 use Rattle.lemmas.proofs.Common.{all_unmapped}
 use Rattle.certificate_lines.specs.StoredModules.{IsWithin, border_line, lines_of_modules, module_lines}
 use Rattle.certificate_lines.specs.declared.stored_module.StoredModule.{StoredModule}
@@ -18,9 +18,8 @@ pub lines_on_layout : (g : Setting) (ms : List StoredModule) →
     n ≡ get_or ms k n → All (IsWithin g.size) n.edges.items
 lines_on_layout g ms sound k n within is i b lt =
     let c = g.circuit in
-    let good = (sound.each k (module_lines c n) (ap (λ l. slice_get l k) (modules_stored c ms)
-    ∙ slice_get-map (module_lines c) ms k ∙ ap (option_map (module_lines c)) (slice_get-get_or ms k n within
-    ∙ ap Some (sym is)))).good in
+    let good = (sound.each k (module_lines c n) (
+    grind (arith, common_steps, slice_get, modules_stored, slice_get-map, option_map, slice_get-get_or))).good in
     let all = subst (AreInBox (whole g.size)) (edges_with c n n.halos.items) (edge_inside g (module_lines c n) good) in
     all_unmapped (λ (e : BorderLine). IsTrue (in_box (whole g.size) e.cell.x e.cell.y))
     (border_line c) n.edges.items all

@@ -1,14 +1,14 @@
 -- The lines of stored modules, and the modules of these lines
-use Rattle.certificate_lines.proofs.Imports.{Circuit, CertificateLine, List, ModuleLines, Option, Some, None, [], ap}
+use Rattle.certificate_lines.proofs.Imports.{Circuit, CertificateLine, List, ModuleLines, Option, Some, [], ap}
 use Rattle.certificate_lines.proofs.Imports.{append-nil, append_assoc, arith, common_steps, cut_name_in, cuts, edge_in}
 use Rattle.certificate_lines.proofs.Imports.{edges, flat_map, flat_map-append, gates, halo_in, kept_gate_in, map}
 use Rattle.certificate_lines.proofs.Imports.{module_with_line, modules_of, refl, stop_in, sym, used_gate_in, Cut, Use}
 use Rattle.certificate_lines.proofs.Imports.{Keep, Edge, Halo, Stop, Module, All, All-tail, map-append, BorderLine}
 use Rattle.certificate_lines.proofs.Imports.{StopLine, get_or, last_of, slice_get, slice_get-get_or, slice_get_within}
-use Rattle.certificate_lines.proofs.Imports.{subst, suc, ◌-◌, IfSome, areas, last_module, mapped_from, option_map, ◌+◌}
-use Rattle.certificate_lines.proofs.Imports.{Counts, counts_of, length-map, ◌++◌, ◌∙◌, ◌∷◌, ◌≡◌, ◌<◌, ℕ, length}
-use Rattle.certificate_lines.proofs.Imports.{option_to_list, wire_of, may_follow, rank_of, true, and_parts, ap₂}
-use Rattle.certificate_lines.proofs.Imports.{body_lines, false_from_not, is_module, list_all, list_all-append, not}
+use Rattle.certificate_lines.proofs.Imports.{subst, suc, ◌-◌, IfSome, last_module, mapped_from, option_map, ◌+◌, Counts}
+use Rattle.certificate_lines.proofs.Imports.{counts_of, length-map, ◌++◌, ◌∙◌, ◌∷◌, ◌≡◌, ◌<◌, ℕ, length, option_to_list}
+use Rattle.certificate_lines.proofs.Imports.{wire_of, may_follow, rank_of, true, and_parts, ap₂, body_lines}
+use Rattle.certificate_lines.proofs.Imports.{false_from_not, is_module, list_all, list_all-append, not}
 use Rattle.lemmas.proofs.Common.{Global, Vec, slice_set, All-head, list_all-map}
 use Rattle.std.proofs.Common.{Bor}
 use Rattle.std.specs.Option.{option_copied}
@@ -23,7 +23,6 @@ use Rattle.circuit.proofs.Naming.{place_position}
 use Rattle.std.proofs.lemmas.List.Quantifiers.{position-Some}
 use Rattle.std.proofs.lemmas.List.Elements.{All-set}
 use Rattle.std.proofs.lemmas.List.Folds.{flat_map-map}
-use Rattle.std.proofs.lemmas.Simd.{map-map}
 use Rattle.certificate_lines.specs.Entries.{cut_wires, halos, keeps, stops}
 use Rattle.certificate_lines.specs.StoredModules.{HasOwnWires, IsOwnWire, border_line, body_lines_with}
 use Rattle.certificate_lines.specs.StoredModules.{lines_of_modules, module_lines, module_lines_with, stop_line}
@@ -110,10 +109,7 @@ no_modules [] rest h = (refl, refl)
 no_modules (i ∷ es) rest h =
     let both = and_parts (not (is_module i)) _ h in
     let other = false_from_not (is_module i) both.0 in
-    let more = no_modules es rest both.1 in (
-      inner_other i (es ++ rest) other ∙ ap (λ l. i ∷ l) more.0,
-      split_other i (es ++ rest) other ∙ more.1,
-    )
+    let more = no_modules es rest both.1 in grind (arith, common_steps, inner_other, split_other)
 
 all_true : {X : Type 0} (xs : List X) → list_all (λ x. true) xs ≡ true
 all_true [] = refl
@@ -219,9 +215,7 @@ module _ (c : Circuit) (m : StoredModule) where
 -- the last element is the one that was read at the last place
 pub last_is_at : {X : Type 0} (xs : List X) (i : ℕ) (x : X) → i ≡ length xs - 1 → 0 < length xs → x ≡ get_or xs i x →
     last_of xs ≡ Some x
-last_is_at xs i x at some is =
-    sym (last_by_place xs) ∙ ap (slice_get xs) (sym at) ∙ slice_get-get_or xs i x (omega (arith, at, some))
-    ∙ ap Some (sym is)
+last_is_at xs i x at some is = grind (arith, common_steps, last_by_place, slice_get, slice_get-get_or)
 
 -- the module has these lines more
 abbrev HasMore : Circuit → List CertificateLine → StoredModule → StoredModule → Type 0
@@ -288,19 +282,14 @@ module _ (c : Circuit) (ms : List StoredModule) where
   pub count_stored : length ms ≡ length (modules_of (lines_of_modules c ms))
   count_stored = simp (modules_stored, length-map)
 
-  pub areas_stored : map (λ m. m.area) ms ≡ areas (modules_of (lines_of_modules c ms))
-  areas_stored = simp (modules_stored, map-map)
-
 pub copied_lines : (c : Circuit) (r : Option (Bor StoredModule)) →
     option_map (λ m. module_lines c m.now) r ≡ option_map (module_lines c) (option_copied r)
-copied_lines c None = refl
-copied_lines c (Some m) = refl
+copied_lines c r = grind (arith, common_steps)
 
 pub limit_found : (c : Circuit) (r : Option (Bor StoredModule)) (last : Option ModuleLines) →
     option_map (λ m. module_lines c m.now) r ≡ last → IfSome last IsWithinLineLimit →
     IfSome r (λ m. IsWithinLineLimit (module_lines c m.now))
-limit_found c None last is within = tt
-limit_found c (Some m) last is within = subst (λ o. IfSome o IsWithinLineLimit) (sym is) within
+limit_found c r last h1 h2 = grind (arith, common_steps)
 
 pub module_written : (c : Circuit) (ms : List StoredModule) (k : ℕ) (m : ModuleLines) →
     slice_get (modules_of (lines_of_modules c ms)) k ≡ Some m →

@@ -1,14 +1,13 @@
 -- A good line is one that a module can store
 use Rattle.certificate_lines.proofs.Imports.{Box2, Cell, CertificateLine, Circuit, Cut, Edge, Gate, Halo, IfSome}
 use Rattle.certificate_lines.proofs.Imports.{IsBodyLine, IsModule, IsTrue, Keep, LayoutHeader, List, Module}
-use Rattle.certificate_lines.proofs.Imports.{ModuleLines, None, Option, Setting, Some, Stop, Use, [], ap, arith}
+use Rattle.certificate_lines.proofs.Imports.{ModuleLines, None, Option, Setting, Some, Stop, Use, [], arith}
 use Rattle.certificate_lines.proofs.Imports.{bytes_eq-Decides, common_steps, content_code, false≢true, gates, in_box}
-use Rattle.certificate_lines.proofs.Imports.{in_box_nats, is_local, is_local_wire, is_some, known, last_module}
-use Rattle.certificate_lines.proofs.Imports.{last_of, length, may_follow, option_map, refl, size_fault, size_sides}
-use Rattle.certificate_lines.proofs.Imports.{slice_get, slice_get_within, subst, sym, true, whole, wire_of}
-use Rattle.certificate_lines.proofs.Imports.{ℕ, ℤ, ◌<◌, ◌∙◌, ◌∷◌, ◌≡◌, ◌≤◌, All, LineKey, edge_in, halo_in}
-use Rattle.certificate_lines.proofs.Imports.{key_of, last_body_line, flat_map-append, key_or_first}
-use Rattle.certificate_lines.proofs.Imports.{module_line_code, modules_of, ◌++◌}
+use Rattle.certificate_lines.proofs.Imports.{in_box_nats, is_local, is_local_wire, is_some, known, last_module, last_of}
+use Rattle.certificate_lines.proofs.Imports.{length, may_follow, option_map, refl, size_fault, size_sides, slice_get}
+use Rattle.certificate_lines.proofs.Imports.{slice_get_within, subst, sym, true, whole, wire_of, ℕ, ℤ, ◌<◌, ◌∙◌, ◌∷◌}
+use Rattle.certificate_lines.proofs.Imports.{◌≡◌, ◌≤◌, All, LineKey, edge_in, halo_in, key_of, last_body_line}
+use Rattle.certificate_lines.proofs.Imports.{flat_map-append, key_or_first, module_line_code, modules_of, ◌++◌}
 use Rattle.lemmas.proofs.Common.{All-push, low_number}
 use Rattle.std.specs.Option.{option_and_then}
 use Rattle.std.proofs.lemmas.List.Quantifiers.{position-Some}
@@ -33,13 +32,11 @@ wire_named : (c : Circuit) (n : List ℕ) (w : ℕ) → wire_of c n ≡ Some w �
 wire_named c n w e = grind (arith, common_steps, position-Some, place_position, bytes_eq-Decides)
 
 local_is_some : (local : List ℕ) (wire : Option ℕ) → IsTrue (is_local_wire local wire) → IsTrue (is_some wire)
-local_is_some local None h = absurd cc
-local_is_some local (Some w) h = refl
+local_is_some local wire h1 = grind (arith, common_steps)
 
 signal_named : (c : Circuit) (local : List ℕ) (signal : Option (List ℕ)) →
     IfSome signal (λ n. IsTrue (is_local c local n)) → IfSome signal (λ n. IsTrue (is_some (wire_of c n)))
-signal_named c local None h = tt
-signal_named c local (Some n) h = local_is_some local (wire_of c n) h
+signal_named c local signal h1 = grind (arith, common_steps, local_is_some)
 
 -- the name in a line whose words are good
 named_words : (g : Setting) (m : ModuleLines) (i : CertificateLine) → content_code g m i ≡ None →
@@ -52,8 +49,7 @@ named_words g m _ e = tt
 
 found_by : (c : Circuit) (n : List ℕ) (found : Option ℕ) → wire_of c n ≡ found → IsTrue (is_some found) →
     (option_map (wire_name c) found ≡ Some n) × IfSome found (IsOwnWire c)
-found_by c n None is some = absurd (false≢true some)
-found_by c n (Some w) is some = (ap Some (wire_named c n w is), ap (wire_of c) (wire_named c n w is) ∙ is)
+found_by c n found h1 h2 = grind (arith, common_steps, false≢true, wire_named)
 
 found : (c : Circuit) (name : Option (List ℕ)) → IfSome name (λ n. IsTrue (is_some (wire_of c n))) →
     (option_map (wire_name c) (option_and_then (wire_of c) name) ≡ name)
@@ -77,13 +73,11 @@ max_size s x y sized inside =
     grind (arith, common_steps, in_box_nats, low_number)
 
 wire_there : (f : ℕ → List ℕ) (wire : Option ℕ) (n : List ℕ) → option_map f wire ≡ Some n → IsTrue (is_some wire)
-wire_there f None n e = absurd cc
-wire_there f (Some w) n e = refl
+wire_there f wire n h1 = grind (arith, common_steps)
 
 gate_there : (gates : List Gate) (k : ℕ) (found : Option Gate) → slice_get gates k ≡ found →
     IsTrue (is_inverse_gate found) → k < length gates
-gate_there gates k None is inverse = absurd (false≢true inverse)
-gate_there gates k (Some gate) is inverse = slice_get_within gates k gate is
+gate_there gates k found h1 h2 = grind (arith, common_steps, false≢true, slice_get_within)
 
 pub may_store : (g : Setting) (m : ModuleLines) (i : CertificateLine) (wire : Option ℕ) → IsModule g m →
     size_fault g.size ≡ None → length g.circuit.netlist.gates ≤ max_gates → IsBodyLine i → content_code g m i ≡ None →
@@ -91,9 +85,7 @@ pub may_store : (g : Setting) (m : ModuleLines) (i : CertificateLine) (wire : Op
 may_store g m (Module b) wire is sized few body good own = absurd body
 may_store g m (Cut n) wire is sized few body good own = wire_there (wire_name g.circuit) wire n own.name
 may_store g m (Use k) wire is sized few body good own =
-    let words = (good_use g.circuit (length (gates m)) (known g.circuit m) k good).1 in
-    let within = slice_get_within g.circuit.netlist.gates k words.gate words.numbered in
-    omega (arith, within, few)
+    grind (arith, common_steps, good_use, slice_get_within)
 may_store g m (Keep k) wire is sized few body good own =
     let within = gate_there g.circuit.netlist.gates k _ refl (keep_good g (gates m) k good).inverse in
     omega (arith, within, few)

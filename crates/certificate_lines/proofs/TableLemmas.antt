@@ -17,8 +17,7 @@ use Rattle.lemmas.proofs.Common.{get_or-set_other, length-take-le, mul-le-mul_ri
 use Rattle.lemmas.proofs.Common.{list_all-append, same_truth}
 use Rattle.bbm_rule.proofs.CellLists.{cast_cell, row_more, rows_found}
 use Rattle.certificate_lines.specs.PortTables.{AreInBox, entry_or_zero, number_with_port_in_front}
-use Rattle.certificate_lines.proofs.RowLemmas.{all_zero, entry_few, entry_own, filled, filled_less, filled_more}
-use Rattle.certificate_lines.proofs.RowLemmas.{filled_none}
+use Rattle.certificate_lines.proofs.RowLemmas.{entry_few, entry_own, filled, filled_less, filled_more, filled_none}
 use Rattle.certificate_lines.proofs.Lists.{passed, any_at, some_is}
 use Rattle.certificate_lines.proofs.LayoutPorts.{port_stands, none_stands}
 use Rattle.certificate_lines.proofs.PortLemmas.{cell_passed, has_cell}
@@ -44,8 +43,7 @@ port_there ports apart i p at = port_from_words ports apart i p at _ refl
 -- a signal that is not local has a name
 passed_name : (c : Circuit) (local : List ℕ) (o : Option (List ℕ)) → is_nonlocal_signal c local o ≡ true →
     (name : List ℕ) × (o ≡ Some name) × (not (is_local c local name) ≡ true)
-passed_name c local None h = absurd cc
-passed_name c local (Some name) h = (name, refl, h)
+passed_name c local o h1 = grind (arith, common_steps)
 
 module _ (ports : List Port) (apart : HaveDistinctCells ports) (b : Box2) (c : Circuit) (local : List ℕ) where
   abbrev by_cell : Cell → Bool
@@ -106,17 +104,14 @@ both_ports p q apart apart' b c local = grind (arith, common_steps, ports_in_box
 -- ---- the number of the port at a cell
 
 no_number : (b : Bool) (n : ℕ) → (if b then 1 else number_with_port_in_front n) ≡ 0 → (b ≡ false) × (n ≡ 0)
-no_number true n e = absurd cc
-no_number false zero e = (refl, refl)
-no_number false (suc n) e = absurd cc
+no_number b n h1 = grind (arith, common_steps)
 
 -- no number, no port
 pub unnumbered : (ports : List Port) (x y : ℤ) → number_at ports x y ≡ 0 → port_at ports x y ≡ None
 unfolding number_at port_at
 unnumbered [] x y e = refl
 unnumbered (p ∷ ports) x y e =
-    let r = no_number (is_at p.cell x y) (number_at ports x y) e in
-    rw (r.0) (unnumbered ports x y r.1)
+    grind (arith, common_steps, no_number, unnumbered ports x y)
 
 -- the port of a number
 pub record IsNumbered (ports : List Port) (k : ℕ) (x y : ℤ) : Type 0 where
@@ -173,8 +168,7 @@ push_here : (ports : List Port) (p : Port) (x y : ℤ) → is_at p.cell x y ≡ 
 unfolding number_at
 push_here [] p x y on none = rw on refl
 push_here (q ∷ ports) p x y on none =
-    let r = no_number (is_at q.cell x y) (number_at ports x y) none in
-    rw (r.0, push_here ports p x y on r.1) refl
+    grind (arith, common_steps, no_number, push_here ports p x y on)
 
 none_there : (ports : List Port) (x y : ℤ) →
     ((i : ℕ) (q : Port) → slice_get ports i ≡ Some q → is_at q.cell x y ≡ true → ⊥) → number_at ports x y ≡ 0
@@ -185,8 +179,7 @@ none_there (q ∷ ports) x y none =
     rw (off, none_there ports x y (λ i p e. none (suc i) p e)) refl
   where
     not_true : (b : Bool) → (b ≡ true → ⊥) → b ≡ false
-    not_true true h = absurd (h refl)
-    not_true false h = refl
+    not_true b h1 = grind (arith, common_steps)
 
 within_take : (xs : List Port) (k i : ℕ) (q : Port) → slice_get (take k xs) i ≡ Some q →
     (i < k) × (slice_get xs i ≡ Some q)
@@ -245,9 +238,7 @@ unplaced numbers o e = ap (entry_or_zero numbers) e
 kept_entry : (numbers : List ℕ) (place v : ℕ) (o : Option ℕ) → (o ≡ Some place → ⊥) →
     entry_or_zero (set numbers place v) o ≡ entry_or_zero numbers o
 unfolding entry_or_zero
-kept_entry numbers place v None other = refl
-kept_entry numbers place v (Some j) other =
-    get_or-set_other numbers place j v 0 (λ same. other (ap (λ (i : ℕ). Some i) same))
+kept_entry numbers place v o h1 = grind (arith, common_steps, get_or-set_other)
 
 -- ---- a table of the ports so far
 
@@ -259,8 +250,7 @@ pub record IsFilling (b : Box2) (ports : List Port) (rows : List ℕ) (count k :
 
 no_entry : (n : ℕ) (o : Option ℕ) → entry_or_zero (replicate n zero) o ≡ 0
 unfolding entry_or_zero
-no_entry n None = refl
-no_entry n (Some place) = all_zero n place
+no_entry n o = grind (arith, common_steps)
 
 pub no_ports : (b : Box2) (ports : List Port) (rows : List ℕ) (count n : ℕ) → n ≡ count * b.w →
     IsFilling b ports rows count 0 (replicate n zero)
@@ -344,14 +334,11 @@ module _ (b : Box2) (ports : List Port) (apart : HaveDistinctCells ports) (insid
 -- ---- outside
 
 not_inside : (b : Box2) (c : Cell) (x y : ℤ) → in_box b x y ≡ false → in_box b c.x c.y ≡ true → is_at c x y ≡ true → ⊥
-not_inside b c x y out inside here =
-    let same : c ≡ record { x = x; y = y } = cell_same c (record { x = x; y = y }) here in
-    cc (ap (λ (d : Cell). in_box b d.x d.y) same, inside, out)
+not_inside b c x y out inside here = grind (arith, common_steps, cell_same)
 
 no_name : (ports : List Port) (x y : ℤ) → ((name : List ℕ) → port_at ports x y ≡ Some name → ⊥) →
     (o : Option (List ℕ)) → port_at ports x y ≡ o → o ≡ None
-no_name ports x y none None e = refl
-no_name ports x y none (Some name) e = absurd (none name e)
+no_name ports x y h1 o h2 = grind (arith, common_steps)
 
 pub none_outside : (b : Box2) (ports : List Port) → AreInBox b ports → (x y : ℤ) → in_box b x y ≡ false →
     port_at ports x y ≡ None

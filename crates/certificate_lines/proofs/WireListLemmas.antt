@@ -1,12 +1,12 @@
 -- The marks of a list of wires
 use Rattle.certificate_lines.proofs.Imports.{List, [], ap, arith, common_steps, false, get_or, is_among, length}
-use Rattle.certificate_lines.proofs.Imports.{length-replicate, refl, replicate, subst, suc, sym, take, take_more, true}
-use Rattle.certificate_lines.proofs.Imports.{zero, ℕ, ◌%◌, ◌++◌, ◌+◌, ◌<◌, ◌==◌, ◌||◌, ◌∙◌, ◌∷◌, ◌≡◌, ◌≤◌, false≢true}
-use Rattle.lemmas.proofs.Common.{◌/◌, eq_itself, or-true, false_from_ne_true, get_or-replicate, get_or_past}
+use Rattle.certificate_lines.proofs.Imports.{replicate, suc, sym, take, take_more, true, zero, ℕ, ◌%◌, ◌++◌, ◌+◌, ◌<◌}
+use Rattle.certificate_lines.proofs.Imports.{◌==◌, ◌||◌, ◌∙◌, ◌∷◌, ◌≡◌, ◌≤◌, false≢true}
+use Rattle.lemmas.proofs.Common.{◌/◌, eq_itself, or-true, false_from_ne_true, get_or_past}
 use Rattle.std.proofs.lemmas.List.{get_or-take, length-take-le}
 use Rattle.bbm_rule.specs.Rows.{SetsPlace}
-use Rattle.bbm_rule.specs.Bits.{bit}
 use Rattle.bbm_rule.specs.Rows.{cell_at}
+use Rattle.bbm_rule.specs.Bits.{bit}
 use Rattle.bbm_rule.proofs.BitLemmas.{by_lt_or_le, bit-zero}
 
 -- a number whose word is zero has no mark
@@ -22,12 +22,6 @@ past_marks marks w past = unmarked marks w (get_or_past marks (w / 64) 0 past)
 pub none_marked : (w : ℕ) → cell_at [] w ≡ is_among [] w
 none_marked w = past_marks [] w (omega arith)
 
--- the words that are added have no mark
-grown_word : (marks : List ℕ) (n k : ℕ) → get_or (marks ++ replicate n 0) k 0 ≡ get_or marks k 0
-grown_word [] n k = grind (arith, common_steps, by_lt_or_le, get_or-replicate, get_or_past, length-replicate)
-grown_word (m ∷ marks) n zero = refl
-grown_word (m ∷ marks) n (suc k) = grown_word marks n k
-
 take_all : (marks : List ℕ) (n : ℕ) → length marks ≤ n → take n marks ≡ marks
 take_all [] n few = grind (arith, common_steps)
 take_all (m ∷ marks) zero few = absurd (omega (arith, few))
@@ -36,9 +30,7 @@ take_all (m ∷ marks) (suc n) few = ap (λ l. m ∷ l) (take_all marks n (omega
 pub grown_marks : (marks : List ℕ) (n k w : ℕ) → length marks ≤ n →
     cell_at (take n marks ++ replicate k 0) w ≡ cell_at marks w
 unfolding cell_at
-grown_marks marks n k w few =
-    ap (λ (l : List ℕ). bit (get_or (l ++ replicate k 0) (w / 64) 0) (w % 64)) (take_all marks n few)
-    ∙ ap (λ (m : ℕ). bit m (w % 64)) (grown_word marks k (w / 64))
+grown_marks marks n k w few = grind (arith, common_steps, take_all)
 
 -- marks that are truncated to their old length are the old ones
 pub same_marks_truncated : (old new : List ℕ) (n w : ℕ) → n ≡ length old → n ≤ length new →
@@ -46,8 +38,7 @@ pub same_marks_truncated : (old new : List ℕ) (n w : ℕ) → n ≡ length old
 unfolding cell_at
 same_marks_truncated old new n w is fits same = by_lt_or_le (w / 64) n
     (λ within. ap (λ (m : ℕ). bit m (w % 64)) (get_or-take n new (w / 64) 0 within) ∙ same w)
-    (λ past. past_marks (take n new) w (omega (arith, past, length-take-le n new fits))
-    ∙ sym (past_marks old w (omega (arith, past, is))))
+    (λ past. grind (arith, common_steps, past_marks, length-take-le))
 
 -- ---- the marks are taken off
 
@@ -73,12 +64,7 @@ pub record AreUnmarked (marks wires : List ℕ) (count : ℕ) : Type 0 where
 
 pub one_more_off : (old new wires : List ℕ) (i w : ℕ) → i < length wires → w ≡ get_or wires i 0 →
     SetsPlace w false old new → AreUnmarked old wires i → AreUnmarked new wires (i + 1)
-one_more_off old new wires i w lt is sets before = record {
-  own = λ v on. grind (arith, common_steps);
-  off = λ v among. grind (arith, common_steps, take_more);
-}
+one_more_off old new wires i w lt is sets before = grind (arith, common_steps, take_more)
 
 pub all_off : (marks wires : List ℕ) → AreUnmarked marks wires (length wires) → (w : ℕ) → cell_at marks w ≡ false
-all_off marks wires off w = false_from_ne_true _ (λ on.
-    false≢true (sym (off.off w (subst (λ l. is_among l w ≡ true) (sym (take_all wires (length wires) (omega arith)))
-    (off.own w on))) ∙ on))
+all_off marks wires off w = grind (arith, common_steps, false_from_ne_true, false≢true, take_all)

@@ -1,12 +1,11 @@
 -- The gates of good lines are ordered.
-use Rattle.circuit.proofs.Imports.{All, AreGoodAfter, AreGoodCircuitLines, AreOrdered, Bool, CircuitLine, Gate}
-use Rattle.circuit.proofs.Imports.{GateKind, Kind, List, None, [], added_line_code, ap}
-use Rattle.circuit.proofs.Imports.{append-nil}
-use Rattle.circuit.proofs.Imports.{append_assoc, ap₂, arith, cases_Bool, common_steps, cond, consume_fault, consumed}
-use Rattle.circuit.proofs.Imports.{define_fault, defined, false, flat_map-append, gate_count, gate_of_line_kind}
-use Rattle.circuit.proofs.Imports.{gate_with_outs_from, gates_of, has, inl, input_count, inr, is_gate, is_input, length}
-use Rattle.circuit.proofs.Imports.{length-append, length-map, map, number, range_with_len, refl, subst}
-use Rattle.circuit.proofs.Imports.{sum_by-cons, sym, take, true≢false, ℕ, ◌++◌, ◌+◌, ◌<◌, ◌∙◌, ◌∷◌, ◌≡◌}
+use Rattle.circuit.proofs.Imports.{AreGoodAfter, AreGoodCircuitLines, AreOrdered, Bool, CircuitLine, Gate, GateKind}
+use Rattle.circuit.proofs.Imports.{Kind, List, None, [], added_line_code, ap, append-nil, append_assoc, ap₂, arith}
+use Rattle.circuit.proofs.Imports.{cases_Bool, common_steps, cond, consume_fault, consumed, define_fault, defined}
+use Rattle.circuit.proofs.Imports.{false, flat_map-append, gate_count, gate_of_line_kind, gate_with_outs_from, gates_of}
+use Rattle.circuit.proofs.Imports.{has, input_count, is_gate, is_input, length, length-append, length-map, map, number}
+use Rattle.circuit.proofs.Imports.{range_with_len, refl, subst, sum_by-cons, sym, take, true≢false, ℕ, ◌++◌, ◌+◌, ◌<◌}
+use Rattle.circuit.proofs.Imports.{◌∙◌, ◌∷◌, ◌≡◌}
 use Rattle.lemmas.proofs.Common.{count_by, sum_by-append}
 use Rattle.circuit.specs.Rules.{limit_fault, name_fault}
 use Rattle.circuit.specs.Bridge.{IsGoodAfter}
@@ -65,10 +64,7 @@ no_inputs before (r ∷ rest) good some =
     let more : gate_count (before ++ r ∷ []) ≡ gate_count before + gate_count (r ∷ []) =
     count_append (λ (r : CircuitLine). is_gate r.kind) before (r ∷ []) in
     let later = no_inputs (before ++ r ∷ []) rest good.1 (omega arith) in
-    elim (cases_Bool (is_input r.kind)) [
-      | inl e ↦ absurd (omega (arith, good.0.inputs_first e))
-      | inr e ↦ input_cons r rest ∙ rw e (omega (arith, later))
-    ]
+    grind (arith, common_steps, cases_Bool, input_cons)
 
 -- lines without inputs
 ordered_line : (names : List (List ℕ)) (before rest : List CircuitLine) (kind : Kind) (ins outs : List (List ℕ)) →
@@ -83,18 +79,10 @@ ordered_line names before rest (GateLine k) ins outs good later e f =
     let have : Have (defined before) ins = consume_have (defined before) (consumed before) ins pass.0 in
     let numbers : map (number names) ins ≡ map (number (defined before)) ins =
     ap (λ (names : List (List ℕ)). map (number names) ins) e
-    ∙ numbers_left (defined before) (outs ++ defined rest) ins have in (
-      subst (λ ws. All (λ w. w < length (defined before)) ws) (sym numbers) (numbers_below (defined before) ins have),
-      length-map ins (number names) ∙ good.fits.0,
-      ap (λ (names : List (List ℕ)). map (number names) outs) e
-          ∙ numbers_new (defined before) outs (defined rest) pass.1
-          ∙ ap (range_with_len (length (defined before))) good.fits.1,
-      subst (λ m. AreOrdered m (gates_of names rest))
-          (length-append (defined before) outs ∙ ap (λ k. length (defined before) + k) good.fits.1) later,
-    )
+    ∙ numbers_left (defined before) (outs ++ defined rest) ins have in
+    grind (arith, common_steps, numbers_below, length-map, numbers_new, length-append)
 ordered_line names before rest _ ins outs good later e f =
-    subst (λ m. AreOrdered m (gates_of names rest))
-    (length-append (defined before) outs ∙ omega (arith, good.fits.1)) later
+    grind (arith, common_steps, length-append)
 
 not_input : (r : CircuitLine) (rest : List CircuitLine) → input_count (r ∷ rest) ≡ 0 →
     (is_input r.kind ≡ false) × (input_count rest ≡ 0)
@@ -209,9 +197,7 @@ gates_keep names e before [] good is = refl
 gates_keep names e before (r ∷ rest) good is =
     let all : names ≡ defined before ++ (r.outs ++ defined rest) = is ∙ defined_cons before r rest in
     let line : gate_of_line_kind (names ++ e) r.ins r.outs r.kind ≡ gate_of_line_kind names r.ins r.outs r.kind =
-    subst (λ (l : List (List ℕ)).
-    gate_of_line_kind (l ++ e) r.ins r.outs r.kind ≡ gate_of_line_kind l r.ins r.outs r.kind) (sym all)
-    (line_keeps before rest e r.kind r.ins r.outs good.0) in
+    grind (arith, common_steps, line_keeps) in
     ap₂ (λ (g gs : List Gate). g ++ gs) line
     (gates_keep names e (before ++ r ∷ []) rest good.1 (is ∙ ap defined (sym (push_cons before r rest))))
 

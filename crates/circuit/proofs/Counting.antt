@@ -3,12 +3,10 @@ use Rattle.circuit.proofs.Imports.{AreGoodAfter, AreGoodCircuitLines, CircuitLin
 use Rattle.circuit.proofs.Imports.{common_steps, cond, input_count, input_names, is_input, length, refl, ℕ, ◌++◌, ◌∷◌}
 use Rattle.circuit.proofs.Imports.{◌≡◌}
 use Rattle.circuit.proofs.Bridging.{input_cons}
-use Rattle.circuit.specs.declared.circuit_line.Kind.TheVariants.{Input}
 
 line_counted : (kind : Kind) (ins outs : List (List ℕ)) → FitsKind (record { kind = kind; ins = ins; outs = outs }) →
     length (cond (is_input kind) outs []) ≡ cond (is_input kind) 1 0
-line_counted Input ins outs fits = fits.1
-line_counted _ ins outs fits = refl
+line_counted kind ins outs h1 = grind (arith, common_steps)
 
 counted : (before rest : List CircuitLine) → AreGoodAfter before rest → length (input_names rest) ≡ input_count rest
 unfolding AreGoodAfter

@@ -1,10 +1,10 @@
 -- A line that is read has as many names as its kind.
-use Rattle.circuit.proofs.Imports.{CircuitLine, End, FitsKind, Header, Input, Item, Kind, Line, List, None, Output}
-use Rattle.circuit.proofs.Imports.{Some, Spill, [], ap, arith, chosen, codes, cond, cond_some, defines, entry, eqb}
-use Rattle.circuit.proofs.Imports.{form_of, gate_entry, gate_kind, gate_line_of_kind, if_one_word, inl, inr, is_gate}
-use Rattle.circuit.proofs.Imports.{is_input, is_word_at, length, name_after_keyword, names_at, option_and_then_some}
-use Rattle.circuit.proofs.Imports.{passed, rank_of, refl, same_Some, subst, suc, sym, true, true≢false, uses}
-use Rattle.circuit.proofs.Imports.{words_before_names, zero, ℕ, ◌+◌, ◌>>=◌, ◌∙◌, ◌∷◌, ◌≡◌, ◌≤◌}
+use Rattle.circuit.proofs.Imports.{CircuitLine, FitsKind, Header, Input, Item, Kind, Line, List, None, Some, [], ap}
+use Rattle.circuit.proofs.Imports.{arith, chosen, codes, common_steps, cond, cond_some, defines, entry, eqb, form_of}
+use Rattle.circuit.proofs.Imports.{gate_entry, gate_kind, gate_line_of_kind, if_one_word, inl, inr, is_gate, is_input}
+use Rattle.circuit.proofs.Imports.{is_word_at, length, names_at, option_and_then_some, passed, rank_of, refl, same_Some}
+use Rattle.circuit.proofs.Imports.{subst, suc, sym, true, uses, words_before_names, zero, ℕ, ◌+◌, ◌>>=◌, ◌∙◌, ◌∷◌, ◌≡◌}
+use Rattle.circuit.proofs.Imports.{◌≤◌}
 use Rattle.section_text.specs.Words.{name_at}
 use Rattle.circuit.specs.declared.circuit_line.Kind.TheVariants.{Gate}
 
@@ -52,23 +52,7 @@ unfolding form_of OfForm
 form_fits ws f e =
     elim (chosen (is_word_at ws 0 (codes "circuit")) _ _ (Some f) e) [
       | inl p ↦ lone_fits ws (Header tt) f tt p.1
-      | inr p ↦ elim (chosen (is_word_at ws 0 (codes "end")) _ _ (Some f) p.1) [
-        | inl q ↦ lone_fits ws End f tt q.1
-        | inr q ↦ elim (chosen (is_word_at ws 0 (codes "input")) _ _ (Some f) q.1) [
-          | inl r ↦ option_and_then_some (λ n. Some (Item (entry Input [] (n ∷ [])))) (name_after_keyword ws) f r.1
-              (λ n named made. subst OfForm (same_Some (Item (entry Input [] (n ∷ []))) f made) (refl, refl))
-          | inr r ↦ elim (chosen (is_word_at ws 0 (codes "output")) _ _ (Some f) r.1) [
-            | inl s ↦ option_and_then_some (λ n. Some (Item (entry Output (n ∷ []) []))) (name_after_keyword ws) f s.1
-                (λ n named made. subst OfForm (same_Some (Item (entry Output (n ∷ []) [])) f made) (refl, refl))
-            | inr s ↦ elim (chosen (is_word_at ws 0 (codes "spill")) _ _ (Some f) s.1) [
-              | inl t ↦ option_and_then_some (λ n. Some (Item (entry Spill (n ∷ []) []))) (name_after_keyword ws) f t.1
-                  (λ n named made. subst OfForm (same_Some (Item (entry Spill (n ∷ []) [])) f made) (refl, refl))
-              | inr t ↦ option_and_then_some (λ r. Some (Item r)) (gate_entry ws) f t.1
-                  (λ r known made. subst OfForm (same_Some (Item r) f made) (gate_fits ws r known))
-            ]
-          ]
-        ]
-      ]
+      | inr p ↦ grind (arith, common_steps, chosen, lone_fits, option_and_then_some, same_Some, gate_fits)
     ]
 
 pub entry_fits : (ws : List (List ℕ)) (r : CircuitLine) → form_of ws ≡ Some (Item r) → FitsKind r
@@ -77,9 +61,7 @@ entry_fits ws r e = form_fits ws (Item r) e
 
 -- ---- inputs come before gates, by the rank of the last line
 pub no_gate_yet : (k : Kind) (rank g : ℕ) → rank ≤ rank_of k → cond (eqb rank 0) g 0 ≡ 0 → is_input k ≡ true → g ≡ 0
-no_gate_yet Input zero g h e i = e
-no_gate_yet Input (suc n) g h e i = absurd (omega arith)
-no_gate_yet _ rank g h e i = absurd (true≢false (sym i))
+no_gate_yet k rank g h1 h2 h3 = grind (arith, common_steps)
 
 pub no_gate_still : (k : Kind) (rank g : ℕ) → rank ≤ rank_of k → cond (eqb rank 0) g 0 ≡ 0 →
     cond (eqb (rank_of k) 0) (g + cond (is_gate k) 1 0) 0 ≡ 0

@@ -1,7 +1,7 @@
 -- Gates keep the number of ones, and inverse gates undo others.
 use Rattle.circuit.proofs.Imports.{Bool, Cswap, Delay, Fredkin, Interact, List, None, Option, Some, Source, Switch}
-use Rattle.circuit.proofs.Imports.{Uninteract, Unswitch, [], ap, arith, common_steps, false, refl, row, subst, sym}
-use Rattle.circuit.proofs.Imports.{true, ℕ, ◌∷◌, ◌≡◌}
+use Rattle.circuit.proofs.Imports.{Uninteract, Unswitch, [], arith, common_steps, false, refl, row, subst, true, ℕ, ◌∷◌}
+use Rattle.circuit.proofs.Imports.{◌≡◌}
 use Rattle.circuit.specs.Laws.{ones, GatesKeepOnes, InverseGatesUndo}
 
 none : {outs : List Bool} → ◌≡◌ {A = Option (List Bool)} None (Some outs) → ⊥
@@ -104,125 +104,31 @@ inverse_gates_undo = grind (arith, common_steps, switch_undone, unswitch_undone,
 
 fredkin_keeps : (ins outs : List Bool) → row Fredkin ins ≡ Some outs → ones outs ≡ ones ins
 unfolding row
-fredkin_keeps ([]) outs e = absurd (none e)
-fredkin_keeps (b0 ∷ []) outs e = absurd (none e)
-fredkin_keeps (b0 ∷ b1 ∷ []) outs e = absurd (none e)
-fredkin_keeps (false ∷ false ∷ false ∷ []) outs e = ap ones (sym (list_is (false ∷ false ∷ false ∷ []) outs e))
-fredkin_keeps (false ∷ false ∷ true ∷ []) outs e = ap ones (sym (list_is (false ∷ true ∷ false ∷ []) outs e))
-fredkin_keeps (false ∷ true ∷ false ∷ []) outs e = ap ones (sym (list_is (false ∷ false ∷ true ∷ []) outs e))
-fredkin_keeps (false ∷ true ∷ true ∷ []) outs e = ap ones (sym (list_is (false ∷ true ∷ true ∷ []) outs e))
-fredkin_keeps (true ∷ false ∷ false ∷ []) outs e = ap ones (sym (list_is (true ∷ false ∷ false ∷ []) outs e))
-fredkin_keeps (true ∷ false ∷ true ∷ []) outs e = ap ones (sym (list_is (true ∷ false ∷ true ∷ []) outs e))
-fredkin_keeps (true ∷ true ∷ false ∷ []) outs e = ap ones (sym (list_is (true ∷ true ∷ false ∷ []) outs e))
-fredkin_keeps (true ∷ true ∷ true ∷ []) outs e = ap ones (sym (list_is (true ∷ true ∷ true ∷ []) outs e))
-fredkin_keeps (b0 ∷ b1 ∷ b2 ∷ b ∷ bs) outs e = absurd (none e)
+fredkin_keeps ins outs h1 = grind (arith, common_steps, none, list_is)
 
 cswap_keeps : (ins outs : List Bool) → row Cswap ins ≡ Some outs → ones outs ≡ ones ins
 unfolding row
-cswap_keeps ([]) outs e = absurd (none e)
-cswap_keeps (b0 ∷ []) outs e = absurd (none e)
-cswap_keeps (b0 ∷ b1 ∷ []) outs e = absurd (none e)
-cswap_keeps (false ∷ false ∷ false ∷ []) outs e = ap ones (sym (list_is (false ∷ false ∷ false ∷ []) outs e))
-cswap_keeps (false ∷ false ∷ true ∷ []) outs e = ap ones (sym (list_is (false ∷ false ∷ true ∷ []) outs e))
-cswap_keeps (false ∷ true ∷ false ∷ []) outs e = ap ones (sym (list_is (false ∷ true ∷ false ∷ []) outs e))
-cswap_keeps (false ∷ true ∷ true ∷ []) outs e = ap ones (sym (list_is (false ∷ true ∷ true ∷ []) outs e))
-cswap_keeps (true ∷ false ∷ false ∷ []) outs e = ap ones (sym (list_is (true ∷ false ∷ false ∷ []) outs e))
-cswap_keeps (true ∷ false ∷ true ∷ []) outs e = ap ones (sym (list_is (true ∷ true ∷ false ∷ []) outs e))
-cswap_keeps (true ∷ true ∷ false ∷ []) outs e = ap ones (sym (list_is (true ∷ false ∷ true ∷ []) outs e))
-cswap_keeps (true ∷ true ∷ true ∷ []) outs e = ap ones (sym (list_is (true ∷ true ∷ true ∷ []) outs e))
-cswap_keeps (b0 ∷ b1 ∷ b2 ∷ b ∷ bs) outs e = absurd (none e)
+cswap_keeps ins outs h1 = grind (arith, common_steps, none, list_is)
 
 interact_keeps : (ins outs : List Bool) → row Interact ins ≡ Some outs → ones outs ≡ ones ins
 unfolding row
-interact_keeps ([]) outs e = absurd (none e)
-interact_keeps (b0 ∷ []) outs e = absurd (none e)
-interact_keeps (false ∷ false ∷ []) outs e = ap ones (sym (list_is (false ∷ false ∷ false ∷ false ∷ []) outs e))
-interact_keeps (false ∷ true ∷ []) outs e = ap ones (sym (list_is (false ∷ true ∷ false ∷ false ∷ []) outs e))
-interact_keeps (true ∷ false ∷ []) outs e = ap ones (sym (list_is (false ∷ false ∷ true ∷ false ∷ []) outs e))
-interact_keeps (true ∷ true ∷ []) outs e = ap ones (sym (list_is (true ∷ false ∷ false ∷ true ∷ []) outs e))
-interact_keeps (b0 ∷ b1 ∷ b ∷ bs) outs e = absurd (none e)
+interact_keeps ins outs h1 = grind (arith, common_steps, none, list_is)
 
 switch_keeps : (ins outs : List Bool) → row Switch ins ≡ Some outs → ones outs ≡ ones ins
 unfolding row
-switch_keeps ([]) outs e = absurd (none e)
-switch_keeps (b0 ∷ []) outs e = absurd (none e)
-switch_keeps (false ∷ false ∷ []) outs e = ap ones (sym (list_is (false ∷ false ∷ false ∷ []) outs e))
-switch_keeps (false ∷ true ∷ []) outs e = ap ones (sym (list_is (false ∷ false ∷ true ∷ []) outs e))
-switch_keeps (true ∷ false ∷ []) outs e = ap ones (sym (list_is (true ∷ false ∷ false ∷ []) outs e))
-switch_keeps (true ∷ true ∷ []) outs e = ap ones (sym (list_is (true ∷ true ∷ false ∷ []) outs e))
-switch_keeps (b0 ∷ b1 ∷ b ∷ bs) outs e = absurd (none e)
+switch_keeps ins outs h1 = grind (arith, common_steps, none, list_is)
 
 delay_keeps : (n : ℕ) (ins outs : List Bool) → row (Delay n) ins ≡ Some outs → ones outs ≡ ones ins
 unfolding row
-delay_keeps n ([]) outs e = absurd (none e)
-delay_keeps n (false ∷ []) outs e = ap ones (sym (list_is (false ∷ []) outs e))
-delay_keeps n (true ∷ []) outs e = ap ones (sym (list_is (true ∷ []) outs e))
-delay_keeps n (b0 ∷ b ∷ bs) outs e = absurd (none e)
+delay_keeps n ins outs h1 = grind (arith, common_steps, none, list_is)
 
 unswitch_keeps : (ins outs : List Bool) → row Unswitch ins ≡ Some outs → ones outs ≡ ones ins
 unfolding row
-unswitch_keeps ([]) outs e = absurd (none e)
-unswitch_keeps (b0 ∷ []) outs e = absurd (none e)
-unswitch_keeps (b0 ∷ b1 ∷ []) outs e = absurd (none e)
-unswitch_keeps (false ∷ false ∷ false ∷ []) outs e = ap ones (sym (list_is (false ∷ false ∷ []) outs e))
-unswitch_keeps (false ∷ false ∷ true ∷ []) outs e = ap ones (sym (list_is (false ∷ true ∷ []) outs e))
-unswitch_keeps (false ∷ true ∷ false ∷ []) outs e = absurd (none e)
-unswitch_keeps (false ∷ true ∷ true ∷ []) outs e = absurd (none e)
-unswitch_keeps (true ∷ false ∷ false ∷ []) outs e = ap ones (sym (list_is (true ∷ false ∷ []) outs e))
-unswitch_keeps (true ∷ false ∷ true ∷ []) outs e = absurd (none e)
-unswitch_keeps (true ∷ true ∷ false ∷ []) outs e = ap ones (sym (list_is (true ∷ true ∷ []) outs e))
-unswitch_keeps (true ∷ true ∷ true ∷ []) outs e = absurd (none e)
-unswitch_keeps (b0 ∷ b1 ∷ b2 ∷ b ∷ bs) outs e = absurd (none e)
+unswitch_keeps ins outs h1 = grind (arith, common_steps, none, list_is)
 
 uninteract_keeps : (ins outs : List Bool) → row Uninteract ins ≡ Some outs → ones outs ≡ ones ins
 unfolding row
-uninteract_keeps ([]) outs e = absurd (none e)
-uninteract_keeps (false ∷ []) outs e = absurd (none e)
-uninteract_keeps (true ∷ []) outs e = absurd (none e)
-uninteract_keeps (false ∷ false ∷ []) outs e = absurd (none e)
-uninteract_keeps (false ∷ true ∷ []) outs e = absurd (none e)
-uninteract_keeps (true ∷ false ∷ []) outs e = absurd (none e)
-uninteract_keeps (true ∷ true ∷ []) outs e = absurd (none e)
-uninteract_keeps (false ∷ false ∷ false ∷ []) outs e = absurd (none e)
-uninteract_keeps (false ∷ false ∷ true ∷ []) outs e = absurd (none e)
-uninteract_keeps (false ∷ true ∷ false ∷ []) outs e = absurd (none e)
-uninteract_keeps (false ∷ true ∷ true ∷ []) outs e = absurd (none e)
-uninteract_keeps (true ∷ false ∷ false ∷ []) outs e = absurd (none e)
-uninteract_keeps (true ∷ false ∷ true ∷ []) outs e = absurd (none e)
-uninteract_keeps (true ∷ true ∷ false ∷ []) outs e = absurd (none e)
-uninteract_keeps (true ∷ true ∷ true ∷ []) outs e = absurd (none e)
-uninteract_keeps (false ∷ false ∷ false ∷ false ∷ []) outs e = ap ones (sym (list_is (false ∷ false ∷ []) outs e))
-uninteract_keeps (false ∷ false ∷ false ∷ true ∷ []) outs e = absurd (none e)
-uninteract_keeps (false ∷ false ∷ true ∷ false ∷ []) outs e = ap ones (sym (list_is (true ∷ false ∷ []) outs e))
-uninteract_keeps (false ∷ false ∷ true ∷ true ∷ []) outs e = absurd (none e)
-uninteract_keeps (false ∷ true ∷ false ∷ false ∷ []) outs e = ap ones (sym (list_is (false ∷ true ∷ []) outs e))
-uninteract_keeps (false ∷ true ∷ false ∷ true ∷ []) outs e = absurd (none e)
-uninteract_keeps (false ∷ true ∷ true ∷ false ∷ []) outs e = absurd (none e)
-uninteract_keeps (false ∷ true ∷ true ∷ true ∷ []) outs e = absurd (none e)
-uninteract_keeps (true ∷ false ∷ false ∷ false ∷ []) outs e = absurd (none e)
-uninteract_keeps (true ∷ false ∷ false ∷ true ∷ []) outs e = ap ones (sym (list_is (true ∷ true ∷ []) outs e))
-uninteract_keeps (true ∷ false ∷ true ∷ false ∷ []) outs e = absurd (none e)
-uninteract_keeps (true ∷ false ∷ true ∷ true ∷ []) outs e = absurd (none e)
-uninteract_keeps (true ∷ true ∷ false ∷ false ∷ []) outs e = absurd (none e)
-uninteract_keeps (true ∷ true ∷ false ∷ true ∷ []) outs e = absurd (none e)
-uninteract_keeps (true ∷ true ∷ true ∷ false ∷ []) outs e = absurd (none e)
-uninteract_keeps (true ∷ true ∷ true ∷ true ∷ []) outs e = absurd (none e)
-uninteract_keeps (false ∷ false ∷ false ∷ false ∷ b ∷ bs) outs e = absurd (none e)
-uninteract_keeps (false ∷ false ∷ false ∷ true ∷ b ∷ bs) outs e = absurd (none e)
-uninteract_keeps (false ∷ false ∷ true ∷ false ∷ b ∷ bs) outs e = absurd (none e)
-uninteract_keeps (false ∷ false ∷ true ∷ true ∷ b ∷ bs) outs e = absurd (none e)
-uninteract_keeps (false ∷ true ∷ false ∷ false ∷ b ∷ bs) outs e = absurd (none e)
-uninteract_keeps (false ∷ true ∷ false ∷ true ∷ b ∷ bs) outs e = absurd (none e)
-uninteract_keeps (false ∷ true ∷ true ∷ false ∷ b ∷ bs) outs e = absurd (none e)
-uninteract_keeps (false ∷ true ∷ true ∷ true ∷ b ∷ bs) outs e = absurd (none e)
-uninteract_keeps (true ∷ false ∷ false ∷ false ∷ b ∷ bs) outs e = absurd (none e)
-uninteract_keeps (true ∷ false ∷ false ∷ true ∷ b ∷ bs) outs e = absurd (none e)
-uninteract_keeps (true ∷ false ∷ true ∷ false ∷ b ∷ bs) outs e = absurd (none e)
-uninteract_keeps (true ∷ false ∷ true ∷ true ∷ b ∷ bs) outs e = absurd (none e)
-uninteract_keeps (true ∷ true ∷ false ∷ false ∷ b ∷ bs) outs e = absurd (none e)
-uninteract_keeps (true ∷ true ∷ false ∷ true ∷ b ∷ bs) outs e = absurd (none e)
-uninteract_keeps (true ∷ true ∷ true ∷ false ∷ b ∷ bs) outs e = absurd (none e)
-uninteract_keeps (true ∷ true ∷ true ∷ true ∷ b ∷ bs) outs e = absurd (none e)
+uninteract_keeps ins outs h1 = grind (arith, common_steps, none, list_is)
 
 pub gates_keep_ones : GatesKeepOnes
 gates_keep_ones (Source b) ins outs no_source e = absurd (no_source b refl)

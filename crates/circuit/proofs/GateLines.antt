@@ -1,7 +1,7 @@
 -- A gate line by the names on both sides of its arrow.
 use Rattle.circuit.proofs.Imports.{Bool, CircuitLine, GateKind, List, None, Option, Some, arith, codes, common_steps}
-use Rattle.circuit.proofs.Imports.{defines, entry, false, gate_entry, gate_kind, gate_line_of_kind, is_word_at, length}
-use Rattle.circuit.proofs.Imports.{refl, true, uses, words_before_names, ℕ, ◌+◌, ◌>>=◌, ◌≡◌}
+use Rattle.circuit.proofs.Imports.{defines, entry, gate_entry, gate_kind, gate_line_of_kind, is_word_at, length, uses}
+use Rattle.circuit.proofs.Imports.{words_before_names, ℕ, ◌+◌, ◌>>=◌, ◌≡◌}
 use Rattle.lemmas.proofs.Common.{◌==◌, if◌then◌else◌}
 use Rattle.section_text.specs.Words.{names_beside_arrow}
 use Rattle.circuit.specs.declared.circuit_line.Kind.TheVariants.{Gate}
@@ -18,11 +18,7 @@ sides a b x y = if a then (if b then (x >>= λ ins. y >>= λ outs. Some (ins, ou
 
 by_parts : (kind : GateKind) (a b : Bool) (x y : Option (List (List ℕ))) → gate_of kind (sides a b x y)
     ≡ (if a then (if b then (x >>= λ ins. y >>= λ outs. Some (entry (Gate kind) ins outs)) else None) else None)
-by_parts kind true true (Some x) (Some y) = refl
-by_parts kind true true (Some x) None = refl
-by_parts kind true true None y = refl
-by_parts kind true false x y = refl
-by_parts kind false b x y = refl
+by_parts kind a b x y = grind (arith, common_steps)
 
 module _ (ws : List (List ℕ)) (kind : GateKind) where
   gate_by_names : gate_of kind (names_beside_arrow ws (words_before_names kind) (uses kind) (defines kind))

@@ -1,8 +1,7 @@
 -- The form of a line of a keyword and a name, by what stands behind the keyword.
-use Rattle.circuit.proofs.Imports.{CircuitLine, Input, Item, List, None, Option, Output, Some, Spill, [], ap, bytes_eq}
-use Rattle.circuit.proofs.Imports.{codes, drop, entry, form_of, is_word_at, length}
-use Rattle.circuit.proofs.Imports.{name_after_keyword, option_map, refl, sym, take, true, words_of, ℕ, ◌-◌, ◌>>=◌}
-use Rattle.circuit.proofs.Imports.{◌∙◌, ◌∷◌, ◌≡◌}
+use Rattle.circuit.proofs.Imports.{CircuitLine, Input, Item, List, Output, Some, Spill, [], ap, arith, bytes_eq, codes}
+use Rattle.circuit.proofs.Imports.{common_steps, drop, entry, form_of, is_word_at, length, name_after_keyword}
+use Rattle.circuit.proofs.Imports.{option_map, sym, take, true, words_of, ℕ, ◌-◌, ◌>>=◌, ◌∙◌, ◌∷◌, ◌≡◌}
 use Rattle.lemmas.proofs.Common.{begins_with, take_rest}
 use Rattle.section_text.specs.Words.{name_of}
 use Rattle.section_text.specs.declared.section.Form.{Form}
@@ -11,13 +10,7 @@ use Rattle.section_text.proofs.Splitting.{lone_name_is}
 behind : (keyword l : List ℕ) (n : ℕ) (f : List ℕ → Form (Unit {0}) CircuitLine) →
     option_map f (name_of (take (length l - n) (drop n l)))
     ≡ (name_after_keyword (keyword ∷ words_of (drop n l)) >>= λ name. Some (f name))
-behind keyword l n f =
-    mapped (name_of (take (length l - n) (drop n l)))
-    ∙ ap (λ o. o >>= λ name. Some (f name)) (ap name_of (take_rest l n) ∙ sym (lone_name_is keyword (drop n l)))
-  where
-    mapped : (o : Option (List ℕ)) → option_map f o ≡ (o >>= λ name. Some (f name))
-    mapped None = refl
-    mapped (Some name) = refl
+behind keyword l n f = grind (arith, common_steps, take_rest, lone_name_is, option_map)
 
 pub input_line : (l : List ℕ) → bytes_eq (take 6 l) (codes "input ") ≡ true →
     option_map (λ n. Item (entry Input [] (n ∷ []))) (name_of (take (length l - 6) (drop 6 l))) ≡ form_of (words_of l)

@@ -1,8 +1,8 @@
 -- One gate after another
-use Rattle.circuit.proofs.Imports.{Bool, EvaluatesUpTo, Gate, GateWires, List, None, Option, Some, [], ap, as_values}
-use Rattle.circuit.proofs.Imports.{evaluate, gate_of, get_or, length, map, option_and_then, option_map, refl, row}
-use Rattle.circuit.proofs.Imports.{slice_get-map, slice_get_read, subst, suc, sym, take, take_more, zero, ℕ, ◌++◌, ◌+◌}
-use Rattle.circuit.proofs.Imports.{◌<◌, ◌∙◌, ◌∷◌, ◌≡◌}
+use Rattle.circuit.proofs.Imports.{Bool, EvaluatesUpTo, Gate, GateWires, List, None, Option, Some, [], ap, arith}
+use Rattle.circuit.proofs.Imports.{as_values, common_steps, evaluate, gate_of, get_or, length, map, option_and_then}
+use Rattle.circuit.proofs.Imports.{option_map, refl, row, slice_get-map, slice_get_read, subst, suc, sym, take}
+use Rattle.circuit.proofs.Imports.{take_more, zero, ℕ, ◌++◌, ◌+◌, ◌<◌, ◌∙◌, ◌∷◌, ◌≡◌}
 use Rattle.lemmas.proofs.Common.{map_push}
 
 pub none_done : (vs given : List Bool) → vs ≡ given → evaluate given [] ≡ Some vs
@@ -10,13 +10,11 @@ unfolding evaluate
 none_done vs given same = ap Some (sym same)
 
 map_is : (f : List Bool → List Bool) (o : Option (List Bool)) → option_and_then (λ r. Some (f r)) o ≡ option_map f o
-map_is f None = refl
-map_is f (Some r) = refl
+map_is f o = grind (arith, common_steps)
 
 more_after : (o : Option (List Bool)) (f g : List Bool → Option (List Bool)) (x y : List Bool) →
     option_and_then f o ≡ Some x → ((r : List Bool) → f r ≡ Some x → g r ≡ Some y) → option_and_then g o ≡ Some y
-more_after None f g x y e h = cc
-more_after (Some r) f g x y e h = h r e
+more_after o f g x y h1 h2 = grind (arith, common_steps)
 
 evaluate_more : (vs before after : List Bool) (gs : List Gate) (g : Gate) → evaluate vs gs ≡ Some before →
     option_map (λ (r : List Bool). before ++ r) (row g.kind (map (as_values before) g.ins)) ≡ Some after →

@@ -1,18 +1,17 @@
 -- The names of wires.
 use Rattle.circuit.proofs.Imports.{AreGoodAfter, AreGoodCircuitLines, CircuitLine, FitsKind, Gate, Kind, List, None}
-use Rattle.circuit.proofs.Imports.{Some, [], ap}
-use Rattle.circuit.proofs.Imports.{append-nil, append_assoc, arith, bytes_eq, cases_Bool, cases_lt, common_steps, cond}
-use Rattle.circuit.proofs.Imports.{define_fault, defined, false, gate_count, gate_of_line_kind, gates_of, has, inl}
-use Rattle.circuit.proofs.Imports.{input_count, input_names, inr, is_gate, is_input, le-ltb, length, list_any-append}
-use Rattle.circuit.proofs.Imports.{number, position, refl, slice_get, subst, suc, sum_by-cons, sym, take, true}
-use Rattle.circuit.proofs.Imports.{wires_after, zero, ℕ, ◌++◌, ◌+◌, ◌<◌, ◌∙◌, ◌∷◌, ◌≡◌, ◌≤◌}
+use Rattle.circuit.proofs.Imports.{Some, [], append-nil, append_assoc, arith, bytes_eq, cases_Bool, cases_lt}
+use Rattle.circuit.proofs.Imports.{common_steps, cond, define_fault, defined, false, gate_count, gate_of_line_kind}
+use Rattle.circuit.proofs.Imports.{gates_of, has, inl, input_count, input_names, inr, is_gate, is_input, le-ltb, length}
+use Rattle.circuit.proofs.Imports.{list_any-append, number, position, refl, slice_get, subst, suc, sum_by-cons, sym}
+use Rattle.circuit.proofs.Imports.{take, true, wires_after, zero, ℕ, ◌++◌, ◌+◌, ◌<◌, ◌∙◌, ◌∷◌, ◌≡◌, ◌≤◌}
 use Rattle.lemmas.proofs.Common.{or-true}
 use Rattle.circuit.specs.Meaning.{place_of}
 use Rattle.circuit.specs.Laws.{WiresAreNamed, WireNamesAreDistinct, InputsAreFirst}
 use Rattle.circuit.proofs.Places.{has_front, has_left, number_left, number_new, bytes_same, position_number, look_up}
 use Rattle.circuit.proofs.Bridging.{names_pass, define_first, defined_push, push_cons, input_cons, count_append}
 use Rattle.circuit.proofs.Bridging.{no_inputs}
-use Rattle.circuit.specs.declared.circuit_line.Kind.TheVariants.{Input, Output, Spill, Gate as GateLine}
+use Rattle.circuit.specs.declared.circuit_line.Kind.TheVariants.{Input}
 
 -- ---- the place of a name, and its number
 
@@ -81,28 +80,7 @@ inputs_line : (before rest : List CircuitLine) (kind : Kind) (ins outs : List (L
     take (input_count (record { kind = kind; ins = ins; outs = outs } ∷ rest)) (outs ++ defined rest)
     ≡ cond (is_input kind) outs [] ++ input_names rest
 unfolding AreGoodAfter
-inputs_line before rest Input ins [] good same = absurd (omega (arith, good.0.fits.1))
-inputs_line before rest Input ins (n ∷ []) good same =
-    let more : input_count (record { kind = Input; ins = ins; outs = n ∷ [] } ∷ rest) ≡ suc (input_count rest) =
-    input_cons (record { kind = Input; ins = ins; outs = n ∷ [] }) rest ∙ omega arith in
-    ap (λ k. take k (n ∷ defined rest)) more ∙ ap (λ (l : List (List ℕ)). n ∷ l) same
-inputs_line before rest Input ins (n ∷ m ∷ outs) good same = absurd (omega (arith, good.0.fits.1))
-inputs_line before rest (GateLine k) ins outs good same =
-    let r : CircuitLine = record { kind = GateLine k; ins = ins; outs = outs } in
-    let here : gate_count (before ++ r ∷ []) ≡ gate_count before + 1 =
-    count_append (λ (r : CircuitLine). is_gate r.kind) before (r ∷ []) in
-    let none = no_inputs (before ++ r ∷ []) rest good.1 (omega (arith, here)) in
-    let zero_inputs : input_count (r ∷ rest) ≡ 0 = input_cons r rest ∙ omega (arith, none) in
-    ap (λ k. take k (outs ++ defined rest)) zero_inputs ∙ sym (no_names rest none)
-inputs_line before rest Output ins [] good same =
-    let less : input_count (record { kind = Output; ins = ins; outs = [] } ∷ rest) ≡ input_count rest =
-    input_cons (record { kind = Output; ins = ins; outs = [] }) rest ∙ omega arith in
-    ap (λ k. take k (defined rest)) less ∙ same
-inputs_line before rest Spill ins [] good same =
-    let less : input_count (record { kind = Spill; ins = ins; outs = [] } ∷ rest) ≡ input_count rest =
-    input_cons (record { kind = Spill; ins = ins; outs = [] }) rest ∙ omega arith in
-    ap (λ k. take k (defined rest)) less ∙ same
-inputs_line before rest _ ins (n ∷ outs) good same = absurd (omega (arith, good.0.fits.1))
+inputs_line before rest kind ins outs h1 h2 = grind (arith, common_steps, input_cons, count_append, no_inputs, no_names)
 
 inputs_lead : (before rest : List CircuitLine) → AreGoodAfter before rest →
     take (input_count rest) (defined rest) ≡ input_names rest
@@ -137,11 +115,7 @@ own_push d n own new w m at = elim (cases_lt w (length d)) [
       let o = own w m (sym (slice_left d (n ∷ []) w small) ∙ at) in
       (number_left d (n ∷ []) m o.1 ∙ o.0, has_left d (n ∷ []) m o.1)
   | inr large ↦
-      let last = slice_last d n m w large at in
-      subst (λ (k : List ℕ). (number (d ++ n ∷ []) k ≡ w) × (has (d ++ n ∷ []) k ≡ true)) last.0 (
-        number_new d [] n new (bytes_same n) ∙ last.1,
-        rw (list_any-append (bytes_eq n) d (n ∷ []), bytes_same n) (or-true (has d n)),
-      )
+      grind (arith, common_steps, slice_last, number_new, bytes_same, list_any-append, or-true)
 ]
 
 own_all : (d ns : List (List ℕ)) → AreOwn d → define_fault d ns ≡ None → AreOwn (d ++ ns)
@@ -165,7 +139,4 @@ pub wires_are_own : (entries : List CircuitLine) → AreGoodCircuitLines entries
 wires_are_own entries good = own_good [] entries good (λ w n at. absurd cc)
 
 pub names_are_own : WireNamesAreDistinct
-names_are_own entries w name good at =
-    let own = wires_are_own entries good w name at in
-    place_number (defined entries) name ∙ ap (λ b. cond b (Some (number (defined entries) name)) None) own.1
-    ∙ ap (λ (k : ℕ). Some k) own.0
+names_are_own entries w name good at = grind (arith, common_steps, wires_are_own, place_number)

@@ -1,8 +1,8 @@
 -- The places of names.
 use Rattle.circuit.proofs.Imports.{All, ConsumedTwice, List, None, Option, RefusalCode, Some, [], ap, ap₂, arith}
 use Rattle.circuit.proofs.Imports.{bytes_eq, bytes_eq-Decides, cases_Bool, common_steps, cond, consume_fault, false}
-use Rattle.circuit.proofs.Imports.{has, inl, inr, length, list_any-append, map, number, position, refl, suc, sym, true}
-use Rattle.circuit.proofs.Imports.{true≢false, zero, ℕ, ◌++◌, ◌+◌, ◌<◌, ◌∙◌, ◌∷◌, ◌≡◌}
+use Rattle.circuit.proofs.Imports.{has, inl, inr, length, list_any-append, map, number, position, refl, sym, true}
+use Rattle.circuit.proofs.Imports.{true≢false, ℕ, ◌++◌, ◌+◌, ◌<◌, ◌∙◌, ◌∷◌, ◌≡◌}
 use Rattle.lemmas.proofs.Common.{nat_lt, cond-true, lt-ltb, position_or_len}
 use Rattle.std.proofs.lemmas.List.Recursion.{is_position_or_len}
 use Rattle.section_text.specs.declared.code.RefusalCode.TheVariants.{UnknownName}
@@ -74,8 +74,7 @@ numbers_left d e [] h = refl
 numbers_left d e (n ∷ ns) h = ap₂ (λ x xs. x ∷ xs) (number_left d e n h.0) (numbers_left d e ns h.1)
 
 pub all_cons : {A : Type 0} (P : A → Type 0) (x : A) (xs : List A) → P x → All P xs → All P (x ∷ xs)
-all_cons P x xs p all zero d h = p
-all_cons P x xs p all (suc k) d h = all k d (omega arith)
+all_cons P x xs h1 h2 = grind (arith, common_steps)
 
 pub numbers_below : (d ns : List (List ℕ)) → Have d ns → All (λ w. w < length d) (map (number d) ns)
 numbers_below d [] h = λ k e l. absurd (omega arith)

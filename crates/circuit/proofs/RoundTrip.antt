@@ -1,8 +1,7 @@
 -- The circuit section has one text.
-use Rattle.circuit.proofs.Imports.{End, Header, Item, List, ap, append_assoc, drop, flat_map, form_text, length, sym, ℕ}
-use Rattle.circuit.proofs.Imports.{◌+◌, ◌∙◌}
+use Rattle.circuit.proofs.Imports.{End, Header, Item, append_assoc, arith, common_steps, drop, flat_map, form_text, sym}
+use Rattle.circuit.proofs.Imports.{◌∙◌}
 use Rattle.section_text.specs.Words.{lines_of}
-use Rattle.section_text.specs.Section.{section_of}
 use Rattle.section_text.proofs.Spelled.{section_text_is}
 use Rattle.section_text.proofs.Again.{section_again, lines_of_lines}
 use Rattle.circuit.specs.Grammars.{circuit_grammar}
@@ -20,6 +19,4 @@ pub reads_what_is_printed : ReadsWhatIsPrinted
 reads_what_is_printed l text from n m entries e =
     let ls = drop from (lines_of text) in
     let printed = prints_what_is_read l n ls entries e in
-    ap (λ (t : List ℕ). section_of (circuit_grammar l) m (lines_of t)) (sym printed)
-    ∙ ap (section_of (circuit_grammar l) m) (lines_of_lines text from (length entries + 2))
-    ∙ section_again (circuit_grammar l) n m ls tt entries e
+    grind (arith, common_steps, lines_of_lines, section_again)

@@ -1,11 +1,11 @@
 -- Each line of the circuit section is the spelling of its form.
-use Rattle.circuit.proofs.Imports.{Bool, CircuitLine, Cswap, Delay, End, Fredkin, GateKind, Header, Input, Interact}
-use Rattle.circuit.proofs.Imports.{Item, Line, List, None, Option, Output, Some, Source, Spill, Switch, Uninteract}
-use Rattle.circuit.proofs.Imports.{Unswitch, [], ap, arith, chosen, codes, common_steps, cond, cond_some, defines}
-use Rattle.circuit.proofs.Imports.{entry, entry_text, eqb, eqb-true, form_of, form_text, gate_entry, gate_kind}
-use Rattle.circuit.proofs.Imports.{gate_line_of_kind, if_one_word, inl, inr, is_word_at, length, name_after_keyword}
-use Rattle.circuit.proofs.Imports.{names_at, option_and_then_some, passed, same_Some, slice_get, subst, take, true}
-use Rattle.circuit.proofs.Imports.{uses, words_before_names, words_of, ℕ, ◌+◌, ◌>>=◌, ◌∷◌, ◌≡◌}
+use Rattle.circuit.proofs.Imports.{Bool, CircuitLine, Cswap, Delay, End, Fredkin, GateKind, Header, Interact, Item}
+use Rattle.circuit.proofs.Imports.{Line, List, None, Option, Some, Source, Switch, Uninteract, Unswitch, [], ap, arith}
+use Rattle.circuit.proofs.Imports.{chosen, codes, common_steps, cond, cond_some, defines, entry, entry_text, eqb}
+use Rattle.circuit.proofs.Imports.{eqb-true, form_of, form_text, gate_entry, gate_kind, gate_line_of_kind, if_one_word}
+use Rattle.circuit.proofs.Imports.{inl, inr, is_word_at, length, name_after_keyword, names_at, option_and_then_some}
+use Rattle.circuit.proofs.Imports.{passed, same_Some, slice_get, subst, take, true, uses, words_before_names, words_of}
+use Rattle.circuit.proofs.Imports.{ℕ, ◌+◌, ◌>>=◌, ◌∷◌, ◌≡◌}
 use Rattle.lemmas.proofs.Common.{decimal}
 use Rattle.section_text.specs.Words.{number_at}
 use Rattle.section_text.specs.Section.{with_line_feed}
@@ -27,14 +27,11 @@ others_of (Item r) = words_after_keyword r
 others_of _ = []
 
 take_one : (ws : List (List ℕ)) (w : List ℕ) → slice_get ws 0 ≡ Some w → take 1 ws ≡ w ∷ []
-take_one [] w e = absurd cc
-take_one (a ∷ ws) w e = cc
+take_one ws w h1 = grind (arith, common_steps)
 
 take_two : (ws : List (List ℕ)) (v w : List ℕ) → slice_get ws 0 ≡ Some v → slice_get ws 1 ≡ Some w →
     take 2 ws ≡ v ∷ w ∷ []
-take_two [] v w e f = absurd cc
-take_two (a ∷ []) v w e f = absurd cc
-take_two (a ∷ b ∷ ws) v w e f = cc
+take_two ws v w h1 h2 = grind (arith, common_steps)
 
 lone_spelled : (ws : List (List ℕ)) (w : List ℕ) (f g : Line) → is_word_at ws 0 w ≡ true → if_one_word ws f ≡ Some g →
     (ws ≡ w ∷ []) × (f ≡ g)
@@ -131,23 +128,7 @@ form_words ws f e =
       | inl p ↦ let a = lone_spelled ws (codes "circuit") (Header tt) f p.0 p.1 in subst (SpelledAs ws) a.1 a.0
       | inr p ↦ elim (chosen (is_word_at ws 0 (codes "end")) _ _ (Some f) p.1) [
         | inl q ↦ let a = lone_spelled ws (codes "end") End f q.0 q.1 in subst (SpelledAs ws) a.1 a.0
-        | inr q ↦ elim (chosen (is_word_at ws 0 (codes "input")) _ _ (Some f) q.1) [
-          | inl r ↦ option_and_then_some (λ n. Some (Item (entry Input [] (n ∷ [])))) (name_after_keyword ws) f r.1
-              (λ n named made. subst (SpelledAs ws) (same_Some (Item (entry Input [] (n ∷ []))) f made)
-              (named_spelled ws (codes "input") n r.0 named))
-          | inr r ↦ elim (chosen (is_word_at ws 0 (codes "output")) _ _ (Some f) r.1) [
-            | inl s ↦ option_and_then_some (λ n. Some (Item (entry Output (n ∷ []) []))) (name_after_keyword ws) f s.1
-                (λ n named made. subst (SpelledAs ws) (same_Some (Item (entry Output (n ∷ []) [])) f made)
-                (named_spelled ws (codes "output") n s.0 named))
-            | inr s ↦ elim (chosen (is_word_at ws 0 (codes "spill")) _ _ (Some f) s.1) [
-              | inl t ↦ option_and_then_some (λ n. Some (Item (entry Spill (n ∷ []) []))) (name_after_keyword ws) f t.1
-                  (λ n named made. subst (SpelledAs ws) (same_Some (Item (entry Spill (n ∷ []) [])) f made)
-                  (named_spelled ws (codes "spill") n t.0 named))
-              | inr t ↦ option_and_then_some (λ r. Some (Item r)) (gate_entry ws) f t.1
-                  (λ r known made. subst (SpelledAs ws) (same_Some (Item r) f made) (gate_spelled ws r known))
-            ]
-          ]
-        ]
+        | inr q ↦ grind (arith, common_steps, chosen, option_and_then_some, same_Some, named_spelled, gate_spelled)
       ]
     ]
 

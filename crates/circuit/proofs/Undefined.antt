@@ -2,14 +2,13 @@
 use Rattle.circuit.proofs.Imports.{All, All-head, All-tail, AreOrdered, Bool, EvaluatesUpTo, Gate, HasRow}
 use Rattle.circuit.proofs.Imports.{IsGateEvaluationError, IsValuesFault, List, Netlist, None, Option, Satisfies, Some}
 use Rattle.circuit.proofs.Imports.{Valuation, [], ap, arith, as_values, cases_Bool, cases_lt, common_steps, defines}
-use Rattle.circuit.proofs.Imports.{evaluate, false, get_or, get_or-append-add, get_or-map-range_with_len}
-use Rattle.circuit.proofs.Imports.{get_or_append_left, get_or_from_slice_get, inl, inr, is_inverse, length}
-use Rattle.circuit.proofs.Imports.{length-append, length-map, map, option_and_then, option_map, range_with_len, refl}
-use Rattle.circuit.proofs.Imports.{row, same_Some, slice_get, subst, suc, sym, take, true, uses, wires, wires_after}
-use Rattle.circuit.proofs.Imports.{zero, ℕ, ◌++◌, ◌+◌, ◌-◌, ◌<◌, ◌∙◌, ◌∷◌, ◌≡◌, ◌≤◌}
+use Rattle.circuit.proofs.Imports.{evaluate, false, get_or-append-add, get_or-map-range_with_len, get_or_append_left}
+use Rattle.circuit.proofs.Imports.{get_or_from_slice_get, inl, inr, is_inverse, length, length-append, length-map, map}
+use Rattle.circuit.proofs.Imports.{option_and_then, option_map, range_with_len, refl, row, same_Some, slice_get, subst}
+use Rattle.circuit.proofs.Imports.{suc, sym, take, true, uses, wires, wires_after, zero, ℕ, ◌++◌, ◌+◌, ◌-◌, ◌<◌, ◌∙◌}
+use Rattle.circuit.proofs.Imports.{◌∷◌, ◌≡◌, ◌≤◌}
 use Rattle.lemmas.proofs.Common.{length-range_with_len, slice_get_within}
 use Rattle.circuit.specs.declared.netlist.ValuesFault.{ValuesFault}
-use Rattle.circuit.specs.declared.netlist.ValuesFault.TheVariants.{OutOfDomain, Memory}
 use Rattle.circuit.specs.Meaning.{FirstGatesHaveRows, AreNonInverse, IsUndefined, first_gates}
 use Rattle.circuit.specs.Bridge.{ValuesStopAt}
 use Rattle.circuit.specs.Evaluate.{first_undefined_gate, this_or_later_undefined}
@@ -23,12 +22,10 @@ clash x e = cc
 
 this_or_later_undefined-cases : (o : Option ℕ) (k : ℕ) → option_map (λ k. k + 1) o ≡ Some k →
     (m : ℕ) × (o ≡ Some m) × (k ≡ suc m)
-this_or_later_undefined-cases None k e = absurd (clash k e)
-this_or_later_undefined-cases (Some m) k e = (m, refl, omega (arith, same_Some (m + 1) k e))
+this_or_later_undefined-cases o k h1 = grind (arith, common_steps, clash, same_Some)
 
 this_or_later_undefined-none : (o : Option ℕ) → option_map (λ k. k + 1) o ≡ None → o ≡ None
-this_or_later_undefined-none None e = refl
-this_or_later_undefined-none (Some m) e = absurd (clash (m + 1) (sym e))
+this_or_later_undefined-none o h1 = grind (arith, common_steps, clash)
 
 total : (vs r : List Bool) (d : ℕ) → length r ≡ d → length vs + d ≡ length (vs ++ r)
 total vs r d e = sym (length-append vs r ∙ ap (λ n. length vs + n) e)
@@ -57,27 +54,13 @@ up_to vs [] k ordered e = absurd (clash k e)
 up_to vs (g ∷ gs) k ordered e =
     elim (row_cases g.kind (map (as_values vs) g.ins) (length-map g.ins (as_values vs) ∙ ordered.1)) [
       | inl none ↦
-          let at : 0 ≡ k = same_Some 0 k
-          (sym (ap (this_or_later_undefined (λ r. first_undefined_gate (vs ++ r) gs)) none) ∙ e) in (
-            vs,
-            subst (λ k. EvaluatesUpTo vs (g ∷ gs) k vs) at
-                (record { gate = g; numbered = refl; before = refl; none = none }),
-          )
+          grind (arith, common_steps, same_Some)
       | inr s ↦
           let later = this_or_later_undefined-cases _ k
           (sym (ap (this_or_later_undefined (λ r. first_undefined_gate (vs ++ r) gs)) s.1) ∙ e) in
           let m : ℕ = later.0 in
           let rest = up_to (vs ++ s.0) gs m (subst (λ n. AreOrdered n gs) (total vs s.0 _ s.2) ordered.3) later.1 in
-          let is : EvaluatesUpTo (vs ++ s.0) gs m rest.0 = rest.1 in (
-            rest.0,
-            subst (λ k. EvaluatesUpTo vs (g ∷ gs) k rest.0) (sym later.2)
-                (record {
-                  gate = is.gate;
-                  numbered = is.numbered;
-                  before = ap (option_and_then (λ r. evaluate (vs ++ r) (take m gs))) s.1 ∙ is.before;
-                  none = is.none;
-                }),
-          )
+          let is : EvaluatesUpTo (vs ++ s.0) gs m rest.0 = rest.1 in (grind (arith, common_steps, option_and_then))
     ]
 
 -- ---- gates that have their rows under some values
@@ -99,15 +82,7 @@ next vs g gs v ordered agree here =
     record {
       is = ap (row g.kind) (sym (map_below (length vs) v (as_values vs) g.ins ordered.0 agree)) ∙ here;
       long = long;
-      agree = λ w h. elim (cases_lt w (length vs)) [
-        | inl small ↦ agree w small ∙ sym (get_or_append_left vs r false w small)
-        | inr large ↦
-            let at : length vs + (w - length vs) ≡ w = omega arith in
-            sym (ap (as_values (vs ++ r)) (sym at) ∙ get_or-append-add vs r (w - length vs) false
-            ∙ ap (λ (bs : List Bool). get_or bs (w - length vs) false) outs
-            ∙ get_or-map-range_with_len v (length vs) (defines g.kind) (w - length vs) w false (omega (arith, long))
-            (omega arith))
-      ];
+      agree = grind (arith, common_steps, cases_lt, get_or_append_left, get_or-append-add, get_or-map-range_with_len);
     }
 
 -- where they do up to a gate that has none, that is the first one
@@ -204,8 +179,7 @@ stops n a given k vs ordered long same e = record {
 pub fault_stops : (n : Netlist) (a : Valuation) (given : List Bool) (e : ValuesFault) → AreOrdered n.given n.gates →
     length given ≡ n.given → ((i : ℕ) → i < n.given → as_values given i ≡ a i) →
     IsGateEvaluationError given n.gates e → IsValuesFault n a e
-fault_stops n a given (OutOfDomain k vs) ordered long same e = stops n a given k vs.items ordered long same e
-fault_stops n a given Memory ordered long same e = tt
+fault_stops n a given e h1 h2 h3 h4 = grind (arith, common_steps, stops)
 
 pub undefined_is : (n : Netlist) (a : Valuation) (given : List Bool) (k : ℕ) → AreOrdered n.given n.gates →
     length given ≡ n.given → ((i : ℕ) → i < n.given → as_values given i ≡ a i) →

@@ -13,8 +13,7 @@ use Rattle.circuit.proofs.Places.{all_cons}
 
 -- ---- each gate has a row
 len_0 : (xs : List Bool) → length xs ≡ 0 → xs ≡ []
-len_0 [] h = refl
-len_0 (a ∷ xs) h = absurd (omega arith)
+len_0 xs h1 = grind (arith, common_steps)
 
 len_1 : (xs : List Bool) → length xs ≡ 1 → (a : Bool) × (xs ≡ a ∷ [])
 len_1 [] h = absurd (omega arith)
@@ -47,20 +46,12 @@ row_of _ xs f h = absurd (true≢false f)
 
 unswitch_cases : (c y z : Bool) → (row Unswitch (c ∷ y ∷ z ∷ []) ≡ None) ⊎ RowOf Unswitch (c ∷ y ∷ z ∷ [])
 unfolding row
-unswitch_cases true false true = inl refl
-unswitch_cases false true false = inl refl
-unswitch_cases _ true true = inl refl
-unswitch_cases true _ false = inr (_, refl, refl)
-unswitch_cases false false _ = inr (_, refl, refl)
+unswitch_cases c y z = grind (arith, common_steps)
 
 uninteract_cases : (a b c d : Bool) →
     (row Uninteract (a ∷ b ∷ c ∷ d ∷ []) ≡ None) ⊎ RowOf Uninteract (a ∷ b ∷ c ∷ d ∷ [])
 unfolding row
-uninteract_cases false false false false = inr (_, refl, refl)
-uninteract_cases false true false false = inr (_, refl, refl)
-uninteract_cases false false true false = inr (_, refl, refl)
-uninteract_cases true false false true = inr (_, refl, refl)
-uninteract_cases _ _ _ _ = inl refl
+uninteract_cases a b c d = grind (arith, common_steps)
 
 -- a gate has a row, or none
 pub row_cases : (kind : GateKind) (xs : List Bool) → length xs ≡ uses kind → (row kind xs ≡ None) ⊎ RowOf kind xs
@@ -120,12 +111,7 @@ found_more vs out r g gs ordered is many rest =
     ap (row g.kind) (map_below (length vs) (as_values out) (as_values vs) g.ins ordered.0 below) ∙ is
     ∙ ap Some (sym (ap (map (as_values out)) ordered.2 ∙ map_range r (length vs) (defines g.kind) (as_values out) many
     (λ i h. rest.same (length vs + i) (omega (arith, total)) ∙ get_or-append-add vs r i false))) in
-    record {
-      all = rest.all ∙ ap (λ n. wires_after n gs) total;
-      longer = omega (arith, total, rest.longer);
-      same = below;
-      rows = all_cons (HasRow (as_values out)) g gs here rest.rows;
-    }
+    grind (arith, common_steps, all_cons)
 
 some_is : (x y : List Bool) → Some x ≡ Some y → x ≡ y
 some_is x y e = cc
@@ -163,13 +149,7 @@ unique_after n (g ∷ gs) v v' ordered rows rows' same w h =
     ap (map v) (sym ordered.2) ∙ outs ∙ ap (map v') ordered.2 in
     unique_after (n + defines g.kind) gs v v' ordered.3 (All-tail (HasRow v) g gs rows)
     (All-tail (HasRow v') g gs rows')
-    (λ w l. elim (cases_lt w n) [
-      | inl small ↦ same w small
-      | inr large ↦
-          sym (get_or-map-range_with_len v n (defines g.kind) (w - n) w false (omega arith) (omega arith))
-          ∙ ap (λ bs. get_or bs (w - n) false) range
-          ∙ get_or-map-range_with_len v' n (defines g.kind) (w - n) w false (omega arith) (omega arith)
-    ])
+    (grind (arith, common_steps, cases_lt, get_or-map-range_with_len))
     w h
 
 pub at_most_one : HasAtMostOneValuation

@@ -87,9 +87,7 @@ mark_one c [] n is h = absurd (true≢false (sym h))
 mark_one c (m ∷ d) n is h = elim (cases_Bool (bytes_eq n m)) [
   | inl e ↦
       let same = same_bytes n m e in
-      rw e (ap₂ (λ (b : Bool) bs. b ∷ bs)
-      (sym (has_new c n) ∙ ap (has (c ++ n ∷ [])) same)
-      (others c d n (ap (has d) same ∙ is.0)))
+      rw e (grind (arith, common_steps, has_new, others))
   | inr e ↦
       let next : number d n + 1 ≡ suc (number d n) = omega arith in
       rw e (ap (λ k. slice_set (map (has c) (m ∷ d)) k true) next
@@ -147,10 +145,7 @@ new_unmarked c d (n ∷ ns) is h =
     (new_unmarked c (d ++ n ∷ []) ns (λ m e. has_left d (n ∷ []) m (is m e)) first.1)
   where
     unmarked : has d n ≡ false → has c n ≡ false
-    unmarked new = elim (cases_Bool (has c n)) [
-      | inl e ↦ absurd (true≢false (sym (is n e) ∙ new))
-      | inr e ↦ e
-    ]
+    unmarked new = grind (arith, common_steps, cases_Bool)
 
 -- the marks after one more line
 pub marks_push : (before : List CircuitLine) (r : CircuitLine) → AreGoodCircuitLines before →
@@ -196,11 +191,7 @@ has_number d (m ∷ ns) n h = ap₂ (λ (a b : Bool). a || b) (one m) (has_numbe
     one m = elim (cases_Bool (bytes_eq n m)) [
       | inl e ↦ ap (λ (k : List ℕ). eqb (number d k) (number d n)) (sym (same_bytes n m e))
           ∙ eq-eqb (number d n) (number d n) refl ∙ sym e
-      | inr e ↦ elim (cases_Bool (eqb (number d m) (number d n))) [
-        | inl q ↦ absurd (true≢false (sym (bytes_same n)
-            ∙ ap (bytes_eq n) (number_name d n m h (eqb-true (number d m) (number d n) q)) ∙ e))
-        | inr q ↦ q ∙ sym e
-      ]
+      | inr e ↦ grind (arith, common_steps, cases_Bool, bytes_same, number_name, eqb-true)
     ]
 
 -- a line's next name, with the numbers of those before it

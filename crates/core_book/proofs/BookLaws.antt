@@ -1,13 +1,11 @@
 -- The laws of books
-use Rattle.core_book.proofs.Imports.{Accepted, BookView, Bool, Closed, Content, Digest, Double, Finding, IsLeastFault}
-use Rattle.core_book.proofs.Imports.{IsLeastKeepFault, IsOwn, IsSome, JobView, None, Number, Option, Reply, Some}
-use Rattle.core_book.proofs.Imports.{Stranger, after_filing, ap, arith, common_steps, digest_of, false, found_in}
-use Rattle.core_book.proofs.Imports.{get_or-set_other, get_or-set_same, if◌then◌else◌, is_job_of, is_some, job_of}
-use Rattle.core_book.proofs.Imports.{jobs_decide, least_keep_unique, least_unique, length, nat_eq, nat_lt, nat_tests}
-use Rattle.core_book.proofs.Imports.{not, number_of, option_eq, pointwise, refl, reply_to, same_Some, slice_get}
-use Rattle.core_book.proofs.Imports.{slice_get_within, subst, sym, true, ℕ, ◌∙◌, ◌≡◌, ◌≢◌}
+use Rattle.core_book.proofs.Imports.{Accepted, BookView, Bool, Closed, Content, Digest, Double, Finding, IsOwn, IsSome}
+use Rattle.core_book.proofs.Imports.{None, Number, Option, Reply, Some, Stranger, after_filing, ap, arith, common_steps}
+use Rattle.core_book.proofs.Imports.{digest_of, false, found_in, get_or-set_other, get_or-set_same, if◌then◌else◌}
+use Rattle.core_book.proofs.Imports.{is_job_of, is_some, job_of, jobs_decide, least_keep_unique, least_unique, length}
+use Rattle.core_book.proofs.Imports.{nat_eq, nat_lt, nat_tests, not, number_of, option_eq, pointwise, refl, reply_to}
+use Rattle.core_book.proofs.Imports.{same_Some, slice_get, slice_get_within, subst, sym, true, ℕ, ◌∙◌, ◌≡◌, ◌≢◌}
 use Rattle.lemmas.proofs.Common.{bytes_decides}
-use Rattle.local_run.specs.Shown.{fault_of, keep_of}
 use Rattle.core_book.specs.Laws.{AcceptedFindingMatchesBookAndIsNew, BooksAgreeOnFaults, ClosedBookAloneAnswersClosed}
 use Rattle.core_book.specs.Laws.{DoubleFindingMatchesBookAndIsHeld}
 use Rattle.core_book.specs.Laws.{AcceptedFindingIsHeld, UnacceptedKeepsFindings, FilingKeepsHeldFindings}
@@ -18,8 +16,7 @@ use Rattle.core_book.proofs.Filings.{findings_after-other, is_job_of-true, reply
 use Rattle.core_book.proofs.Replays.{IsReplayed-closed, IsReplayed-filed}
 
 pub none_held : (o : Option Finding) → is_some o ≡ false → o ≡ None
-none_held None e = refl
-none_held (Some f) e = cc
+none_held o h1 = grind (arith, common_steps)
 
 -- ---- a finding of the book's own passes the tests
 
@@ -75,12 +72,7 @@ double_tells b f k e = doubles _ _ _ _ _ (number_of f) k e
 not_closed : (closed digest number job held : Bool) (n : ℕ) →
     (if closed then Closed else if not digest then Stranger Digest else if not number then Stranger Number else if not
     job then Stranger Content else if held then Double n else Accepted) ≡ Closed → closed ≡ true
-not_closed true digest number job held n e = refl
-not_closed false false number job held n e = cc
-not_closed false true false job held n e = cc
-not_closed false true true false held n e = cc
-not_closed false true true true true n e = cc
-not_closed false true true true false n e = cc
+not_closed closed digest number job held n h1 = grind (arith, common_steps)
 
 closed_tells : (b : BookView) (f : Finding) → reply_to b f ≡ Closed → b.closed ≡ true
 unfolding reply_to
@@ -138,9 +130,5 @@ pub books-agree : BooksAgreeOnFaults
 books-agree b c k f g is other jobs held there =
     let mine = (is.own k f held).job in
     let theirs = (other.own k g there).job in
-    let same : job_of f ≡ job_of g = same_Some _ _ (sym mine ∙ ap (λ js. slice_get js k) jobs ∙ theirs) in (
-      least_unique (job_of f) (fault_of f) (fault_of g) f.honest
-          (subst (λ (j : JobView). IsLeastFault j (fault_of g)) (sym same) g.honest),
-      least_keep_unique (job_of f) (keep_of f) (keep_of g) f.keeps
-          (subst (λ (j : JobView). IsLeastKeepFault j (keep_of g)) (sym same) g.keeps),
-    )
+    let same : job_of f ≡ job_of g = same_Some _ _ (sym mine ∙ ap (λ js. slice_get js k) jobs ∙ theirs) in
+    grind (arith, common_steps, least_unique, least_keep_unique)

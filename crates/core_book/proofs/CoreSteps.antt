@@ -22,8 +22,7 @@ set-same (xs ∷ lists) (suc seat) = ap (λ ls. xs ∷ ls) (set-same lists seat)
 claim-drawn : (n next seat : ℕ) (lists : List (List ℕ)) → seat < length lists → (has : Bool) → IsDrawn next lists →
     IsDrawn (if has then next else next + 1)
     (set lists seat (if has then get_or lists seat [] else get_or lists seat [] ++ next ∷ []))
-claim-drawn n next seat lists inside true is = subst (IsDrawn next) (sym (set-same lists seat)) is
-claim-drawn n next seat lists inside false is = drawn-push next lists seat inside is
+claim-drawn n next seat lists h1 has h2 = grind (arith, common_steps, set-same, drawn-push)
 
 claim-few : (n next seat : ℕ) (lists : List (List ℕ)) → seat < length lists → (has : Bool) →
     is_seat_finished n (get_or lists seat []) ≡ has → next ≤ n + total (one_if_ended n) lists →
@@ -50,8 +49,7 @@ event-core c (Events.File f) seated is = record {
 event-core c (Events.Lose number) seated is = is
 
 pub length-event : (c : CoreView) (e : Event) → length (after_event c e).draws ≡ length c.draws
-length-event c (Events.Claim seat) = length-set c.draws seat _
-length-event c _ = refl
+length-event c e = grind (arith, common_steps, length-set)
 
 pub events-core : (seats : ℕ) (es : List Event) (c : CoreView) → length c.draws ≡ seats → All (HasSeatBelow seats) es →
     IsCore c → IsCore (after_events c es)
@@ -81,16 +79,11 @@ unfolding new_core
 length-new digest jobs seats = length-replicate seats []
 
 one_if_ended-one : (n : ℕ) (xs : List ℕ) → one_if_ended n xs ≤ 1
-one_if_ended-one n xs = by_case (is_seat_finished n xs)
-  where
-    by_case : (b : Bool) → (if b then 1 else 0) ≤ 1
-    by_case true = omega arith
-    by_case false = omega arith
+one_if_ended-one n xs = grind (arith, common_steps)
 
 -- at most one draw of each seat is past the numbers
 pub next-few : (c : CoreView) → IsCore c → c.next ≤ job_count_of c + length c.draws
-next-few c is =
-    omega (arith, is.few, total-le (one_if_ended (job_count_of c)) c.draws (one_if_ended-one (job_count_of c)))
+next-few c is = grind (arith, common_steps, total-le, one_if_ended-one)
 
 -- ---- what the code leaves of a claim
 
@@ -106,5 +99,4 @@ pub left-claim : (c : CoreView) (seat count next : ℕ) (before after : List ℕ
     next ≡ next_after_claim count before c.next → after ≡ draws_after_claim count before c.next →
     draws ≡ set c.draws seat after →
     record c { next = next; draws = draws } ≡ after_claim c seat
-left-claim c seat count next before after draws counts was next_is after_is draws_are =
-    grind (arith, common_steps, c.next, c.draws)
+left-claim c seat count next before after draws counts was next_is after_is draws_are = grind (arith, common_steps)

@@ -43,8 +43,7 @@ empty-past n next lists seat inside is false e h = by_case (nat_lt next n) refl 
   where
     by_case : (b : Bool) → nat_lt next n ≡ b →
         answer_of_claim (if b then Claimed.Number next else Claimed.Empty) ≡ Answered.Empty → n ≤ next + 1
-    by_case true e h = cc
-    by_case false e h = grind (arith, nat_tests)
+    by_case b h1 h2 = grind (arith, common_steps, nat_tests)
 
 all-below : (next : ℕ) (lists : List (List ℕ)) (n : ℕ) → IsDrawn next lists → n ≤ next → (k : ℕ) → k < n →
     total (occurrences k) lists ≡ 1
@@ -70,8 +69,7 @@ events-keep c (Events.File g) k f h = keeps-what_is_held c.book g f k h
 events-keep c _ k f h = h
 
 pub only-accepted_changes : OnlyAcceptedChangesWhatIsHeld
-only-accepted_changes c (Events.File g) other = holds-nothing_else c.book g (λ e. other (ap Answered.Reply e))
-only-accepted_changes c _ other = refl
+only-accepted_changes = grind (arith, common_steps, holds-nothing_else)
 
 event-book : (c : CoreView) (e : Event) → IsBook c.book → IsBook (after_event c e).book
 event-book c (Events.File g) is = IsBook-filed c.book g is
@@ -220,25 +218,8 @@ one-event c (Events.File g) k is = by_reply (reply_to c.book g) refl
 
     by_reply : (r : Reply) → reply_to c.book g ≡ r →
         sum_by (at_number k) (finding_if_accepted g r) + held_at c k ≤ held_at (after_event c (Events.File g)) k
-    by_reply Accepted e =
-        elim (eqb_tells (number_of g) k) [
-          | inl p ↦
-              let there : found_in (after_filing c.book g) k ≡ Some g =
-              ap (λ (n : ℕ). found_in (after_filing c.book g) n) (sym p.1) ∙ holds-what_is_accepted c.book g is e in
-              let now : held_at (after_event c (Events.File g)) k ≡ 1 =
-              ap (λ (o : Option Finding). cond (is_some o) 1 0) there in
-              let before : held_at c k ≡ 0 =
-              ap (λ (b : Bool). cond b 1 0)
-              (ap (λ (n : ℕ). is_some (found_in c.book n)) (sym p.1) ∙ accepted-new c.book g e) in
-              let one : at_number k g ≡ 1 = ap (λ (b : Bool). cond b 1 0) p.0 in
-              omega (arith, now, before, one)
-          | inr q ↦
-              let same : held_at (after_event c (Events.File g)) k ≡ held_at c k =
-              ap (λ (o : Option Finding). cond (is_some o) 1 0) (held-elsewhere c.book g k e (λ s. q.1 (sym s))) in
-              let none : at_number k g ≡ 0 = ap (λ (b : Bool). cond b 1 0) q.0 in
-              omega (arith, same, none)
-        ]
-    by_reply _ e = omega (arith, kept (λ s. cc))
+    by_reply r h1 =
+        grind (arith, common_steps, eqb_tells, holds-what_is_accepted, is_some, accepted-new, held-elsewhere, kept)
 
 one-among : (es : List Event) (c : CoreView) (k : ℕ) → IsBook c.book →
     sum_by (at_number k) (findings_accepted_in c es) + held_at c k ≤ held_at (after_events c es) k

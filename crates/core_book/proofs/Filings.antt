@@ -5,10 +5,9 @@ use Rattle.core_book.proofs.Imports.{Stranger, [], accepted_in, after_closing, a
 use Rattle.core_book.proofs.Imports.{cond, digest_of, eqb_tells, false, filing_of, findings_after, found_in, get_or}
 use Rattle.core_book.proofs.Imports.{get_or-set_other, get_or-set_same, if◌then◌else◌, is_job_of, is_some, job_of}
 use Rattle.core_book.proofs.Imports.{jobs_decide, length, length-set, map, nat_eq, nat_lt, nat_tests, not, number_of}
-use Rattle.core_book.proofs.Imports.{option_eq, option_map, pointwise, refl, reply_to, same_job, set}
-use Rattle.core_book.proofs.Imports.{slice_get, slice_get-map, slice_get_read, subst, suc, sum_by, sym, true, zero, ℕ}
-use Rattle.core_book.proofs.Imports.{◌++◌}
-use Rattle.core_book.proofs.Imports.{◌+◌, ◌<◌, ◌∙◌, ◌∷◌, ◌≡◌, ◌≢◌, ◌≤◌}
+use Rattle.core_book.proofs.Imports.{option_eq, option_map, pointwise, refl, reply_to, same_job, set, slice_get}
+use Rattle.core_book.proofs.Imports.{slice_get-map, slice_get_read, suc, sum_by, sym, true, zero, ℕ, ◌++◌, ◌+◌, ◌<◌}
+use Rattle.core_book.proofs.Imports.{◌∙◌, ◌∷◌, ◌≡◌, ◌≢◌, ◌≤◌}
 use Rattle.lemmas.proofs.Common.{same_text, sum_by-set, false_from_not, true_from_not}
 use Rattle.core_book.specs.Book.{accepted_count_after}
 
@@ -52,16 +51,12 @@ reply_to-new b f closed digest number job held = rw (closed, digest, number, job
 pub digest-differs : (b : BookView) (f : Finding) (theirs own : List ℕ) (r : Bool) →
     r ≡ not (pointwise nat_eq theirs own) → theirs ≡ digest_of f → own ≡ b.digest → r ≡ true →
     pointwise nat_eq (digest_of f) b.digest ≡ false
-digest-differs b f theirs own r e t o differs =
-    let told : pointwise nat_eq theirs own ≡ false = false_from_not _ (sym e ∙ differs) in
-    cc
+digest-differs b f theirs own r e t o differs = grind (arith, common_steps, false_from_not)
 
 pub digest-agrees : (b : BookView) (f : Finding) (theirs own : List ℕ) (r : Bool) →
     r ≡ not (pointwise nat_eq theirs own) → theirs ≡ digest_of f → own ≡ b.digest → r ≡ false →
     pointwise nat_eq (digest_of f) b.digest ≡ true
-digest-agrees b f theirs own r e t o agrees =
-    let told : pointwise nat_eq theirs own ≡ true = true_from_not _ (sym e ∙ agrees) in
-    cc
+digest-agrees b f theirs own r e t o agrees = grind (arith, common_steps, true_from_not)
 
 pub number-past : (b : BookView) (f : Finding) (n count : ℕ) → n ≡ number_of f → count ≡ length b.jobs → count ≤ n →
     nat_lt (number_of f) (length b.jobs) ≡ false
@@ -81,10 +76,7 @@ is_job_of-at view ys n y job below at = grind (arith, common_steps, option_eq, s
 pub job-told : {Y : Type 0} (view : Y → JobView) (jobs : List JobView) (ys seen : List Y) (n : ℕ) (y : Y)
     (own theirs : JobView) (r : Bool) → map view ys ≡ jobs → seen ≡ ys → n < length seen → y ≡ get_or seen n y →
     own ≡ view y → r ≡ same_job own theirs → r ≡ is_job_of jobs n theirs
-job-told view jobs ys seen n y own theirs r of_book all below at o e =
-    let told : is_job_of (map view ys) n theirs ≡ same_job (view y) theirs =
-    is_job_of-at view ys n y theirs (omega (arith, ap length all, below)) (at ∙ ap (λ l. get_or l n y) all) in
-    cc
+job-told view jobs ys seen n y own theirs r of_book all below at o e = grind (arith, common_steps, is_job_of-at)
 
 is_job_of-past : {Y : Type 0} (view : Y → JobView) (ys : List Y) (n : ℕ) (job : JobView) → length ys ≤ n →
     is_job_of (map view ys) n job ≡ false
@@ -100,10 +92,7 @@ is_job_of-past view ys n job past =
 
 pub no_job-told : {Y : Type 0} (view : Y → JobView) (jobs : List JobView) (ys seen : List Y) (n : ℕ)
     (job : JobView) → map view ys ≡ jobs → seen ≡ ys → length seen ≤ n → false ≡ is_job_of jobs n job
-no_job-told view jobs ys seen n job of_book all past =
-    let told : is_job_of (map view ys) n job ≡ false =
-    is_job_of-past view ys n job (omega (arith, ap length all, past)) in
-    cc
+no_job-told view jobs ys seen n job of_book all past = grind (arith, common_steps, is_job_of-past)
 
 -- ---- what a reply tells
 
@@ -134,8 +123,7 @@ accepted-passes b f e = passes _ _ _ _ _ (number_of f) e
 
 -- a job that passes the test is the job of that number
 same_option : (o : Option JobView) (job : JobView) → option_eq same_job o (Some job) ≡ true → o ≡ Some job
-same_option None job e = cc
-same_option (Some own) job e = ap Some ((jobs_decide own job).0 e)
+same_option o job h1 = grind (arith, common_steps, jobs_decide)
 
 pub is_job_of-true : (jobs : List JobView) (n : ℕ) (job : JobView) → is_job_of jobs n job ≡ true →
     slice_get jobs n ≡ Some job
@@ -173,16 +161,11 @@ findings_after-accepted b f e = ap (findings_after b.findings f) e
 pub findings_after-other : (held : List (Option Finding)) (f : Finding) (r : Reply) → r ≢ Accepted →
     findings_after held f r ≡ held
 unfolding findings_after
-findings_after-other held f Accepted other = absurd (other refl)
-findings_after-other held f _ other = refl
+findings_after-other held f r h1 = grind (arith, common_steps)
 
 -- whose a finding is depends on the digest and the jobs alone
 own-moved : (b c : BookView) (n : ℕ) (f : Finding) → b.digest ≡ c.digest → b.jobs ≡ c.jobs → IsOwn b n f → IsOwn c n f
-own-moved b c n f digest jobs p = record {
-  digest = p.digest ∙ digest;
-  number_is = p.number_is;
-  job = ap (λ js. slice_get js n) (sym jobs) ∙ p.job;
-}
+own-moved b c n f digest jobs p = grind (arith, common_steps, slice_get)
 
 own-set : (b : BookView) (n : ℕ) (f : Finding) → n < length b.findings → IsOwn b n f → IsBook b →
     (k : ℕ) (g : Finding) →
@@ -233,17 +216,14 @@ accepted_in-other b f other = ap (sum_by counted) (findings_after-other b.findin
 
 by_reply : (b : BookView) (f : Finding) (r : Reply) → reply_to b f ≡ r → IsBook b →
     accepted_in (after_filing b f) ≡ accepted_count_after (accepted_in b) r
-by_reply b f Accepted e is = accepted_in-accepted b f is e
-by_reply b f _ e is = accepted_in-other b f (λ s. cc)
+by_reply b f r h1 h2 = grind (arith, common_steps, accepted_in-accepted, accepted_in-other)
 
 pub accepted_in-filed : (b c after : BookView) (f : Finding) (r : Reply) → IsBook b → b ≡ c → r ≡ reply_to c f →
     after ≡ after_filing c f → accepted_in after ≡ accepted_count_after (accepted_in c) r
-accepted_in-filed b c after f r is same e left =
-    ap accepted_in left ∙ by_reply c f r (sym e) (subst IsBook same is)
+accepted_in-filed b c after f r is same e left = grind (arith, common_steps, by_reply)
 
 pub accepted_count_after-other : (n : ℕ) (r : Reply) → (r ≡ Accepted → ⊥) → accepted_count_after n r ≡ n
-accepted_count_after-other n Accepted other = absurd (other refl)
-accepted_count_after-other n _ other = refl
+accepted_count_after-other n r h1 = grind (arith, common_steps)
 
 -- ---- what a book says of a number
 
@@ -252,17 +232,9 @@ accepted_count_after-other n _ other = refl
 pub left-accepted : (b : BookView) (f : Finding) (filing : Filing) (history : List LogEntry) → filing ≡ filing_of b f →
     history ≡ b.history ++ Filed filing ∷ [] → filing.reply ≡ Accepted
     → record b { findings = set b.findings filing.number (Some f); history = history } ≡ after_filing b f
-left-accepted b f filing history is entries e =
-    let number : filing.number ≡ number_of f = ap (λ (x : Filing). x.number) is in
-    let told : reply_to b f ≡ Accepted = sym (ap (λ (x : Filing). x.reply) is) ∙ e in
-    let held : findings_after b.findings f (reply_to b f) ≡ set b.findings (number_of f) (Some f) =
-    findings_after-accepted b f told in
-    cc
+left-accepted b f filing history is entries e = grind (arith, common_steps, findings_after-accepted)
 
 pub left-other : (b : BookView) (f : Finding) (filing : Filing) (history : List LogEntry) → filing ≡ filing_of b f →
     history ≡ b.history ++ Filed filing ∷ [] → (filing.reply ≡ Accepted → ⊥)
     → record b { history = history } ≡ after_filing b f
-left-other b f filing history is entries other =
-    let held : findings_after b.findings f (reply_to b f) ≡ b.findings =
-    findings_after-other b.findings f (reply_to b f) (λ s. other (ap (λ (x : Filing). x.reply) is ∙ s)) in
-    cc
+left-other b f filing history is entries other = grind (arith, common_steps, findings_after-other)

@@ -29,10 +29,7 @@ pub firsts_grow : (g : List ℕ) (n m : ℕ) → n ≤ m → group_count_below g
 firsts_grow g n zero le = grind (arith, common_steps)
 firsts_grow g n (suc m) le = elim (cases_order n (suc m)) [
   | inl same ↦ subst (λ k. group_count_below g n ≤ group_count_below g k) same (omega arith)
-  | inr rest ↦ elim rest [
-    | inl before ↦ let less = firsts_grow g n m (omega (arith, before)) in omega (arith, less)
-    | inr after ↦ absurd (omega (arith, le, after))
-  ]
+  | inr rest ↦ grind (arith, common_steps, firsts_grow g n m)
 ]
 
 -- ---- the first of a group is held before the others

@@ -127,11 +127,7 @@ partly b c n most is = record { below = n; at_most = most; filled = is }
 
 pub open-stays : (digest : List ℕ) (jobs : List JobView) (b c : BookView) (n : ℕ) → IsOpenFor digest jobs b →
     IsFilledTo b c n → IsOpenFor digest jobs c
-open-stays digest jobs b c n own is = record {
-  still_open = is.closed_stays ∙ own.still_open;
-  digest_is = is.digest_stays ∙ own.digest_is;
-  jobs_are = is.jobs_stay ∙ own.jobs_are;
-}
+open-stays digest jobs b c n own is = grind (arith, common_steps)
 
 count-all : (os : List (Option Finding)) → ((k : ℕ) → k < length os → is_some (get_or os k None) ≡ true) →
     count_by is_some os ≡ length os

@@ -1,6 +1,6 @@
 -- Books that hold a finding for each job
 use Rattle.core_book.proofs.Imports.{BookView, Finding, IsBook, IsHeld, JobView, List, None, Option, Some, [], arith}
-use Rattle.core_book.proofs.Imports.{cond, count_by, found_in, get_or, is_some, length, refl, same_Some}
+use Rattle.core_book.proofs.Imports.{common_steps, cond, count_by, found_in, get_or, is_some, length, refl, same_Some}
 use Rattle.core_book.proofs.Imports.{slice_get, suc, sym, true, zero, ℕ, ◌+◌, ◌<◌, ◌∙◌, ◌∷◌, ◌≡◌}
 use Rattle.lemmas.proofs.Common.{count_by-le-length, sum_by-cons}
 use Rattle.core_book.specs.Laws.{FullBookHoldsAll}
@@ -24,6 +24,4 @@ held b k j None is e some at = cc
 held b k j (Some f) is e some at = record { finding = f; held = e; whole = same_Some _ _ (sym (is.own k f e).job ∙ at) }
 
 pub full_book_holds-all : FullBookHoldsAll
-full_book_holds-all b is full k j below at =
-    held b k j (found_in b k) is refl
-    (all_there b.findings k (full ∙ sym is.places) (omega (arith, is.places, below))) at
+full_book_holds-all b is full k j below at = grind (arith, common_steps, held, all_there)

@@ -124,8 +124,7 @@ closed-from : (p : Replayed) (es : List LogEntry) →
 closed-from p [] = by_case p.closed
   where
     by_case : (b : Bool) → b ≡ (if b then true else false)
-    by_case true = refl
-    by_case false = refl
+    by_case b = grind (arith, common_steps)
 closed-from p (Filed f ∷ es) = closed-from (after_entry p (Filed f)) es
 closed-from p (Closing ∷ es) = closed-from (after_entry p Closing) es ∙ by_case p.closed
   where

@@ -2,12 +2,11 @@
 use Rattle.core_book.proofs.Imports.{AreBorderFaultsOf, AreLeastFaults, AreLeastFaultsOfJob, Bool, BorderFault}
 use Rattle.core_book.proofs.Imports.{IsLeastFault, IsLeastKeepFault, JobView, LeastFaults, List, ModuleLines, None}
 use Rattle.core_book.proofs.Imports.{Option, ReportLine, Setting, Some, [], ap, append-nil, append_assoc, arith}
-use Rattle.core_book.proofs.Imports.{common_steps, cond, delay_and_meet_lines, false, get_or, inl, inr, length, map}
-use Rattle.core_book.proofs.Imports.{not, option_map, refl, report_lines_from, same_Some, slice_get, slice_get-get_or}
+use Rattle.core_book.proofs.Imports.{common_steps, cond, delay_and_meet_lines, get_or, inl, inr, length, map, not}
+use Rattle.core_book.proofs.Imports.{option_map, refl, report_lines_from, same_Some, slice_get, slice_get-get_or}
 use Rattle.core_book.proofs.Imports.{slice_get_within, subst, suc, sym, true, unkept_lines, zero, ℕ, ◌++◌, ◌+◌, ◌<◌}
 use Rattle.core_book.proofs.Imports.{◌∙◌, ◌∷◌, ◌≡◌, ◌≤◌}
-use Rattle.lemmas.proofs.Common.{◌&&◌, add-one, ap₂, drop, drop-cons, option_to_list, true≢false, drop_all}
-use Rattle.lemmas.proofs.Common.{slice_get_cases}
+use Rattle.lemmas.proofs.Common.{◌&&◌, add-one, ap₂, drop, drop-cons, option_to_list, drop_all, slice_get_cases}
 use Rattle.circuit.specs.Gates.{is_inverse}
 use Rattle.circuit.specs.Meaning.{Gate}
 use Rattle.certificate.specs.Keeps.{is_kept, unkept_from}
@@ -29,11 +28,7 @@ nil_parts (x ∷ xs) ys e = absurd (clash e)
     clash e = cc
 
 no_option : {X Y : Type 0} (f : X → Y) (o : Option X) → option_to_list (option_map f o) ≡ [] → o ≡ None
-no_option f None e = refl
-no_option f (Some x) e = absurd (clash e)
-  where
-    clash : {Z : Type 0} {z : Z} {zs : List Z} → (z ∷ zs) ≡ [] → ⊥
-    clash e = cc
+no_option f o h1 = grind (arith, common_steps)
 
 none_listed : {X Y : Type 0} (f : X → Y) (o : Option X) → o ≡ None → option_to_list (option_map f o) ≡ []
 none_listed f o e = ap (λ p. option_to_list (option_map f p)) e
@@ -99,9 +94,7 @@ kept_from ms n (h ∷ gs) e zero g at inverse =
     (not_listed (is_inverse h.kind) (is_kept ms n) n parts.0 (ap (λ (g : Gate). is_inverse g.kind) same ∙ inverse))
   where
     not_listed : (i k : Bool) (n : ℕ) → cond (i && not k) (n ∷ []) [] ≡ [] → i ≡ true → k ≡ true
-    not_listed true true n e i = refl
-    not_listed true false n e i = absurd cc
-    not_listed false k n e i = absurd (true≢false (sym i))
+    not_listed i k n h1 h2 = grind (arith, common_steps)
 kept_from ms n (h ∷ gs) e (suc k) g at inverse =
     let parts = nil_parts (cond (is_inverse h.kind && not (is_kept ms n)) (n ∷ []) []) _ e in
     let here : n + 1 + k ≡ n + suc k = omega arith in
@@ -120,9 +113,7 @@ all_kept_from ms n (g ∷ gs) kept =
     subst (λ m. is_kept ms m ≡ true) here (kept (suc k) f at i)))
   where
     none : (i k : Bool) → (i ≡ true → k ≡ true) → cond (i && not k) (n ∷ []) [] ≡ []
-    none true true h = refl
-    none true false h = absurd (true≢false (sym (h refl)))
-    none false k h = refl
+    none i k h1 = grind (arith, common_steps)
 
 none_mapped : (ns : List ℕ) → map (λ n. Unkept n) ns ≡ [] → ns ≡ []
 none_mapped [] e = refl
@@ -174,13 +165,11 @@ accepted g ms jobs fs bs least borders len e rules = record {
 
 -- a job with a least fault has a fault
 no_least : (j : JobView) (f : Option Fault) → IsLeastFault j f → ((x : Fault) → ¬ IsFault j x) → f ≡ None
-no_least j None least none = refl
-no_least j (Some x) least none = absurd (none x least.0)
+no_least j f h1 h2 = grind (arith, common_steps)
 
 no_least_keep : (j : JobView) (f : Option KeepFault) → IsLeastKeepFault j f → ((x : KeepFault) → ¬ IsKeepFault j x) →
     f ≡ None
-no_least_keep j None least none = refl
-no_least_keep j (Some x) least none = absurd (none x least.0)
+no_least_keep j f h1 h2 = grind (arith, common_steps)
 
 no_least_border : (g : Setting) (ms : List ModuleLines) (k : ℕ) (b : Option BorderFault) → IsLeastBorderFault g ms k b →
     ((x : BorderFault) → ¬ IsBorderFault g ms k x) → b ≡ None

@@ -1,14 +1,14 @@
 -- A text that is reported with a yes is so too after it is migrated.
-use Rattle.headline.proofs.Imports.{Accepts, AnswersOrRefuses, AreFaultless, AreJobsOf, Bool, Bundle, CertView}
-use Rattle.headline.proofs.Imports.{CertificateLine, CircuitLine, IsFaultless, IsReportOf, IsVerdict, IsVerdictOn, List}
-use Rattle.headline.proofs.Imports.{ModuleLines, Ok, Pattern, Refusal, Result, SaysReport, Setting, Yes, [], ap, ap₂}
-use Rattle.headline.proofs.Imports.{arith, bundle_of, certificate_grammar, circuit_of, false, faultless_modules}
+use Rattle.headline.proofs.Imports.{Accepts, AnswersOrRefuses, AreJobsOf, Bool, Bundle, CertView, CircuitLine}
+use Rattle.headline.proofs.Imports.{IsFaultless, IsReportOf, IsVerdict, IsVerdictOn, List, ModuleLines, Ok, Pattern}
+use Rattle.headline.proofs.Imports.{Refusal, Result, SaysReport, Setting, Yes, ap, ap₂, arith, bundle_of}
+use Rattle.headline.proofs.Imports.{certificate_grammar, circuit_of, common_steps, false, faultless_modules}
 use Rattle.headline.proofs.Imports.{is_haloless_version, lacks_edge_wire_beside, layout_of, layout_section}
 use Rattle.headline.proofs.Imports.{meant_modules, meant_old, migrate_of, migrated_bundle, modules_in, modules_of}
 use Rattle.headline.proofs.Imports.{nat_tests, read_complete, refl, report_text, setting_of, subst, sym, true}
-use Rattle.headline.proofs.Imports.{without_halos, ℕ, ◌++◌, ◌==◌, ◌∙◌, ◌∷◌, ◌≡◌, ◌≤◌}
+use Rattle.headline.proofs.Imports.{without_halos, ℕ, ◌++◌, ◌==◌, ◌∙◌, ◌≡◌, ◌≤◌}
 use Rattle.certificate.specs.Grammars.{migrated}
-use Rattle.certificate.specs.Laws.{AreFaultlessLines, IsSectionOf}
+use Rattle.certificate.specs.Laws.{IsSectionOf}
 use Rattle.certificate.proofs.Migrated.{faultless_lines, migrated_lacks, migrated_modules}
 use Rattle.certificate.proofs.Soundness.{read_version}
 use Rattle.soundness.specs.MigrationLaws.{IsAcceptedMigration}
@@ -19,17 +19,11 @@ use Rattle.headline.proofs.FullJobs.{full_jobs}
 use Rattle.headline.proofs.Migrations.{HasSections, IsGoodBundle, IsMigrated, bundle_made, good_read, migrated_sections}
 use Rattle.headline.proofs.Migrations.{says_design, sections_read, unchanged, was_migrated}
 use Rattle.headline.proofs.YesIsRight.{by_outcome}
-use Rattle.core_book.specs.declared.verdict.Verdict.TheVariants as verdict
 use Rattle.section_text.specs.declared.limits.Limits.{Limits}
 use Rattle.meaning.specs.Design.{front_text, text_limits}
+use Rattle.core_book.specs.declared.verdict.Verdict.TheVariants as verdict
 
 -- ---- two words for good lines
-
-as_lines : (l : Limits) (g : Setting) (v : ℕ) (es before : List CertificateLine) →
-    AreFaultless (certificate_grammar l g) v before es →
-    AreFaultlessLines l g v before es
-as_lines l g v [] before h = tt
-as_lines l g v (i ∷ es) before h = (h.0, as_lines l g v es (before ++ i ∷ []) h.1)
 
 -- ---- the certificate of a report
 
@@ -69,14 +63,10 @@ module _ (text report output : List ℕ) (b : Bundle) (read : bundle_of text ≡
 
   -- its lines are a section of version 1
   faultless : IsFaultless (certificate_grammar l g) 1 c.entries
-  faultless =
-      subst (λ es. IsFaultless (certificate_grammar l g) 1 es) (sym says.its_own.entries)
-      (subst (λ v. IsFaultless (certificate_grammar l g) v b.entries) one
-      (subst (λ h. IsFaultless (certificate_grammar l h) b.version b.entries) own good.certificate))
+  faultless = grind (arith, common_steps, own, good)
 
   section : IsSectionOf l g 1 c.entries
-  section =
-      record { header = faultless.header; lines = as_lines l g 1 c.entries [] faultless.each; end = faultless.end }
+  section = grind (arith, common_steps, faultless)
 
   accepts : Accepts g (modules_in c) says.is_verdict.jobs
   unfolding IsVerdict
@@ -87,20 +77,10 @@ module _ (text report output : List ℕ) (b : Bundle) (read : bundle_of text ≡
 
   -- and without halo lines a section of version 2
   faultless_two : IsFaultless (certificate_grammar l g) 2 (without_halos c.entries)
-  faultless_two = record {
-    header = accepted.section.header;
-    each = faultless_lines l g 2 (without_halos c.entries) [] accepted.section.lines;
-    end = accepted.section.end;
-  }
+  faultless_two = grind (arith, common_steps, accepted, faultless_lines)
 
   good_two : IsGoodBundle l (migrated_bundle b)
-  good_two = record {
-    circuit = good.circuit;
-    layout = good.layout;
-    certificate = subst (λ es. IsFaultless (certificate_grammar l (setting_of b.circuit (layout_of b.size b.parts))) 2
-        (without_halos es)) says.its_own.entries
-        (subst (λ h. IsFaultless (certificate_grammar l h) 2 (without_halos c.entries)) (sym own) faultless_two);
-  }
+  good_two = grind (arith, common_steps, good, own, faultless_two)
 
   read_two : bundle_of output ≡ Ok (migrated_bundle b)
   read_two =
@@ -124,29 +104,10 @@ module _ (text report output : List ℕ) (b : Bundle) (read : bundle_of text ≡
       says.is_verdict.are_jobs) in
       let are : AreJobsOf (circuit_of c.circuit) c.layout (modules_in (migrated c)) jobs.0 =
       subst (λ ns. AreJobsOf (circuit_of c.circuit) c.layout ns jobs.0) (sym (migrated_modules g c.entries)) jobs.1 in
-      record {
-        good = meant_modules 2 g (modules_of (without_halos c.entries))
-            (faultless_modules l g 2 (without_halos c.entries) faultless_two)
-            (read_complete l g 2 (without_halos c.entries) faultless_two);
-        jobs = jobs.0;
-        are_jobs = are;
-        judged = accepted.accepted jobs.0 are;
-      }
+      grind (arith, common_steps, good, meant_modules, faultless_modules, faultless_two, read_complete, accepted)
 
   reported : SaysReport (migrated_bundle b) (report_text (migrated c) verdict.Yes) Yes
-  reported = record {
-    certificate = migrated c;
-    its_own = record {
-      circuit = says.its_own.circuit;
-      layout = says.its_own.layout;
-      version = refl;
-      entries = ap without_halos says.its_own.entries;
-    };
-    verdict = verdict.Yes;
-    is_verdict = verdict_two;
-    says = refl;
-    ends = refl;
-  }
+  reported = grind (arith, common_steps, version, verdict_two)
 
   reported_yes : IsReportedYes output
   reported_yes = record {

@@ -3,16 +3,15 @@
 -- One is of four modules around a gate, with stops and a delay, and one of a switch and its inverse gate. Two are plain
 -- texts of two balls that meet, the second of them with a wrong layout.
 use Rattle.lemmas.proofs.Common.{common_steps}
-use Rattle.headline.proofs.Imports.{All, All-head, All-tail, Bundle, Cell, CircuitLine, Cut}
-use Rattle.headline.proofs.Imports.{Gate, HasNoDelay, Input, Interact, IsCorrect, IsDesign, IsInputName}
-use Rattle.headline.proofs.Imports.{IsPlain, IsReportOf, IsSmallDesign, List, Meet, Module, ModuleLines, No, Ok}
-use Rattle.headline.proofs.Imports.{Outcome, Output, Pattern, Refused, Some, Stop, StopHolds, StopLine, Switch}
-use Rattle.headline.proofs.Imports.{TouchesRim, Unswitch, Use, Yes, [], arith, bit, bundle_of, bundle_with, cell}
-use Rattle.headline.proofs.Imports.{circuit_of}
-use Rattle.headline.proofs.Imports.{codes, cuts, design_text, evaluate, fault_cmp, flat_map, in_span, job_demand}
-use Rattle.headline.proofs.Imports.{job_start, local_run, modules_of, netlist_of, numbered_all_times, numbered_event}
-use Rattle.headline.proofs.Imports.{numbered_signals, partner, parts_of, plain_lines, refl, row, slice_get}
-use Rattle.headline.proofs.Imports.{step, subst, suc, true, turned, whole, zero, ℕ, ◌∷◌, ◌≡◌, ◌≢◌}
+use Rattle.headline.proofs.Imports.{All, All-head, All-tail, Bundle, Cell, CircuitLine, Cut, Gate, HasNoDelay, Input}
+use Rattle.headline.proofs.Imports.{Interact, IsCorrect, IsDesign, IsInputName, IsPlain, IsReportOf, IsSmallDesign}
+use Rattle.headline.proofs.Imports.{List, Meet, Module, ModuleLines, No, Ok, Outcome, Output, Pattern, Refused, Some}
+use Rattle.headline.proofs.Imports.{Stop, StopHolds, StopLine, Switch, TouchesRim, Unswitch, Use, Yes, [], arith, bit}
+use Rattle.headline.proofs.Imports.{bundle_of, bundle_with, cell, circuit_of, codes, cuts, design_text, evaluate}
+use Rattle.headline.proofs.Imports.{fault_cmp, flat_map, in_span, job_demand, job_start, local_run, modules_of}
+use Rattle.headline.proofs.Imports.{netlist_of, numbered_all_times, numbered_event, numbered_signals, partner, parts_of}
+use Rattle.headline.proofs.Imports.{plain_lines, refl, row, slice_get, step, subst, suc, true, turned, whole, zero, ℕ}
+use Rattle.headline.proofs.Imports.{◌∷◌, ◌≡◌, ◌≢◌, Err, ◌++◌}
 use Rattle.circuit.specs.Gates.{is_inverse}
 use Rattle.bbm_rule.specs.CellOrder.{cell_cmp}
 use Rattle.module_box.specs.Schedules.{all_times_at, event_at, signal_at}
@@ -23,17 +22,15 @@ use Rattle.soundness.proofs.NumberedSignals.{numbered, place_among}
 use Rattle.soundness.proofs.SomeJobs.{demanded, placed_gate, placed_gates, placed_stop, places}
 use Rattle.meaning.specs.Design.{front_text}
 use Rattle.section_text.specs.declared.limits.Limits.TheVariants.{Second}
-use Rattle.headline.proofs.Imports.{AnswersOrRefuses, Err, SaysReport, sym, ◌++◌}
-use Rattle.report.specs.ReportText.{refusal_line}
 use Rattle.headline.specs.Fronts.{WideTextIsAccepted, WideTextIsRefused, wide_text}
 use Rattle.headline.specs.Witnesses.{ThereAndBackTextIsAccepted, TimedModulesTextIsAccepted}
+use Rattle.headline.specs.Witnesses.{PlainNoTextIsRefuted, PlainYesTextIsAccepted, SmallDesignIsAccepted}
+use Rattle.headline.specs.Witnesses.{SmallDesignIsRefuted}
 use Rattle.headline.specs.PlainLaws.{ThereAndBackTextIsPlain, ThereAndBackTextIsSmall}
 use Rattle.headline.specs.PlainNo.{plain_no_text}
 use Rattle.headline.specs.PlainYes.{plain_yes_text}
 use Rattle.headline.specs.ThereAndBack.{there_and_back_text}
 use Rattle.headline.specs.TimedModules.{timed_modules_text}
-use Rattle.headline.specs.Witnesses.{PlainNoTextIsRefuted, PlainYesTextIsAccepted, SmallDesignIsAccepted}
-use Rattle.headline.specs.Witnesses.{SmallDesignIsRefuted}
 use Rattle.headline.proofs.FailingTexts.{Fails, is_refuted}
 use Rattle.headline.proofs.PassingTexts.{IsReadAndPasses, accepted_if}
 use Rattle.headline.proofs.PlainLines.{plain_lines_decide}
@@ -44,11 +41,11 @@ use Rattle.headline.proofs.ReadDesigns.{design_read}
 use Rattle.headline.proofs.SomeReport.{some_report}
 use Rattle.headline.proofs.WrittenDesigns.{each_is_decided}
 use Rattle.headline.proofs.YesIsRight.{bundle_good, yes_has_right_stops, yes_is_right_as_read}
+use Rattle.circuit.specs.Meaning.{Gate as Meant}
 use Rattle.section_text.specs.Words as words
 use Rattle.section_text.specs.Section as section
 use Rattle.circuit.specs.Forms as circuit_forms
 use Rattle.circuit.specs.Meaning as meaning
-use Rattle.circuit.specs.Meaning.{Gate as Meant}
 use Rattle.circuit.specs.Rules as circuit_rules
 use Rattle.pattern.specs.Forms as layout_forms
 use Rattle.bbm_rule.specs.CellLists as cell_lists
@@ -247,8 +244,7 @@ pub wide_accepted : WideTextIsAccepted
 wide_accepted = accepted_if (front_text Second ++ wide_text) are_read.wide
 
 pub wide_refused : WideTextIsRefused
-wide_refused = subst (λ r. AnswersOrRefuses SaysReport r (refusal_line (record { line = 3; code = 2 })) Refused)
-    (sym are_read.wide_is_refused) (refl, refl)
+wide_refused = grind (arith, common_steps, are_read)
 
 pub inverse_accepted : ThereAndBackTextIsAccepted
 inverse_accepted = accepted_if there_and_back_text are_read.inverse
@@ -341,8 +337,7 @@ no_delay zero steps a b is = grind (arith, common_steps)
 no_delay (suc k) steps a b is = absurd cc
 
 few : (b c : Cell) → IsSmallDesign meeting (meeting_in b c)
-few b c =
-    record { wide = omega arith; high = omega arith; short = omega arith; inputs = omega arith; gates = omega arith }
+few b c = grind (arith, common_steps)
 
 right_design : IsDesign meeting right_layout
 right_design = design_read plain_yes_text (meeting_bundle right_layout) right_layout are_read.yes_reads refl
@@ -370,20 +365,10 @@ design_accepted =
     let r = some_report (design_text meeting right_layout) in
     let d = each_is_decided meeting right_layout r.0 r.1 right_design (few (cell 2 2) (cell 5 5)) r.2 in
     let yes : r.1 ≡ Yes = d.1.1 (right_correct, no_delay, right_off) in
-    record {
-      circuit = meeting;
-      layout = right_layout;
-      design = right_design;
-      small = few (cell 2 2) (cell 5 5);
-      steps = omega arith;
-      output = r.0;
-      reported = subst (IsReportOf (design_text meeting right_layout) r.0) yes r.2;
-    }
+    grind (arith, common_steps, right_design, small, few)
 
 pub no_of : (outcome : Outcome) → outcome ≢ Yes → outcome ≢ Refused → outcome ≡ No
-no_of Yes a b = absurd (a refl)
-no_of No a b = refl
-no_of Refused a b = absurd (b refl)
+no_of outcome h1 h2 = grind (arith, common_steps)
 
 pub design_refuted : SmallDesignIsRefuted
 design_refuted =
@@ -392,12 +377,4 @@ design_refuted =
     let is = is_refuted plain_no_text (meeting_bundle wrong_layout) are_read.no_reads wrong_layout one (cell 2 2) 1
     (Meet 0 (Some 1) ∷ []) are_read.no_fails in
     let no : r.1 ≡ No = no_of r.1 (λ e. is.shows.real.incorrect refl (d.1.0 e).0) d.0 in
-    record {
-      circuit = meeting;
-      layout = wrong_layout;
-      design = wrong_design;
-      small = few (cell 5 5) (cell 2 2);
-      steps = omega arith;
-      output = r.0;
-      reported = subst (IsReportOf (design_text meeting wrong_layout) r.0) no r.2;
-    }
+    grind (arith, common_steps, wrong_design, small, few)

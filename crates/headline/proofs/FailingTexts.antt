@@ -7,12 +7,11 @@ use Rattle.headline.proofs.Imports.{IsVerdict, JobView, Kind, LineMeans, List, L
 use Rattle.headline.proofs.Imports.{Pattern, ReportLine, SaysNoWith, SaysReport, Setting, Some, Valuation, Verdict, []}
 use Rattle.headline.proofs.Imports.{and_parts, ap, ap₂, are_jobs_of, arith, as_values, bit, bundle_of, certificate_text}
 use Rattle.headline.proofs.Imports.{circuit_of, codes, common_steps, evaluate, false, false≢true, fault_cmp, flat_map}
-use Rattle.headline.proofs.Imports.{gates_are_ordered, in_box, in_ring, is_among, job_demand, job_of, layout_section}
-use Rattle.headline.proofs.Imports.{length, length-map, line_text, list_all, local_run, map, modules_in, modules_of}
-use Rattle.headline.proofs.Imports.{netlist_of, not, range_with_len, read_layout-names, refl, report_line_text}
-use Rattle.headline.proofs.Imports.{report_text, setting_of, sha256, slice_get, subst, suc, sym, timing_report_line}
-use Rattle.headline.proofs.Imports.{true, true≢false, vec_of, whole, zero, ℕ, ℤ, ◌&&◌, ◌++◌, ◌<◌, ◌||◌, ◌∙◌, ◌∷◌, ◌≡◌}
-use Rattle.headline.proofs.Imports.{◌≢◌}
+use Rattle.headline.proofs.Imports.{gates_are_ordered, in_box, in_ring, job_demand, job_of, layout_section, length}
+use Rattle.headline.proofs.Imports.{length-map, line_text, list_all, local_run, map, modules_in, modules_of, netlist_of}
+use Rattle.headline.proofs.Imports.{not, range_with_len, read_layout-names, refl, report_line_text, report_text}
+use Rattle.headline.proofs.Imports.{setting_of, sha256, slice_get, subst, suc, sym, timing_report_line, true}
+use Rattle.headline.proofs.Imports.{true≢false, vec_of, whole, zero, ℕ, ℤ, ◌&&◌, ◌++◌, ◌<◌, ◌||◌, ◌∙◌, ◌∷◌, ◌≡◌, ◌≢◌}
 use Rattle.lemmas.proofs.Common.{Greater, Ordering, booleans_Decides, get_or-map-range_with_len}
 use Rattle.lemmas.proofs.Common.{length-range_with_len, slice_get-get_or}
 use Rattle.circuit.proofs.Valuations.{evaluated}
@@ -37,23 +36,18 @@ use Rattle.soundness.proofs.Trials.{implied, meets, meets_is, stop_test}
 use Rattle.report.specs.ReportText.{lines_before_verdict}
 use Rattle.headline.proofs.SomeReport.{certificate_by, limits, modules_good}
 use Rattle.headline.proofs.YesIsRight.{bundle_good, known}
-use Rattle.module_job.specs.declared.job.Demand.TheVariants as Demanded
-use Rattle.core_book.specs.declared.verdict.Verdict.TheVariants as verdict
 use Rattle.bbm_rule.proofs.RingTests.{ring_in_box}
+use Rattle.core_book.specs.declared.verdict.Verdict.TheVariants as verdict
 
 -- ---- tests of all elements
 
 one_of : (a b : Bool) → (a || b) ≡ true → a ≡ false → b ≡ true
-one_of true b e h = absurd (true≢false h)
-one_of false b e h = e
+one_of a b h1 h2 = grind (arith, common_steps)
 
 -- ---- what is demanded
 
 met : (v : Valuation) (d : Demand) (live : Bool) → MeetsDemand v d live → meets v d live ≡ true
-met v Demanded.Dead live h = ap not h
-met v Demanded.Live live h = h
-met v (Demanded.Wire w) live h = (booleans_Decides live (v w)).1 h
-met v Demanded.Any live h = refl
+met v d live h1 = grind (arith, common_steps)
 
 -- ---- the first fault
 
@@ -110,8 +104,7 @@ found j a test ordered = by (evaluate (given_of j a) j.locals.netlist.gates) ref
         }
 
 no_later : (o : Ordering) → is_no_later o ≡ true → o ≢ Greater
-no_later Greater e h = false≢true e
-no_later _ e h = cc
+no_later o h1 = grind (arith, common_steps, false≢true)
 
 module _ (j : JobView) (is : IsJob j) (ordered : AreOrdered j.locals.netlist.given j.locals.netlist.gates) where
   after : (f : Fault) (a : ℕ) (u : Valuation) (t : ℕ) (kind : Kind) (x y : ℤ) → none_before j f a u ≡ true →
@@ -133,9 +126,7 @@ module _ (j : JobView) (is : IsJob j) (ordered : AreOrdered j.locals.netlist.giv
       (sym g.last) (no_later _ (one_of _ _ either missed))
     where
       by : (b : Bool) → meets u (job_demand j x y) (local_run j u j.steps x y) ≡ b → b ≡ false
-      by false e = refl
-      by true e = absurd (g.differs (subst (λ n. MeetsDemand u (job_demand j x y) (local_run j u n x y)) (sym g.last)
-          (meets_is u _ _ e)))
+      by b h1 = grind (arith, common_steps, meets_is)
 
   first_is_least : (d : Cell) (a : ℕ) → IsFirstByTests j d a → IsLeastFault j (Some (end_fault_at j d a))
   first_is_least d a tests = (
@@ -234,12 +225,7 @@ module _ (text : List ℕ) (b : Bundle) (e : bundle_of text ≡ Ok b) (p : Patte
 
   told : AreLeastFaultsOfJob j reasons
   unfolding reasons
-  told = record {
-    fault = least;
-    keep = None;
-    least_keep = λ k is. true≢false (sym is.is_kept ∙ ap (λ ks. is_among ks k.gate) fails.none_kept);
-    same = refl;
-  }
+  told = grind (arith, common_steps, least)
 
   told_at : (k : ℕ) (i : JobView) (r : LeastFaults) → slice_get (j ∷ []) k ≡ Some i →
       slice_get (reasons ∷ []) k ≡ Some r → AreLeastFaultsOfJob i r
@@ -299,13 +285,7 @@ module _ (text : List ℕ) (b : Bundle) (e : bundle_of text ≡ Ok b) (p : Patte
   read_so = known text b (report_text c (verdict.No vec.vec)) No e says_no
 
   together : BelongTogether b.circuit p (m ∷ []) (j ∷ [])
-  together = record {
-    ordered = ordered;
-    limits = limits text b e p fails.layout;
-    laid_out = read_so.laid_out;
-    are_modules = good;
-    are_jobs = are_jobs;
-  }
+  together = grind (arith, common_steps, ordered, limits, read_so, good, are_jobs)
 
   means : All (LineMeans b.circuit p m) lines
   means = subst (All (LineMeans b.circuit p m)) vec.items

@@ -1,13 +1,13 @@
 -- The fourth line of a report.
-use Rattle.std.proofs.lemmas.Grind.{common_steps}
 use Rattle.headline.proofs.Imports.{All-from_recursion, Bool, CertView, FourthLineSaysYes, IsOneLine, List, Option}
 use Rattle.headline.proofs.Imports.{Refusal, Some, Verdict, [], and_parts, ap, append-nil, append_assoc, ap₂, arith}
-use Rattle.headline.proofs.Imports.{codes, cond, decimal, ended-cons, eqb, false, flat_map, kept, length, line_text}
-use Rattle.headline.proofs.Imports.{lines_of, list_all, not, refl, refusal_line, report_line_text, report_text}
-use Rattle.headline.proofs.Imports.{slice_get, slice_split_at, some_part, space_and_word, suc, sym, timing_report_line}
-use Rattle.headline.proofs.Imports.{true, zero, ℕ, ◌%◌, ◌&&◌, ◌++◌, ◌<◌, ◌∙◌, ◌∷◌, ◌≡◌}
+use Rattle.headline.proofs.Imports.{codes, common_steps, cond, decimal, ended-cons, eqb, false, flat_map, kept, length}
+use Rattle.headline.proofs.Imports.{line_text, lines_of, list_all, not, refl, refusal_line, report_line_text}
+use Rattle.headline.proofs.Imports.{report_text, slice_get, slice_split_at, some_part, space_and_word, suc, sym}
+use Rattle.headline.proofs.Imports.{timing_report_line, true, zero, ℕ, ◌%◌, ◌&&◌, ◌++◌, ◌<◌, ◌∙◌, ◌∷◌, ◌≡◌}
 use Rattle.lemmas.proofs.Common.{◌/◌, get_or, digit_glyph, digits_onto, list_all-append, onto_first}
 use Rattle.lemmas.proofs.Common.{slice_split}
+use Rattle.lemmas.proofs.Common.{false_from_not}
 use Rattle.std.specs.Fmt.{digits}
 use Rattle.hex.specs.Hex.{encode_lower, encode_with, lower_digits}
 use Rattle.section_text.specs.Words.{ended_parts, is_line_feed}
@@ -15,7 +15,6 @@ use Rattle.certificate.specs.declared.times.TimeLine.{TimeLine}
 use Rattle.report.specs.ReportText.{verdict_lines}
 use Rattle.headline.specs.Laws.{SaysYesMeansFourthLine}
 use Rattle.core_book.specs.declared.verdict.Verdict.TheVariants as verdict
-use Rattle.lemmas.proofs.Common.{false_from_not}
 
 -- ---- bytes that are no line feed
 
@@ -24,8 +23,7 @@ is_clean l = list_all (λ b. not (is_line_feed b)) l
 
 one_line : (l : List ℕ) → is_clean l ≡ true → IsOneLine l
 one_line [] e = tt
-one_line (b ∷ l) e = let both = and_parts (not (is_line_feed b)) (is_clean l) e in
-    (false_from_not (is_line_feed b) both.0, one_line l both.1)
+one_line (b ∷ l) e = grind (arith, common_steps, and_parts, false_from_not, one_line l)
 
 clean_index : (l : List ℕ) (k : ℕ) → is_clean l ≡ true → not (is_line_feed (get_or l k 0)) ≡ true
 clean_index [] k e = refl
@@ -42,8 +40,7 @@ clean_glyph : (d : ℕ) → not (is_line_feed (digit_glyph false d)) ≡ true
 clean_glyph d = grind (arith, common_steps)
 
 clean_choice : (t : Bool) (a b : List ℕ) → is_clean a ≡ true → is_clean b ≡ true → is_clean (cond t a b) ≡ true
-clean_choice true a b e f = e
-clean_choice false a b e f = f
+clean_choice t a b h1 h2 = grind (arith, common_steps)
 
 clean_digits : (k n : ℕ) (acc : List ℕ) → is_clean acc ≡ true → is_clean (digits_onto k 10 false n acc) ≡ true
 clean_digits zero n acc e = e
@@ -174,12 +171,7 @@ grown (x ∷ front) rest = by_feed (is_line_feed x) (grown front rest)
         Grown (cond t ([] ∷ slice_split is_line_feed front) (onto_first x (slice_split is_line_feed front)))
         (cond t ([] ∷ slice_split is_line_feed (front ++ rest))
         (onto_first x (slice_split is_line_feed (front ++ rest))))
-    by_feed true g = record {
-      others = g.others;
-      are = ended-cons [] (slice_split is_line_feed (front ++ rest)) (some_part (front ++ rest))
-          ∙ ap (λ t. [] ∷ t) g.are
-          ∙ sym (ap (λ t. t ++ g.others) (ended-cons [] (slice_split is_line_feed front) (some_part front)));
-    }
+    by_feed true g = grind (arith, common_steps, ended-cons, some_part)
     by_feed false g = grow x (slice_split is_line_feed front) (slice_split is_line_feed (front ++ rest))
         (some_part front) g
 

@@ -1,15 +1,13 @@
 -- A text that is read is read the same behind the line `limits 2`.
-use Rattle.headline.proofs.Imports.{AnswersOrRefuses, Bundle, Err, IsReportOf, List, None, Ok, Option, Refusal}
-use Rattle.headline.proofs.Imports.{Result, SaysReport, Some, [], ap, bundle_of, bundle_with, certificate_grammar}
-use Rattle.headline.proofs.Imports.{circuit_grammar, layout_grammar, layout_of, length, lines_of, port_names_of, refl}
-use Rattle.headline.proofs.Imports.{setting_of, subst, sym, ℕ, ◌++◌, ◌+◌, ◌∙◌, ◌∷◌, ◌≡◌}
+use Rattle.headline.proofs.Imports.{Bundle, Err, List, None, Ok, Option, Refusal, Result, Some, [], ap, arith}
+use Rattle.headline.proofs.Imports.{bundle_of, bundle_with, certificate_grammar, circuit_grammar, common_steps}
+use Rattle.headline.proofs.Imports.{layout_grammar, layout_of, length, lines_of, port_names_of, refl, setting_of, subst}
+use Rattle.headline.proofs.Imports.{sym, ℕ, ◌++◌, ◌+◌, ◌∙◌, ◌∷◌, ◌≡◌}
 use Rattle.lemmas.proofs.Common.{ap₂, drop}
-use Rattle.circuit.specs.Rules.{added_line_code_within, order_fault}
 use Rattle.circuit.specs.declared.circuit_line.CircuitLine.{CircuitLine}
 use Rattle.certificate_lines.specs.declared.certificate_line.CertificateLine.{CertificateLine}
 use Rattle.pattern.specs.declared.layout_line.LayoutHeader.{LayoutHeader}
 use Rattle.pattern.specs.declared.layout_line.LayoutLine.{LayoutLine}
-use Rattle.section_text.specs.Codes.{or_else}
 use Rattle.section_text.specs.Limits.{front_lines}
 use Rattle.section_text.specs.Section.{Grammar, refused_if_code, result_after_header, result_after_line}
 use Rattle.section_text.specs.Section.{section_body_of}
@@ -20,14 +18,11 @@ use Rattle.section_text.specs.declared.code.RefusalCode.{RefusalCode}
 use Rattle.section_text.specs.declared.limits.Limits.{Limits}
 use Rattle.section_text.specs.declared.limits.Limits.TheVariants.{First, Second}
 use Rattle.section_text.specs.declared.section.Form.{Form}
-use Rattle.section_text.specs.declared.section.Form.TheVariants.{End, Header, Item}
 use Rattle.meaning.specs.Design.{front_text, text_limits}
 use Rattle.meaning.proofs.Fronts.{has_front}
-use Rattle.circuit.proofs.LimitLaws.{second_limits_are_wider as wider_circuit_line}
 use Rattle.pattern.proofs.LimitLaws.{second_limits_are_wider as wider_layout}
 use Rattle.certificate.proofs.LimitLaws.{second_limits_are_wider as wider_certificate_line}
 use Rattle.headline.specs.Fronts.{FrontLineKeepsReports}
-use Rattle.section_text.proofs.Codes.{no_code_first, no_code_second}
 
 -- ---- grammars of one form, of which the second accepts more
 
@@ -40,8 +35,7 @@ pub record IsWider {H I : Type 0} (g g' : Grammar H I) : Type 0 where
 module _ {H I : Type 0} (g g' : Grammar H I) (wider : IsWider g g') where
   unless_ok : (n : ℕ) (o : Option RefusalCode) (r : Result (H × List I) Refusal) (y : H × List I) →
       refused_if_code n o r ≡ Ok y → (o ≡ None) × (r ≡ Ok y)
-  unless_ok n None r y e = (refl, e)
-  unless_ok n (Some code) r y e = absurd cc
+  unless_ok n o r y h1 = grind (arith, common_steps)
 
   passes : (n : ℕ) (o : Option RefusalCode) (r : Result (H × List I) Refusal) (y : H × List I) → o ≡ None →
       r ≡ Ok y → refused_if_code n o r ≡ Ok y
@@ -52,15 +46,7 @@ module _ {H I : Type 0} (g g' : Grammar H I) (wider : IsWider g g') where
       ((i : I) → section_body_of g h (items ++ i ∷ []) (n + 1) ls ≡ Ok y →
       section_body_of g' h (items ++ i ∷ []) (m + 1) ls ≡ Ok y) →
       result_after_line g' h items m (λ i. section_body_of g' h (items ++ i ∷ []) (m + 1) ls) o ≡ Ok y
-  line_wider ls h items n m y None e rec = absurd cc
-  line_wider ls h items n m y (Some (Header other)) e rec = absurd cc
-  line_wider ls h items n m y (Some (Item i)) e rec =
-      let good = unless_ok n (g.item_fault h items i) (section_body_of g h (items ++ i ∷ []) (n + 1) ls) y e in
-      passes m (g'.item_fault h items i) (section_body_of g' h (items ++ i ∷ []) (m + 1) ls) y
-      (wider.item h items i good.0) (rec i good.1)
-  line_wider ls h items n m y (Some End) e rec =
-      let good = unless_ok n (g.end_fault h items) (Ok (h, items)) y e in
-      passes m (g'.end_fault h items) (Ok (h, items)) y (wider.end h items good.0) good.1
+  line_wider ls h items n m y o h1 h2 = grind (arith, common_steps, unless_ok, passes)
 
   body_wider : (ls : List (List ℕ)) (h : H) (items : List I) (n m : ℕ) (y : H × List I) →
       section_body_of g h items n ls ≡ Ok y → section_body_of g' h items m ls ≡ Ok y
@@ -75,22 +61,13 @@ module _ {H I : Type 0} (g g' : Grammar H I) (wider : IsWider g g') where
   header_wider : (ls : List (List ℕ)) (n m : ℕ) (y : H × List I) (o : Option (Form H I)) →
       result_after_header g n (λ h. section_body_of g h [] (n + 1) ls) o ≡ Ok y →
       result_after_header g' m (λ h. section_body_of g' h [] (m + 1) ls) o ≡ Ok y
-  header_wider ls n m y None e = absurd cc
-  header_wider ls n m y (Some (Item i)) e = absurd cc
-  header_wider ls n m y (Some End) e = absurd cc
-  header_wider ls n m y (Some (Header h)) e =
-      let good = unless_ok n (g.header_fault h) (section_body_of g h [] (n + 1) ls) y e in
-      passes m (g'.header_fault h) (section_body_of g' h [] (m + 1) ls) y (wider.header h good.0)
-      (body_wider ls h [] (n + 1) (m + 1) y good.1)
+  header_wider ls n m y o h1 = grind (arith, common_steps, unless_ok, passes, body_wider)
 
   -- what is read of some lines is read of them by the second one, after any number of lines
   pub section_wider : (ls : List (List ℕ)) (n m : ℕ) (y : H × List I) → section_of g n ls ≡ Ok y →
       section_of g' m ls ≡ Ok y
   unfolding section_of
-  section_wider [] n m y e = absurd cc
-  section_wider (l ∷ ls) n m y e =
-      ap (result_after_header g' m (λ h. section_body_of g' h [] (m + 1) ls)) (wider.form (words_of l))
-      ∙ header_wider ls n m y (g.form (words_of l)) e
+  section_wider ls n m y h1 = grind (arith, common_steps, header_wider)
 
   -- a section that is read, and what comes after it
   then_ok : {B : Type 0} (r : Result (H × List I) Refusal) (next : H → List I → Result B Refusal) (b : B) →
@@ -113,21 +90,8 @@ module _ {H I : Type 0} (g g' : Grammar H I) (wider : IsWider g g') where
 
 -- ---- the three sections
 
--- the order of a line is no matter of limits
-wider_circuit_item : (before : List CircuitLine) (i : CircuitLine) →
-    (circuit_grammar First).item_fault tt before i ≡ None → (circuit_grammar Second).item_fault tt before i ≡ None
-wider_circuit_item before i e =
-    let order = no_code_first (order_fault before i) (added_line_code_within First before i) e in
-    let good = no_code_second (order_fault before i) (added_line_code_within First before i) e in
-    ap (λ c. or_else c (added_line_code_within Second before i)) order ∙ wider_circuit_line before i good
-
 wider_circuit : IsWider (circuit_grammar First) (circuit_grammar Second)
-wider_circuit = record {
-  form = λ ws. refl;
-  header = λ h e. e;
-  item = λ h before i e. wider_circuit_item before i e;
-  end = λ h items e. e;
-}
+wider_circuit = grind (arith, common_steps)
 
 wider_layout_section : (ports : _) → IsWider (layout_grammar First ports) (layout_grammar Second ports)
 wider_layout_section ports = record {
@@ -138,19 +102,7 @@ wider_layout_section ports = record {
 }
 
 wider_certificate : (s : _) → IsWider (certificate_grammar First s) (certificate_grammar Second s)
-wider_certificate s = record {
-  form = λ ws. refl;
-  header = λ h e. e;
-  item = λ h before i e. wider_certificate_line s h before i e;
-  end = λ h items e. e;
-}
-
--- the end of a text, whose number of lines is another one
-end_later : {B : Type 0} (n m : ℕ) (ls : List (List ℕ)) (rest : List ℕ) (value b : B) →
-    value_if_at_end n ls rest value ≡ Ok b → value_if_at_end m ls rest value ≡ Ok b
-end_later n m [] [] value b e = e
-end_later n m [] (c ∷ rest) value b e = absurd cc
-end_later n m (l ∷ ls) rest value b e = absurd cc
+wider_certificate s = grind (arith, common_steps, wider_certificate_line)
 
 -- ---- bundles
 
@@ -181,8 +133,7 @@ module _ (rest : List ℕ) (b : Bundle) (circuit : List CircuitLine) where
   wider_end size parts n m later e =
       then_wider _ _ (wider_certificate (setting_of circuit (layout_of size parts))) n m later
       (ended rest circuit size parts) (ended rest circuit size parts) b e
-      (λ version entries last. end_later (n + (length entries + 2)) (m + (length entries + 2)) last rest
-      (bundle_by circuit size parts version entries) b)
+      (λ version entries last. grind (arith, common_steps))
 
   wider_rest : (n m : ℕ) (ahead : List (List ℕ)) → after_circuit First rest tt circuit n ahead ≡ Ok b →
       after_circuit Second rest tt circuit m ahead ≡ Ok b
@@ -211,10 +162,4 @@ wider_bundle text b first e =
 -- ---- reports
 
 pub front_line_keeps_reports : FrontLineKeepsReports
-front_line_keeps_reports text output outcome first is not_refused = by_bundle (bundle_of text) refl is
-  where
-    by_bundle : (r : Result Bundle Refusal) → bundle_of text ≡ r → AnswersOrRefuses SaysReport r output outcome →
-        IsReportOf (front_text Second ++ text) output outcome
-    by_bundle (Ok b) e says = subst (λ r. AnswersOrRefuses SaysReport r output outcome)
-        (sym (wider_bundle text b first e)) says
-    by_bundle (Err refusal) e says = absurd (not_refused says.1)
+front_line_keeps_reports text output outcome first is not_refused = grind (arith, common_steps, wider_bundle)

@@ -1,10 +1,9 @@
 -- The modules without halo lines have the jobs of the modules whose halos are the edge lines beside them
-use Rattle.std.proofs.lemmas.Grind.{common_steps}
 use Rattle.headline.proofs.Imports.{AreJobsOf, AreModules, Circuit, CircuitLine, JobView, List, ModuleLines, Pattern}
-use Rattle.headline.proofs.Imports.{Setting, Some, [], ap, ap₂, arith, circuit_of, false, job_demand, job_start, known}
-use Rattle.headline.proofs.Imports.{lacks_edge_wire_beside, length, length-map, map, numbered_all_times, numbered_event}
-use Rattle.headline.proofs.Imports.{numbered_signals, refl, setting_of, slice_get, subst, suc, sym, with_halos, zero, ℕ}
-use Rattle.headline.proofs.Imports.{◌∙◌, ◌∷◌, ◌≡◌}
+use Rattle.headline.proofs.Imports.{Setting, Some, [], ap, ap₂, arith, circuit_of, common_steps, false, job_demand}
+use Rattle.headline.proofs.Imports.{job_start, known, lacks_edge_wire_beside, length, length-map, map}
+use Rattle.headline.proofs.Imports.{numbered_all_times, numbered_event, numbered_signals, refl, setting_of, slice_get}
+use Rattle.headline.proofs.Imports.{subst, suc, sym, with_halos, zero, ℕ, ◌∙◌, ◌∷◌, ◌≡◌}
 use Rattle.lemmas.proofs.Common.{mapped_at, mapped_from}
 use Rattle.certificate_lines.specs.Entries.{halos}
 use Rattle.certificate.specs.Jobs.{IsJobOf, line_signals, stops_of_lines}

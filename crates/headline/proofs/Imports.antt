@@ -1,7 +1,6 @@
 -- The names from outside this folder that two or more proofs of this crate use, in one file to import them from.
 pub use Rattle.answers.specs.Answers.{AnswersOrRefuses, pair_with_result}
-pub use Rattle.section_text.proofs.Codes.{no_code}
-pub use Rattle.section_text.proofs.Codes.{no_code_first}
+pub use Rattle.section_text.proofs.Codes.{no_code, no_code_first}
 pub use Rattle.answers.specs.BundleText.{Bundle}
 unfoldable pub use Rattle.answers.specs.BundleText.{bundle_of, bundle_with}
 pub use Rattle.answers.specs.CheckText.{IsReportOf, IsVerdictOn, SaysReport, verdict_outcome}
@@ -20,7 +19,7 @@ pub use Rattle.border_match.proofs.Imports.{ints, modules_in, ◌+ℤ◌}
 pub use Rattle.certificate.proofs.FullModules.{meant_modules, meant_old}
 pub use Rattle.certificate.proofs.Imports.{AreFaultless, CertView, IsFaultless, certificate_grammar, codes, cut_name_in}
 pub use Rattle.certificate.proofs.Imports.{drop, edge_in, filter, flat_map-append, is_haloless_version, is_module}
-pub use Rattle.certificate.proofs.Imports.{kept_gate_in, map-append, stop_in}
+pub use Rattle.certificate.proofs.Imports.{map-append, stop_in}
 unfoldable pub use Rattle.certificate.proofs.Imports.{add_line, certificate_text, lacks_edge_wire_beside, modules_of}
 unfoldable pub use Rattle.certificate.proofs.Imports.{with_halos, without_halos}
 pub use Rattle.certificate.proofs.MeantLines.{stops_meant}
@@ -31,8 +30,8 @@ pub use Rattle.certificate_lines.proofs.Imports.{bytes_eq-Decides, cell, or_else
 unfoldable pub use Rattle.certificate_lines.proofs.Imports.{is_word_at}
 pub use Rattle.certificate_lines.specs.Rules.{is_inverse_gate}
 pub use Rattle.certificate_lines.specs.declared.certificate_line.CertificateLine.{CertificateLine}
-pub use Rattle.certificate_lines.specs.declared.certificate_line.CertificateLine.TheVariants.{Cut, Keep}
-pub use Rattle.certificate_lines.specs.declared.certificate_line.CertificateLine.TheVariants.{Module, Stop, Use}
+pub use Rattle.certificate_lines.specs.declared.certificate_line.CertificateLine.TheVariants.{Cut, Keep, Module, Stop}
+pub use Rattle.certificate_lines.specs.declared.certificate_line.CertificateLine.TheVariants.{Use}
 pub use Rattle.certificate_lines.specs.declared.certificate_line.StopLine.{StopLine}
 pub use Rattle.circuit.proofs.Bridging.{gates_are_ordered, names_pass, push_cons}
 pub use Rattle.circuit.proofs.Imports.{AreGoodCircuitLines, FitsKind, cond_some, consumed, entry}
@@ -45,8 +44,7 @@ pub use Rattle.circuit.specs.Rules.{order_fault}
 unfoldable pub use Rattle.circuit.specs.Text.{circuit_text}
 pub use Rattle.circuit.specs.declared.circuit_line.CircuitLine.{CircuitLine}
 pub use Rattle.circuit.specs.declared.circuit_line.GateKind.{GateKind}
-pub use Rattle.circuit.specs.declared.circuit_line.GateKind.TheVariants.{Delay, Interact, Source}
-pub use Rattle.circuit.specs.declared.circuit_line.GateKind.TheVariants.{Switch, Unswitch}
+pub use Rattle.circuit.specs.declared.circuit_line.GateKind.TheVariants.{Delay, Interact, Source, Switch, Unswitch}
 pub use Rattle.circuit.specs.declared.circuit_line.Kind.TheVariants.{Gate, Input, Output, Spill}
 pub use Rattle.core_book.specs.Concluding.{port_names_of}
 pub use Rattle.core_book.specs.declared.verdict.ReportLine.{ReportLine}
@@ -104,8 +102,7 @@ pub use Rattle.section_text.specs.Sections.{value_if_at_end}
 pub use Rattle.section_text.specs.Spelling.{space_and_word}
 unfoldable pub use Rattle.section_text.specs.Words.{number_after_keyword}
 pub use Rattle.section_text.specs.declared.code.RefusalCode.{RefusalCode}
-pub use Rattle.section_text.specs.declared.code.RefusalCode.TheVariants.{OutOfOrder, SomethingMissing}
-pub use Rattle.section_text.specs.declared.code.RefusalCode.TheVariants.{TakenCell}
+pub use Rattle.section_text.specs.declared.code.RefusalCode.TheVariants.{OutOfOrder, SomethingMissing, TakenCell}
 pub use Rattle.section_text.specs.declared.fault.Refusal.{Refusal}
 pub use Rattle.section_text.specs.declared.section.Form.{Form}
 pub use Rattle.section_text.specs.declared.section.Form.TheVariants.{End, Header, Item}

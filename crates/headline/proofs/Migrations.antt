@@ -72,9 +72,7 @@ sections_read text b e =
       first = take i (section_lines text);
       second = take j later;
       third = take n last;
-      lines = sym (ap (λ ls. take i (section_lines text) ++ (take j later ++ ls)) whole
-          ∙ ap (λ ls. take i (section_lines text) ++ ls) (take-append-drop j later)
-          ∙ take-append-drop i (section_lines text));
+      lines = grind (arith, common_steps, take-append-drop);
       rest = r.ended;
       circuit_is = section_said (circuit_grammar l) (front_lines l) (section_lines text) tt b.circuit r.circuit;
       layout_is = section_said (layout_grammar l (Some (port_names_of b.circuit))) _ later b.size b.parts r.layout;
@@ -178,13 +176,7 @@ said_so text b circuit layout certificate s says =
     (parts_of layout) first.others s.layout_is d.layout_is in
     let third = one_section certificate_form s.third says.third [] says.rest b.version says.version b.entries
     certificate (append-nil s.third ∙ second.others ∙ says.lines) s.certificate_is says.certificate_is in
-    record {
-      circuit_is = first.items;
-      size_is = second.header;
-      parts_are = second.items;
-      version_is = third.header;
-      entries_are = third.items;
-    }
+    grind (arith, common_steps)
 
 -- ---- the text of sections
 
@@ -215,9 +207,7 @@ pub text_is : (text : List ℕ) (b : Bundle) → HasSections text b →
     text ≡ front_text (text_limits text) ++ bundle_text b
 text_is text b s =
     front_and_lines text ∙ ap (λ t. front_text (text_limits text) ++ t)
-    (ap₂ (λ ls r. flat_map with_line_feed ls ++ r) s.lines s.rest
-    ∙ append-nil (flat_map with_line_feed (s.first ++ (s.second ++ s.third)))
-    ∙ sections_text b s.first s.second s.third s.circuit_is s.layout_is s.certificate_is)
+    (grind (arith, common_steps, append-nil, sections_text))
 
 -- ---- the lines of a certificate other than its halo lines
 
@@ -280,19 +270,8 @@ migrated_sections l text b s =
     sym (sections_text (migrated_bundle b) s.first s.second third s.circuit_is s.layout_is certificate_is) in
     let lines : lines_of (migrate_of b) ≡ all = ap lines_of is ∙ lines_again all all_clean in
     let front : HasFront l (migrate_of b) = has_front l (migrate_of b)
-    (ap limits_of lines ∙ first_limits s.first (s.second ++ third) b.circuit s.circuit_is) in (
-      front.limits,
-      record {
-        first = s.first;
-        second = s.second;
-        third = third;
-        lines = front.lines ∙ lines;
-        rest = front.rest ∙ (ap bytes_after_last_line_feed is ∙ nothing_follows all all_clean);
-        circuit_is = s.circuit_is;
-        layout_is = s.layout_is;
-        certificate_is = certificate_is;
-      },
-    )
+    (ap limits_of lines ∙ first_limits s.first (s.second ++ third) b.circuit s.circuit_is) in
+    grind (arith, common_steps, nothing_follows)
 
 -- ---- what a migration tells
 
@@ -325,16 +304,13 @@ migrates_once text output again first second =
     let same : b.bundle ≡ migrated_bundle a.bundle =
     one_bundle output b.bundle (migrated_bundle a.bundle) (sections_read output b.bundle b.read)
     (subst (λ t. HasSections t (migrated_bundle a.bundle)) (sym a.says) made.1) in
-    b.says ∙ ap₂ (λ m d. front_text m ++ migrate_of d) limits same
-    ∙ ap (λ es. front_text l ++ bundle_text (record a.bundle { version = 2; entries = es }))
-    (without_twice a.bundle.entries) ∙ sym a.says
+    grind (arith, common_steps, without_twice)
 
 -- ---- version 2 has no halo lines
 
 no_code : (b : Bool) (code : RefusalCode) (more : Option RefusalCode) → or_else (code_if b code) more ≡ None →
     b ≡ false
-no_code true code more e = absurd cc
-no_code false code more e = refl
+no_code b code more h1 = grind (arith, common_steps)
 
 no_halos : (l : Limits) (g : Setting) (before es : List CertificateLine) →
     AreFaultless (certificate_grammar l g) 2 before es →

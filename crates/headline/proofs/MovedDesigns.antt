@@ -1,7 +1,7 @@
 -- A small design that computes its circuit gets a yes after it is moved
 use Rattle.headline.proofs.Imports.{CircuitLine, HasRoom, IsCorrect, IsDesign, IsReportOf, IsSmallDesign, IsTrue, List}
 use Rattle.headline.proofs.Imports.{Outcome, Pattern, TouchesRim, Yes, arith, circuit_of, common_steps, design_text}
-use Rattle.headline.proofs.Imports.{enlarged, in_ring, moved, run_under, subst, sym, whole, ℕ, ◌∙◌, ◌≡◌}
+use Rattle.headline.proofs.Imports.{enlarged, in_ring, moved, run_under, subst, whole, ℕ, ◌≡◌}
 use Rattle.headline.specs.MovedDesigns.{EachCorrectDesignGetsYes}
 use Rattle.headline.proofs.MovedLines.{enlarged_good, moved_good}
 use Rattle.headline.proofs.MovedPlanes.{by_moved}
@@ -31,12 +31,7 @@ off_rim circuit p correct t =
     by_moved
     (λ x y. IsTrue (in_ring (whole (enlarged p.size)) x y) →
     IsTrue (run_under (circuit_of circuit) (moved p) t.inputs t.time x y) → ⊥)
-    (λ x y rim live.
-    let early = t.touch.early in
-    let inside = correct.stays t.inputs t.time (omega (arith, early)) x y
-    (sym (under_moved (circuit_of circuit) p t.inputs t.time x y) ∙ live) in
-    let clash = sym (not_rim p.size x y inside) ∙ rim in
-    cc)
+    (grind (arith, common_steps, under_moved, not_rim))
     t.x t.y t.touch.rim t.touch.live
 
 pub each_gets_yes : EachCorrectDesignGetsYes

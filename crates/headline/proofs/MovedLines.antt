@@ -1,16 +1,14 @@
 -- The lines of a moved layout keep the rules of lines
-use Rattle.headline.proofs.Imports.{Ball, Bool, In, LayoutHeader, LayoutLine, List, Mirror, None, Out}
-use Rattle.headline.proofs.Imports.{Pattern, TakenCell, Waste, [], and_parts, ap₂, arith, cell_fault, cells_of}
-use Rattle.headline.proofs.Imports.{cells_taken_at_start, code_if, common_steps, enlarged, false, flat_map}
-use Rattle.headline.proofs.Imports.{in_layout, in_span, in_span-negsuc, ints, is_inside, is_layout_side, is_taken}
-use Rattle.headline.proofs.Imports.{limit_fault, map, map-append, moved, moved_by_two, nat_tests}
-use Rattle.headline.proofs.Imports.{negsuc, not, parts_of, port_moved_by_two, pos, range_with_len, rectangle_cells}
-use Rattle.headline.proofs.Imports.{rectangle_moved_by_two, refl, size_fault, span_from, span_parts, suc, sym}
-use Rattle.headline.proofs.Imports.{takes_at_start, true, zero, ℕ, ℤ, ◌++◌, ◌+ℤ◌, ◌+◌, ◌||◌, ◌∙◌, ◌∷◌, ◌≡◌, ◌≤◌}
+use Rattle.headline.proofs.Imports.{Ball, In, LayoutHeader, LayoutLine, List, Mirror, None, Out, Pattern, Waste, []}
+use Rattle.headline.proofs.Imports.{and_parts, ap₂, arith, cell_fault, cells_of, cells_taken_at_start, common_steps}
+use Rattle.headline.proofs.Imports.{enlarged, flat_map, in_layout, in_span, in_span-negsuc, ints, is_inside, is_taken}
+use Rattle.headline.proofs.Imports.{limit_fault, map, map-append, moved, moved_by_two, negsuc, parts_of}
+use Rattle.headline.proofs.Imports.{port_moved_by_two, pos, range_with_len, rectangle_cells, rectangle_moved_by_two}
+use Rattle.headline.proofs.Imports.{refl, size_fault, span_from, span_parts, suc, sym, takes_at_start, true, zero, ℕ, ℤ}
+use Rattle.headline.proofs.Imports.{◌++◌, ◌+ℤ◌, ◌+◌, ◌∙◌, ◌∷◌, ◌≡◌, ◌≤◌, no_code}
 use Rattle.bbm_rule.specs.CellLists.{row_cells}
 use Rattle.pattern.specs.Lines.{AreGoodAfter, cells_taken_at_end, takes_at_end, holds}
 use Rattle.headline.proofs.MovedPlanes.{any_map, cells_moved}
-use Rattle.headline.proofs.Imports.{no_code}
 
 -- ---- lines
 
@@ -30,13 +28,8 @@ map_both : {X Y Z W : Type 0} (f : X → Y) (g : Y → Z) (h : X → W) (k : W �
 map_both f g h k e [] = refl
 map_both f g h k e (x ∷ xs) = ap₂ (λ a b. a ∷ b) (e x) (map_both f g h k e xs)
 
--- the lines of five lists are moved list by list
-all_moved : (a b c d e : List LayoutLine) → moved_lines (a ++ (b ++ (c ++ (d ++ e))))
-    ≡ moved_lines a ++ (moved_lines b ++ (moved_lines c ++ (moved_lines d ++ moved_lines e)))
-all_moved a b c d e = grind (arith, common_steps, map-append)
-
 parts_moved : (p : Pattern) → parts_of (moved p) ≡ moved_lines (parts_of p)
-parts_moved p = grind (arith, common_steps, map_both, all_moved)
+parts_moved p = grind (arith, common_steps, map_both)
 
 -- ---- the cells of a line
 
@@ -61,13 +54,11 @@ holds_moved part x y = grind (arith, common_steps, line_cells_moved, cells_moved
 
 begins_moved : (part : LayoutLine) → takes_at_start (moved_line part) ≡ takes_at_start part
 unfolding takes_at_start
-begins_moved (Mirror r) = refl
-begins_moved _ = refl
+begins_moved part = grind (arith, common_steps)
 
 ends_moved : (part : LayoutLine) → takes_at_end (moved_line part) ≡ takes_at_end part
 unfolding takes_at_end
-ends_moved (Mirror r) = refl
-ends_moved _ = refl
+ends_moved part = grind (arith, common_steps)
 
 begun_moved : (parts : List LayoutLine) (x y : ℤ) →
     cells_taken_at_start (moved_lines parts) (x +ℤ pos 2) (y +ℤ pos 2) ≡ cells_taken_at_start parts x y
@@ -107,19 +98,12 @@ inside_moved s (Waste c) h = layout_enlarged s c.x c.y h
 
 limit_moved : (part : LayoutLine) → limit_fault (moved_line part) ≡ limit_fault part
 unfolding limit_fault
-limit_moved (Mirror r) = refl
-limit_moved _ = refl
-
-fault_none : (a a' b b' : Bool) → (a ≡ true → a' ≡ true) → b' ≡ b → code_if (not a || b) TakenCell ≡ None →
-    code_if (not a' || b') TakenCell ≡ None
-fault_none true a' false b' f e none = ap₂ (λ p q. code_if (not p || q) TakenCell) (f refl) e
-fault_none true a' true b' f e none = cc
-fault_none false a' b b' f e none = cc
+limit_moved part = grind (arith, common_steps)
 
 cell_moved : (s : LayoutHeader) (before : List LayoutLine) (part : LayoutLine) → cell_fault s before part ≡ None →
     cell_fault (enlarged s) (moved_lines before) (moved_line part) ≡ None
 unfolding cell_fault
-cell_moved s before part none = grind (arith, common_steps, fault_none, inside_moved, taken_moved)
+cell_moved s before part none = grind (arith, common_steps, inside_moved, taken_moved)
 
 lines_good : (s : LayoutHeader) (before parts : List LayoutLine) → AreGoodAfter s before parts →
     AreGoodAfter (enlarged s) (moved_lines before) (moved_lines parts)
@@ -132,10 +116,7 @@ pub moved_good : (p : Pattern) → AreGoodAfter p.size [] (parts_of p) →
     AreGoodAfter (moved p).size [] (parts_of (moved p))
 moved_good p good = grind (arith, common_steps, parts_moved, lines_good)
 
-side_more : (n : ℕ) → is_layout_side n ≡ true → n ≤ 60 → is_layout_side (n + 4) ≡ true
-side_more n side few = grind (arith, nat_tests, side)
-
 -- and its size is within the limits
 pub enlarged_good : (s : LayoutHeader) → size_fault s ≡ None → s.w ≤ 60 → s.h ≤ 60 → size_fault (enlarged s) ≡ None
 unfolding size_fault
-enlarged_good s none wide high = grind (arith, common_steps, no_code, and_parts, side_more)
+enlarged_good s none wide high = grind (arith, common_steps, no_code, and_parts)

@@ -44,9 +44,8 @@ module _ (p : Pattern) (value : List ℕ → Bool) (s s' : State)
         subst IsTrue (sym (along x y)) (looks.mirrors x y (subst IsTrue (rectangles_moved p.mirrors x y) h)));
     outputs = outputs_moved;
     elsewhere = by_moved (λ x y. IsFalse (in_rectangles (moved p).mirrors x y) → IsFalse (in_ports (moved p).outs x y) →
-        IsFalse (in_cells (moved p).wastes x y) → IsFalse (s' x y)) (λ x y a b c.
-        subst IsFalse (sym (along x y)) (looks.elsewhere x y (subst IsFalse (rectangles_moved p.mirrors x y) a)
-        (subst IsFalse (ports_moved p.outs x y) b) (subst IsFalse (cells_moved p.wastes x y) c)));
+        IsFalse (in_cells (moved p).wastes x y) → IsFalse (s' x y)) (
+        grind (arith, common_steps, rectangles_moved, ports_moved, cells_moved));
   }
 
 -- ---- all runs

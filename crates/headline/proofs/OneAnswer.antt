@@ -1,10 +1,8 @@
 -- A text has one answer.
-use Rattle.headline.proofs.Imports.{AnswersOrRefuses, Bool, Cells, Err, HasAtMostOneAnswerToEachText, IsDeadOutside}
-use Rattle.headline.proofs.Imports.{IsLiveOutside, IsRunEnd, IsRunOf, LayoutHeader, LayoutLine, LeftAt, List, Ok}
-use Rattle.headline.proofs.Imports.{Outcome, Pattern, Refusal, Result, RunEnd, RunQuestion, SaysRunEnd, State, ap}
-use Rattle.headline.proofs.Imports.{arith, common_steps, layout_of, layout_section, parts_of, run_end_outcome}
-use Rattle.headline.proofs.Imports.{run_end_text, sym, true≢false, ℕ, ◌∙◌, ◌≡◌}
-use Rattle.lemmas.proofs.Common.{cases_order}
+use Rattle.headline.proofs.Imports.{AnswersOrRefuses, Err, HasAtMostOneAnswerToEachText, IsDeadOutside, IsLiveOutside}
+use Rattle.headline.proofs.Imports.{IsRunOf, LayoutHeader, LayoutLine, List, Ok, Outcome, Pattern, Refusal, Result}
+use Rattle.headline.proofs.Imports.{RunQuestion, SaysRunEnd, State, ap, arith, common_steps, layout_of, layout_section}
+use Rattle.headline.proofs.Imports.{parts_of, sym, true≢false, ℕ, ◌∙◌, ◌≡◌}
 use Rattle.answers.proofs.Bundles.{layout_again}
 
 -- a layout is what its lines make, so they are those of one layout
@@ -17,22 +15,13 @@ one_layout p q e = sym (layout_from p q.size (parts_of q) e) ∙ layout_again q
 
 -- ---- a run ends in one way
 
-abbrev SameEnd : RunEnd → RunEnd → Type 0
-SameEnd e e' = (run_end_text e ≡ run_end_text e') × (run_end_outcome e ≡ run_end_outcome e')
-
 clash : (s : LayoutHeader) (state : State) → IsDeadOutside s state → IsLiveOutside s state → ⊥
 clash s state stays goes = true≢false (sym (stays goes.x goes.y goes.lives) ∙ goes.outside)
-
-one_end : (p : Pattern) (on : List ℕ → Bool) (e e' : RunEnd) → IsRunEnd p on e → IsRunEnd p on e' → SameEnd e e'
-one_end p on (Cells cells) (Cells cells') h h' = grind (arith, common_steps)
-one_end p on (Cells cells) (LeftAt k) h h' = absurd (clash p.size _ (h.stays k h'.within) h'.leaves)
-one_end p on (LeftAt k) (Cells cells) h h' = absurd (clash p.size _ (h'.stays k h.within) h.leaves)
-one_end p on (LeftAt k) (LeftAt j) h h' = grind (arith, common_steps, cases_order, clash)
 
 one_run : (asked : RunQuestion) (output output' : List ℕ) (outcome outcome' : Outcome) →
     SaysRunEnd asked output outcome →
     SaysRunEnd asked output' outcome' → (output ≡ output') × (outcome ≡ outcome')
-one_run asked output output' outcome outcome' h h' = grind (arith, common_steps, one_layout, one_end)
+one_run asked output output' outcome outcome' h h' = grind (arith, common_steps, one_layout)
 
 -- a command that has one answer to what is asked has one to each text
 pub answered_once : {A : Type 0} (says : A → List ℕ → Outcome → Type 0) →

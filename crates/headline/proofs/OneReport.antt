@@ -1,9 +1,9 @@
 -- A text has one report.
 use Rattle.headline.proofs.Imports.{AreJobsOf, AreModules, Bundle, CertView, HasAtMostOneAnswerToEachText, IsReportOf}
 use Rattle.headline.proofs.Imports.{IsVerdict, IsVerdictOn, JobView, List, ModuleLines, None, Option, Outcome}
-use Rattle.headline.proofs.Imports.{SaysReport, Some, Verdict, ap, arith, circuit_of, common_steps, length, modules_in}
-use Rattle.headline.proofs.Imports.{refl, report_text, setting_of, slice_get, slice_get_within, subst, sym}
-use Rattle.headline.proofs.Imports.{verdict_outcome, ℕ, ◌<◌, ◌∙◌, ◌≡◌}
+use Rattle.headline.proofs.Imports.{SaysReport, Some, Verdict, arith, circuit_of, common_steps, length, modules_in}
+use Rattle.headline.proofs.Imports.{refl, report_text, setting_of, slice_get, slice_get_within, subst, sym, ℕ, ◌<◌, ◌∙◌}
+use Rattle.headline.proofs.Imports.{◌≡◌}
 use Rattle.soundness.proofs.ModuleJobs.{one_job}
 use Rattle.core_book.specs.CoreLaws.{AreSameVerdicts}
 use Rattle.core_book.proofs.OneVerdict.{none-past, same-elements, verdict-is-one}
@@ -53,12 +53,6 @@ same_lines c verdict.Yes (verdict.No lines) same = absurd same
 same_lines c (verdict.No lines) verdict.Yes same = absurd same
 same_lines c (verdict.No lines) (verdict.No others) same = grind (arith, common_steps, c.entries)
 
-same_outcome : (v w : Verdict) → AreSameVerdicts v w → verdict_outcome v ≡ verdict_outcome w
-same_outcome verdict.Yes verdict.Yes same = refl
-same_outcome verdict.Yes (verdict.No lines) same = absurd same
-same_outcome (verdict.No lines) verdict.Yes same = absurd same
-same_outcome (verdict.No lines) (verdict.No others) same = refl
-
 same_certificate : (bundle : Bundle) (c d : CertView) → IsCertificateOf bundle c → IsCertificateOf bundle d → c ≡ d
 same_certificate bundle c d a b = grind (arith, common_steps, (one_layout c.layout d.layout (a.layout ∙ sym b.layout)))
 
@@ -69,11 +63,8 @@ one_said bundle output output' outcome outcome' h h' =
     same_certificate bundle h.certificate h'.certificate h.its_own h'.its_own in
     let said : AreSameVerdicts h.verdict h'.verdict =
     one_verdict h.certificate h.verdict h'.verdict h.is_verdict
-    (subst (λ c. IsVerdictOn c h'.verdict) (sym same) h'.is_verdict) in (
-      h.says ∙ same_lines h.certificate h.verdict h'.verdict said ∙ ap (λ c. report_text c h'.verdict) same
-          ∙ sym h'.says,
-      h.ends ∙ same_outcome h.verdict h'.verdict said ∙ sym h'.ends,
-    )
+    (subst (λ c. IsVerdictOn c h'.verdict) (sym same) h'.is_verdict) in
+    grind (arith, common_steps, same_lines)
 
 pub one_report : HasAtMostOneAnswerToEachText IsReportOf
 one_report text output output' outcome outcome' h h' = grind (arith, common_steps, answered_once, one_said)

@@ -1,9 +1,8 @@
 -- A circuit has one answer.
-use Rattle.std.proofs.lemmas.Grind.{common_steps}
 use Rattle.headline.proofs.Imports.{AreOrdered, Bool, HasAtMostOneAnswerToEachText, IsValueOf, List, Outcome}
-use Rattle.headline.proofs.Imports.{SaysValues, Valuation, ValueQuestion, [], ap₂, arith, as_values, false, inl, inr}
-use Rattle.headline.proofs.Imports.{length, netlist_of, refl, subst, suc, sym, value_sections_of, zero, ℕ, ◌<◌, ◌∙◌}
-use Rattle.headline.proofs.Imports.{◌∷◌, ◌≡◌, ◌⊎◌}
+use Rattle.headline.proofs.Imports.{SaysValues, Valuation, ValueQuestion, [], ap₂, arith, as_values, common_steps}
+use Rattle.headline.proofs.Imports.{false, inl, inr, length, netlist_of, refl, subst, suc, sym, value_sections_of, zero}
+use Rattle.headline.proofs.Imports.{ℕ, ◌<◌, ◌∙◌, ◌∷◌, ◌≡◌, ◌⊎◌}
 use Rattle.lemmas.proofs.Common.{slice_index_or}
 use Rattle.circuit.specs.Bridge.{AreValues, ValuesStopAt}
 use Rattle.circuit.specs.Meaning.{Netlist, first_gates}

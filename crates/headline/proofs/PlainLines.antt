@@ -1,14 +1,13 @@
 -- The lines of the plain certificate of a design make a plain module
-use Rattle.std.proofs.lemmas.Grind.{common_steps}
 use Rattle.headline.proofs.Imports.{All, All-cons, All-nil, AreGoodCircuitLines, Bool, Box2, CertificateLine}
-use Rattle.headline.proofs.Imports.{CircuitLine, Cut, IsGoodDesign, IsInputName, IsPlaced, IsPlain, Keep, List, Module}
+use Rattle.headline.proofs.Imports.{CircuitLine, Cut, IsGoodDesign, IsInputName, IsPlaced, IsPlain, Keep, List}
 use Rattle.headline.proofs.Imports.{ModuleLines, Pattern, SaysPlain, Some, Use, [], add_line, and_parts, any_at, ap}
-use Rattle.headline.proofs.Imports.{append-nil, append_assoc, ap₂, arith, bytes_same, cases_Bool, cuts, defined, edges}
-use Rattle.headline.proofs.Imports.{eq-eqb, eqb, eqb-true, false, filter, flat_map, flat_map-append, gate_numbers, has}
-use Rattle.headline.proofs.Imports.{inl, input_names, inputs_are_first, inr, is_among, is_inverse_gate, is_module}
-use Rattle.headline.proofs.Imports.{length, list_all, map, modules_of, netlist_of, not, placed, plain_lines}
-use Rattle.headline.proofs.Imports.{range_with_len, refl, slice_get, slice_get_within, subst, suc, sym, true, whole}
-use Rattle.headline.proofs.Imports.{zero, ℕ, ◌&&◌, ◌++◌, ◌+◌, ◌<◌, ◌∙◌, ◌∷◌, ◌≡◌, ◌≤◌}
+use Rattle.headline.proofs.Imports.{append-nil, append_assoc, ap₂, arith, bytes_same, cases_Bool, common_steps, cuts}
+use Rattle.headline.proofs.Imports.{defined, edges, eq-eqb, eqb, eqb-true, false, filter, flat_map, gate_numbers, has}
+use Rattle.headline.proofs.Imports.{input_names, inputs_are_first, is_among, is_inverse_gate, is_module, list_all, map}
+use Rattle.headline.proofs.Imports.{modules_of, netlist_of, not, placed, plain_lines, range_with_len, refl, slice_get}
+use Rattle.headline.proofs.Imports.{slice_get_within, subst, suc, sym, true, whole, zero, ℕ, ◌&&◌, ◌++◌, ◌+◌, ◌<◌, ◌∙◌}
+use Rattle.headline.proofs.Imports.{◌∷◌, ◌≡◌, ◌≤◌}
 use Rattle.lemmas.proofs.Common.{fold, false_from_not}
 use Rattle.certificate_lines.specs.Entries.{change_last, keeps}
 use Rattle.headline.specs.PlainLaws.{PlainLinesTextIsDecided}
@@ -21,8 +20,7 @@ use Rattle.soundness.proofs.KeptGates.{listed_later}
 one_more : (b : Box2) (ms : List CertificateLine) (i : CertificateLine) → is_module i ≡ false →
     add_line (record { area = b; lines = ms } ∷ []) i ≡ record { area = b; lines = ms ++ i ∷ [] } ∷ []
 unfolding add_line change_last
-one_more b ms (Module x) h = absurd cc
-one_more b ms _ h = refl
+one_more b ms i h1 = grind (arith, common_steps)
 
 pub all_inner : (b : Box2) (ms ls : List CertificateLine) → list_all (λ i. not (is_module i)) ls ≡ true →
     fold add_line (record { area = b; lines = ms } ∷ []) ls ≡ record { area = b; lines = ms ++ ls } ∷ []
@@ -51,25 +49,11 @@ module _ {X : Type 0} (mk : X → CertificateLine) where
   own_of f h [] = refl
   own_of f h (x ∷ xs) = ap₂ (λ a b. a ++ b) (h x) (own_of f h xs)
 
-pub both_true : (xs ys : List CertificateLine) → list_all (λ i. not (is_module i)) xs ≡ true →
-    list_all (λ i. not (is_module i)) ys ≡ true → list_all (λ i. not (is_module i)) (xs ++ ys) ≡ true
-both_true [] ys h k = k
-both_true (x ∷ xs) ys h k =
-    grind (arith, (both_true xs ys (and_parts (not (is_module x)) (list_all (λ i. not (is_module i)) xs) h).1 k))
-
-three_parts : {Y : Type 0} (f : CertificateLine → List Y) (xs ys zs : List CertificateLine) →
-    flat_map f (xs ++ ys ++ zs) ≡ flat_map f xs ++ flat_map f ys ++ flat_map f zs
-three_parts f xs ys zs = grind (arith, common_steps, flat_map-append)
-
 -- ---- numbers among those that pass a test
 
 pub among_range : (n a k : ℕ) → a ≤ k → k < a + n → is_among (range_with_len a n) k ≡ true
 among_range zero a k low high = absurd (omega (arith, low, high))
-among_range (suc n) a k low high = elim (cases_Bool (eqb a k)) [
-  | inl here ↦ rw here refl
-  | inr other ↦ listed_later a k (range_with_len (a + 1) n)
-      (among_range n (a + 1) k (above other) (omega (arith, high)))
-]
+among_range (suc n) a k low high = grind (arith, common_steps, cases_Bool, listed_later, above, among_range n (a + 1) k)
   where
     above : eqb a k ≡ false → a + 1 ≤ k
     above other = grind (arith, low, other, eq-eqb a k)
@@ -77,17 +61,10 @@ among_range (suc n) a k low high = elim (cases_Bool (eqb a k)) [
 among_filter : (test : ℕ → Bool) (xs : List ℕ) (k : ℕ) → is_among xs k ≡ true → test k ≡ true →
     is_among (filter test xs) k ≡ true
 among_filter test [] k h t = h
-among_filter test (x ∷ xs) k h t = elim (cases_Bool (eqb x k)) [
-  | inl here ↦
-      let same : x ≡ k = eqb-true x k here in
-      let passes : test x ≡ true = ap test same ∙ t in
-      rw passes (rw here refl)
-  | inr other ↦ by_test (test x) refl (among_filter test xs k (rw other at h) t)
-]
+among_filter test (x ∷ xs) k h t = grind (arith, common_steps, cases_Bool, eqb-true, by_test, among_filter test xs k)
   where
     by_test : (b : Bool) → test x ≡ b → is_among (filter test xs) k ≡ true → is_among (filter test (x ∷ xs)) k ≡ true
-    by_test true e h = rw e (listed_later x k (filter test xs) h)
-    by_test false e h = rw e h
+    by_test b h1 h2 = grind (arith, common_steps, listed_later)
 
 -- ---- the plain module
 
@@ -109,16 +86,16 @@ module _ (circuit : List CircuitLine) (p : Pattern) (good : AreGoodCircuitLines 
 
   pub is_one : modules_of (plain_lines circuit p) ≡ one ∷ []
   unfolding modules_of add_line
-  is_one = grind (arith, common_steps, all_inner, whole, both_true, all_mapped)
+  is_one = grind (arith, common_steps, all_inner, whole, all_mapped)
 
   its_cuts : cuts one ≡ input_names circuit
-  its_cuts = grind (arith, common_steps, three_parts, own_of, none_of)
+  its_cuts = grind (arith, common_steps, own_of, none_of)
 
   its_keeps : keeps one ≡ kept
-  its_keeps = grind (arith, common_steps, three_parts, none_of, own_of)
+  its_keeps = grind (arith, common_steps, none_of, own_of)
 
   its_edges : edges one ≡ []
-  its_edges = grind (arith, common_steps, three_parts, none_of)
+  its_edges = grind (arith, common_steps, none_of)
 
   input_name : (k : ℕ) (n : List ℕ) → slice_get (input_names circuit) k ≡ Some n → IsInputName circuit n
   input_name k n at =
@@ -137,12 +114,7 @@ module _ (circuit : List CircuitLine) (p : Pattern) (good : AreGoodCircuitLines 
     box = refl;
     inputs = subst (All (IsInputName circuit)) (sym its_cuts)
         (all_inputs (IsInputName circuit) (input_names circuit) input_name);
-    inverses = λ number gate at inverse.
-        ap (λ ks. is_among ks number) its_keeps
-        ∙ among_filter (λ k. is_inverse_gate (slice_get (netlist_of circuit).gates k)) (gate_numbers circuit) number
-        (among_range (length (netlist_of circuit).gates) 0 number (omega arith)
-        (let within = slice_get_within (netlist_of circuit).gates number gate at in omega (arith, within)))
-        (ap is_inverse_gate at ∙ inverse);
+    inverses = grind (arith, common_steps, its_keeps, among_filter, slice_get, among_range, slice_get_within);
     no_edge = its_edges;
   }
 

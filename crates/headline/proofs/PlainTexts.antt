@@ -1,17 +1,16 @@
 -- The report on a plain text
 use Rattle.headline.proofs.Imports.{Accepts, All, AnswersOrRefuses, AreOnTime, BelongTogether, Bundle, CertView}
 use Rattle.headline.proofs.Imports.{CertificateLine, Circuit, CircuitLine, Err, Fault, HasRightStops, HasRimTouch}
-use Rattle.headline.proofs.Imports.{IsCorrect, IsInputName, IsPlain, IsRead, IsRight, IsVerdict, Kind, LineMeans, List}
-use Rattle.headline.proofs.Imports.{Local, Meet, ModuleLines, No, Ok, Outcome, Pattern, Refusal, Refused, ReportLine}
-use Rattle.headline.proofs.Imports.{Result, Satisfies, SaysBundle, SaysDesign, SaysNoWith, SaysPlain, SaysReport}
-use Rattle.headline.proofs.Imports.{Setting, Some, StopHolds, TouchesRim, Valuation, Verdict, Yes, [], all_in_modules}
-use Rattle.headline.proofs.Imports.{all_stops, ap, arith, bundle_of, cases_Bool, certificate_text, circuit_of}
-use Rattle.headline.proofs.Imports.{common_steps, cut_name_in, cuts, edge_in, edges, flat_map, inl, inr, is_among}
-use Rattle.headline.proofs.Imports.{is_haloless_version, kept_gate_in, length, map, meant_old, modules_in, modules_of}
-use Rattle.headline.proofs.Imports.{netlist_of, option_map, read_layout-names, refl, report_text, setting_of, sha256}
-use Rattle.headline.proofs.Imports.{slice_get, slice_get-map, stop_in, stops_meant, subst, sym, verdict_outcome}
-use Rattle.headline.proofs.Imports.{with_halos, ℕ, ℤ, ◌∙◌, ◌∷◌, ◌≡◌}
-use Rattle.lemmas.proofs.Common.{Contains, Global, Vec}
+use Rattle.headline.proofs.Imports.{IsCorrect, IsInputName, IsPlain, IsRead, IsRight, IsVerdict, LineMeans, List, Local}
+use Rattle.headline.proofs.Imports.{Meet, ModuleLines, No, Ok, Outcome, Pattern, Refusal, Refused, ReportLine, Result}
+use Rattle.headline.proofs.Imports.{Satisfies, SaysBundle, SaysDesign, SaysNoWith, SaysPlain, SaysReport, Setting, Some}
+use Rattle.headline.proofs.Imports.{StopHolds, TouchesRim, Valuation, Verdict, Yes, [], all_in_modules, all_stops, ap}
+use Rattle.headline.proofs.Imports.{arith, bundle_of, cases_Bool, certificate_text, circuit_of, common_steps}
+use Rattle.headline.proofs.Imports.{cut_name_in, cuts, edge_in, edges, flat_map, inl, inr, is_haloless_version, length}
+use Rattle.headline.proofs.Imports.{map, meant_old, modules_in, modules_of, netlist_of, option_map, read_layout-names}
+use Rattle.headline.proofs.Imports.{refl, report_text, setting_of, sha256, slice_get, slice_get-map, stop_in}
+use Rattle.headline.proofs.Imports.{stops_meant, subst, sym, verdict_outcome, with_halos, ℕ, ◌∙◌, ◌∷◌, ◌≡◌}
+use Rattle.lemmas.proofs.Common.{Global, Vec}
 use Rattle.certificate_lines.specs.Entries.{stops}
 use Rattle.certificate_lines.specs.Versions.{edge_lines_beside, sorted_border_lines, modules_by_version}
 use Rattle.certificate.proofs.FullModules.{meant_new, other_lines, stop_lines}
@@ -20,7 +19,7 @@ use Rattle.headline.specs.Plain.{IsWrongIfPlain, IsWrongText}
 use Rattle.headline.specs.ReportLines.{EarliestIsReal, LinesMeanIfPlain, LinesHaveMeaning}
 use Rattle.headline.specs.PlainLaws.{LinesOfNoHaveMeaning, PlainIsDecided, PlainNoMeansWrong, YesKeepsOffRim}
 use Rattle.core_book.specs.declared.verdict.ReportLine.TheVariants.{Keep, Delay}
-use Rattle.soundness.specs.FirstFaults.{IsModuleAssignmentOf, IsAsCertified, IsEarliestLine, IsReal}
+use Rattle.soundness.specs.FirstFaults.{IsModuleAssignmentOf, IsEarliestLine, IsReal}
 use Rattle.soundness.specs.HeadlineLaws.{HasInputNames}
 use Rattle.soundness.specs.PlainCertificates.{IsWrongDesign}
 use Rattle.soundness.specs.OnTime.{IsOnTime}
@@ -31,9 +30,8 @@ use Rattle.headline.proofs.Designs.{one_certificate, one_design}
 use Rattle.headline.proofs.YesIsRight.{bundle_good, by_outcome, certificate_faultless, known, yes_has_right_stops}
 use Rattle.headline.proofs.Printed.{printed_is_read}
 use Rattle.headline.proofs.YesIsPrinted.{yes_is_right}
-use Rattle.local_run.specs.declared.fault.Kind.TheVariants.{Edge, End, Stop as AtStop}
-use Rattle.core_book.specs.declared.verdict.Verdict.TheVariants as verdict
 use Rattle.meaning.specs.Design.{text_limits}
+use Rattle.core_book.specs.declared.verdict.Verdict.TheVariants as verdict
 
 -- ---- a plain module is plain in either version
 
@@ -46,9 +44,7 @@ full_plain g ms lines p m plain = record {
       (sym (other_lines cut_name_in (record { halo = λ e. refl; stop = λ s. refl }) m.lines
       (sorted_border_lines (edge_lines_beside g ms m.area))))
       plain.inputs;
-  inverses = λ n gate at inverse.
-      ap (λ ks. is_among ks n) (other_lines kept_gate_in (record { halo = λ e. refl; stop = λ s. refl }) m.lines
-      (sorted_border_lines (edge_lines_beside g ms m.area))) ∙ plain.inverses n gate at inverse;
+  inverses = grind (arith, common_steps, other_lines);
   no_edge = other_lines edge_in (record { halo = λ e. refl; stop = λ s. refl }) m.lines
       (sorted_border_lines (edge_lines_beside g ms m.area)) ∙ plain.no_edge;
 }
@@ -87,15 +83,9 @@ means_module version g ms i m at = elim (cases_Bool (is_haloless_version version
   }
 ]
 
-certified_same : (c : Circuit) (p : Pattern) (full m : ModuleLines) (v : Valuation) (t : ℕ) (kind : Kind) (x y : ℤ) →
-    HaveSameLines full m → IsAsCertified c p m v t kind x y → IsAsCertified c p full v t kind x y
-certified_same c p full m v t Edge x y same h = grind (arith, common_steps)
-certified_same c p full m v t AtStop x y same h = λ s has. h s (subst (λ ss. Contains ss s) same.stops_same has)
-certified_same c p full m v t End x y same h = h
-
 real_same : (lines : List CircuitLine) (p : Pattern) (full m : ModuleLines) (inputs v : Valuation) (f : Fault) →
     HaveSameLines full m → IsReal lines p full inputs v f → IsReal lines p m inputs v f
-real_same lines p full m inputs v f same real = grind (arith, common_steps, certified_same)
+real_same lines p full m inputs v f same real = grind (arith, common_steps)
 
 assignment_same : (c : Circuit) (full m : ModuleLines) (v : Valuation) (a : ℕ) → HaveSameLines full m →
     IsModuleAssignmentOf c m v a → IsModuleAssignmentOf c full v a
@@ -142,12 +132,7 @@ means_plain version g ms lines p m is plain = elim (cases_Bool (is_haloless_vers
     plain = full_plain g ms lines p m plain;
     same = with_halos_same g ms m;
   }
-  | inr old ↦ record {
-    one = m;
-    alone = meant_old version g ms old ∙ is;
-    plain = plain;
-    same = record { cuts_same = refl; edges_same = refl; stops_same = refl };
-  }
+  | inr old ↦ grind (arith, common_steps, meant_old)
 ]
 
 -- ---- a report of a bundle
@@ -206,9 +191,7 @@ module _ (text : List ℕ) (b : Bundle) (output : List ℕ) (outcome : Outcome) 
       let ss : flat_map stop_in r.certificate ≡ all_stops (modules_in c) = ap (flat_map stop_in) lines ∙
       sym own_stops in
       record {
-        stops = subst (All (StopHolds (circuit_of c.circuit) c.layout)) ss
-            (subst (λ cs. All (StopHolds (circuit_of cs) c.layout) (flat_map stop_in r.certificate)) same.0
-            (subst (λ p. All (StopHolds (circuit_of r.circuit) p) (flat_map stop_in r.certificate)) same.1 r.stops));
+        stops = grind (arith, common_steps);
         times = subst (AreOnTime (circuit_of c.circuit)) ss
             (subst (λ cs. AreOnTime (circuit_of cs) (flat_map stop_in r.certificate)) same.0 r.on_time);
       }
@@ -220,8 +203,7 @@ module _ (text : List ℕ) (b : Bundle) (output : List ℕ) (outcome : Outcome) 
   accepts is = grind (arith, common_steps)
 
   no_touch : says.verdict ≡ verdict.Yes → ¬ HasRimTouch text
-  no_touch is r = off_rim c.circuit c.layout (modules_in c) says.is_verdict.jobs named together (accepts is)
-      (touch_of r)
+  no_touch is r = grind (arith, common_steps, off_rim, named, together, accepts, touch_of)
 
   -- ---- a no
 
@@ -241,9 +223,7 @@ module _ (text : List ℕ) (b : Bundle) (output : List ℕ) (outcome : Outcome) 
       let same = same_design r.circuit r.layout r.says.design in
       let lines : r.certificate ≡ b.entries = one_certificate text r.circuit c.circuit r.layout c.layout r.certificate
       b.entries r.says said in
-      means_plain c.version (setting_of c.circuit c.layout) (modules_of c.entries) c.circuit c.layout r.one
-      (ap modules_of (says.its_own.entries ∙ sym lines) ∙ r.modules)
-      (subst (λ cs. IsPlain cs c.layout r.one) same.0 (subst (λ p. IsPlain r.circuit p r.one) same.1 r.plain))
+      grind (arith, common_steps, means_plain)
 
   wrong : No ≡ outcome → IsWrongIfPlain text
   wrong is r =
@@ -263,8 +243,7 @@ module _ (text : List ℕ) (b : Bundle) (output : List ℕ) (outcome : Outcome) 
     its_no = is_no says.verdict (is ∙ says.ends)
 
     judged : IsVerdict (setting_of c.circuit c.layout) (modules_in c) says.is_verdict.jobs (verdict.No its_no.lines)
-    judged = subst (λ v. IsVerdict (setting_of c.circuit c.layout) (modules_in c) says.is_verdict.jobs v) its_no.is
-        says.is_verdict.judged
+    judged = grind (arith, common_steps, its_no)
 
     spelled : SaysNoWith output its_no.lines.items
     unfolding report_text

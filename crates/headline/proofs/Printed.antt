@@ -1,16 +1,17 @@
 -- A text that begins with a design says it, and the printing is the text of the sections.
-use Rattle.headline.proofs.Imports.{All, All-head, All-tail, AllByRecursion, AreLines, Ball, Cell, CircuitLine}
-use Rattle.headline.proofs.Imports.{End, FitsKind, Gate, Header, In, Input, IsForm, IsLine}
-use Rattle.headline.proofs.Imports.{IsTrue, Item, LayoutLine, List, Mirror, None, Out, Output, Pattern, Source, Spill}
-use Rattle.headline.proofs.Imports.{Waste, [], ap, append-nil, append_assoc, ap₂, arith}
-use Rattle.headline.proofs.Imports.{circuit_grammar, clean_both, codes, common_steps, ended-cons, entry}
-use Rattle.headline.proofs.Imports.{flat_map, flat_map-append, is_name, layout_grammar, length, line_text, lines_of}
-use Rattle.headline.proofs.Imports.{map, part_form, parts_of, pos, refl, slice_split_at, some_part, subst, sym}
-use Rattle.headline.proofs.Imports.{text_said, true, with_line_feed, ℕ, ℤ, ◌&&◌, ◌++◌, ◌<◌, ◌^◌, ◌∙◌, ◌∷◌, ◌≡◌}
+use Rattle.headline.proofs.Imports.{All, All-head, All-tail, AllByRecursion, AreLines, Ball, Cell, CircuitLine, End}
+use Rattle.headline.proofs.Imports.{FitsKind, Header, In, IsForm, IsLine, IsTrue, Item, LayoutLine, List, Mirror, None}
+use Rattle.headline.proofs.Imports.{Out, Pattern, Waste, [], ap, append-nil, append_assoc, ap₂, arith, circuit_grammar}
+use Rattle.headline.proofs.Imports.{clean_both, codes, common_steps, ended-cons, entry, flat_map, flat_map-append}
+use Rattle.headline.proofs.Imports.{is_name, layout_grammar, length, line_text, lines_of, map, part_form, parts_of, pos}
+use Rattle.headline.proofs.Imports.{refl, slice_split_at, some_part, sym, text_said, true, with_line_feed, ℕ, ℤ, ◌&&◌}
+use Rattle.headline.proofs.Imports.{◌++◌, ◌<◌, ◌^◌, ◌∙◌, ◌∷◌, ◌≡◌}
 use Rattle.lemmas.proofs.Common.{signed_decimal}
+use Rattle.lemmas.proofs.Common.{inl, inr}
 use Rattle.circuit.specs.Bridge.{kind_in_count, kind_out_count}
 use Rattle.circuit.specs.declared.circuit_line.Kind.{Kind}
 use Rattle.meaning.specs.Printed.{circuit_printed, form, layout_printed, line_words, printed}
+use Rattle.meaning.specs.Printed.{IsFront}
 use Rattle.headline.specs.Laws.{BeginsWithOneDesign, PrintedDesignIsRead}
 use Rattle.headline.proofs.Designs.{one_design}
 use Rattle.headline.proofs.Written.{HasLine, HasSection, has_section}
@@ -23,11 +24,9 @@ use Rattle.circuit.proofs.Spelling.{form_line as circuit_spelled}
 use Rattle.pattern.specs.Forms.{form_of as layout_form}
 use Rattle.pattern.specs.Text.{form_text as layout_line, layout_text, part_text}
 use Rattle.pattern.proofs.Spelling.{form_line as layout_spelled}
-use Rattle.lemmas.proofs.Common.{inl, inr}
 use Rattle.section_text.specs.Limits.{limits_of}
 use Rattle.section_text.specs.declared.limits.Limits.TheVariants.{First, Second}
 use Rattle.meaning.specs.Design.{section_lines, text_limits}
-use Rattle.meaning.specs.Printed.{IsFront}
 use Rattle.meaning.proofs.Fronts.{first_limits, has_front}
 
 -- ---- lines at the head of a text
@@ -42,8 +41,7 @@ lines_more (l ∷ ls) rest clean =
 -- ---- a line of a circuit
 
 kind_counts : (kind : Kind) → ((form kind).1 ≡ kind_in_count kind) × ((form kind).3 ≡ kind_out_count kind)
-kind_counts (Gate (Source b)) = (refl, refl)
-kind_counts _ = (refl, refl)
+kind_counts kind = grind (arith, common_steps)
 
 pub fits_of : (r : CircuitLine) → IsLine r → FitsKind r
 fits_of r is = (is.consumes ∙ (kind_counts r.kind).0, is.defines ∙ (kind_counts r.kind).1)
@@ -59,14 +57,7 @@ are_names (n ∷ ns) h = ap₂ (λ a b. a && b) (All-head (λ n. IsTrue (is_name
 line_printed : (kind : Kind) (ins outs : List (List ℕ)) → FitsKind (entry kind ins outs) →
     printed (line_words (entry kind ins outs)) ≡ entry_text (entry kind ins outs)
 unfolding entry_text first_word words_after_keyword
-line_printed (Gate (Source true)) ins outs fits = refl
-line_printed Input [] outs fits = refl
-line_printed Input (x ∷ ins) outs fits = absurd (let e = fits.0 in omega (arith, e))
-line_printed Output ins [] fits = ap (line_text (codes "output")) (append-nil ins)
-line_printed Output ins (x ∷ outs) fits = absurd (let e = fits.1 in omega (arith, e))
-line_printed Spill ins [] fits = ap (line_text (codes "spill")) (append-nil ins)
-line_printed Spill ins (x ∷ outs) fits = absurd (let e = fits.1 in omega (arith, e))
-line_printed _ ins outs fits = refl
+line_printed kind ins outs h1 = grind (arith, common_steps, append-nil)
 
 abbrev pub Fit : List CircuitLine → Type 0
 Fit circuit = AllByRecursion FitsKind circuit
@@ -100,9 +91,6 @@ IsNumber z = (n : ℕ) × (z ≡ pos n) × (n < 10 ^ 9)
 small : (n : ℕ) → IsNumber (pos n) → n < 10 ^ 9
 small n h = grind (arith, common_steps)
 
-cell_numbered : (c : Cell) → IsNumber c.x → IsNumber c.y → IsNumbered c
-cell_numbered c h k = grind (arith, common_steps)
-
 -- the cells of a part have numbers
 abbrev pub IsPart : LayoutLine → Type 0
 IsPart (Mirror r) = Unit {0}
@@ -111,16 +99,11 @@ IsPart (In q) = IsNumbered q.cell
 IsPart (Out q) = IsNumbered q.cell
 IsPart (Waste c) = IsNumbered c
 
-part_printed : (part : LayoutLine) → IsPart part → form_printed (part_form part) ≡ part_text part
-part_printed (Mirror r) h = refl
-part_printed (Ball c) h = subst (λ (d : Cell). form_printed (part_form (Ball d)) ≡ part_text (Ball d)) (sym h.is) refl
-part_printed _ h = grind (arith, common_steps)
-
 parts_printed : (parts : List LayoutLine) → AllByRecursion IsPart parts →
     flat_map form_printed (map part_form parts ++ (codes "end", [], []) ∷ [])
     ≡ flat_map part_text parts ++ line_text (codes "end") []
 parts_printed [] h = refl
-parts_printed (part ∷ parts) h = grind (arith, common_steps, part_printed, append_assoc, (parts_printed parts h.1))
+parts_printed (part ∷ parts) h = grind (arith, common_steps, append_assoc, (parts_printed parts h.1))
 
 -- the printing of a layout is the text of its section
 pub layout_same : (p : Pattern) → AllByRecursion IsPart (parts_of p) → layout_printed p ≡ layout_text p
@@ -151,7 +134,7 @@ other_numbers : (z : ℤ) (zs : List ℤ) → All IsNumber (z ∷ zs) → All Is
 other_numbers z zs h = All-tail IsNumber z zs h
 
 numbered_by : (c : Cell) → All IsNumber (c.x ∷ c.y ∷ []) → IsNumbered c
-numbered_by c h = grind (arith, common_steps, cell_numbered, first_number, other_numbers, c.x, c.y)
+numbered_by c h = grind (arith, common_steps, first_number, other_numbers, c.x, c.y)
 
 one_name : (n : List ℕ) → All (λ n. IsTrue (is_name n)) (n ∷ []) → is_name n ≡ true
 one_name n h = All-head (λ n. IsTrue (is_name n)) n [] h
@@ -164,11 +147,7 @@ part_read (Mirror r) h =
     let ws : List ℤ = pos r.h ∷ [] in
     let b = other_numbers (pos r.x) xs a in
     let c = other_numbers (pos r.y) ys b in
-    let d = other_numbers (pos r.w) ws c in (
-      mirror_line r (small r.x (first_number (pos r.x) xs a)) (small r.y (first_number (pos r.y) ys b))
-          (small r.w (first_number (pos r.w) ws c)) (small r.h (first_number (pos r.h) [] d)),
-      tt,
-    )
+    let d = other_numbers (pos r.w) ws c in grind (arith, common_steps, mirror_line, small, first_number)
 part_read (Ball c) h = let n = numbered_by c h.numbers in (ball_line c n, n)
 part_read (In q) h = let n = numbered_by q.cell h.numbers in (in_line q.name q.cell (one_name q.name h.names) n, n)
 part_read (Out q) h = let n = numbered_by q.cell h.numbers in (out_line q.name q.cell (one_name q.name h.names) n, n)

@@ -1,27 +1,26 @@
 -- The lines of the plain certificate of a small design are good
 use Rattle.headline.proofs.Imports.{All, All-cons, All-head, All-nil, All-tail, AnswersOrRefuses, AreFaultless}
 use Rattle.headline.proofs.Imports.{AreGoodAfter, AreGoodCircuitLines, AreOrdered, Bool, Box2, Bundle, CertificateLine}
-use Rattle.headline.proofs.Imports.{Circuit, CircuitLine, Cut, Grammar, Have, IsFaultless, IsInputName}
-use Rattle.headline.proofs.Imports.{IsPlaced, IsPlainText, IsSection, IsSmallDesign, Keep, LayoutHeader, LayoutLine}
-use Rattle.headline.proofs.Imports.{List, Module, ModuleLines, No, None, Ok, OutOfOrder, Outcome, Pattern, Port}
-use Rattle.headline.proofs.Imports.{Refused, SaysBundle, SaysReport, Setting, Some, SomethingMissing, Use}
-use Rattle.headline.proofs.Imports.{Verdict, Yes, [], add_line, any_at, ap, append-nil, append_assoc, ap₂}
-use Rattle.headline.proofs.Imports.{arith, bundle_of, bytes_eq, bytes_eq-Decides, bytes_same, cases_Bool}
-use Rattle.headline.proofs.Imports.{certificate_grammar, circuit_grammar, circuit_of, code_if, common_steps}
-use Rattle.headline.proofs.Imports.{cut_name_in, cuts, defined, defines, drop, eqb, eqb-true, false, faultless_named}
-use Rattle.headline.proofs.Imports.{filter, flat_map, flat_map-append, gate_numbers, gates_are_ordered, has, inl}
-use Rattle.headline.proofs.Imports.{input_names, inputs_are_first, inr, is_among, is_inverse_gate, is_layout_side}
-use Rattle.headline.proofs.Imports.{is_module, kept, known, layout_grammar, layout_section, length, length-append}
-use Rattle.headline.proofs.Imports.{list_all, list_any, map, map-append, modules_of, names_pass, nat_lt}
-use Rattle.headline.proofs.Imports.{nat_tests, netlist_of, no_code, not, number, option_map, or_else, output_names}
-use Rattle.headline.proofs.Imports.{parts_of, placed, plain_lines, port_names_of, push_cons, range_with_len}
-use Rattle.headline.proofs.Imports.{read_faultless, read_layout-is_named, read_layout-names, refl, same_Some}
-use Rattle.headline.proofs.Imports.{section_made, section_of, setting_of, size_fault, slice_get, slice_get-map}
-use Rattle.headline.proofs.Imports.{slice_get_within, subst, suc, sym, take, take-append-drop, true, true≢false}
-use Rattle.headline.proofs.Imports.{verdict_outcome, whole, zero, ℕ, ◌&&◌, ◌++◌, ◌+◌, ◌<◌, ◌||◌, ◌∙◌, ◌∷◌}
-use Rattle.headline.proofs.Imports.{◌≡◌, ◌≢◌, ◌≤◌}
+use Rattle.headline.proofs.Imports.{Circuit, CircuitLine, Cut, Grammar, Have, IsFaultless, IsInputName, IsPlaced}
+use Rattle.headline.proofs.Imports.{IsPlainText, IsSection, IsSmallDesign, Keep, LayoutHeader, LayoutLine, List, Module}
+use Rattle.headline.proofs.Imports.{ModuleLines, None, Ok, OutOfOrder, Outcome, Pattern, Port, Refused, SaysBundle}
+use Rattle.headline.proofs.Imports.{SaysReport, Setting, Some, SomethingMissing, Use, Verdict, [], add_line, any_at, ap}
+use Rattle.headline.proofs.Imports.{append-nil, append_assoc, ap₂, arith, bundle_of, bytes_eq, bytes_eq-Decides}
+use Rattle.headline.proofs.Imports.{bytes_same, cases_Bool, certificate_grammar, circuit_grammar, circuit_of, code_if}
+use Rattle.headline.proofs.Imports.{common_steps, cut_name_in, cuts, defined, defines, drop, eqb, eqb-true, false}
+use Rattle.headline.proofs.Imports.{faultless_named, filter, flat_map, flat_map-append, gate_numbers, gates_are_ordered}
+use Rattle.headline.proofs.Imports.{has, inl, input_names, inputs_are_first, inr, is_among, is_inverse_gate}
+use Rattle.headline.proofs.Imports.{is_layout_side, is_module, kept, known, layout_grammar, layout_section, length}
+use Rattle.headline.proofs.Imports.{length-append, list_all, list_any, map, map-append, modules_of, names_pass}
+use Rattle.headline.proofs.Imports.{netlist_of, no_code, not, number, option_map, or_else, output_names, parts_of}
+use Rattle.headline.proofs.Imports.{placed, plain_lines, port_names_of, push_cons, range_with_len, read_faultless}
+use Rattle.headline.proofs.Imports.{read_layout-is_named, read_layout-names, refl, same_Some, section_made, section_of}
+use Rattle.headline.proofs.Imports.{setting_of, size_fault, slice_get, slice_get-map, slice_get_within, subst, suc, sym}
+use Rattle.headline.proofs.Imports.{take, take-append-drop, true, true≢false, verdict_outcome, whole, zero, ℕ, ◌&&◌}
+use Rattle.headline.proofs.Imports.{◌++◌, ◌+◌, ◌<◌, ◌||◌, ◌∙◌, ◌∷◌, ◌≡◌, ◌≢◌, ◌≤◌}
 use Rattle.lemmas.proofs.Common.{is_lt, option_to_list, All-append, and-false, list_any-append, or-true, ordering_then}
 use Rattle.lemmas.proofs.Common.{take-length, less_nat, not_le_test}
+use Rattle.lemmas.proofs.Common.{length-range_with_len, list_all-append}
 use Rattle.circuit.specs.Meaning.{Gate, place_of, wire_of, wires, wires_after}
 use Rattle.circuit.specs.Rules.{define_fault}
 use Rattle.circuit.proofs.Bridging.{define_first, defined_push, numbers_new}
@@ -30,10 +29,9 @@ use Rattle.module_box.specs.Locals.{local_wires}
 use Rattle.certificate_lines.specs.Entries.{gates, last_of, areas}
 use Rattle.certificate_lines.specs.Orders.{is_cut, line_cmp, may_follow, may_precede, sort_number_of, rank_of}
 use Rattle.certificate_lines.specs.Rules.{are_new_and_distinct, cut_line_code, entry_fault, used_gate_fault}
-use Rattle.certificate_lines.specs.Rules.{body_line_code, keep_line_code, line_fault, use_line_code, content_code}
-use Rattle.certificate_lines.specs.Rules.{module_box_code, end_fault, is_last_module_incomplete, is_local}
-use Rattle.certificate_lines.specs.Rules.{is_local_wire, is_bad_box_side, has_nonlocal_port, leaves_gap}
-use Rattle.certificate_lines.specs.Rules.{module_line_code}
+use Rattle.certificate_lines.specs.Rules.{keep_line_code, line_fault, use_line_code, content_code, module_box_code}
+use Rattle.certificate_lines.specs.Rules.{end_fault, is_last_module_incomplete, is_local, is_local_wire}
+use Rattle.certificate_lines.specs.Rules.{has_nonlocal_port, leaves_gap, module_line_code, module_limit_fault}
 use Rattle.certificate_lines.proofs.LocalLemmas.{local_more}
 use Rattle.pattern.specs.Lines.{AreNamed}
 use Rattle.certificate_lines.proofs.BoxPlaces.{cells_inside}
@@ -46,13 +44,10 @@ use Rattle.headline.proofs.YesIsRight.{bundle_good, circuit_good}
 use Rattle.headline.proofs.PlainLines.{all_inner, among_range, none_of, own_of, is_one, plain_lines_decide}
 use Rattle.pattern.specs.Forms.{form_of as layout_form}
 use Rattle.certificate_lines.specs.Forms.{form_of as certificate_form}
-use Rattle.core_book.specs.declared.verdict.Verdict.TheVariants as verdict
-use Rattle.lemmas.proofs.Common.{length-range_with_len, list_all-append}
 use Rattle.section_text.specs.declared.limits.Limits.{Limits}
-use Rattle.section_text.specs.declared.limits.Limits.TheVariants.{First, Second}
-use Rattle.certificate_lines.specs.Rules.{module_limit_fault}
 use Rattle.meaning.specs.Design.{text_limits}
 use Rattle.circuit.proofs.Undefined.{wires_grow}
+use Rattle.core_book.specs.declared.verdict.Verdict.TheVariants as verdict
 
 -- ---- numbers in a range
 
@@ -146,8 +141,7 @@ in_module : (g : Setting) (before : List CertificateLine) (m : ModuleLines) (i :
     last_of (modules_of before) ≡ Some m →
     is_module i ≡ false → line_fault g m i ≡ None → entry_fault g before i ≡ None
 unfolding entry_fault
-in_module g before m (Module b) e h f = absurd cc
-in_module g before m x e h f = ap (λ o. body_line_code g o x) e ∙ f
+in_module g before m i h1 h2 h3 = grind (arith, common_steps)
 
 present_one : (b : Box2) (ms : List CertificateLine) → list_all (λ i. not (is_module i)) ms ≡ true →
     last_of (modules_of (Module b ∷ ms)) ≡ Some (record { area = b; lines = ms })
@@ -163,13 +157,11 @@ all_push ms i h k = list_all-append (λ i. not (is_module i)) ms (i ∷ []) ∙ 
 no_module_more : (l : Limits) (g : Setting) (before : List CertificateLine) (i : CertificateLine) →
     is_module i ≡ false → module_limit_fault l g before i ≡ None
 unfolding module_limit_fault
-no_module_more l g before (Module b) other = absurd cc
-no_module_more l g before i other = refl
+no_module_more l g before i h1 = grind (arith, common_steps)
 
 first_module : (l : Limits) (g : Setting) (b : Box2) → module_limit_fault l g [] (Module b) ≡ None
 unfolding module_limit_fault modules_of
-first_module First g b = refl
-first_module Second g b = refl
+first_module l g b = grind (arith, common_steps)
 
 inner_faultless : (l : Limits) (g : Setting) (b : Box2) (ms ls : List CertificateLine) →
     list_all (λ i. not (is_module i)) ms ≡ true →
@@ -492,14 +484,6 @@ all_pass : {X : Type 0} (test : X → Bool) (xs : List X) → ((k : ℕ) (x : X)
 all_pass test [] h = refl
 all_pass test (x ∷ xs) h = ap₂ (λ a b. a && b) (h 0 x refl) (all_pass test xs (λ k. h (suc k)))
 
-length_taken : {X : Type 0} (n : ℕ) (xs : List X) → n ≤ length xs → length (take n xs) ≡ n
-length_taken zero xs h = refl
-length_taken (suc n) [] h = absurd (omega (arith, h))
-length_taken (suc n) (x ∷ xs) h = ap suc (length_taken n xs (omega (arith, h)))
-
-side_ok : (n : ℕ) → is_layout_side n ≡ true → n ≤ 64 → is_bad_box_side n ≡ false
-side_ok n side few = grind (arith, common_steps, eqb-true)
-
 module _ (k : Limits) (circuit : List CircuitLine) (p : Pattern) (good : AreGoodCircuitLines circuit)
     (layout_good : IsFaultless (layout_grammar k (Some (port_names_of circuit))) p.size (parts_of p))
     (small : IsSmallDesign circuit p) where
@@ -516,7 +500,7 @@ module _ (k : Limits) (circuit : List CircuitLine) (p : Pattern) (good : AreGood
   }
 
   pub its_given : length (input_names circuit) ≡ (netlist_of circuit).given
-  its_given = grind (arith, common_steps, wires_are_named, wires_grow, inputs_are_first, length_taken)
+  its_given = grind (arith, common_steps, wires_are_named, wires_grow, inputs_are_first)
 
   abbrev names_are : AreNamed (Some (port_names_of circuit)) (parts_of p)
   names_are = faultless_named k (Some (port_names_of circuit)) p.size (parts_of p) layout_good
@@ -566,12 +550,9 @@ module _ (k : Limits) (circuit : List CircuitLine) (p : Pattern) (good : AreGood
   unfolding size_fault
   sides = grind (arith, common_steps, no_code)
 
-  not_past : (n : ℕ) → nat_lt n (0 + n) ≡ false
-  not_past n = grind (arith, nat_tests)
-
   module_good : entry_fault its_setting [] (Module (whole p.size)) ≡ None
   unfolding entry_fault module_line_code module_box_code modules_of last_of
-  module_good = grind (arith, common_steps, side_ok, sides, not_past, none_any, whole)
+  module_good = grind (arith, common_steps, sides, none_any, whole)
 
   end_good : end_fault its_setting (plain_lines circuit p) ≡ None
   unfolding end_fault last_of
@@ -626,8 +607,7 @@ is_plain_text text b layout e same version entries =
     }
 
 not_refused : (v : Verdict) (outcome : Outcome) → outcome ≡ verdict_outcome v → outcome ≡ Refused → ⊥
-not_refused verdict.Yes outcome e r = let clash : Yes ≡ Refused = sym e ∙ r in cc
-not_refused (verdict.No lines) outcome e r = let clash : No ≡ Refused = sym e ∙ r in cc
+not_refused v outcome h1 h2 = grind (arith, common_steps)
 
 pub small_is_decided : SmallDesignIsDecided
 small_is_decided text output outcome circuit layout t small reports =
@@ -643,16 +623,7 @@ small_is_decided text output outcome circuit layout t small reports =
     let good : AreGoodCircuitLines circuit = circuit_good k 0 t.first tt circuit t.circuit_read in
     let layout_good : IsFaultless (layout_grammar k ports) layout.size (parts_of layout) =
     read_faultless (layout_grammar k ports) 0 t.second layout.size (parts_of layout) t.layout_read in
-    let sections : HasSections text b = record {
-      first = t.first;
-      second = t.second;
-      third = t.third;
-      lines = t.lines;
-      rest = t.ended;
-      circuit_is = t.circuit_is;
-      layout_is = t.layout_is;
-      certificate_is = t.certificate_is;
-    } in
+    let sections : HasSections text b = grind (arith, common_steps) in
     let is_good : IsGoodBundle k b = record {
       circuit = read_faultless (circuit_grammar k) 0 t.first tt circuit t.circuit_read;
       layout = layout_good;

@@ -1,17 +1,18 @@
 -- `modules`, `migrate` and `value` have an answer to each text
 use Rattle.headline.proofs.Imports.{AnswersOrRefuses, AreOrdered, CircuitLine, Err, HasAnAnswerToEachText}
 use Rattle.headline.proofs.Imports.{IsMigrationOf, IsModulesOf, IsValueOf, List, No, Ok, Outcome, Refusal, Refused}
-use Rattle.headline.proofs.Imports.{Result, SaysMigration, SaysModules, SaysValues, ValueQuestion, Yes, [], bundle_of}
-use Rattle.headline.proofs.Imports.{circuit_grammar, codes, decimal, defined, gates_are_ordered, inl, inr, line_text}
-use Rattle.headline.proofs.Imports.{netlist_of, pair_with_result, refl, refusal_line, section_of, subst}
-use Rattle.headline.proofs.Imports.{value_lines, value_sections_of, ℕ, ◌++◌, ◌∷◌, ◌≡◌, ◌⊎◌}
+use Rattle.headline.proofs.Imports.{Result, SaysMigration, SaysModules, SaysValues, ValueQuestion, Yes, [], arith}
+use Rattle.headline.proofs.Imports.{bundle_of, circuit_grammar, codes, common_steps, decimal, defined}
+use Rattle.headline.proofs.Imports.{gates_are_ordered, inl, inr, line_text, netlist_of, pair_with_result, refl}
+use Rattle.headline.proofs.Imports.{refusal_line, section_of, subst, value_lines, value_sections_of, ℕ, ◌++◌, ◌∷◌, ◌≡◌}
+use Rattle.headline.proofs.Imports.{◌⊎◌}
 use Rattle.soundness.proofs.SomeValues.{HasStop, HasValues, values_or_stop}
 use Rattle.answers.specs.ValueText.{assigned_inputs}
+use Rattle.answers.specs.ValueText.{value_sections_with}
 use Rattle.headline.proofs.YesIsRight.{circuit_good, went_on}
 use Rattle.section_text.specs.declared.limits.Limits.{Limits}
 use Rattle.section_text.specs.Limits.{front_lines}
 use Rattle.meaning.specs.Design.{section_lines, text_limits}
-use Rattle.answers.specs.ValueText.{value_sections_with}
 
 -- some output and some way to end
 pub record SaysSomething {A : Type 0} (says : A → List ℕ → Outcome → Type 0) (asked : A) : Type 0 where
@@ -48,18 +49,13 @@ says_values asked ordered (inl v) = record {
 says_values asked ordered (inr s) = record {
   output = value_lines (defined asked.0) s.1 ++ line_text (codes "undefined") (decimal s.0 ∷ []);
   outcome = No;
-  is = record {
-    ordered = ordered;
-    says = inr
-        (record { gate = s.0; values = s.1; stops = s.2; says = refl; ends = refl });
-  };
+  is = grind (arith, common_steps);
 }
 
 -- what is asked has the lines of a circuit that was read
 asked_first : (entries : List CircuitLine) (read : Result (List (List ℕ)) Refusal) (asked : ValueQuestion)
     → pair_with_result entries read ≡ Ok asked → entries ≡ asked.0
-asked_first entries (Ok on) asked e = cc
-asked_first entries (Err refusal) asked e = absurd cc
+asked_first entries read asked h1 = grind (arith, common_steps)
 
 asked_ordered : (text : List ℕ) (asked : ValueQuestion) → value_sections_of text ≡ Ok asked
     → AreOrdered (netlist_of asked.0).given (netlist_of asked.0).gates

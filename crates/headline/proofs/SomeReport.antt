@@ -1,14 +1,13 @@
 -- A text has a report
 use Rattle.std.proofs.Common.{arith}
-use Rattle.std.proofs.lemmas.Grind.{common_steps}
 use Rattle.headline.proofs.Imports.{AreFaultless, AreModules, Ball, Bundle, CertView, HasAnAnswerToEachText, In}
 use Rattle.headline.proofs.Imports.{IsFaultless, IsReportOf, IsVerdictOn, LayoutHeader, LayoutLine, List, Mirror, None}
 use Rattle.headline.proofs.Imports.{Ok, Option, Out, Pattern, PortNameLists, SaysReport, Setting, Some, Verdict, Waste}
-use Rattle.headline.proofs.Imports.{[], ap, append-nil, append_assoc, bundle_of, certificate_grammar, faultless_modules}
-use Rattle.headline.proofs.Imports.{no_code_first, layout_grammar, layout_line_fault, layout_section, line_fault}
-use Rattle.headline.proofs.Imports.{meant_modules, modules_in, modules_of, parts_of, port_names_of, read_complete, refl}
-use Rattle.headline.proofs.Imports.{report_text, setting_of, size_fault, subst, sym, verdict_outcome, ℕ, ◌++◌, ◌∙◌, ◌∷◌}
-use Rattle.headline.proofs.Imports.{◌≡◌}
+use Rattle.headline.proofs.Imports.{[], ap, append-nil, append_assoc, bundle_of, certificate_grammar, common_steps}
+use Rattle.headline.proofs.Imports.{faultless_modules, layout_grammar, layout_line_fault, layout_section, line_fault}
+use Rattle.headline.proofs.Imports.{meant_modules, modules_in, modules_of, no_code_first, parts_of, port_names_of}
+use Rattle.headline.proofs.Imports.{read_complete, refl, report_text, setting_of, size_fault, subst, sym}
+use Rattle.headline.proofs.Imports.{verdict_outcome, ℕ, ◌++◌, ◌∙◌, ◌∷◌, ◌≡◌}
 use Rattle.pattern.specs.Lines.{order_fault}
 use Rattle.pattern.proofs.Added.{with_ball, with_in, with_mirror, with_out, with_waste}
 use Rattle.soundness.proofs.SomeVerdict.{some_verdict}
@@ -106,12 +105,7 @@ reported text b e =
     record {
       output = report_text c judged.verdict;
       outcome = verdict_outcome judged.verdict;
-      is = reported_by text b e own.0 own.1 judged.verdict (record {
-        good = good;
-        jobs = judged.jobs;
-        are_jobs = judged.are_jobs;
-        judged = judged.judged;
-      });
+      is = grind (arith, common_steps);
     }
 
 pub some_report : HasAnAnswerToEachText IsReportOf

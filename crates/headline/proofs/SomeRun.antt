@@ -1,12 +1,12 @@
 -- `run` has an answer to each text
-use Rattle.headline.proofs.Imports.{Bool, Cell, Cells, Err, HasAnAnswerToEachText, IsDeadOutside, IsFaultless}
-use Rattle.headline.proofs.Imports.{IsLiveOutside, IsRunEnd, IsRunOf, LayoutHeader, LayoutLine, LeftAt, List, None, Ok}
-use Rattle.headline.proofs.Imports.{Pattern, Refusal, Result, RunEnd, RunQuestion, SaysRunEnd, State, [], arith}
-use Rattle.headline.proofs.Imports.{cases_Bool, cond, false, filter, flat_map, has, in_box, in_layout, inl, inr}
+use Rattle.headline.proofs.Imports.{Bool, Cell, Cells, HasAnAnswerToEachText, IsDeadOutside, IsFaultless, IsLiveOutside}
+use Rattle.headline.proofs.Imports.{IsRunEnd, IsRunOf, LayoutHeader, LayoutLine, LeftAt, List, None, Ok, Pattern}
+use Rattle.headline.proofs.Imports.{Refusal, Result, RunEnd, RunQuestion, SaysRunEnd, State, [], arith, cases_Bool}
+use Rattle.headline.proofs.Imports.{common_steps, cond, false, filter, flat_map, has, in_box, in_layout, inl, inr}
 use Rattle.headline.proofs.Imports.{layout_grammar, length, pair_with_result, partner, parts_of, plane_at}
 use Rattle.headline.proofs.Imports.{read_faultless, rectangle_cells, refl, run, run_end_outcome, run_end_text}
-use Rattle.headline.proofs.Imports.{section_of, size_fault, start, step, subst, suc, sym, true, true≢false, vec_of}
-use Rattle.headline.proofs.Imports.{whole, zero, ℕ, ℤ, ◌<◌, ◌^◌, ◌∙◌, ◌∷◌, ◌≡◌, ◌≤◌, ◌⊎◌}
+use Rattle.headline.proofs.Imports.{section_of, size_fault, start, step, subst, suc, sym, true, vec_of, whole, zero, ℕ}
+use Rattle.headline.proofs.Imports.{ℤ, ◌<◌, ◌^◌, ◌∙◌, ◌∷◌, ◌≡◌, ◌≤◌, ◌⊎◌}
 use Rattle.lemmas.proofs.Common.{◌*◌, cases_lt, mul-le-mul_right}
 use Rattle.bbm_rule.proofs.PlaneLemmas.{partner_twice}
 use Rattle.bbm_rule.proofs.Steps.{step_dead}
@@ -18,13 +18,13 @@ use Rattle.certificate_lines.proofs.InList.{placed}
 use Rattle.certificate.proofs.FullModules.{stands}
 use Rattle.soundness.proofs.SomeLeast.{Decided, HasOne, both_decided, bools_decided, some_decided, true_decided}
 use Rattle.answers.specs.RunText.{run_sections_of}
+use Rattle.answers.specs.RunText.{run_sections_with}
 use Rattle.headline.proofs.SomeAnswer.{SaysSomething, answered_always}
 use Rattle.headline.proofs.SomeReport.{some_layout}
 use Rattle.headline.proofs.YesIsRight.{laid_out, went_on}
 use Rattle.section_text.specs.declared.limits.Limits.{Limits}
 use Rattle.section_text.specs.Limits.{front_lines}
 use Rattle.meaning.specs.Design.{section_lines, text_limits}
-use Rattle.answers.specs.RunText.{run_sections_with}
 use Rattle.lemmas.specs.Bounds.{max_side}
 use Rattle.section_text.proofs.Codes.{no_code_second}
 
@@ -72,21 +72,8 @@ module _ (s : LayoutHeader) where
         (in_whole _ _ (stays _ _ live))
         (inr (inr (inl (λ i. record { x = x; y = partner_twice t y i }))))
 
-    own_dead : (x y : ℤ) → in_layout s x y ≡ false → (b : Bool) → state x y ≡ b → state x y ≡ false
-    own_dead x y out true e = absurd (true≢false (sym (stays x y e) ∙ out))
-    own_dead x y out false e = e
-
     near : (x y : ℤ) → step t state x y ≡ true → in_layout s x y ≡ false → In (record { x = x; y = y }) near_cells
-    near x y live out = elim (cases_Bool (state (partner t x) (partner t y))) [
-      | inl a ↦ by_opposite x y a
-      | inr a ↦ elim (cases_Bool (state (partner t x) y)) [
-        | inl b ↦ by_column x y b
-        | inr b ↦ elim (cases_Bool (state x (partner t y))) [
-          | inl c ↦ by_row x y c
-          | inr c ↦ absurd (true≢false (sym live ∙ step_dead t state x y (own_dead x y out (state x y) refl) a b c))
-        ]
-      ]
-    ]
+    near x y live out = grind (arith, common_steps, cases_Bool, by_opposite, by_column, by_row, step_dead)
 
     none_out : ¬ HasOne IsOut near_cells → IsDeadOutside s (step t state)
     none_out none x y live = elim (cases_Bool (in_layout s x y)) [
@@ -137,8 +124,7 @@ filter_few test (x ∷ xs) = one (test x) (filter_few test xs)
   where
     one : (b : Bool) → length (filter test xs) ≤ length xs →
         length (cond b (x ∷ filter test xs) (filter test xs)) ≤ suc (length xs)
-    one true h = omega (arith, h)
-    one false h = omega (arith, h)
+    one b h1 = grind (arith, common_steps)
 
 few_cells : (s : LayoutHeader) (state : State) → size_fault s ≡ None → length (live_cells s state) < 2 ^ 63
 unfolding live_cells
@@ -173,8 +159,7 @@ record IsAskedLayout (l : Limits) (asked : RunQuestion) : Type 0 where
 asked_first : (lines : LayoutHeader × List LayoutLine) (read : Result (List (List ℕ)) Refusal)
     (asked : RunQuestion) →
     pair_with_result lines read ≡ Ok asked → lines ≡ asked.0
-asked_first lines (Ok on) asked e = cc
-asked_first lines (Err refusal) asked e = absurd cc
+asked_first lines read asked h1 = grind (arith, common_steps)
 
 asked_layout : (text : List ℕ) (asked : RunQuestion) → run_sections_of text ≡ Ok asked →
     IsAskedLayout (text_limits text) asked

@@ -46,26 +46,12 @@ mirror x y = in_area 1 0 2 2 x y
 -- the rows of a block are alike
 rows_stay : (a b c : Bool) → turned (a && b) (c && b) (c && b) (a && b) ≡ (a && b)
 unfolding turned
-rows_stay true true true = refl
-rows_stay true true false = refl
-rows_stay true false true = refl
-rows_stay true false false = refl
-rows_stay false true true = refl
-rows_stay false true false = refl
-rows_stay false false true = refl
-rows_stay false false false = refl
+rows_stay a b c = grind (arith, common_steps)
 
 -- its columns are alike
 columns_stay : (a b d : Bool) → turned (a && b) (a && d) (a && b) (a && d) ≡ (a && b)
 unfolding turned
-columns_stay true true true = refl
-columns_stay true true false = refl
-columns_stay true false true = refl
-columns_stay true false false = refl
-columns_stay false true true = refl
-columns_stay false true false = refl
-columns_stay false false true = refl
-columns_stay false false false = refl
+columns_stay a b d = grind (arith, common_steps)
 
 beyond : (k : ℕ) → in_span 1 2 (pos (3 + k)) ≡ false
 beyond k = grind (arith, common_steps, in_span-pos)
@@ -167,8 +153,7 @@ room : HasRoom constant rim_mirror
 room = record { wide = omega arith; high = omega arith; short = omega arith; inputs = omega arith; gates = omega arith }
 
 small : IsSmallDesign constant rim_mirror
-small =
-    record { wide = omega arith; high = omega arith; short = omega arith; inputs = omega arith; gates = omega arith }
+small = grind (arith, common_steps)
 
 -- ---- it touches its rim
 

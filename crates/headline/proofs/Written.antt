@@ -5,7 +5,7 @@ use Rattle.headline.proofs.Imports.{eqb, eqb-true, false, false≢true, flat_map
 use Rattle.headline.proofs.Imports.{nat_tests, refl, slice_split_at, space_and_word, true, words_of, ℕ, ◌++◌, ◌∙◌}
 use Rattle.headline.proofs.Imports.{◌∷◌, ◌≡◌}
 use Rattle.lemmas.proofs.Common.{slice_split_none}
-use Rattle.section_text.specs.Words.{is_digit, is_name_byte}
+use Rattle.section_text.specs.Words.{is_digit}
 
 -- ---- words
 
@@ -47,15 +47,12 @@ all_more p q more (b ∷ w) h = grind (arith, common_steps, (all_more p q more w
 digit_byte : (b : ℕ) → is_digit b ≡ true → is_word_byte b ≡ true
 digit_byte b h = grind (arith, nat_tests, h)
 
-name_byte : (b : ℕ) → is_name_byte b ≡ true → is_word_byte b ≡ true
-name_byte b h = grind (arith, nat_tests, h)
-
 pub digits_word : (w : List ℕ) → list_all is_digit w ≡ true → IsWord w
 digits_word w h = all_more is_digit is_word_byte digit_byte w h
 
 pub name_word : (w : List ℕ) → is_name w ≡ true → IsWord w
 name_word [] h = absurd (false≢true h)
-name_word (b ∷ bs) h = grind (arith, common_steps, and_parts, name_byte, all_more)
+name_word (b ∷ bs) h = grind (arith, common_steps, and_parts, all_more)
 
 -- ---- lines
 

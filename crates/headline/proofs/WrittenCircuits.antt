@@ -104,14 +104,12 @@ kind_read (Delay n) rest h = ap (λ o. o >>= λ m. Some (Delay m)) (number_writt
 kind_read _ rest h = refl
 
 head_length : (k : GateKind) → length (gate_word k ∷ gate_parameter_words k) ≡ words_before_names k
-head_length (Source b) = refl
-head_length _ = refl
+head_length k = grind (arith, common_steps)
 
 gate_form : (k : GateKind) (rest : List (List ℕ)) →
     form_of (gate_word k ∷ rest) ≡ (gate_entry (gate_word k ∷ rest) >>= λ r. Some (Item r))
 unfolding form_of is_word_at
-gate_form (Source b) rest = refl
-gate_form _ rest = refl
+gate_form k rest = grind (arith, common_steps)
 
 head_words : (k : GateKind) → IsShort (Gate k) →
     IsWord (gate_word k) × AllByRecursion IsWord (gate_parameter_words k)
@@ -156,11 +154,7 @@ module _ (k : GateKind) (ins outs : List (List ℕ)) (fits : FitsKind (entry (Ga
   gate_line : HasLine form_of (Item (entry (Gate k) ins outs))
   gate_line =
       let words = head_words k right in
-      line_by form_of (Item (entry (Gate k) ins outs)) (gate_word k)
-      (gate_parameter_words k ++ (ins ++ arrow ∷ outs)) words.0
-      (words_both (gate_parameter_words k) (ins ++ arrow ∷ outs) words.1
-      (words_both ins (arrow ∷ outs) (names_words ins in_names) (refl, names_words outs out_names)))
-      (gate_form k _ ∙ ap (λ o. o >>= λ r. Some (Item r)) entry_read)
+      grind (arith, common_steps, line_by, words_both, names_words, gate_form, entry_read)
 
 -- ---- the other lines
 

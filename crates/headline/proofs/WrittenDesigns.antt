@@ -14,6 +14,7 @@ use Rattle.headline.proofs.Imports.{number_after_keyword, number_at, number_writ
 use Rattle.headline.proofs.Imports.{plain_lines, port_names_of, range_with_len, refl, stop_in}
 use Rattle.headline.proofs.Imports.{subst, suc, sym, true, with_line_feed, zero, ℕ, ◌++◌}
 use Rattle.headline.proofs.Imports.{◌+◌, ◌<◌, ◌>>=◌, ◌^◌, ◌∙◌, ◌∷◌, ◌≡◌, ◌≤◌}
+use Rattle.headline.proofs.Imports.{ap₂, length, length-append, nat_tests}
 use Rattle.certificate_lines.specs.Forms.{form_of}
 use Rattle.headline.specs.PlainLaws.{EachSmallDesignHasPlainText, EachSmallDesignIsDecided}
 use Rattle.headline.proofs.Designs.{one_certificate, one_design}
@@ -21,34 +22,28 @@ use Rattle.headline.proofs.Migrations.{HasSections, text_is}
 use Rattle.headline.proofs.PlainLines.{none_of}
 use Rattle.headline.proofs.Printed.{are_names, printed_is_read}
 use Rattle.headline.proofs.SmallDesigns.{read_alone, small_is_decided}
+use Rattle.headline.proofs.SmallDesigns.{its_given}
 use Rattle.headline.proofs.WrittenNames.{input_named, outs_named}
 use Rattle.headline.proofs.YesIsPrinted.{design_printed}
 use Rattle.headline.proofs.Written.{HasLine, HasSection, has_section, line_by, name_word}
 use Rattle.headline.proofs.WrittenCircuits.{AreNames, circuit_written, decimal_word, named}
 use Rattle.headline.proofs.WrittenLayouts.{layout_faultless, layout_written}
+use Rattle.headline.proofs.WrittenLayouts.{IsWithin}
 use Rattle.circuit.specs.Forms.{form_of as circuit_form}
 use Rattle.pattern.specs.Forms.{form_of as layout_form}
-use Rattle.section_text.specs.declared.limits.Limits.{Limits}
 use Rattle.section_text.specs.declared.limits.Limits.TheVariants.{First}
 use Rattle.section_text.specs.declared.code.RefusalCode.TheVariants.{PastLimit}
-use Rattle.section_text.specs.Limits.{limits_of}
 use Rattle.section_text.specs.Codes.{code_if, or_else}
 use Rattle.meaning.specs.Design.{front_text, section_lines, text_limits}
 use Rattle.meaning.proofs.Fronts.{first_limits, has_front}
 use Rattle.circuit.specs.Bridge.{netlist_of}
 use Rattle.circuit.specs.Gates.{defines}
 use Rattle.circuit.specs.Meaning.{Gate, wires_after}
-use Rattle.circuit.specs.Grammars.{unconsumed_wire_code}
-use Rattle.circuit.specs.Rules.{exceeds_text_limit, gate_count, is_gate}
+use Rattle.circuit.specs.Rules.{exceeds_text_limit, gate_count}
 use Rattle.circuit.specs.declared.circuit_line.GateKind.{GateKind}
-use Rattle.circuit.specs.declared.circuit_line.GateKind.TheVariants.{Source, Fredkin, Cswap, Interact, Switch, Delay}
-use Rattle.circuit.specs.declared.circuit_line.GateKind.TheVariants.{Unswitch, Uninteract}
 use Rattle.circuit.proofs.Bridging.{count_append}
 use Rattle.circuit.proofs.Naming.{gates_counted, wires_are_named}
-use Rattle.headline.proofs.Imports.{ap₂, length, length-append, nat_tests}
 use Rattle.lemmas.proofs.Common.{◌*◌}
-use Rattle.headline.proofs.SmallDesigns.{its_given}
-use Rattle.headline.proofs.WrittenLayouts.{IsWithin}
 
 -- ---- the names of the ports
 
@@ -59,11 +54,7 @@ few_lines : (before : List CircuitLine) (r : CircuitLine) (rest : List CircuitLi
     length (defined (before ++ r ∷ rest)) ≤ 4096 → gate_count (before ++ r ∷ rest) ≤ 1024 →
     exceeds_text_limit First before r ≡ false
 few_lines before r rest wires gates =
-    let all = ap length (flat_map-append (λ (q : CircuitLine). q.outs) before (r ∷ rest))
-    ∙ length-append (defined before) (r.outs ++ defined rest) in
-    let more = length-append r.outs (defined rest) in
-    let counted = count_append (λ (q : CircuitLine). is_gate q.kind) before (r ∷ rest) in
-    grind (arith, common_steps, nat_tests)
+    grind (arith, common_steps, flat_map-append, length-append, count_append, nat_tests)
 
 circuit_on : (before rest : List CircuitLine) → length (defined (before ++ rest)) ≤ 4096 →
     gate_count (before ++ rest) ≤ 1024 → AreInOrder before rest → AreGoodAfter before rest →
@@ -87,14 +78,7 @@ few_wires n (g ∷ gs) =
     omega (arith, more, four)
   where
     at_most_four : (kind : GateKind) → defines kind ≤ 4
-    at_most_four (Source b) = omega arith
-    at_most_four Fredkin = omega arith
-    at_most_four Cswap = omega arith
-    at_most_four Interact = omega arith
-    at_most_four Switch = omega arith
-    at_most_four (Delay n) = omega arith
-    at_most_four Unswitch = omega arith
-    at_most_four Uninteract = omega arith
+    at_most_four kind = grind (arith, common_steps)
 
 -- ---- the plain lines can be written
 
@@ -161,8 +145,7 @@ filter_below test m (k ∷ ks) h = one (test k) (filter_below test m ks h.1)
   where
     one : (b : Bool) → AllByRecursion (λ k. k < m) (filter test ks) →
         AllByRecursion (λ k. k < m) (cond b (k ∷ filter test ks) (filter test ks))
-    one true more = (h.0, more)
-    one false more = more
+    one b h1 = grind (arith, common_steps)
 
 number_lines : (mk : ℕ → CertificateLine) → ((k : ℕ) → k < 10 ^ 9 → HasLine form_of (Item (mk k))) → (ks : List ℕ) →
     AreBelow 64 ks → Lines (map mk ks)
@@ -184,35 +167,20 @@ module _ (circuit : List CircuitLine) (p : Pattern) (design : IsDesign circuit p
   outs = outs_named circuit design.circuit_lines names
 
   within : IsWithin First p.size
-  within =
-      let wide = small.wide in
-      let high = small.high in
-      (omega (arith, wide), omega (arith, high), small.short)
+  within = grind (arith, common_steps)
 
   given : length (input_names circuit) ≡ (netlist_of circuit).given
   given = its_given First circuit p design.circuit_lines
       (layout_faultless circuit p design.size design.layout_lines design.ports ins outs First within) small
 
   wires : length (defined circuit) ≤ 4096
-  wires =
-      let are = wires_are_named circuit design.circuit_lines in
-      let few = few_wires (netlist_of circuit).given (netlist_of circuit).gates in
-      let gates = small.gates in
-      let inputs = small.inputs in
-      omega (arith, are, few, gates, inputs, given)
+  wires = grind (arith, common_steps, wires_are_named, few_wires, given)
 
   gates : gate_count circuit ≤ 1024
-  gates =
-      let few = small.gates in
-      let counted = gates_counted (defined circuit) circuit in
-      omega (arith, few, counted)
+  gates = grind (arith, common_steps, gates_counted)
 
   circuit_faultless : IsFaultless (circuit_grammar First) tt circuit
-  circuit_faultless = record {
-    header = refl;
-    each = circuit_on [] circuit wires gates design.in_order design.circuit_lines;
-    end = ap unconsumed_wire_code design.all_consumed;
-  }
+  circuit_faultless = grind (arith, common_steps, circuit_on, wires, gates)
 
   first : HasSection circuit_form tt circuit
   first = circuit_written circuit design.circuit_lines names
@@ -246,8 +214,7 @@ module _ (circuit : List CircuitLine) (p : Pattern) (design : IsDesign circuit p
 
   -- the text has the first limits
   its_limits : text_limits (flat_map with_line_feed lines) ≡ First
-  its_limits = ap limits_of (lines_again lines clean)
-      ∙ first_limits first.lines (second.lines ++ third.lines) circuit first.is
+  its_limits = grind (arith, common_steps, lines_again, clean, first_limits, first, second, third)
 
   its_lines : section_lines (flat_map with_line_feed lines) ≡ lines
   its_lines = (has_front First (flat_map with_line_feed lines) its_limits).lines ∙ lines_again lines clean
@@ -282,16 +249,8 @@ module _ (circuit : List CircuitLine) (p : Pattern) (design : IsDesign circuit p
         version = 1;
         entries = plain_lines circuit p;
       } in
-      let sections : HasSections (flat_map with_line_feed lines) b = record {
-        first = first.lines;
-        second = second.lines;
-        third = third.lines;
-        lines = its_lines;
-        rest = nothing_follows lines clean;
-        circuit_is = first.is;
-        layout_is = second.is;
-        certificate_is = third.is;
-      } in
+      let sections : HasSections (flat_map with_line_feed lines) b =
+      grind (arith, common_steps, first, second, third, its_lines, nothing_follows, clean) in
       text_is (flat_map with_line_feed lines) b sections
       ∙ ap (λ l. front_text l ++ bundle_text b) its_limits
       ∙ append_assoc (circuit_text circuit) (layout_text p) (certificate_text
@@ -351,10 +310,7 @@ module _ (text : List ℕ) (circuit : List CircuitLine) (p : Pattern) (t : IsPla
     certificate = plain_lines circuit p;
     says = said;
     stops = subst (All (StopHolds (circuit_of circuit) p)) (sym no_stops) (All-nil (StopHolds (circuit_of circuit) p));
-    on_time = subst (AreOnTime (circuit_of circuit)) (sym no_stops) (record {
-      delays = λ k steps a b is. absurd (none k steps a b is);
-      meetings = λ k g at. (0, λ w s has last. absurd (let lt = last.seen.1 in omega (arith, lt)));
-    });
+    on_time = grind (arith, common_steps, no_stops);
   }
 
 pub each_is_decided : EachSmallDesignIsDecided

@@ -5,26 +5,24 @@ use Rattle.headline.proofs.Imports.{None, Option, Out, Pattern, Port, PortNameLi
 use Rattle.headline.proofs.Imports.{SomethingMissing, TakenCell, Waste, [], and_parts, any_at, ap, append-nil, ap₂}
 use Rattle.headline.proofs.Imports.{arith, box_of, bytes_same, cell, cell_fault, code_if, codes, common_steps}
 use Rattle.headline.proofs.Imports.{corner_and_sides, decimal, false, has, if_one_word, in_box, in_layout, input_names}
-use Rattle.headline.proofs.Imports.{is_inside, is_layout_side, is_name, is_taken, is_word_at, layout_grammar}
-use Rattle.headline.proofs.Imports.{layout_line_fault, limit_fault, line_fault, list_all, list_any, map, name_at}
-use Rattle.headline.proofs.Imports.{nat_tests, no_code, not, number_at, number_written, option_map}
-use Rattle.headline.proofs.Imports.{or_else, output_names, parts_of, port_names_of, refl, size_fault, slice_get}
-use Rattle.headline.proofs.Imports.{slice_get-map, subst, suc, sym, true, whole, ℕ, ◌&&◌, ◌++◌, ◌+◌, ◌<◌, ◌>>=◌, ◌^◌}
-use Rattle.headline.proofs.Imports.{◌||◌, ◌∙◌, ◌∷◌, ◌≡◌, ◌≤◌}
+use Rattle.headline.proofs.Imports.{is_inside, is_name, is_taken, is_word_at, layout_grammar, layout_line_fault}
+use Rattle.headline.proofs.Imports.{limit_fault, line_fault, list_all, list_any, map, name_at, nat_tests, no_code, not}
+use Rattle.headline.proofs.Imports.{number_at, number_written, option_map, or_else, output_names, parts_of}
+use Rattle.headline.proofs.Imports.{port_names_of, refl, size_fault, slice_get, slice_get-map, subst, suc, sym, true}
+use Rattle.headline.proofs.Imports.{whole, ℕ, ◌&&◌, ◌++◌, ◌+◌, ◌<◌, ◌>>=◌, ◌^◌, ◌||◌, ◌∙◌, ◌∷◌, ◌≡◌, ◌≤◌}
 use Rattle.lemmas.proofs.Common.{at_most_by_test}
-use Rattle.section_text.specs.declared.code.RefusalCode.TheVariants.{UnknownName}
+use Rattle.lemmas.proofs.Common.{not_lt_test}
 use Rattle.module_box.proofs.BoxCells.{in_box_nats}
 use Rattle.pattern.specs.Forms.{cell_of_words_from, form_of, cell_after_keyword, port_after_keyword, port_of}
 use Rattle.pattern.specs.Forms.{sides_and_steps, size_of}
 use Rattle.pattern.specs.Lines.{AreGoodAfter, is_in_line_named, has_later_kind_before, is_out_line_named, missing_fault}
 use Rattle.pattern.specs.Lines.{name_fault, order_fault, rank_of}
+use Rattle.pattern.specs.Lines.{text_limit_fault, text_size_fault}
 use Rattle.soundness.proofs.PortNames.{in_lines, out_lines}
 use Rattle.headline.proofs.Written.{HasLine, HasSection, has_section, line_by, name_word}
 use Rattle.headline.proofs.WrittenCircuits.{AreNames, decimal_word, has_name, named}
-use Rattle.lemmas.proofs.Common.{not_lt_test}
 use Rattle.section_text.specs.declared.limits.Limits.{Limits}
 use Rattle.section_text.specs.Limits.{most_side, most_steps}
-use Rattle.pattern.specs.Lines.{text_limit_fault, text_size_fault}
 use Rattle.lemmas.specs.Bounds.{max_side, max_steps}
 
 -- ---- sizes
@@ -34,12 +32,9 @@ pub record HasLimits (s : LayoutHeader) : Type 0 where
   pub high : s.h ≤ max_side
   pub long : s.steps ≤ max_steps
 
-side_below : (n : ℕ) → is_layout_side n ≡ true → n ≤ max_side
-side_below n h = grind (arith, nat_tests, h)
-
 pub has_limits : (s : LayoutHeader) → size_fault s ≡ None → HasLimits s
 unfolding size_fault
-has_limits s e = grind (arith, common_steps, no_code, and_parts, side_below, at_most_by_test)
+has_limits s e = grind (arith, common_steps, no_code, and_parts, at_most_by_test)
 
 -- ---- lines
 
@@ -141,8 +136,7 @@ module _ (s : LayoutHeader) (l : HasLimits s) where
   IsPortName names _ = Unit {0}
 
   first_holds : (a b : Bool) → code_if (not a || b) TakenCell ≡ None → a ≡ true
-  first_holds true b e = refl
-  first_holds false b e = absurd cc
+  first_holds a b h1 = grind (arith, common_steps)
 
   pub inside : (before : List LayoutLine) (part : LayoutLine) → cell_fault s before part ≡ None →
       is_inside s part ≡ true
@@ -222,9 +216,7 @@ in_order p =
 name_ok : (s : LayoutHeader) (l : HasLimits s) (names : PortNameLists) (part : LayoutLine) → IsPortName s l names part →
     name_fault (Some names) part ≡ None
 unfolding name_fault
-name_ok s l names (In q) n = ap (λ b. code_if (not b) UnknownName) n.1
-name_ok s l names (Out q) n = ap (λ b. code_if (not b) UnknownName) n.1
-name_ok s l names _ n = refl
+name_ok s l names part h1 = grind (arith, common_steps)
 
 all_none : (a b c d : Option RefusalCode) → a ≡ None → b ≡ None → c ≡ None → d ≡ None →
     or_else (or_else a (or_else b c)) d ≡ None

@@ -1,34 +1,22 @@
 -- The inputs and the outputs of a good circuit have names, if its wires do
-use Rattle.headline.proofs.Imports.{AreGoodAfter, Bool, CircuitLine, Have, List, [], arith, common_steps, cond}
-use Rattle.headline.proofs.Imports.{consume_have, consumed, defined, false, flat_map-append, if◌then◌else◌, input_names}
-use Rattle.headline.proofs.Imports.{names_pass, output_names, push_cons, refl, subst, sym, true, ℕ, ◌++◌, ◌∷◌}
+use Rattle.headline.proofs.Imports.{AreGoodAfter, Bool, CircuitLine, Have, List, [], arith, common_steps, consume_have}
+use Rattle.headline.proofs.Imports.{consumed, defined, flat_map-append, if◌then◌else◌, input_names, names_pass}
+use Rattle.headline.proofs.Imports.{output_names, push_cons, refl, subst, sym, ℕ, ◌++◌, ◌∷◌}
 use Rattle.circuit.specs.Bridge.{is_output}
 use Rattle.circuit.proofs.Places.{have_left}
 use Rattle.headline.proofs.WrittenCircuits.{AreNames, have_names, names_both, names_left, names_right}
 
-if_names : (b : Bool) (ns : List (List ℕ)) → AreNames ns → AreNames (cond b ns [])
-if_names true ns h = h
-if_names false ns h = refl
-
 pub input_named : (circuit : List CircuitLine) → AreNames (defined circuit) → AreNames (input_names circuit)
 input_named [] h = refl
 input_named (r ∷ circuit) h =
-    grind (
-      arith,
-      names_both,
-      if_names,
-      names_left,
-      names_right,
-      (input_named circuit (names_right r.outs (defined circuit) h)),
-    )
+    grind (arith, names_both, names_left, names_right, (input_named circuit (names_right r.outs (defined circuit) h)))
 
 have_append : (d xs ys : List (List ℕ)) → Have d xs → Have d ys → Have d (xs ++ ys)
 have_append d [] ys h k = k
 have_append d (x ∷ xs) ys h k = (h.0, have_append d xs ys h.1 k)
 
 have_if : (d ns : List (List ℕ)) (b : Bool) → Have d ns → Have d (if b then ns else [])
-have_if d ns true h = h
-have_if d ns false h = tt
+have_if d ns b h1 = grind (arith, common_steps)
 
 pub outs_have : (before rest : List CircuitLine) → AreGoodAfter before rest → Have (defined (before ++ rest))
     (output_names rest)

@@ -1,15 +1,13 @@
 -- A text that is not refused begins with the design that it says, and one that is reported with a yes is right.
 use Rattle.headline.proofs.Imports.{All, All-cons, All-from_recursion, All-nil, All-tail, AllByRecursion, AreGoodAfter}
 use Rattle.headline.proofs.Imports.{Ball, Cell, CircuitLine, In, IsDesign, IsForm, IsLine, IsTrue, LayoutHeader}
-use Rattle.headline.proofs.Imports.{LayoutLine, List, Mirror, Out, Pattern, PortNameLists, Waste, []}
-use Rattle.headline.proofs.Imports.{ap₂, arith, circuit_text, codes, common_steps, consume_have, consumed}
-use Rattle.headline.proofs.Imports.{defined, is_name, layout_text, map, names_pass, part_form, parts_of}
-use Rattle.headline.proofs.Imports.{port_names_of, pos, refl, subst, sym, true, ℕ, ℤ, ◌++◌, ◌<◌, ◌^◌, ◌∙◌, ◌∷◌, ◌≡◌}
+use Rattle.headline.proofs.Imports.{LayoutLine, List, Mirror, Out, Pattern, PortNameLists, Waste, [], ap₂, arith}
+use Rattle.headline.proofs.Imports.{circuit_text, codes, common_steps, consume_have, consumed, defined, is_name}
+use Rattle.headline.proofs.Imports.{layout_text, map, names_pass, part_form, parts_of, port_names_of, pos, refl, subst}
+use Rattle.headline.proofs.Imports.{sym, true, ℕ, ℤ, ◌++◌, ◌<◌, ◌^◌, ◌∙◌, ◌∷◌, ◌≡◌}
 use Rattle.meaning.specs.Printed.{BeginsWithDesign, IsFront, layout_forms}
-use Rattle.meaning.specs.Design.{front_text, text_limits}
-use Rattle.headline.proofs.Imports.{inl, inr}
+use Rattle.meaning.specs.Design.{front_text}
 use Rattle.section_text.specs.declared.limits.Limits.{Limits}
-use Rattle.section_text.specs.declared.limits.Limits.TheVariants.{First, Second}
 use Rattle.headline.specs.Laws.{TextBeginsWithReadDesign, RightSaysCorrectDesign, YesMeansRight}
 use Rattle.headline.proofs.Printed.{IsNumber, are_names, circuit_lines, circuit_same, counts_of, layout_same}
 use Rattle.headline.proofs.Printed.{other_forms, parts_read, printed_is_read, size_form}
@@ -20,8 +18,8 @@ use Rattle.headline.proofs.WrittenLayouts.{HasLimits, IsNumbered, IsPortName, ha
 use Rattle.headline.proofs.WrittenLayouts.{ports_named, small_mirror}
 use Rattle.headline.proofs.WrittenNames.{input_named, outs_named}
 use Rattle.headline.proofs.YesIsRight.{good_designs, not_refused, yes_is_right_as_read}
-use Rattle.pattern.specs.Lines as lines
 use Rattle.lemmas.specs.Bounds.{max_side, max_steps}
+use Rattle.pattern.specs.Lines as lines
 
 lines_formed : (before rest : List CircuitLine) → AreGoodAfter before rest → AreNames (defined before) →
     AreNames (defined rest) → AllByRecursion IsLine rest
@@ -108,8 +106,7 @@ module _ (circuit : List CircuitLine) (p : Pattern) (design : IsDesign circuit p
       (input_named circuit wires) (outs_named circuit design.circuit_lines wires))))
 
 is_front : (l : Limits) → IsFront (front_text l)
-is_front First = inl refl
-is_front Second = inr refl
+is_front l = grind (arith, common_steps)
 
 -- a text that begins with the sections of a design, in their one spelling, begins with the design
 pub design_printed : (l : Limits) (text rest : List ℕ) (circuit : List CircuitLine) (p : Pattern) →
@@ -133,9 +130,7 @@ design_printed l text rest circuit p design e =
 pub read_is_printed : TextBeginsWithReadDesign
 read_is_printed text output outcome circuit p reports some says =
     let good = good_designs text output outcome circuit p reports some says in
-    design_printed (text_limits text) text good.rest circuit p
-    (designs_are_read text output outcome circuit p reports some says)
-    good.begins
+    grind (arith, common_steps, design_printed, designs_are_read)
 
 pub yes_is_right : YesMeansRight
 yes_is_right text output says = grind (arith, common_steps, yes_is_right_as_read, read_is_printed, not_refused)

@@ -6,23 +6,22 @@ use Rattle.headline.proofs.Imports.{IsVerdict, Item, JobView, LayoutHeader, Layo
 use Rattle.headline.proofs.Imports.{OutOfOrder, Outcome, Pattern, PortNameLists, Refusal, RefusalCode, Refused, Result}
 use Rattle.headline.proofs.Imports.{SaysBundle, SaysDesign, SaysReport, Some, StopHolds, StopLine, Verdict, Yes, []}
 use Rattle.headline.proofs.Imports.{added_line_code, all_in_modules, all_stops, ap, append-nil, append_assoc, ap₂}
-use Rattle.headline.proofs.Imports.{arith}
-use Rattle.headline.proofs.Imports.{bundle_of, bundle_with, bytes_after_last_line_feed, certificate_grammar}
-use Rattle.headline.proofs.Imports.{circuit_grammar}
-use Rattle.headline.proofs.Imports.{circuit_of, circuit_text, common_steps, cond, consumed, defined, drop, eqb}
-use Rattle.headline.proofs.Imports.{faultless_named, flat_map, unconsumed_wire_code}
-use Rattle.headline.proofs.Imports.{flat_map-append, form_of, gates_are_ordered, inputs_are_first, layout_grammar}
-use Rattle.headline.proofs.Imports.{layout_of, layout_section, layout_text, length, lines_of, modules_in, modules_of}
-use Rattle.headline.proofs.Imports.{nat_lt, netlist_of, or_else, order_fault, parts_of, port_names_of, read_faultless}
-use Rattle.headline.proofs.Imports.{refl, report_text, section_of, setting_of, stop_in, stops_meant, subst, sym, take}
-use Rattle.headline.proofs.Imports.{take-append-drop, value_if_at_end, verdict_outcome, with_line_feed, words_of, ℕ}
-use Rattle.headline.proofs.Imports.{◌++◌, ◌+◌, ◌∙◌, ◌∷◌, ◌≡◌, ◌≢◌, ◌≤◌}
+use Rattle.headline.proofs.Imports.{arith, bundle_of, bundle_with, bytes_after_last_line_feed, certificate_grammar}
+use Rattle.headline.proofs.Imports.{circuit_grammar, circuit_of, circuit_text, common_steps, cond, consumed, defined}
+use Rattle.headline.proofs.Imports.{drop, eqb, faultless_named, flat_map, unconsumed_wire_code, flat_map-append}
+use Rattle.headline.proofs.Imports.{form_of, gates_are_ordered, inputs_are_first, layout_grammar, layout_of}
+use Rattle.headline.proofs.Imports.{layout_section, layout_text, length, lines_of, modules_in, modules_of, nat_lt}
+use Rattle.headline.proofs.Imports.{netlist_of, or_else, order_fault, parts_of, port_names_of, read_faultless, refl}
+use Rattle.headline.proofs.Imports.{report_text, section_of, setting_of, stop_in, stops_meant, subst, sym, take}
+use Rattle.headline.proofs.Imports.{take-append-drop, verdict_outcome, with_line_feed, words_of, ℕ, ◌++◌, ◌+◌, ◌∙◌, ◌∷◌}
+use Rattle.headline.proofs.Imports.{◌≡◌, ◌≢◌, ◌≤◌}
 use Rattle.lemmas.proofs.Common.{ltb-false}
 use Rattle.section_text.specs.Section.{refused_if_code, result_after_line, result_after_header, section_body_of}
 use Rattle.circuit.specs.Text.{Line}
 use Rattle.section_text.specs.Sections.{continue_after_section}
 use Rattle.circuit.specs.Entries.{rank_of}
 use Rattle.circuit.specs.Rules.{first_unconsumed, gate_count, last_rank}
+use Rattle.circuit.specs.Rules.{exceeds_text_limit}
 use Rattle.circuit.proofs.Valuations.{at_most_one}
 use Rattle.circuit.proofs.Bridging.{count_append}
 use Rattle.circuit.proofs.Fitting.{entry_fits, no_gate_still, no_gate_yet}
@@ -38,16 +37,15 @@ use Rattle.headline.proofs.Designs.{bundle_said, design_said, one_design}
 use Rattle.headline.proofs.FourthLines.{refusal_says_none, says_yes, yes_says}
 use Rattle.circuit.proofs.RoundTrip.{prints_what_is_read as circuit_printed}
 use Rattle.pattern.proofs.RoundTrip.{prints_what_is_read as layout_printed}
-use Rattle.pattern.specs.Lines as lines
-use Rattle.core_book.specs.declared.verdict.Verdict.TheVariants as verdict
 use Rattle.section_text.specs.declared.limits.Limits.{Limits}
 use Rattle.meaning.specs.Design.{front_text, section_lines, text_limits}
 use Rattle.meaning.proofs.Fronts.{front_and_lines}
 use Rattle.section_text.specs.Codes.{code_if}
 use Rattle.section_text.specs.Limits.{front_lines}
 use Rattle.section_text.specs.declared.code.RefusalCode.TheVariants.{PastLimit}
-use Rattle.circuit.specs.Rules.{exceeds_text_limit}
 use Rattle.section_text.proofs.Codes.{both_none}
+use Rattle.pattern.specs.Lines as lines
+use Rattle.core_book.specs.declared.verdict.Verdict.TheVariants as verdict
 
 -- ---- the lines of a circuit that is read are good
 
@@ -64,14 +62,9 @@ still : (before : List CircuitLine) (r : CircuitLine) → last_rank before ≤ r
     HasNoGateYet (before ++ r ∷ [])
 still before r h e = grind (arith, common_steps, count_append, last_rank_push, no_gate_still)
 
-ok_of : (x y : Unit {0} × List CircuitLine) → ◌≡◌ {A = Result (Unit {0} × List CircuitLine) Refusal} (Ok x) (Ok y) →
-    x ≡ y
-ok_of x y e = cc
-
 unless_ok : (n : ℕ) (o : Option RefusalCode) (r : Result (Unit {0} × List CircuitLine) Refusal)
     (y : Unit {0} × List CircuitLine) → refused_if_code n o r ≡ Ok y → (o ≡ None) × (r ≡ Ok y)
-unless_ok n None r y e = (refl, e)
-unless_ok n (Some code) r y e = absurd cc
+unless_ok n o r y h1 = grind (arith, common_steps)
 
 line_good : (l : Limits) (words : List (List ℕ)) (ls : List (List ℕ)) (before : List CircuitLine) (n : ℕ)
     (rows : List CircuitLine)
@@ -106,7 +99,7 @@ line_good l words ls before n rows (Some (Item r)) f none e rec =
         t.good,
       );
     }
-line_good l words ls before n rows (Some End) f none e rec = grind (arith, common_steps, unless_ok, ok_of, append-nil)
+line_good l words ls before n rows (Some End) f none e rec = grind (arith, common_steps, unless_ok, append-nil)
 line_good l words ls before n rows _ f none e rec = absurd cc
 
 body_good : (l : Limits) (ls : List (List ℕ)) (before : List CircuitLine) (n : ℕ) (rows : List CircuitLine) →
@@ -176,8 +169,7 @@ spelled l from text circuit ports n p first second =
     }
 
 pub no_missing : (o : Option (List ℕ)) → unconsumed_wire_code o ≡ None → o ≡ None
-no_missing None e = refl
-no_missing (Some n) e = absurd cc
+no_missing o h1 = grind (arith, common_steps)
 
 pub record IsReadBundle (text : List ℕ) (b : Bundle) : Type 0 where
   pub circuit : AreGoodCircuitLines b.circuit
@@ -198,15 +190,7 @@ pub record WentOn {H I : Type 0} {B : Type 0} (read : Result (H × List I) Refus
 
 pub went_on : {H I : Type 0} {B : Type 0} (read : Result (H × List I) Refusal) (next : H → List I → Result B Refusal)
     (b : B) → continue_after_section read next ≡ Ok b → WentOn read next b
-went_on (Ok read) next b e = record { header = read.0; items = read.1; was = refl; then = e }
-went_on (Err refusal) next b e = absurd cc
-
-is_over : {B : Type 0} (n : ℕ) (ls : List (List ℕ)) (rest : List ℕ) (value b : B) →
-    value_if_at_end n ls rest value ≡ Ok b →
-    (ls ≡ []) × (rest ≡ []) × (value ≡ b)
-is_over n [] [] value b e = (refl, refl, cc)
-is_over n [] (c ∷ rest) value b e = absurd cc
-is_over n (l ∷ ls) rest value b e = absurd cc
+went_on read next b h1 = grind (arith, common_steps)
 
 abbrev pub past_circuit : List ℕ → Bundle → List (List ℕ)
 past_circuit text b = drop (length b.circuit + 2) (section_lines text)
@@ -230,7 +214,7 @@ pub record AreSections (text : List ℕ) (b : Bundle) : Type 0 where
 
 pub in_sections : (text : List ℕ) (b : Bundle) → bundle_of text ≡ Ok b → AreSections text b
 unfolding bundle_of bundle_with
-in_sections text b e = grind (arith, lines_of, is_over)
+in_sections text b e = grind (arith, lines_of)
 
 pub bundle_good : (text : List ℕ) (b : Bundle) → bundle_of text ≡ Ok b → IsReadBundle text b
 bundle_good text b e =
@@ -283,17 +267,7 @@ own_design text b output outcome circuit layout reads says said =
     (sym same.layout) good.layout in
     let begins = good.begins p same.layout in
     let one = one_design text b.circuit circuit p layout (good.says p same.layout) said in
-    subst (λ (cs : List CircuitLine). IsGoodDesign text cs layout) one.0
-    (subst (IsGoodDesign text b.circuit) one.1 (record {
-      circuit_lines = good.circuit;
-      all_consumed = good.all_consumed;
-      few_wires = good.few_wires;
-      size = (both_none _ _ whole.header).1;
-      text_size = (both_none _ _ whole.header).0;
-      layout_lines = laid_out (text_limits text) (Some (port_names_of b.circuit)) p.size [] (parts_of p) whole.each;
-      rest = begins.rest;
-      begins = begins.begins;
-    }))
+    grind (arith, common_steps, few_wires, both_none, laid_out)
 
 by_read : (text output : List ℕ) (outcome : Outcome) (circuit : List CircuitLine) (layout : Pattern)
     (read : Result Bundle Refusal) → bundle_of text ≡ read → AnswersOrRefuses SaysReport read output outcome →
@@ -310,8 +284,7 @@ good_designs text output outcome circuit layout says some said =
 -- ---- a yes
 
 is_yes : (v : Verdict) → Yes ≡ verdict_outcome v → v ≡ verdict.Yes
-is_yes verdict.Yes e = refl
-is_yes (verdict.No lines) e = absurd cc
+is_yes v h1 = grind (arith, common_steps)
 
 -- what is known of the certificate of a report
 pub known : (text : List ℕ) (b : Bundle) (output : List ℕ) (outcome : Outcome) → bundle_of text ≡ Ok b →
@@ -323,12 +296,7 @@ known text b output outcome reads says =
     let circuit : AreGoodCircuitLines c.circuit = subst AreGoodCircuitLines (sym same.circuit) good.circuit in
     let whole : IsFaultless (layout_grammar (text_limits text) (Some (port_names_of c.circuit))) c.layout.size
     (parts_of c.layout) =
-    subst (λ (q : LayoutHeader × List LayoutLine).
-    IsFaultless (layout_grammar (text_limits text) (Some (port_names_of c.circuit))) q.0 q.1)
-    (sym same.layout)
-    (subst (λ (cs : List CircuitLine).
-    IsFaultless (layout_grammar (text_limits text) (Some (port_names_of cs))) b.size b.parts)
-    (sym same.circuit) good.layout) in
+    grind (arith, common_steps) in
     record {
       ordered = gates_are_ordered c.circuit circuit;
       same = refl;

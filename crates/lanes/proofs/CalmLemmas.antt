@@ -1,10 +1,9 @@
 -- Which blocks are still known to stay, after cells or marks changed
 use Rattle.lanes.proofs.Imports.{AntiStays, AreCellNumbers, AreUnmarkedBlocksStable, BlockMarks, BlockPlaces, Bool}
 use Rattle.lanes.proofs.Imports.{ChangesCells, Even, HasWordsStrideRows, IsNotRowEnd, IsSameOutsidePart, IsStable}
-use Rattle.lanes.proofs.Imports.{IsWordSame, List}
-use Rattle.lanes.proofs.Imports.{MainStays, Odd, Partition, Planes, TurnsBlock, ap, arith, block_at, block_count}
-use Rattle.lanes.proofs.Imports.{by_eq_or_not, by_lt_or_le, common_steps, false, false≢true, get_or, inl, inr}
-use Rattle.lanes.proofs.Imports.{mul-le-mul_left, refl, sym, true, ℕ, ◌*◌, ◌+◌, ◌-◌, ◌<◌, ◌≡◌, ◌≢◌, ◌≤◌}
+use Rattle.lanes.proofs.Imports.{IsWordSame, List, MainStays, Odd, Partition, Planes, TurnsBlock, ap, arith, block_at}
+use Rattle.lanes.proofs.Imports.{block_count, by_eq_or_not, by_lt_or_le, common_steps, false, false≢true, get_or, inl}
+use Rattle.lanes.proofs.Imports.{inr, mul-le-mul_left, sym, true, ℕ, ◌*◌, ◌+◌, ◌-◌, ◌<◌, ◌≡◌, ◌≢◌, ◌≤◌}
 use Rattle.lemmas.proofs.Common.{cases_Bool}
 use Rattle.lanes.specs.Calm.{MarksBlocks, UnmarksOnlyBlock}
 use Rattle.lanes.proofs.TurnLemmas.{anti_words, main_words}
@@ -21,8 +20,7 @@ odd_even e = false≢true (sym (ap is_odd e))
 -- the planes have the cells of each block
 pub cells_of : (part : Partition) (p : Planes) (u : ℕ) → u < block_count part p →
     AreCellNumbers (block_at part p.stride u) p
-cells_of Odd p u l = (l, l, l, l)
-cells_of Even p u l = (omega (arith, l), omega (arith, l), omega (arith, l), omega (arith, l))
+cells_of part p u h1 = grind (arith, common_steps)
 
 -- so they have those of each run of blocks
 abbrev pub AreRangeCellNumbers : BlockPlaces → ℕ → Planes → Type 0
@@ -31,10 +29,7 @@ AreRangeCellNumbers b n p = (b.odd + n ≤ p.stride * p.rows) × (b.right + n �
 
 pub range_cell_numbers : (part : Partition) (p : Planes) (first end : ℕ) → first < end → end ≤ block_count part p →
     AreRangeCellNumbers (block_at part p.stride first) (end - first) p
-range_cell_numbers Odd p first end l h =
-    (omega (arith, l, h), omega (arith, l, h), omega (arith, l, h), omega (arith, l, h))
-range_cell_numbers Even p first end l h =
-    (omega (arith, l, h), omega (arith, l, h), omega (arith, l, h), omega (arith, l, h))
+range_cell_numbers part p first end h1 h2 = grind (arith, common_steps)
 
 pub count_below : (part : Partition) (p : Planes) (u : ℕ) → u < block_count part p → u < p.stride * p.rows
 count_below Odd p u l = l
@@ -42,8 +37,7 @@ count_below Even p u l = omega (arith, l)
 
 pub same_count : (part : Partition) (p q : Planes) → HasWordsStrideRows p.words p.stride p.rows q →
     block_count part q ≡ block_count part p
-same_count Odd p q size = rw (size.1, size.2) refl
-same_count Even p q size = rw (size.1, size.2) refl
+same_count part p q h1 = grind (arith, common_steps)
 
 -- other blocks of a partition have other cells
 pub record AreApart (b c : BlockPlaces) : Type 0 where

@@ -4,8 +4,8 @@ use Rattle.lanes.proofs.Imports.{BlockPlaces, Even, HasWordsStrideRows, IsNotRow
 use Rattle.lanes.proofs.Imports.{IsWordSame, IsWordTurned, LiveMarks, Odd, Partition, Planes, TurnsBlock}
 use Rattle.lanes.proofs.Imports.{TurnsBlocksBetween, TurnsBlocksWhere, ap, arith, bit, bit-zero, block_at, block_count}
 use Rattle.lanes.proofs.Imports.{by_eq_or_not, by_lt_or_le, common_steps, div-add-mod, false, false≢true, inl, inr}
-use Rattle.lanes.proofs.Imports.{marks_of, mod-lt, mul-le-mul_left, refl, subst, sym, true, ℕ, ◌%◌, ◌*◌, ◌+◌, ◌/◌, ◌<◌}
-use Rattle.lanes.proofs.Imports.{◌∙◌, ◌≡◌, ◌≢◌, ◌≤◌, ◌⊎◌}
+use Rattle.lanes.proofs.Imports.{marks_of, mod-lt, mul-le-mul_left, subst, sym, true, ℕ, ◌%◌, ◌*◌, ◌+◌, ◌/◌, ◌<◌, ◌∙◌}
+use Rattle.lanes.proofs.Imports.{◌≡◌, ◌≢◌, ◌≤◌, ◌⊎◌}
 use Rattle.lanes.specs.Sweeps.{IsInRangeNotInWord, TurnsNamed}
 use Rattle.lanes.specs.Lanes.{TurnsCells}
 use Rattle.lanes.proofs.TurnLemmas.{calm_turned, half_turned}
@@ -100,8 +100,7 @@ passed_stay part p m l k end word calm dead short within says =
 -- whether a number is that of the last block of a row
 pub by_row_end : {A : Type 0} (part : Partition) (s n : ℕ) → (IsNotRowEnd part s n → A) →
     ((IsNotRowEnd part s n → ⊥) → A) → A
-by_row_end Odd s n inside last = inside (λ e. absurd (odd_even e))
-by_row_end Even s n inside last = by_eq_or_not ((n + 1) % s) 0 (λ e. last (λ h. h refl e)) (λ ne. inside (λ e. ne))
+by_row_end part s n h1 h2 = grind (arith, common_steps, odd_even)
 
 -- one more mark is cleared: its block is turned, or is the last one of its row
 pub one_more : (part : Partition) (p q r : Planes) (u first end rest rest' : ℕ) → OnePast first end rest rest' u →
@@ -151,9 +150,7 @@ word_more part p q r k end blocks size some within short whole s t =
     (λ n is. (omega arith, below_end k end blocks n whole is.0 is.1, is.2))
     (λ n is. (omega (arith, is.1), omega (arith, is.1), is.2))
     (join part p q r (64 * k) end size (omega arith)
-    (renamed p.words p.stride part (λ n. (n < 64 * k) × (n < blocks) × IsNotRowEnd part p.stride n)
-    (λ n. (0 ≤ n) × (n < 64 * k) × IsNotRowEnd part p.stride n) p q
-    (λ n is. (is.1, omega (arith, is.1), is.2)) (λ n is. (omega arith, is.0, is.2)) s) t)
+    (grind (arith, common_steps, renamed)) t)
 
 -- and those of a word without marks
 pub word_more_none : (part : Partition) (p q : Planes) (k blocks rest : ℕ) →

@@ -5,7 +5,7 @@ use Rattle.lanes.proofs.Imports.{HasWordsStrideRows, IsBlockEmpty, IsBlockHeld, 
 use Rattle.lanes.proofs.Imports.{IsWordTurned, KeepsCellsOutsideBlocks, List, LiveMarks, Odd, Partition, Planes}
 use Rattle.lanes.proofs.Imports.{TurnsBlock, TurnsBlocksBetween, ap, arith, bit, block_at, block_count, by_eq_or_not}
 use Rattle.lanes.proofs.Imports.{by_lt_or_le, cell_at, cell_word_bit, common_steps, false, false≢true, get_or, inl, inr}
-use Rattle.lanes.proofs.Imports.{marks_of, subst, sym, true, ℕ, ◌*◌, ◌+◌, ◌-◌, ◌<◌, ◌^◌, ◌∙◌, ◌≡◌, ◌≢◌, ◌≤◌, ◌⊎◌}
+use Rattle.lanes.proofs.Imports.{marks_of, subst, true, ℕ, ◌*◌, ◌+◌, ◌-◌, ◌<◌, ◌^◌, ◌≡◌, ◌≢◌, ◌≤◌, ◌⊎◌}
 use Rattle.lemmas.proofs.Common.{props, ∥∥₁_elim, ∥∥₁_map}
 use Rattle.lanes.specs.Blocks.{IsBlock}
 use Rattle.lanes.specs.Calm.{AreAllMarked, AreMarkedUnlessIn}
@@ -210,28 +210,15 @@ freezes_put main anti u b p q size ch free frozen =
     ∥∥₁_map frozen (λ h e. frozen_on Odd b p q size (stay (free e)) none (h e))
   where
     stay : IsUnmarked b.marks.odd.items u → MarkedStay Odd b.marks.odd.items p q
-    stay unmarked n m =
-        let ne : n ≢ u = λ e. false≢true (sym unmarked ∙ ap (cell_at b.marks.odd.items) (sym e) ∙ m) in
-        same_block (block_at Odd p.stride n) p q (λ k l. record {
-          odd = ch.odd_same n k l (λ t. ne);
-          right = ch.right_same n k l (λ t. ne);
-          down = ch.down_same n k l (λ t. ne);
-          even = ch.even_same n k l (λ t. ne);
-        })
+    stay unmarked n m = grind (arith, common_steps, false≢true, same_block)
 
     none : KeepsCellsOutsideBlocks Odd p q
-    none = record {
-      odd = λ v k h l. absurd (omega (arith, h));
-      right = λ v k h l. absurd (omega (arith, h));
-      down = λ v k h l. absurd (omega (arith, h));
-      even = λ v k h l. absurd (omega (arith, h));
-    }
+    none = grind (arith, common_steps)
 
 -- the blocks are frozen still, if they were not given up
 pub given_up : (b b' : FrozenBlocks) (u : ℕ) (p : Planes) →
     (b'.is_found ≡ true → (b' ≡ b) × IsUnmarked b.marks.odd.items u) → AreFrozenIfFound b p → AreFrozenIfFound b' p
-given_up b b' u p kept f = ∥∥₁_map f (λ h e. let k = kept e in
-    subst (λ (z : FrozenBlocks). IsFrozen z p) (sym k.0) (h (sym (ap (λ (z : FrozenBlocks). z.is_found) k.0) ∙ e)))
+given_up b b' u p kept f = ∥∥₁_map f (λ h e. grind (arith, common_steps))
 
 -- ---- marks on all blocks but the frozen ones, and on all cells but those of the frozen and empty ones
 pub active_stable : (b : FrozenBlocks) (m : BlockMarks) (p : Planes) → AreWords p → AreFrozenIfFound b p →

@@ -1,8 +1,8 @@
 -- Blocks that some of their cells hold
 use Rattle.lanes.proofs.Imports.{AreWords, BlockPlaces, Bool, HasValueUnderAll, IsStable, List, Planes, ap, arith, bit}
 use Rattle.lanes.proofs.Imports.{bit-zero, bit_ones, by_lt_or_le, cell_word_bit, common_steps, false, false≢true}
-use Rattle.lanes.proofs.Imports.{get_or, inl, inr, mul-le-mul_left, refl, true, turned, ℕ, ◌*◌, ◌+◌, ◌<◌, ◌||◌, ◌∙◌}
-use Rattle.lanes.proofs.Imports.{◌≡◌, ◌≤◌, ◌⊎◌}
+use Rattle.lanes.proofs.Imports.{get_or, inl, inr, mul-le-mul_left, true, turned, ℕ, ◌*◌, ◌+◌, ◌<◌, ◌||◌, ◌∙◌, ◌≡◌, ◌≤◌}
+use Rattle.lanes.proofs.Imports.{◌⊎◌}
 use Rattle.lemmas.proofs.Common.{or_left, or_right}
 use Rattle.bbm_rule.proofs.BitLemmas.{bit_above}
 use Rattle.bbm_rule.proofs.PlaneLemmas.{dead_block}
@@ -27,24 +27,10 @@ all_dead w at cells same k j lk lj = ap (λ (n : ℕ). bit n j) (same k lk) ∙ 
 -- ---- the rule on blocks whose diagonals both have a live cell, or none
 both_live : (a d b c : Bool) → (a || d) ≡ true → (b || c) ≡ true → turned a d b c ≡ a
 unfolding turned
-both_live true true true true e f = refl
-both_live true true true false e f = refl
-both_live true true false true e f = refl
-both_live true true false false e f = absurd (false≢true f)
-both_live true false true true e f = refl
-both_live true false true false e f = refl
-both_live true false false true e f = refl
-both_live true false false false e f = absurd (false≢true f)
-both_live false true true true e f = refl
-both_live false true true false e f = refl
-both_live false true false true e f = refl
-both_live false true false false e f = absurd (false≢true f)
-both_live false false b c e f = absurd (false≢true e)
+both_live a d b c h1 h2 = grind (arith, common_steps, false≢true)
 
 swap_live : (a d : Bool) → (a || d) ≡ true → (d || a) ≡ true
-swap_live true d e = or_right d true refl
-swap_live false true e = refl
-swap_live false false e = e
+swap_live a d h1 = grind (arith, common_steps, or_right)
 
 -- what a turn makes of four cells
 pub record TurnsBits (w : ℕ) (a b c d a' b' c' d' : ℕ → ℕ → Bool) : Type 0 where
@@ -84,8 +70,7 @@ calm_dead a b c d ea eb ec ed = grind (arith, common_steps, dead_block)
 one_live : (w : ℕ) (A D : Type 0) (a d : ℕ → ℕ → Bool) →
     (A × HasValueUnderAll true w a) ⊎ (D × HasValueUnderAll true w d) → (k j : ℕ) →
     k < w → j < 64 → (a k j || d k j) ≡ true
-one_live w A D a d (inl h) k j lk lj = or_left (a k j) (d k j) (h.1 k j lk lj)
-one_live w A D a d (inr h) k j lk lj = or_right (a k j) (d k j) (h.1 k j lk lj)
+one_live w A D a d h1 k j h2 h3 = grind (arith, common_steps, or_left, or_right)
 
 held_calm : (w : ℕ) (A B C D : Type 0) (a b c d : ℕ → ℕ → Bool) → IsBlockHeldByCorners w A B C D a b c d → (k j : ℕ) →
     k < w →
@@ -98,10 +83,7 @@ pub held_stable : (b : BlockPlaces) (p : Planes) (A B C D : Type 0) → AreWords
     IsBlockHeldByCorners p.words A B C D (cell_word_bit p.words p.odd.items b.odd)
     (cell_word_bit p.words p.right.items b.right) (cell_word_bit p.words p.down.items b.down)
     (cell_word_bit p.words p.even.items b.even) → IsStable b p
-held_stable b p A B C D words held = (
-  λ k l j. ((calm k j l).upper_left, (calm k j l).lower_right),
-  λ k l j. ((calm k j l).upper_right, (calm k j l).lower_left),
-)
+held_stable b p A B C D words held = (grind (arith, common_steps, calm))
   where
     calm : (k j : ℕ) → k < p.words →
         IsCalmAt (cell_word_bit p.words p.odd.items b.odd k j) (cell_word_bit p.words p.right.items b.right k j)
@@ -130,8 +112,7 @@ still_all w value a a' same all k j lk lj = same k j lk lj ∙ all k j lk lj
 one_still : (w : ℕ) (A D : Type 0) (a d a' d' : ℕ → ℕ → Bool) → (A → StaysBits w a a') → (D → StaysBits w d d') →
     (A × HasValueUnderAll true w a) ⊎ (D × HasValueUnderAll true w d) →
     (A × HasValueUnderAll true w a') ⊎ (D × HasValueUnderAll true w d')
-one_still w A D a d a' d' sa sd (inl h) = inl (h.0, still_all w true a a' (sa h.0) h.1)
-one_still w A D a d a' d' sa sd (inr h) = inr (h.0, still_all w true d d' (sd h.0) h.1)
+one_still w A D a d a' d' h1 h2 h3 = grind (arith, common_steps, still_all)
 
 -- an empty block is one still, if the cells that meet their conditions stay
 pub still_empty : (w : ℕ) (A B C D : Type 0) (a b c d a' b' c' d' : ℕ → ℕ → Bool) → (A → StaysBits w a a') →

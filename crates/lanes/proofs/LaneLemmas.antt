@@ -138,12 +138,7 @@ inner_lane p q size turns a x y la lx ly =
         AreCorners (λ x y. lane q a (1 + x) (1 + y)) i j (a % 64) (get_or q.even.items (place p i j (a / 64)) 0)
         (get_or q.down.items (place p (1 + i) j (a / 64)) 0) (get_or q.right.items (place p i (1 + j) (a / 64)) 0)
         (get_or q.odd.items (place p (1 + i) (1 + j) (a / 64)) 0)
-    between q i j words stride = record {
-      upper_left = (corners p q a i j words stride).lower_right;
-      upper_right = rw (next i) (corners p q a (1 + i) j words stride).lower_left;
-      lower_left = rw (next j) (corners p q a i (1 + j) words stride).upper_right;
-      lower_right = rw (next i, next j) (corners p q a (1 + i) (1 + j) words stride).upper_left;
-    }
+    between q i j words stride = grind (arith, common_steps, corners, next)
 
 -- where the words of all blocks are turned, one after another
 pub even_lane : (p q : Planes) → HasWordsStrideRows p.words p.stride p.rows q →

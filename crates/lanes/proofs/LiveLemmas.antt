@@ -4,8 +4,8 @@ use Rattle.lanes.proofs.Imports.{AreNumberCellsUnmarked, AreTurned, AreUnmarkedB
 use Rattle.lanes.proofs.Imports.{Bool, ChangesCells, DiagonalStays, HasWordsStrideRows, IsDeadCell, IsSameOutsidePart}
 use Rattle.lanes.proofs.Imports.{IsStable, IsUnmarked, List, LiveMarks, MainStays, Planes, SwapsPart, TakesMarkOfOther}
 use Rattle.lanes.proofs.Imports.{TurnsBlock, TurnsPart, ap, arith, bit, bit-zero, block_at, by_lt_or_le, common_steps}
-use Rattle.lanes.proofs.Imports.{false, get_or, get_or-set_other, get_or-set_same, inl, inr, is_main, length, not, refl}
-use Rattle.lanes.proofs.Imports.{set, sym, true, turned, ℕ, ◌*◌, ◌+◌, ◌-◌, ◌<◌, ◌∙◌, ◌≡◌, ◌≢◌, ◌≤◌, ◌⊎◌}
+use Rattle.lanes.proofs.Imports.{false, get_or, get_or-set_other, get_or-set_same, is_main, length, not, set, sym, true}
+use Rattle.lanes.proofs.Imports.{turned, ℕ, ◌*◌, ◌+◌, ◌-◌, ◌<◌, ◌∙◌, ◌≡◌, ◌≢◌, ◌≤◌, ◌⊎◌}
 use Rattle.lanes.specs.Calm.{AreAllCellsDead}
 use Rattle.lanes.specs.Live.{AreFirstCellsMarked, AreUnmarkedCellsDead, IsLone, MarksCellIf, MarksCells, SwapsMarks}
 use Rattle.lanes.specs.Live.{UnmarksOnlyDeadCells, UnmarksOnlyIfDead}
@@ -48,27 +48,17 @@ dead_stable b p odd right down even = grind (arith, common_steps, none_stays)
 -- ---- blocks of which one cell at most is live
 lone_here : (a b : Bool) → (a ≡ false) ⊎ (b ≡ false) → turned a b false false ≡ b
 unfolding turned
-lone_here false false e = refl
-lone_here false true e = refl
-lone_here true false e = refl
-lone_here true true (inl e) = sym e
-lone_here true true (inr e) = sym e
+lone_here a b h1 = grind (arith, common_steps)
 
 lone_beside : (a b : Bool) → (a ≡ false) ⊎ (b ≡ false) → turned false false a b ≡ false
 unfolding turned
-lone_beside false false e = refl
-lone_beside false true e = refl
-lone_beside true false e = refl
-lone_beside true true (inl e) = e
-lone_beside true true (inr e) = e
+lone_beside a b h1 = grind (arith, common_steps)
 
 one_dead : (x y j : ℕ) → (x ≡ 0) ⊎ (y ≡ 0) → (bit x j ≡ false) ⊎ (bit y j ≡ false)
-one_dead x y j (inl e) = inl (ap (λ n. bit n j) e ∙ bit-zero j)
-one_dead x y j (inr e) = inr (ap (λ n. bit n j) e ∙ bit-zero j)
+one_dead x y j h1 = grind (arith, common_steps, bit-zero)
 
 swapped : {A B : Type 0} → A ⊎ B → B ⊎ A
-swapped (inl a) = inr a
-swapped (inr b) = inl b
+swapped h1 = grind (arith, common_steps)
 
 main_moved : (x y b c x' y' : ℕ) → (x ≡ 0) ⊎ (y ≡ 0) → b ≡ 0 → c ≡ 0 → x' ≡ y → y' ≡ x → AreTurned x b c y x' b c y'
 main_moved x y b c x' y' one eb ec ex ey =
@@ -80,13 +70,11 @@ anti_moved a x y d x' y' one ea ed ex ey =
 
 one_word : (w a b k : ℕ) (xs ys : List ℕ) → k < w → IsDeadCell w a xs ⊎ IsDeadCell w b ys →
     (get_or xs (w * a + k) 0 ≡ 0) ⊎ (get_or ys (w * b + k) 0 ≡ 0)
-one_word w a b k xs ys l (inl d) = inl (d k l)
-one_word w a b k xs ys l (inr d) = inr (d k l)
+one_word w a b k xs ys h1 h2 = grind (arith, common_steps)
 
 either_dead : (w n a b : ℕ) (m o xs ys : List ℕ) → a < n → b < n → AreUnmarkedCellsDead w n m xs →
     AreUnmarkedCellsDead w n o ys → IsUnmarked m a ⊎ IsUnmarked o b → IsDeadCell w a xs ⊎ IsDeadCell w b ys
-either_dead w n a b m o xs ys la lb dead others (inl free) = inl (dead a la free)
-either_dead w n a b m o xs ys la lb dead others (inr free) = inr (others b lb free)
+either_dead w n a b m o xs ys h1 h2 h3 h4 h5 = grind (arith, common_steps)
 
 pub lone_turned : (d : Diagonal) (b : BlockPlaces) (l : LiveMarks) (p q : Planes) → AreCellNumbers b p → IsLone d l b →
     AllUnmarkedDead l p → SwapsDiagonal d b p q → TurnsBlock b p q

@@ -2,8 +2,8 @@
 use Rattle.lanes.proofs.Imports.{Bool, List, TakesMarkOfOther, ap, arith, bit, bit-and, bit-is, bit-xor, bit-zero}
 use Rattle.lanes.proofs.Imports.{bit_and, bit_at, bit_ones, bit_or, bit_xor, by_eq_or_not, by_lt_or_le, cell_at}
 use Rattle.lanes.proofs.Imports.{common_steps, false, false≢true, get_or, get_or-set_other, get_or-set_same, length}
-use Rattle.lanes.proofs.Imports.{mod-lt, not, refl, set, sym, trailing_zeros, true, w64, xor, ℕ, ◌%◌, ◌&&◌, ◌*◌, ◌/◌}
-use Rattle.lanes.proofs.Imports.{◌<◌, ◌^◌, ◌∙◌, ◌≡◌, ◌≢◌}
+use Rattle.lanes.proofs.Imports.{mod-lt, not, set, sym, trailing_zeros, true, w64, xor, ℕ, ◌%◌, ◌&&◌, ◌*◌, ◌/◌, ◌<◌}
+use Rattle.lanes.proofs.Imports.{◌^◌, ◌∙◌, ◌≡◌, ◌≢◌}
 use Rattle.bbm_rule.proofs.MarkLemmas.{bit_none, bit_one}
 use Rattle.bbm_rule.proofs.BitLemmas.{xor_false}
 use Rattle.lemmas.proofs.Common.{beq, bit_at-trailing_zeros, bit_at_set_other, bit_at_set_same, or_zero_l, xor_lt}
@@ -21,8 +21,7 @@ bit_elsewhere k j l ne = ap (λ (n : ℕ). bit n j) (sym (or_zero_l (one_at k)))
     ∙ rw (bit-is (bit_or 0 (one_at k)) j, bit_at_set_other w64 0 k l j ne) (sym (bit-is 0 j) ∙ bit-zero j)
 
 xor_true : (v : Bool) → xor v true ≡ not v
-xor_true true = refl
-xor_true false = refl
+xor_true v = grind (arith, common_steps)
 
 -- the first set bit of a word is cleared
 pub record ClearsFirst (w w' : ℕ) : Type 0 where
@@ -37,17 +36,8 @@ zeros_of_zero : trailing_zeros w64 0 ≡ 64
 zeros_of_zero = trailing_of_zero 64
 
 pub clears_first : (w : ℕ) → w ≢ 0 → w < 2 ^ 64 → ClearsFirst w (bit_xor w (one_at (trailing_zeros w64 w)))
-clears_first w some small = record {
-  within = found.0;
-  first = bit_one w _ found.1;
-  none = λ j l. bit_none w j (found.2 j l);
-  cleared = cleared;
-  elsewhere = elsewhere;
-  later = by_eq_or_not (bit_xor w (one_at (trailing_zeros w64 w))) 0
-      (λ e. let z : trailing_zeros w64 (bit_xor w (one_at (trailing_zeros w64 w))) ≡ 64 =
-      ap (trailing_zeros w64) e ∙ zeros_of_zero in omega (arith, z, found.0))
-      (λ ne. later_of (bit_xor w (one_at (trailing_zeros w64 w))) ne rest_small cleared elsewhere);
-}
+clears_first w some small =
+    grind (arith, common_steps, bit_one, bit_none, zeros_of_zero, found, rest_small, cleared, elsewhere, later_of)
   where
     found : (trailing_zeros w64 w < 64) × (bit_at w (trailing_zeros w64 w) ≡ 1)
         × ((j : ℕ) → j < trailing_zeros w64 w → bit_at w j ≡ 0)
@@ -96,16 +86,10 @@ took a b m o m' there elsewhere u free = grind (arith, common_steps, by_eq_or_no
 
 -- of two marks that differ, each is the other one flipped
 second_flipped : (r s : Bool) → beq r s ≡ false → not r ≡ s
-second_flipped true true e = absurd (false≢true (sym e))
-second_flipped true false e = refl
-second_flipped false true e = refl
-second_flipped false false e = absurd (false≢true (sym e))
+second_flipped r s h1 = grind (arith, common_steps, false≢true)
 
 first_flipped : (r s : Bool) → beq r s ≡ false → not s ≡ r
-first_flipped true true e = absurd (false≢true (sym e))
-first_flipped true false e = refl
-first_flipped false true e = refl
-first_flipped false false e = absurd (false≢true (sym e))
+first_flipped r s h1 = grind (arith, common_steps, false≢true)
 
 pub becomes_second : (v w r s : Bool) → r ≡ v → s ≡ w → beq r s ≡ false → not v ≡ w
 becomes_second v w r s ev ew e = ap not (sym ev) ∙ second_flipped r s e ∙ ew
@@ -115,8 +99,7 @@ becomes_first v w r s ev ew e = ap not (sym ew) ∙ first_flipped r s e ∙ ev
 
 -- ---- the numbers that lack a mark in one of two lists
 true_xor : (v : Bool) → xor true v ≡ not v
-true_xor true = refl
-true_xor false = refl
+true_xor v = grind (arith, common_steps)
 
 abbrev pub lacking : List ℕ → List ℕ → ℕ → ℕ
 lacking first second k = bit_xor 18446744073709551615 (bit_and (get_or first k 0) (get_or second k 0))

@@ -1,7 +1,7 @@
 -- Words of marks: numbers that have a mark in one list, and one in another
 use Rattle.lanes.proofs.Imports.{AreNumberCellsUnmarked, Bool, IsUnmarked, List, LiveMarks, ap, arith, bit, bit-and}
-use Rattle.lanes.proofs.Imports.{bit-zero, bit_and, bit_or, cell_at, common_steps, false, get_or, inl, inr, refl, true}
-use Rattle.lanes.proofs.Imports.{ℕ, ◌%◌, ◌&&◌, ◌/◌, ◌||◌, ◌∙◌, ◌≡◌, ◌⊎◌}
+use Rattle.lanes.proofs.Imports.{bit-zero, bit_and, bit_or, cell_at, common_steps, false, get_or, refl, ℕ, ◌%◌, ◌&&◌}
+use Rattle.lanes.proofs.Imports.{◌/◌, ◌||◌, ◌∙◌, ◌≡◌, ◌⊎◌}
 use Rattle.lemmas.proofs.Common.{or_parts}
 use Rattle.bbm_rule.proofs.BitLemmas.{bit-or}
 
@@ -21,8 +21,7 @@ unfolding cell_at
 cell_is marks q u e = rw e refl
 
 parts : (a b c : Bool) → (a && (b || c)) ≡ false → (a ≡ false) ⊎ ((b ≡ false) × (c ≡ false))
-parts true b c e = inr (or_parts b c e)
-parts false b c e = inl refl
+parts a b c h1 = grind (arith, common_steps, or_parts)
 
 -- none of the four cells has a mark, if the word has none
 pub word_of : (l : LiveMarks) (q a b c d : ℕ) → get_or l.odd.items q 0 ≡ a → get_or l.right.items q 0 ≡ b →
@@ -44,8 +43,7 @@ pub lacks_in_three : (word : ℕ) (a c d : List ℕ) (q u : ℕ) → u / 64 ≡ 
 lacks_in_three word a c d q u e none = grind (arith, common_steps, bit-and, bit-or, parts, or_parts, cell_is)
 
 and_lacks : (a b : Bool) → (a && b) ≡ false → (a ≡ false) ⊎ (b ≡ false)
-and_lacks true b e = inr e
-and_lacks false b e = inl refl
+and_lacks a b h1 = grind (arith, common_steps)
 
 pub lacks_live : (a : List ℕ) (l : LiveMarks) (w q u : ℕ) → IsWordOf l q w → u / 64 ≡ q →
     bit (bit_and (get_or a q 0) w) (u % 64) ≡ false → IsUnmarked a u ⊎ AreNumberCellsUnmarked l u

@@ -1,8 +1,8 @@
 -- A cell that is set, and its mark
 use Rattle.lanes.proofs.Imports.{AllUnmarkedDead, AreWords, Bool, IsDeadCell, IsUnmarked, List, LiveMarks, Planes, ap}
-use Rattle.lanes.proofs.Imports.{arith, bit, bit-zero, by_eq_or_not, cell_at, common_steps, div-add-mod, false, get_or}
-use Rattle.lanes.proofs.Imports.{lane, mod-lt, mul-le-mul_left, plane_of, refl, sym, ℕ, ◌%◌, ◌*◌, ◌+◌, ◌/◌, ◌<◌, ◌^◌}
-use Rattle.lanes.proofs.Imports.{◌∙◌, ◌≡◌, ◌≤◌, by_lt_or_le}
+use Rattle.lanes.proofs.Imports.{arith, bit, bit-zero, by_eq_or_not, common_steps, div-add-mod, false, get_or, lane}
+use Rattle.lanes.proofs.Imports.{mod-lt, mul-le-mul_left, plane_of, refl, sym, ℕ, ◌%◌, ◌*◌, ◌+◌, ◌/◌, ◌<◌, ◌^◌, ◌∙◌}
+use Rattle.lanes.proofs.Imports.{◌≡◌, ◌≤◌}
 use Rattle.bbm_rule.specs.Rows.{SetsPlace}
 use Rattle.lanes.specs.Lanes.{SetsCell, word_of}
 use Rattle.lanes.specs.Live.{SetsMark}
@@ -21,16 +21,7 @@ same_plane l x y x' y' ex ey = rw (ex, ey) refl
 sets_mark : (l l' : LiveMarks) (x y u : ℕ) (value : Bool) → SetsPlace u value (marks_at l x y) (marks_at l' x y) →
     ((x' y' : ℕ) → ((x' % 2 ≡ x % 2) × (y' % 2 ≡ y % 2) → ⊥) → marks_at l' x' y' ≡ marks_at l x' y') →
     SetsMark x y u value l l'
-sets_mark l l' x y u value sets others = record {
-  there = sets.there;
-  rest = λ x' y' v differ. by_eq_or_not (x' % 2) (x % 2)
-      (λ ex. by_eq_or_not (y' % 2) (y % 2)
-      (λ ey. ap (λ (m : List ℕ). cell_at m v) (same_plane l' x y x' y' ex ey)
-      ∙ sets.elsewhere v (λ e. differ (ex, ey, e))
-      ∙ ap (λ (m : List ℕ). cell_at m v) (sym (same_plane l x y x' y' ex ey)))
-      (λ ny. ap (λ (m : List ℕ). cell_at m v) (others x' y' (λ h. ny h.1))))
-      (λ nx. ap (λ (m : List ℕ). cell_at m v) (others x' y' (λ h. nx h.0)));
-}
+sets_mark l l' x y u value sets others = grind (arith, common_steps, same_plane)
 
 marks_odd : (l : LiveMarks) (x y : ℕ) → x % 2 ≡ 0 → y % 2 ≡ 0 → marks_at l x y ≡ l.odd.items
 unfolding marks_at
@@ -102,8 +93,7 @@ cells_of_planes l p dead x y lx ly free = grind (
 at_cell : (w s r x y i j : ℕ) (l : LiveMarks) (p : Planes) (m xs : List ℕ) → x / 2 ≡ i → y / 2 ≡ j →
     marks_at l x y ≡ m → plane_of p x y ≡ xs → i < s → j < r → AreCellsDead w s r l p → IsUnmarked m (s * j + i) →
     IsDeadCell w (s * j + i) xs
-at_cell w s r x y i j l p m xs ei ej em exs li lj dead =
-    let d = rw (ei, ej, em, exs) at (dead x y) in d li lj
+at_cell w s r x y i j l p m xs ei ej em exs li lj dead = grind (arith, common_steps)
 
 -- the four cells with a number
 four_cells : (w s r i j : ℕ) (l : LiveMarks) (p : Planes) → i < s → j < r → AreCellsDead w s r l p →
@@ -124,18 +114,7 @@ four_cells w s r i j l p li lj dead = (
 
 -- the column and the row of a number
 place_of_number : (s r u : ℕ) → u < s * r → (u % s < s) × (u / s < r) × (s * (u / s) + u % s ≡ u)
-place_of_number s r u l = (
-  mod-lt u (positive l),
-  by_lt_or_le (u / s) r (λ h. h) (λ h. let m : s * r ≤ s * (u / s) = mul-le-mul_left s h in
-      absurd (omega (arith, m, l, parts))),
-  parts,
-)
-  where
-    positive : u < s * r → 0 < s
-    positive h = by_lt_or_le 0 s (λ g. g) (λ g. let e : s ≡ 0 = omega (arith, g) in absurd (omega (arith, rw e at h)))
-
-    parts : s * (u / s) + u % s ≡ u
-    parts = div-add-mod u s
+place_of_number s r u l = grind (arith, common_steps, mod-lt, mul-le-mul_left, div-add-mod)
 
 -- and the other way round
 planes_of_cells : (l : LiveMarks) (q : Planes) (w s r : ℕ) → q.words ≡ w → q.stride ≡ s → q.rows ≡ r →
@@ -149,8 +128,7 @@ planes_of_cells l q w s r ew es er dead = rw (ew, es, er) (
 
 -- ---- words whose lanes are dead
 plane_small : (q : Planes) (x y k : ℕ) → AreWords q → get_or (plane_of q x y) k 0 < 2 ^ 64
-plane_small q x y k words =
-    grind (arith, common_steps, by_eq_or_not, plane_odd, plane_down, plane_right, plane_even)
+plane_small q x y k words = grind (arith, common_steps, plane_odd, plane_down, plane_right, plane_even)
 
 zero_by_lanes : (w s x y k : ℕ) (q : Planes) → q.words ≡ w → q.stride ≡ s → AreWords q →
     ((b : ℕ) → b < 64 → lane q (64 * k + b) x y ≡ false) →

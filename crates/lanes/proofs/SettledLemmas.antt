@@ -1,10 +1,8 @@
 -- Numbers whose cells have not changed since the last odd step
-use Rattle.lanes.proofs.Imports.{AreUnmarkedBlocksStable, BlockMarks, BlockPlaces, Bool, ChangesCells}
-use Rattle.lanes.proofs.Imports.{Even, HasWordsStrideRows, IsStable, IsUnmarked, Odd, Partition, Planes, inl, inr}
-use Rattle.lanes.proofs.Imports.{arith, block_at}
-use Rattle.lanes.proofs.Imports.{by_eq_or_not, by_lt_or_le, common_steps, lane, mul-le-mul_left, refl, turned, ℕ, ◌*◌}
-use Rattle.lanes.proofs.Imports.{◌+◌, ◌/◌, ◌<◌, ◌∙◌}
-use Rattle.lanes.proofs.Imports.{◌≡◌, ◌≤◌}
+use Rattle.lanes.proofs.Imports.{AreUnmarkedBlocksStable, BlockMarks, BlockPlaces, Bool, ChangesCells, Even}
+use Rattle.lanes.proofs.Imports.{HasWordsStrideRows, IsStable, IsUnmarked, Odd, Partition, Planes, inl, inr, arith}
+use Rattle.lanes.proofs.Imports.{block_at, by_eq_or_not, common_steps, lane, mul-le-mul_left, refl, turned, ℕ, ◌*◌, ◌+◌}
+use Rattle.lanes.proofs.Imports.{◌/◌, ◌<◌, ◌∙◌, ◌≡◌}
 use Rattle.bbm_rule.proofs.BlockRuns.{mate_lt}
 use Rattle.bbm_rule.proofs.PlaneLemmas.{mate_twice, turned_twice}
 use Rattle.bbm_rule.specs.Rows.{mate}
@@ -24,14 +22,7 @@ same_number u p = record { words = refl; stride = refl; cells = λ a x y la lx e
 
 -- nothing changes twice
 pub same_number_twice : (u : ℕ) (p q r : Planes) → IsSameAtNumber u p q → IsSameAtNumber u q r → IsSameAtNumber u p r
-same_number_twice u p q r e f =
-    let words = e.words in
-    let stride = e.stride in
-    record {
-      words = f.words ∙ e.words;
-      stride = f.stride ∙ e.stride;
-      cells = λ a x y la lx at. f.cells a x y (rw words la) (rw stride lx) (rw stride at) ∙ e.cells a x y la lx at;
-    }
+same_number_twice u p q r e f = grind (arith, common_steps)
 
 pub settled_once : (m : MarkedPlanes) → KeepsSettled m m
 settled_once m u is = (is, same_number u m.planes)
@@ -79,18 +70,13 @@ stays_turned q u a x y stable la at = block_lane q q a x y (refl, refl, refl)
 
 -- the row of a cell whose number is small
 row_below : (s r i y u : ℕ) → s * (y / 2) + i ≡ u → u < s * r → y < 2 * r
-row_below s r i y u at within = by_lt_or_le (y / 2) r (λ l. omega (arith, l))
-    (λ h. let m : s * r ≤ s * (y / 2) = mul-le-mul_left s h in absurd (omega (arith, m, at, within)))
+row_below s r i y u at within = grind (arith, common_steps, mul-le-mul_left)
 
 -- a block that stays after all were turned did not change, since a turn undoes itself
 pub same_after_turn : (m : BlockMarks) (p q : Planes) (u : ℕ) → HasWordsStrideRows p.words p.stride p.rows q →
     TurnsCells Odd p q → AreUnmarkedBlocksStable m q → u < p.stride * p.rows → IsUnmarked m.odd.items u →
     IsSameAtNumber u p q
-same_after_turn m p q u size turns calm within free = record {
-  words = size.0;
-  stride = size.1;
-  cells = same;
-}
+same_after_turn m p q u size turns calm within free = grind (arith, common_steps, same)
   where
     stable : IsStable (block_at Odd q.stride u) q
     stable = calm Odd u (rw (size.1, size.2) within, λ e. absurd (odd_even e)) free

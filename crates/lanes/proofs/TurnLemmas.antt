@@ -2,7 +2,7 @@
 use Rattle.lanes.proofs.Imports.{AreTurned, AreTurnedAt, BlockPlaces, DiagonalStays, IsSameOutsidePart, IsStable, List}
 use Rattle.lanes.proofs.Imports.{Planes, TurnsBlock, TurnsPart, ap, arith, bit, bit-is, bit-xor, bit-zero, bit_and}
 use Rattle.lanes.proofs.Imports.{bit_at, bit_or, bit_xor, common_steps, false, false≢true, get_or-drop, get_or-take}
-use Rattle.lanes.proofs.Imports.{inl, inr, length, not, not-false, refl, sym, xor, ℕ, ◌+◌, ◌<◌, ◌∙◌, ◌≡◌, ◌≤◌}
+use Rattle.lanes.proofs.Imports.{length, not, not-false, refl, sym, xor, ℕ, ◌+◌, ◌<◌, ◌∙◌, ◌≡◌, ◌≤◌}
 use Rattle.lemmas.proofs.Common.{◌↔◌, nat_eq, and_or_self, and_zero_l, bit_at-lt, eqb-true, or_comm, same_from_bits}
 use Rattle.lemmas.proofs.Common.{xor_assoc, xor_self, xor_zero_l, xor_zero_r}
 use Rattle.std.proofs.lemmas.Slice.{take-put_mid_below, drop-put_mid}
@@ -68,17 +68,11 @@ flips_none a f j e = grind (arith, common_steps, bit-xor, bit-zero, xor)
 
 pub main_stays : (ul ur ll lr : ℕ) → main_flips_of ul ur ll lr ≡ 0 → DiagonalStays ul lr ur ll
 main_stays ul ur ll lr e j =
-    let t = words_turned ul ur ll lr in (
-      sym (t.upper_left j) ∙ flips_none ul (main_flips_of ul ur ll lr) j e,
-      sym (t.lower_right j) ∙ flips_none lr (main_flips_of ul ur ll lr) j e,
-    )
+    let t = words_turned ul ur ll lr in grind (arith, common_steps, flips_none, main_flips_of)
 
 pub anti_stays : (ul ur ll lr : ℕ) → anti_flips_of ul ur ll lr ≡ 0 → DiagonalStays ur ll ul lr
 anti_stays ul ur ll lr e j =
-    let t = words_turned ul ur ll lr in (
-      sym (t.upper_right j) ∙ flips_none ur (anti_flips_of ul ur ll lr) j e,
-      sym (t.lower_left j) ∙ flips_none ll (anti_flips_of ul ur ll lr) j e,
-    )
+    let t = words_turned ul ur ll lr in grind (arith, common_steps, flips_none, anti_flips_of)
 
 pub calm_turned : (ul ur ll lr : ℕ) → DiagonalStays ul lr ur ll → DiagonalStays ur ll ul lr →
     AreTurned ul ur ll lr ul ur ll lr
@@ -92,14 +86,7 @@ word_of_bits a b same = same_from_bits a b (λ j. at_place j (same j))
     set_at n j m e = rw (bit-is n j, e) refl
 
     at_place : (j : ℕ) → bit a j ≡ bit b j → bit_at a j ≡ bit_at b j
-    at_place j e = elim (zero_or_one (bit_at a j) (bit_at-lt a j)) [
-      | inl p ↦ elim (zero_or_one (bit_at b j)
-          (bit_at-lt b
-          j)) [ inl q ↦ p ∙ sym q | inr q ↦ absurd (false≢true (sym (set_at a j 0 p) ∙ e ∙ set_at b j 1 q)) ]
-      | inr p ↦ elim (zero_or_one (bit_at b j)
-          (bit_at-lt b
-          j)) [ inl q ↦ absurd (false≢true (sym (set_at b j 0 q) ∙ sym e ∙ set_at a j 1 p)) | inr q ↦ p ∙ sym q ]
-    ]
+    at_place j e = grind (arith, common_steps, zero_or_one, bit_at-lt, false≢true, set_at)
 
 -- the words of a diagonal that stays are as they were
 pub main_words : (ul ur ll lr ul' ur' ll' lr' : ℕ) → DiagonalStays ul lr ur ll → AreTurned ul ur ll lr ul' ur' ll' lr' →

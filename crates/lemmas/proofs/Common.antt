@@ -26,7 +26,7 @@ pub use Rattle.std.proofs.lemmas.Bool.{OnTrue_from, and_from, and_parts, cases_B
 pub use Rattle.std.proofs.lemmas.Bool.{cond-false, cond-true, eqb-false, eqb-true, false_from_ne_true, false≢true}
 pub use Rattle.std.proofs.lemmas.Bool.{le-leb, le-ltb, leb-false, leb-true, lt-ltb, ltb-false, ltb-true, not-false}
 pub use Rattle.std.proofs.lemmas.Bool.{not-true, not_from_false, or_cases, or_left, or_parts, or_right}
-pub use Rattle.std.proofs.lemmas.Bool.Decides.{Decides-eqb, Decides-int_eq, eqb_tells, leb_tells, nat_tests}
+pub use Rattle.std.proofs.lemmas.Bool.Decides.{Decides-eqb, eqb_tells, leb_tells, nat_tests}
 pub use Rattle.std.proofs.lemmas.Bool.Decides.{same_from_decides}
 pub use Rattle.std.proofs.lemmas.Cmp.{int_cmp_total, nat_cmp_total, on_total, then_total, tied_itself, upto}
 pub use Rattle.std.proofs.lemmas.Grind.{common_steps, flat_map-append}

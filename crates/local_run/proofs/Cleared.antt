@@ -1,7 +1,7 @@
 -- Values that are cleared under the assignments under which some used gate lacks a row
-use Rattle.local_run.proofs.Imports.{AreRowsAt, AreValueRows, List, Netlist, Satisfies, Valuation, and-true, ap, arith}
-use Rattle.local_run.proofs.Imports.{bit, bit-and, bit_and, bit_of_row, by_lt_or_le, common_steps, length, subst, sym}
-use Rattle.local_run.proofs.Imports.{true, value_of, ℕ, ◌%◌, ◌*◌, ◌<◌, ◌∙◌, ◌≡◌, ◌≤◌}
+use Rattle.local_run.proofs.Imports.{AreRowsAt, AreValueRows, List, Netlist, Satisfies, Valuation, and-true, arith, bit}
+use Rattle.local_run.proofs.Imports.{bit-and, bit_and, bit_of_row, by_lt_or_le, common_steps, length, subst, sym, true}
+use Rattle.local_run.proofs.Imports.{value_of, ℕ, ◌%◌, ◌*◌, ◌<◌, ◌≡◌, ◌≤◌}
 use Rattle.lemmas.proofs.Common.{slice_index, mod-mul-add, mul_comm}
 use Rattle.module_box.specs.declared.values.ValueRows.{ValueRows}
 use Rattle.local_run.specs.Scans.{KeepsValuesWhereDefined}
@@ -25,12 +25,7 @@ pub rows_kept : (n : Netlist) (words : ℕ) (old new : ValueRows) → new.define
     new.undefined ≡ old.undefined → length new.values.items ≡ length old.values.items →
     KeepsValuesWhereDefined old.defined.items old.values.items new.values.items → AreValueRows n words old →
     AreValueRows n words new
-rows_kept n words old new whole lacking long keeps rows = record {
-  long = long ∙ rows.long;
-  tall = ap (λ v. length v.items) lacking ∙ rows.tall;
-  wide = ap (λ v. length v.items) whole ∙ rows.wide;
-  each = λ a small. at a small (rows.each a small);
-}
+rows_kept n words old new whole lacking long keeps rows = grind (arith, common_steps, at)
   where
     Stay : ℕ → Type 0
     Stay n = (a w : ℕ) → a < 64 * n → bit_of_row old.defined.items a ≡ true →

@@ -12,7 +12,6 @@ use Rattle.bbm_rule.proofs.SameCells.{cell_same, cell_itself}
 use Rattle.local_run.specs.Laws.{OneValuationDecidesFault}
 use Rattle.local_run.proofs.LocalRuns.{AgreeBelow, live_same, run_same}
 use Rattle.local_run.proofs.OwnWires.{demand_below}
-use Rattle.module_job.specs.declared.job.Demand.TheVariants as Demanded
 use Rattle.module_job.specs.declared.job.Stop as listed
 use Rattle.module_job.proofs.OwnSignals.{edge_below}
 
@@ -20,9 +19,7 @@ use Rattle.module_job.proofs.OwnSignals.{edge_below}
 meets_same : (n : ℕ) (u u' : Valuation) (d : Demand) (b : Bool) → AgreeBelow n u u' → IsDemandWireBelow n d →
     MeetsDemand u d b →
     MeetsDemand u' d b
-meets_same n u u' (Demanded.Wire w) b same below h = h ∙ same w below
-meets_same n u u' Demanded.Any b same below h = tt
-meets_same n u u' _ b same below h = h
+meets_same n u u' d b h1 h2 h3 = grind (arith, common_steps)
 
 own_stop : (j : JobView) (s : listed.Stop) → NamesOwnWires j → Contains j.stops s → s.wire < wires j.locals.netlist
 own_stop j s own h = subst (λ (r : listed.Stop). r.wire < wires j.locals.netlist) h.2 (own.stops h.0 s h.1)

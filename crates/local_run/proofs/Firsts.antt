@@ -1,12 +1,11 @@
 -- From the cells that were looked at, in order, to the first fault
 use Rattle.local_run.proofs.Imports.{Bool, Box2, Demand, Edge, End, HasNoFaultOfKind, IsFaultUnder, IsFaultWhereDefined}
 use Rattle.local_run.proofs.Imports.{IsFirstOfKind, IsKindSoughtAt, IsLeastBelow, IsScanStride, JobView, Kind}
-use Rattle.local_run.proofs.Imports.{MeetsDemand, None, Option, Signal, Some, Stop, Valuation, Values, and_from}
-use Rattle.local_run.proofs.Imports.{and_parts, ap, arith, assignments, box_coord, common_steps, false, false≢true}
-use Rattle.local_run.proofs.Imports.{in_box, in_ring, in_span, in_span-negsuc, ints, is_defined_under, is_live}
-use Rattle.local_run.proofs.Imports.{job_demand, local_run, negsuc, not, pos, refl, span_from, span_parts, subst, sym}
-use Rattle.local_run.proofs.Imports.{true, valuation, ℕ, ℤ, ◌&&◌, ◌+ℤ◌, ◌+◌, ◌-ℤ◌, ◌-◌, ◌<ℤ◌, ◌<◌, ◌∙◌, ◌≡◌, ◌≢◌, ◌≤◌}
-use Rattle.local_run.proofs.Imports.{◌⊎◌}
+use Rattle.local_run.proofs.Imports.{MeetsDemand, None, Option, Signal, Some, Valuation, Values, and_from, and_parts}
+use Rattle.local_run.proofs.Imports.{ap, arith, assignments, box_coord, common_steps, false, false≢true, in_box}
+use Rattle.local_run.proofs.Imports.{in_ring, in_span, in_span-negsuc, ints, is_defined_under, is_live, job_demand}
+use Rattle.local_run.proofs.Imports.{local_run, negsuc, not, pos, refl, span_from, span_parts, subst, sym, true}
+use Rattle.local_run.proofs.Imports.{valuation, ℕ, ℤ, ◌&&◌, ◌+ℤ◌, ◌+◌, ◌-ℤ◌, ◌-◌, ◌<ℤ◌, ◌<◌, ◌∙◌, ◌≡◌, ◌≢◌, ◌≤◌, ◌⊎◌}
 use Rattle.bbm_rule.proofs.RingTests.{ring_read}
 
 -- ---- numbers of columns and rows
@@ -37,8 +36,7 @@ inner_less c k m h = omega (arith, ints, h)
 -- ---- the least number
 pub least_map : (n : ℕ) (P Q : ℕ → Type 0) → ((a : ℕ) → a < n → P a → Q a) → ((a : ℕ) → a < n → Q a → P a) →
     (r : Option ℕ) → IsLeastBelow n P r → IsLeastBelow n Q r
-least_map n P Q f g None h = λ a l q. h a l (g a l q)
-least_map n P Q f g (Some a) h = (h.0, f a h.0 h.1, λ b l q. h.2 b l (g b (omega (arith, l, h.0)) q))
+least_map n P Q h1 h2 r h3 = grind (arith, common_steps)
 
 -- no cell but those of the ring has a fault of its edge
 pub edge_none : (j : JobView) (n : ℕ) (u : ℕ → Valuation) (t : ℕ) (k : Kind) (x y : ℤ) → Edge ≡ k →
@@ -65,9 +63,7 @@ edge_not_found j vs n t k x y e out a l f = edge_none j n (λ a. valuation vs a)
 fault_in_box : (j : JobView) (v : Valuation) (t : ℕ) (kind : Kind) (x y : ℤ) → IsKindSoughtAt j t kind →
     IsFaultUnder j v t kind x y → in_box j.area x y ≡ true
 unfolding in_ring
-fault_in_box j v t Edge x y s f = (and_parts _ _ f.ring).0
-fault_in_box j v t Stop x y s f = absurd s
-fault_in_box j v t End x y s f = f.inside
+fault_in_box j v t kind x y h1 h2 = grind (arith, common_steps, and_parts)
 
 abbrev pub FreeAt : JobView → Values → ℕ → Kind → ℕ → ℕ → ℕ → Type 0
 FreeAt j vs t kind x y a = ¬ IsFaultWhereDefined j vs a t kind (box_coord j.area.x x) (box_coord j.area.y y)
@@ -80,9 +76,7 @@ free_from j vs t kind s free x y a l f =
     let h = and_parts _ _ (fault_in_box j _ t kind x y s f.1) in
     let px = span_at j.area.x j.area.w x h.0 in
     let py = span_at j.area.y j.area.h y h.1 in
-    free px.number py.number a px.below py.below l
-    (subst (λ (z : ℤ). IsFaultWhereDefined j vs a t kind z (box_coord j.area.y py.number)) px.is
-    (subst (λ (z : ℤ). IsFaultWhereDefined j vs a t kind x z) py.is f))
+    grind (arith, common_steps)
 
 pub first_from : (j : JobView) (vs : Values) (t : ℕ) (kind : Kind) (x y a : ℕ) (cx cy : ℤ) → IsKindSoughtAt j t kind →
     cx ≡ box_coord j.area.x x → cy ≡ box_coord j.area.y y →
@@ -117,8 +111,7 @@ first_from j vs t kind x y a cx cy s ex ey lx ly rows cells least = rw (ex, ey) 
 
 -- ---- cells that are passed over
 none_of : (b : Bool) → (b && not (true && true)) ≡ false
-none_of true = refl
-none_of false = refl
+none_of b = grind (arith, common_steps)
 
 one_less : (c k : ℕ) → 1 ≤ k → box_coord c k -ℤ pos 1 ≡ pos (c + (k - 1))
 unfolding box_coord

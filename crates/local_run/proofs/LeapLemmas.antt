@@ -27,8 +27,7 @@ AreOther hs c k = (i : ℕ) (h : AllTimesSignal) → i < k → slice_get hs i �
 
 pub one_more_other : (hs : List AllTimesSignal) (c : Cell) (k : ℕ) (h : AllTimesSignal) → slice_get hs k ≡ Some h →
     is_at h.cell c.x c.y ≡ false → AreOther hs c k → AreOther hs c (k + 1)
-one_more_other hs c k h at differs other i g l e same =
-    grind (arith, common_steps, by_lt_or_le, false≢true, cell_itself)
+one_more_other hs c k h at differs other i g l e same = grind (arith, common_steps, false≢true, cell_itself)
 
 pub all_times_there : (hs : List AllTimesSignal) (k : ℕ) (c : Cell) (h : AllTimesSignal) → AreOther hs c k →
     slice_get hs k ≡ Some h → is_at h.cell c.x c.y ≡ true → all_times_at hs c.x c.y ≡ Some h.signal
@@ -135,12 +134,7 @@ no_new_faults j u t o n k x y of stays halos edges from l f =
     let same : local_run j u k x y ≡ local_run j u o x y =
     quiet_runs j u t o n of stays halos k x y from (omega arith) ∙ sym (stays o x y low (omega arith)) in
     let signal : signal_at j.edges k x y ≡ signal_at j.edges o x y = edges k x y (omega arith) l fk in
-    record {
-      odd = odd;
-      early = omega arith;
-      ring = f.ring;
-      differs = λ e. f.differs (same ∙ e ∙ sym (ap (is_live u) signal));
-    }
+    grind (arith, common_steps)
 
 -- ---- events by their times
 pub met : (es : List TimedSignal) (t low high : ℕ) → high ≤ low → IsTimePlaceBetween es t low high →
@@ -166,9 +160,7 @@ pub later_in_time : {A : Type 0} (at : A → Moment) (xs : List A) (i j : ℕ) (
     i ≤ j → slice_get xs i ≡ Some a → slice_get xs j ≡ Some b → (at a).time ≤ (at b).time
 later_in_time at xs i j a b rising le ea eb = by_lt_or_le i j
     (λ l. moment_less (at a) (at b) (rising.rises i j a b l ea eb))
-    (λ ge. let e : i ≡ j = omega arith in
-    let same : a ≡ b = same_Some a b (sym ea ∙ ap (slice_get xs) e ∙ eb) in
-    omega (arith, ap (λ c. (at c).time) same))
+    (λ ge. grind (arith, common_steps, same_Some, slice_get))
 
 later : (es : List TimedSignal) (i j : ℕ) (a b : TimedSignal) → IsRising moment_cmp moment_of es → i ≤ j →
     slice_get es i ≡ Some a →
@@ -193,8 +185,7 @@ drop_time es t low high m a rising b at le = grind (arith, common_steps, later)
 -- where an event is later, so are those behind it
 pub all_later : (es : List TimedSignal) (place t : ℕ) (a : TimedSignal) → IsRising moment_cmp moment_of es →
     slice_get es place ≡ Some a → t < a.at.time → AreLaterFrom es place t
-all_later es place t a rising at less i e from ei =
-    let le = later es place i a e rising from at ei in omega (arith, less, le)
+all_later es place t a rising at less i e from ei = grind (arith, common_steps, later)
 
 -- the bounds have met at an event: there is none between t and its time
 pub none_until : (es : List TimedSignal) (t low high n : ℕ) (a : TimedSignal) → IsRising moment_cmp moment_of es →

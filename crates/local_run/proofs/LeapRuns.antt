@@ -1,9 +1,9 @@
 -- Runs under all assignments that leap over times
 use Rattle.local_run.proofs.Imports.{Bool, HasSameSignalsAtOddTimes, IsJob, IsNextStop, IsOddOf, IsReady}
 use Rattle.local_run.proofs.Imports.{IsRunUnchangedUntil, JobView, Planes, Shows, Values, and_parts, arith, assignments}
-use Rattle.local_run.proofs.Imports.{box_coord, by_eq_or_not, by_lt_or_le, cases_Bool, common_steps, false, in_box}
-use Rattle.local_run.proofs.Imports.{in_span, inl, inr, local_run, subst, sym, valuation, ℕ, ℤ, ◌%◌, ◌+◌, ◌-◌, ◌<◌}
-use Rattle.local_run.proofs.Imports.{◌||◌, ◌∙◌, ◌≡◌, ◌≤◌, ◌⊎◌}
+use Rattle.local_run.proofs.Imports.{by_eq_or_not, by_lt_or_le, cases_Bool, common_steps, false, in_box, in_span, inl}
+use Rattle.local_run.proofs.Imports.{inr, local_run, subst, sym, valuation, ℕ, ℤ, ◌%◌, ◌+◌, ◌-◌, ◌<◌, ◌||◌, ◌∙◌, ◌≡◌}
+use Rattle.local_run.proofs.Imports.{◌≤◌, ◌⊎◌}
 use Rattle.lemmas.proofs.Common.{or_parts}
 use Rattle.local_run.specs.Leaps.{IsLeap}
 use Rattle.local_run.specs.Scans.{IsPassed}
@@ -29,9 +29,7 @@ same_runs j vs k m p is sk sm a la x y = elim (cases_Bool (in_box j.area x y)) [
       let px = span_at j.area.x j.area.w x h.0 in
       let py = span_at j.area.y j.area.h y h.1 in
       subst (λ (z : ℤ). local_run j (valuation vs a) k z y ≡ local_run j (valuation vs a) m z y) (sym px.is)
-      (subst (λ (z : ℤ). local_run j (valuation vs a) k (box_coord j.area.x px.number) z
-      ≡ local_run j (valuation vs a) m (box_coord j.area.x px.number) z) (sym py.is)
-      (sym (sk.cells a px.number py.number la px.below py.below) ∙ sm.cells a px.number py.number la px.below py.below))
+      (grind (arith, common_steps))
 ]
 
 shows_same : (j : JobView) (vs : Values) (k m : ℕ) (p : Planes) → Shows j vs m p → SameRuns j vs k m → Shows j vs k p
@@ -58,13 +56,8 @@ pub record InRun (j : JobView) (vs : Values) (t place : ℕ) (p : Planes) (chang
 one_next : (j : JobView) (vs : Values) (t old place : ℕ) (p q : Planes) (before changed : Bool) → IsReady j vs →
     InRun j vs t old p before → t < j.steps → IsPassed j vs t place →
     Shows j vs (t + 1) q → (changed ≡ false → Shows j vs t q) → InRun j vs (t + 1) place q changed
-one_next j vs t old place p q before changed ready run l passed next same = record {
-  shows = next;
-  early = omega arith;
-  next = passed.next;
-  free = free_more j vs t run.free passed.edges passed.stops;
-  still = λ e. (omega arith, same_as_before e);
-}
+one_next j vs t old place p q before changed ready run l passed next same =
+    grind (arith, common_steps, free_more, same_as_before)
   where
     same_as_before : changed ≡ false → SameRuns j vs (t + 1) (t + 1 - 1)
     same_as_before e = let back : t ≡ t + 1 - 1 = omega arith in

@@ -20,8 +20,7 @@ kind_of (suc (suc n)) = End
 
 kind_back : (k : Kind) → kind_of (kind_number k) ≡ k
 unfolding kind_of
-kind_back Edge = refl
-kind_back _ = refl
+kind_back k = grind (arith, common_steps)
 
 abbrev Key : Type 0
 Key = ℕ × (ℕ × ((ℤ × ℤ) × ℕ))

@@ -1,10 +1,10 @@
 -- From the first fault of a time and a kind to the least fault of the job
 use Rattle.local_run.proofs.Imports.{All, AreRowsAt, Edge, End, Equal, Fault, Greater, HasNoFaultOfKind, IsFault}
 use Rattle.local_run.proofs.Imports.{IsFaultWhereDefined, IsFirstOfKind, IsKeepFault, IsLeastBelow, IsLeastFault}
-use Rattle.local_run.proofs.Imports.{IsReady, IsTrue, JobView, KeepFault, Kind, Less, None, Option, Ordering, Some}
-use Rattle.local_run.proofs.Imports.{Stop, Values, arith, assignments, bit, by_lt_or_le, cases_Bool, cases_lt, cell_cmp}
+use Rattle.local_run.proofs.Imports.{IsReady, IsTrue, JobView, KeepFault, Kind, None, Option, Ordering, Some, Stop}
+use Rattle.local_run.proofs.Imports.{Values, arith, assignments, bit, by_lt_or_le, cases_Bool, cases_lt, cell_cmp}
 use Rattle.local_run.proofs.Imports.{common_steps, false, fault_cmp, inl, inr, int_equal, is_among, is_defined_under}
-use Rattle.local_run.proofs.Imports.{keep_cmp, kind_number, length, nat_cmp, nat_equal, ordering_then, props, refl}
+use Rattle.local_run.proofs.Imports.{keep_cmp, kind_number, length, nat_cmp, nat_equal, ordering_then, props}
 use Rattle.local_run.proofs.Imports.{slice_get_within, subst, sym, true, true≢false, valuation, value_of, ℕ, ℤ}
 use Rattle.local_run.proofs.Imports.{∥∥₁_elim, ◌%◌, ◌+◌, ◌<ℤ◌, ◌<◌, ◌∙◌, ◌≡◌, ◌≢◌, ◌≤◌, ◌⊎◌}
 use Rattle.lemmas.proofs.Common.{◌↔◌, MatchOption, int_cmp}
@@ -24,13 +24,10 @@ int_greater a b h = grind arith
 
 -- a first order that is `Greater`, or the second where the first is `Equal`
 then_greater : (o p : Ordering) → ordering_then o p ≡ Greater → (o ≡ Greater) ⊎ ((o ≡ Equal) × (p ≡ Greater))
-then_greater Less p h = cc
-then_greater Equal p h = inr (refl, h)
-then_greater Greater p h = inl refl
+then_greater o p h1 = grind (arith, common_steps)
 
 then_equal : (o p : Ordering) → ordering_then o p ≡ Equal → (o ≡ Equal) × (p ≡ Equal)
-then_equal Equal p h = (refl, h)
-then_equal _ p h = absurd cc
+then_equal o p h1 = grind (arith, common_steps)
 
 -- no fault comes before f
 pub not_greater : (f g : Fault) → ¬ (g.time < f.time) →
@@ -44,13 +41,7 @@ not_greater f g t k y x a h =
     grind (arith, common_steps, then_greater, nat_greater, nat_equal, int_greater, int_equal, then_equal)
 
 kind_same : (k k' : Kind) → kind_number k ≡ kind_number k' → k ≡ k'
-kind_same Edge Edge e = refl
-kind_same Edge End e = absurd (omega arith)
-kind_same Stop Stop e = refl
-kind_same End Edge e = absurd (omega arith)
-kind_same End End e = refl
-kind_same _ Stop e = absurd (omega arith)
-kind_same Stop _ e = absurd (omega arith)
+kind_same k k' h1 = grind (arith, common_steps)
 
 -- where a used gate has no row there is no fault
 pub undefined_no_fault : NoFaultWhereUndefined
@@ -116,9 +107,7 @@ free_more j vs t free edges stops = record {
 -- then there is no fault before t, where the last time is not before
 before_free : (j : JobView) (vs : Values) (t : ℕ) → t ≤ j.steps → AreFreeBefore j vs t →
     (s : ℕ) (k : Kind) (x y : ℤ) (a : ℕ) → a < assignments j → IsFaultWhereDefined j vs a s k x y → ¬ (s < t)
-before_free j vs t early free s Edge x y a small d l = free.edges s l d.1.odd x y a small d
-before_free j vs t early free s Stop x y a small d l = free.stops s l x y a small d
-before_free j vs t early free s End x y a small d l = let e = d.1.last in omega arith
+before_free j vs t h1 h2 s k x y a h3 h4 = grind (arith, common_steps)
 
 none_before : (j : JobView) (vs : Values) (t : ℕ) → IsReady j vs → t ≤ j.steps → AreFreeBefore j vs t → (f : Fault) →
     IsFault j f → ¬ (f.time < t)

@@ -1,8 +1,8 @@
 -- The run of a module: its two steps, that it stays in its box, and which wires it reads
-use Rattle.local_run.proofs.Imports.{IsSignalWireBelow, JobView, NamesOwnWires, Signal, State, Valuation, Wire}
-use Rattle.local_run.proofs.Imports.{ap, ap₂, arith, cond-false, cond-true, eq-eqb, in_box, in_halo, inl, inr}
-use Rattle.local_run.proofs.Imports.{is_live, local_run, ne_eqb, refl, signal_at, step, suc, sym, wires, with_halo}
-use Rattle.local_run.proofs.Imports.{zero, ℕ, ℤ, ◌%◌, ◌&&◌, ◌<◌, ◌||◌, ◌∙◌, ◌≡◌, ◌⊎◌}
+use Rattle.local_run.proofs.Imports.{IsSignalWireBelow, JobView, NamesOwnWires, Signal, State, Valuation, ap, ap₂}
+use Rattle.local_run.proofs.Imports.{arith, common_steps, cond-false, cond-true, eq-eqb, in_box, in_halo, inl, inr}
+use Rattle.local_run.proofs.Imports.{is_live, local_run, ne_eqb, signal_at, step, suc, sym, wires, with_halo, zero, ℕ}
+use Rattle.local_run.proofs.Imports.{ℤ, ◌%◌, ◌&&◌, ◌<◌, ◌||◌, ◌∙◌, ◌≡◌, ◌⊎◌}
 use Rattle.lemmas.proofs.Common.{cases_eq}
 use Rattle.bbm_rule.proofs.Steps.{step_same}
 use Rattle.module_box.proofs.BoxSteps.{even_stays}
@@ -41,8 +41,7 @@ AgreeBelow n u u' = (w : ℕ) → w < n → u w ≡ u' w
 
 pub live_same : (n : ℕ) (u u' : Valuation) (s : Signal) → AgreeBelow n u u' → IsSignalWireBelow n s →
     is_live u s ≡ is_live u' s
-live_same n u u' (Wire w) same b = same w b
-live_same n u u' _ same b = refl
+live_same n u u' s h1 h2 = grind (arith, common_steps)
 
 pub step_all_same : (t : ℕ) (s s' : State) (x y : ℤ) → ((x' y' : ℤ) → s x' y' ≡ s' x' y') → step t s x y ≡ step t s' x y
 step_all_same t s s' x y same = step_same t s s' x y (same _ _) (same _ _) (same _ _) (same _ _)

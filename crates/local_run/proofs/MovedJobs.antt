@@ -1,12 +1,12 @@
 -- Jobs of the same shape have the same faults but for where they lie
 use Rattle.local_run.proofs.Imports.{Box2, Contains, Edge, End, Fault, HasFault, IsFault, IsFaultUnder, IsJob}
-use Rattle.local_run.proofs.Imports.{IsKeepFault, JobView, KeepFault, Kind, List, Netlist, None, Satisfies, ShapeView}
-use Rattle.local_run.proofs.Imports.{Signals, Some, State, Stop, Valuation, [], and_parts, ap, ap₂, arith, bit}
-use Rattle.local_run.proofs.Imports.{cases_Bool, common_steps, fault_cmp, if◌then◌else◌, in_box, in_ring, inl, inr}
-use Rattle.local_run.proofs.Imports.{ints, is_live, job_demand, job_start, local_run, moved_signals, place_in, pos}
-use Rattle.local_run.proofs.Imports.{props, refl, shape_of, shift_to_origin, signal_at, signals_moved, slice_get, subst}
-use Rattle.local_run.proofs.Imports.{suc, sym, true, unwrap_or, with_halo, zero, ℕ, ℤ, ∥∥₁_elim, ∥∥₁_map, ◌%◌, ◌&&◌}
-use Rattle.local_run.proofs.Imports.{◌+ℤ◌, ◌+◌, ◌-ℤ◌, ◌-◌, ◌<◌, ◌^◌, ◌||◌, ◌∙◌, ◌∷◌, ◌≡◌, ◌≤◌}
+use Rattle.local_run.proofs.Imports.{IsKeepFault, JobView, KeepFault, Kind, List, Netlist, None, ShapeView, Signals}
+use Rattle.local_run.proofs.Imports.{Some, State, Stop, Valuation, [], and_parts, ap, ap₂, arith, cases_Bool}
+use Rattle.local_run.proofs.Imports.{common_steps, fault_cmp, if◌then◌else◌, in_box, in_ring, ints, is_live, job_demand}
+use Rattle.local_run.proofs.Imports.{job_start, local_run, moved_signals, place_in, pos, props, refl, shape_of}
+use Rattle.local_run.proofs.Imports.{shift_to_origin, signal_at, signals_moved, slice_get, subst, suc, sym, true}
+use Rattle.local_run.proofs.Imports.{unwrap_or, with_halo, zero, ℕ, ℤ, ∥∥₁_elim, ∥∥₁_map, ◌%◌, ◌&&◌, ◌+ℤ◌, ◌+◌, ◌-ℤ◌}
+use Rattle.local_run.proofs.Imports.{◌-◌, ◌<◌, ◌^◌, ◌||◌, ◌∙◌, ◌∷◌, ◌≡◌, ◌≤◌}
 use Rattle.lemmas.proofs.Common.{map}
 use Rattle.bbm_rule.specs.Moves.{IsMoved}
 use Rattle.bbm_rule.specs.Plane.{parity}
@@ -46,14 +46,7 @@ unfolding local_run
 run_alike dx dy j k a u zero x y = ap (is_live u) (a.start x y)
 run_alike dx dy j k a u (suc t) x y =
     let before : IsMoved dx dy (local_run j u t) (local_run k u t) = run_alike dx dy j k a u t in
-    elim (even_or_odd t) [
-      | inl e ↦ local_even k u t _ (x +ℤ dx) (y +ℤ dy) e ∙ step_moved t dx dy _ _ a.even_x a.even_y before x y
-          ∙ sym (local_even j u t _ x y e)
-      | inr o ↦ local_odd k u t _ (x +ℤ dx) (y +ℤ dy) o
-          ∙ ap₂ (λ p q. p && q) (a.area.box x y)
-          (step_moved t dx dy _ _ a.even_x a.even_y (halo_alike dx dy j k a u t _ _ before) x y)
-          ∙ sym (local_odd j u t _ x y o)
-    ]
+    grind (arith, common_steps, even_or_odd, local_even, step_moved, local_odd, halo_alike)
 
 contains_mapped : {X Y : Type 0} (f : X → Y) (xs : List X) (x : X) → Contains xs x → Contains (map f xs) (f x)
 contains_mapped f xs x h = grind (arith, common_steps)
@@ -84,11 +77,7 @@ fault_alike dx dy j k a f is = record {
 }
   where
     moved : HasFault j f → HasFault k (moved_fault dx dy f)
-    moved h = record {
-      values = h.values;
-      local = subst (λ (n : Netlist). Satisfies n (bit f.assignment) h.values) a.netlist h.local;
-      differs = under_alike dx dy j k a h.values f.time f.kind f.cell.x f.cell.y h.differs;
-    }
+    moved h = grind (arith, common_steps, under_alike)
 
 -- ---- jobs of the same shape are alike
 apart_back : (a b : ℕ) → (pos b -ℤ pos a) +ℤ pos a ≡ pos b
@@ -151,18 +140,7 @@ alike j k ej ek same =
       h = ap (λ (s : ShapeView). s.height) (sym same);
     } in
     let along : BoxMovesAlong dx dy j.area k.area = boxes_moved dx dy j.area k.area box in
-    record {
-      even_x = apart_even j.area.x k.area.x ej.x ek.x;
-      even_y = apart_even j.area.y k.area.y ej.y ek.y;
-      area = along;
-      steps = ap (λ (s : ShapeView). s.steps) same;
-      netlist = ap (λ (s : ShapeView). s.netlist) same;
-      start = grind (arith, common_steps, looked_up);
-      demand = grind (arith, common_steps, looked_up);
-      edges = carried_on j.area.x k.area.x j.area.y k.area.y j.edges k.edges (ap (λ (s : ShapeView). s.edges) same);
-      halos = carried_on j.area.x k.area.x j.area.y k.area.y j.halos k.halos (ap (λ (s : ShapeView). s.halos) same);
-      stops = grind (arith, common_steps, stops_back, back_forth, map, stops_twice);
-    }
+    grind (arith, common_steps, apart_even, looked_up, carried_on, stops_back, back_forth, stops_twice)
 
 pub faults_moved : FaultsMoveWithJob
 unfolding moved_fault
@@ -212,7 +190,4 @@ fault_inside j f is fault = ∥∥₁_elim fault.shown (Prim.hlevel props)
 pub fault_near : (j : JobView) (f : Fault) → IsJob j → IsFault j f → IsInShiftRange f.cell
 fault_near j f is fault =
     let p = in_box_nats j.area f.cell.x f.cell.y (fault_inside j f is fault) in
-    let px = p.0 in let py = p.1 in (
-      small_number f.cell.x px.0 j.area.x j.area.w px.1 px.3 is.width.2,
-      small_number f.cell.y py.0 j.area.y j.area.h py.1 py.3 is.height.2,
-    )
+    let px = p.0 in let py = p.1 in grind (arith, common_steps, small_number)

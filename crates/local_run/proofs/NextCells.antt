@@ -2,15 +2,14 @@
 use Rattle.local_run.proofs.Imports.{Bool, Box2, End, IsKindSoughtAt, IsReady, IsScanStride, JobView, Kind, Planes}
 use Rattle.local_run.proofs.Imports.{Shows, Valuation, Values, Zero, ap, arith, assignments, box_coord, by_eq_or_not}
 use Rattle.local_run.proofs.Imports.{by_lt_or_le, common_steps, false, if◌then◌else◌, is_live, job_demand, job_start}
-use Rattle.local_run.proofs.Imports.{lane, local_run, place_in, refl, slice_get, sym, true, unwrap_or, ℕ, ℤ, ◌*◌, ◌+◌}
-use Rattle.local_run.proofs.Imports.{◌<◌, ◌∙◌, ◌≡◌, ◌≤◌}
+use Rattle.local_run.proofs.Imports.{lane, local_run, place_in, slice_get, sym, unwrap_or, ℕ, ℤ, ◌*◌, ◌+◌, ◌<◌, ◌∙◌}
+use Rattle.local_run.proofs.Imports.{◌≡◌, ◌≤◌}
 use Rattle.local_run.proofs.Firsts.{FreeAt, IsAtEitherEnd, end_least, inner_in_box}
 use Rattle.local_run.proofs.Stepping.{run_start}
 use Rattle.module_job.specs.declared.job.Demand.TheVariants as Demanded
 
 either : {A : Type 0} (b : Bool) (s t : A) → s ≡ t → (if b then s else t) ≡ t
-either true s t e = e
-either false s t e = refl
+either b s t h1 = grind (arith, common_steps)
 
 -- the place of a cell, row by row
 placed : (b : Box2) (x y : ℕ) → place_in b (box_coord b.x x) (box_coord b.y y) ≡ b.w * y + x

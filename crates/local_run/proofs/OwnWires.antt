@@ -1,9 +1,8 @@
 -- Each wire that a job names is one of its own, at each cell and time
-use Rattle.local_run.proofs.Imports.{All, Bool, IsDemandWireBelow, IsSignalWireBelow, JobView, List}
-use Rattle.local_run.proofs.Imports.{NamesOwnWires, Zero, []}
-use Rattle.local_run.proofs.Imports.{cond-false, false, if◌then◌else◌, in_box}
-use Rattle.local_run.proofs.Imports.{job_demand, job_start, place_in, slice_get, suc, true, unwrap_or, wires}
-use Rattle.local_run.proofs.Imports.{zero, ℕ, ℤ, ◌∷◌, ◌≡◌}
+use Rattle.local_run.proofs.Imports.{All, Bool, IsDemandWireBelow, IsSignalWireBelow, JobView, List, NamesOwnWires}
+use Rattle.local_run.proofs.Imports.{Zero, [], arith, common_steps, cond-false, false, if◌then◌else◌, in_box}
+use Rattle.local_run.proofs.Imports.{job_demand, job_start, place_in, slice_get, suc, unwrap_or, wires, zero, ℕ, ℤ, ◌∷◌}
+use Rattle.local_run.proofs.Imports.{◌≡◌}
 use Rattle.lemmas.proofs.Common.{All-head, All-tail}
 use Rattle.module_job.specs.declared.job.Demand.TheVariants as Demanded
 
@@ -15,8 +14,7 @@ item P (x ∷ xs) (suc i) d all h = item P xs i d (All-tail P x xs all) h
 
 -- either value of a choice
 chosen : {A : Type 0} (P : A → Type 0) (b : Bool) (x y : A) → P x → P y → P (if b then x else y)
-chosen P true x y h k = h
-chosen P false x y h k = k
+chosen P b x y h1 h2 = grind (arith, common_steps)
 
 pub start_below : (j : JobView) (x y : ℤ) → NamesOwnWires j →
     IsSignalWireBelow (wires j.locals.netlist) (job_start j x y)

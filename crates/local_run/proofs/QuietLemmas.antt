@@ -1,9 +1,9 @@
 -- Cells of which no line of a module says anything
 use Rattle.local_run.proofs.Imports.{AllTimesSignal, Box2, Cell, IsCellMarked, IsTimePlaceBetween, KeepsMarks, List}
 use Rattle.local_run.proofs.Imports.{Signals, Some, TimedSignal, Zero, all_times_none, ap, ap₂, arith, box_coord}
-use Rattle.local_run.proofs.Imports.{by_lt_or_le, common_steps, event_none, halo_coord, inl, inr, ints, moved_signals}
-use Rattle.local_run.proofs.Imports.{number_at, pos, shift_to_origin, signal_at, signals_moved, slice_get, sym, ℕ, ℤ}
-use Rattle.local_run.proofs.Imports.{◌%◌, ◌*◌, ◌+ℤ◌, ◌+◌, ◌-ℤ◌, ◌/◌, ◌<◌, ◌∙◌, ◌≡◌, ◌≤◌}
+use Rattle.local_run.proofs.Imports.{by_lt_or_le, common_steps, event_none, halo_coord, ints, moved_signals, number_at}
+use Rattle.local_run.proofs.Imports.{pos, shift_to_origin, signal_at, signals_moved, slice_get, sym, ℕ, ℤ, ◌%◌, ◌*◌}
+use Rattle.local_run.proofs.Imports.{◌+ℤ◌, ◌+◌, ◌-ℤ◌, ◌/◌, ◌<◌, ◌∙◌, ◌≡◌, ◌≤◌}
 use Rattle.bbm_rule.specs.Marks.{MarksOne}
 use Rattle.local_run.specs.Leaps.{AreLaterFrom}
 use Rattle.local_run.specs.Quiet.{AreStarredCellsMarked, IsZeroAtUnmarked, LacksCellMark, own_mark_number_at}
@@ -20,10 +20,7 @@ number_below b x y ew eh lx ly = grind (arith, common_steps, place_below)
 
 -- the number of a cell's own mark is below that of the last part's end
 pub part_within : (n c x y : ℕ) → n < c → n + c * (1 + 2 * (y % 2) + x % 2) < 5 * c
-part_within n c x y l = let most = mul-le-mul_left c (parts x y) in omega (arith, l, most)
-  where
-    parts : (x y : ℕ) → 1 + 2 * (y % 2) + x % 2 ≤ 4
-    parts x y = omega arith
+part_within n c x y l = grind (arith, common_steps, mul-le-mul_left)
 
 pub cell_marked : (b : Box2) (c : Cell) (x y : ℕ) (old middle new : List ℕ) → c.x ≡ halo_coord b.x x →
     c.y ≡ halo_coord b.y y →
@@ -32,8 +29,7 @@ cell_marked b c x y old middle new ex ey one own x' y' lx ly ex' ey' free = grin
 
 lacks_line : (b : Box2) (x y : ℕ) (old new : List ℕ) → KeepsMarks old new → LacksCellMark b x y new →
     LacksCellMark b x y old
-lacks_line b x y old new keeps (inl free) = inl (keeps (number_at b x y) free)
-lacks_line b x y old new keeps (inr free) = inr (keeps (own_mark_number_at b x y) free)
+lacks_line b x y old new h1 h2 = grind (arith, common_steps)
 
 pub still_marked : (b : Box2) (c : Cell) (old new : List ℕ) → KeepsMarks old new → IsCellMarked b c old →
     IsCellMarked b c new
@@ -81,9 +77,7 @@ events_between es t m n P from to have i e at same = grind (arith, common_steps,
 -- no event is at a time, if those before a place are earlier and the others later
 pub events_nowhere : (es : List TimedSignal) (t m n : ℕ) (P : TimedSignal → Type 0) → IsTimePlaceBetween es t m n →
     AreLaterFrom es m t → (i : ℕ) (e : TimedSignal) → slice_get es i ≡ Some e → e.at.time ≡ t → P e
-events_nowhere es t m n P from later i e at same = by_lt_or_le i m
-    (λ l. let less = from.below i e l at in absurd (omega (arith, less, same)))
-    (λ ge. let more = later i e ge at in absurd (omega (arith, more, same)))
+events_nowhere es t m n P from later i e at same = grind (arith, common_steps)
 
 -- ---- signals counted from the corner of the box
 pub outer_back : (c k : ℕ) → halo_coord c k +ℤ shift_to_origin c ≡ halo_coord 0 k

@@ -1,8 +1,7 @@
 -- Jobs whose halos say the same at each odd time have the same faults
 use Rattle.local_run.proofs.Imports.{All, Contains, Edge, End, HasFault, IsFaultUnder, JobView, Kind, List, Signals}
-use Rattle.local_run.proofs.Imports.{State, Stop, Valuation, ap, arith, cases_Bool, common_steps, in_box, inl, inr}
-use Rattle.local_run.proofs.Imports.{job_demand, job_start, local_run, refl, subst, suc, sym, with_halo, zero, ℕ, ℤ}
-use Rattle.local_run.proofs.Imports.{∥∥₁_map, ◌%◌, ◌&&◌, ◌<◌, ◌∙◌, ◌≡◌, ◌≤◌}
+use Rattle.local_run.proofs.Imports.{State, Stop, Valuation, arith, cases_Bool, common_steps, job_demand, job_start}
+use Rattle.local_run.proofs.Imports.{local_run, refl, subst, suc, with_halo, zero, ℕ, ℤ, ∥∥₁_map, ◌%◌, ◌<◌, ◌≡◌, ◌≤◌}
 use Rattle.local_run.specs.Laws.{JobsWithSameHalosAgree, HasSameHaloSignals}
 use Rattle.local_run.proofs.LocalRuns.{even_or_odd, local_even, local_odd, step_all_same}
 use Rattle.module_job.specs.declared.job.Stop as listed
@@ -26,13 +25,7 @@ module _ (j : JobView) (halos : Signals) (same : HasSameHaloSignals j halos) whe
   run_same u zero le x y = refl
   run_same u (suc t) le x y =
       let before : (x' y' : ℤ) → local_run j u t x' y' ≡ local_run k u t x' y' = run_same u t (omega (arith, le)) in
-      elim (even_or_odd t) [
-        | inl e ↦ local_even j u t _ x y e ∙ step_all_same t _ _ x y before ∙ sym (local_even k u t _ x y e)
-        | inr o ↦ local_odd j u t _ x y o
-            ∙ ap (λ p. in_box j.area x y && p)
-            (step_all_same t _ _ x y (λ x' y'. halo_same u t _ _ x' y' o (omega (arith, le)) (before x' y')))
-            ∙ sym (local_odd k u t _ x y o)
-      ]
+      grind (arith, common_steps, even_or_odd, local_even, step_all_same, local_odd, halo_same)
 
   early_is : (t n : ℕ) → t < n → t ≤ n
   early_is t n lt = omega (arith, lt)

@@ -11,15 +11,10 @@ use Rattle.bbm_rule.proofs.BitLemmas.{xor, bit-xor}
 use Rattle.lanes.proofs.PlaneWords.{get_or_any, quotient, remainder}
 
 xor_same : (a b : Bool) → xor a b ≡ false → a ≡ b
-xor_same true true h = refl
-xor_same true false h = cc
-xor_same false true h = cc
-xor_same false false h = refl
+xor_same a b h1 = grind (arith, common_steps)
 
 xor_differ : (a b : Bool) → xor a b ≡ true → a ≢ b
-xor_differ true false h e = cc
-xor_differ false false h e = cc
-xor_differ _ true h e = cc
+xor_differ a b h1 = grind (arith, common_steps)
 
 pub value_in_word : (words k b w : ℕ) (values : List ℕ) → b < 64 →
     bit (get_or values (words * w + k) 0) b ≡ value_of words values (64 * k + b) w

@@ -1,11 +1,11 @@
 -- Cells that are known to be dead and have no line
-use Rattle.local_run.proofs.Imports.{AreSkippableBetween, Edge, IsEdgeCorrectAt, IsFaultWhereDefined}
-use Rattle.local_run.proofs.Imports.{IsHaloCellSet, IsLeastBelow, IsOutsideBoxFromHalo, IsReady, JobView, List, None}
-use Rattle.local_run.proofs.Imports.{Planes, Shows, Signal, Values, and_parts, ap, ap₂, arith, assignments, box_coord}
-use Rattle.local_run.proofs.Imports.{by_eq_or_not, by_lt_or_le, common_steps, dead_lane, false, false≢true, halo_coord}
-use Rattle.local_run.proofs.Imports.{in_box, in_span, inl, inr, is_defined_under, is_live, lane, local_run}
-use Rattle.local_run.proofs.Imports.{mul-le-mul_left, number_at, refl, signal_at, subst, sym, true, valuation, ℕ}
-use Rattle.local_run.proofs.Imports.{◌%◌, ◌*◌, ◌+◌, ◌-◌, ◌/◌, ◌<◌, ◌∙◌, ◌≡◌, ◌≢◌, ◌≤◌}
+use Rattle.local_run.proofs.Imports.{AreSkippableBetween, Edge, IsEdgeCorrectAt, IsFaultWhereDefined, IsHaloCellSet}
+use Rattle.local_run.proofs.Imports.{IsLeastBelow, IsOutsideBoxFromHalo, IsReady, JobView, List, None, Planes, Shows}
+use Rattle.local_run.proofs.Imports.{Signal, Values, and_parts, ap, ap₂, arith, assignments, box_coord, by_eq_or_not}
+use Rattle.local_run.proofs.Imports.{by_lt_or_le, common_steps, dead_lane, false, false≢true, halo_coord, in_box}
+use Rattle.local_run.proofs.Imports.{in_span, inl, inr, is_defined_under, is_live, lane, local_run, mul-le-mul_left}
+use Rattle.local_run.proofs.Imports.{number_at, refl, signal_at, sym, true, valuation, ℕ, ◌%◌, ◌*◌, ◌+◌, ◌-◌, ◌/◌, ◌<◌}
+use Rattle.local_run.proofs.Imports.{◌∙◌, ◌≡◌, ◌≢◌, ◌≤◌}
 use Rattle.lanes.specs.Calm.{AreFourCellsDead}
 use Rattle.bbm_rule.specs.Marks.{IsUnmarked}
 use Rattle.local_run.specs.Quiet.{AreLineMarks}
@@ -28,13 +28,7 @@ shown_at j vs p t x y a shows la inside =
     let py = span_at j.area.y j.area.h (halo_coord j.area.y y) h.1 in
     let ex : x ≡ 1 + px.number = outer_same j.area.x x (1 + px.number) (px.is ∙ sym (outer_inner j.area.x px.number)) in
     let ey : y ≡ 1 + py.number = outer_same j.area.y y (1 + py.number) (py.is ∙ sym (outer_inner j.area.y py.number)) in
-    subst (λ (m : ℕ). lane p a m y ≡ local_run j (valuation vs a) t (halo_coord j.area.x m) (halo_coord j.area.y y))
-    (sym ex)
-    (subst (λ (m : ℕ). lane p a (1 + px.number) m
-    ≡ local_run j (valuation vs a) t (halo_coord j.area.x (1 + px.number)) (halo_coord j.area.y m)) (sym ey)
-    (shows.cells a px.number py.number la px.below py.below
-    ∙ ap₂ (local_run j (valuation vs a) t) (sym (outer_inner j.area.x px.number))
-    (sym (outer_inner j.area.y py.number))))
+    grind (arith, common_steps, outer_inner)
 
 -- silent cells have no edge fault
 pub silent_edges : (j : JobView) (vs : Values) (p : Planes) (t column row : ℕ) → IsReady j vs → Shows j vs t p →
@@ -74,8 +68,7 @@ pub inner_edge : (j : JobView) (vs : Values) (t x y : ℕ) → 1 ≤ x → 1 ≤
     IsLeastBelow (assignments j) (λ a.
     IsFaultWhereDefined j vs a t Edge (box_coord j.area.x (x - 1)) (box_coord j.area.y (y - 1))) None →
     IsEdgeCorrectAt j vs t x y
-inner_edge j vs t x y lx ly none a l =
-    rw (inner_is_outer j.area.x x lx, inner_is_outer j.area.y y ly) at (none a l)
+inner_edge j vs t x y lx ly none a l = grind (arith, common_steps, inner_is_outer)
 
 -- nor does a cell that is as its signal says
 pub right_edge : (j : JobView) (vs : Values) (p : Planes) (t x y : ℕ) (s : Signal) → Shows j vs t p →

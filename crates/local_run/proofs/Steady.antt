@@ -1,16 +1,13 @@
 -- Cells of ring and halo that need no look, since they carry their signals at all times
 use Rattle.local_run.proofs.Imports.{AreSkippableBetween, Bool, Box2, Cell, Edge, HasNoFaultOfKind, HasWordsStrideRows}
 use Rattle.local_run.proofs.Imports.{IsReady, JobView, KeepsMarks, List, Planes, Shows, Signals, Some, TimedSignal}
-use Rattle.local_run.proofs.Imports.{Values, ap, ap₂, arith, assignments, by_eq_or_not, common_steps, event_at}
-use Rattle.local_run.proofs.Imports.{event_none, halo_coord, is_live}
-use Rattle.local_run.proofs.Imports.{[], moved_signals, number_at, refl, shift_to_origin, signal_at}
-use Rattle.local_run.proofs.Imports.{signals_moved, slice_get, subst, sym, valuation, ℕ, ℤ, ◌%◌, ◌*◌, ◌+◌, ◌/◌, ◌<◌}
-use Rattle.local_run.proofs.Imports.{◌∙◌}
-use Rattle.local_run.proofs.Imports.{inl, inr, ◌≡◌, ◌≢◌, ◌⊎◌}
+use Rattle.local_run.proofs.Imports.{Values, ap, ap₂, arith, by_eq_or_not, common_steps, event_at, event_none}
+use Rattle.local_run.proofs.Imports.{halo_coord, [], moved_signals, number_at, refl, shift_to_origin, signal_at}
+use Rattle.local_run.proofs.Imports.{signals_moved, slice_get, subst, sym, ℕ, ℤ, ◌%◌, ◌*◌, ◌+◌, ◌/◌, ◌<◌, ◌∙◌, inl, inr}
+use Rattle.local_run.proofs.Imports.{◌≡◌, ◌≢◌, ◌⊎◌, AreStarredCellMarks, length, shape_of}
 use Rattle.bbm_rule.specs.Marks.{IsUnmarked, MarksOne}
 use Rattle.lanes.specs.Settled.{IsSameAtNumber, IsSettled, KeepsSettled}
 use Rattle.lanes.specs.declared.marked_planes.MarkedPlanes.{MarkedPlanes}
-use Rattle.local_run.proofs.Imports.{AreStarredCellMarks, length, shape_of}
 use Rattle.local_run.specs.Quiet.{AreLineMarks, IsZeroAtUnmarked, box_at_origin}
 use Rattle.local_run.specs.Scans.{IsHaloSet}
 use Rattle.local_run.specs.Steady.{AreEventMarks, IsNumberCorrect, IsNumberMarked, IsNumberOfCell, IsNumberSteady}
@@ -52,10 +49,7 @@ number_marked b c u old new is one x y lx ly ex ey free = (one (number_at b x y)
 pub number_of_cell : (b : Box2) (c : Cell) (x y : ℕ) → b.w % 2 ≡ 0 → b.h % 2 ≡ 0 → x < b.w + 2 → y < b.h + 2 →
     c.x ≡ halo_coord b.x x → c.y ≡ halo_coord b.y y →
     (number_at b x y < (b.w / 2 + 1) * (b.h / 2 + 1)) × IsNumberOfCell b c (number_at b x y)
-number_of_cell b c x y ew eh lx ly ex ey = (
-  number_below b x y ew eh lx ly,
-  λ x' y' lx' ly' ex' ey'. ap₂ (number_at b) (outer_same b.x x' x (sym ex' ∙ ex)) (outer_same b.y y' y (sym ey' ∙ ey)),
-)
+number_of_cell b c x y ew eh lx ly ex ey = grind (arith, common_steps, number_below, outer_same)
 
 pub outside_marked : (b : Box2) (c : Cell) (marks : List ℕ) → IsOutsideHalo b c → IsNumberMarked b c marks
 outside_marked b c marks out x y lx ly ex ey free = out x y lx ly ex ey
@@ -80,22 +74,13 @@ steady_moved s b t marks steady x y lx ly free =
 pub event_marks_of : (j : JobView) (t : ℕ) (first new : List ℕ) → KeepsMarks first new →
     IsSteadyAtUnmarked (shape_of j).edges (box_at_origin (shape_of j)) t first →
     IsSteadyAtUnmarked (shape_of j).halos (box_at_origin (shape_of j)) t new → AreEventMarks j t new
-event_marks_of j t first new keeps edges halos = record {
-  edges = steady_moved j.edges j.area t new (still_steady (shape_of j).edges (box_at_origin (shape_of j)) t first new
-      keeps edges);
-  halos = steady_moved j.halos j.area t new halos;
-}
+event_marks_of j t first new keeps edges halos = grind (arith, common_steps, steady_moved, still_steady)
 
 pub line_marks_of : (j : JobView) (t : ℕ) (old first new : List ℕ) → AreStarredCellMarks (shape_of j) old →
     length new ≡ length old → KeepsMarks first new →
     IsZeroAtUnmarked (shape_of j).edges (box_at_origin (shape_of j)) t first →
     IsZeroAtUnmarked (shape_of j).halos (box_at_origin (shape_of j)) t new → AreLineMarks j t new
-line_marks_of j t old first new starred long keeps edges halos = record {
-  room = let room = starred.room in omega (arith, room, long);
-  edges = quiet_moved j.edges j.area t new (still_quiet (shape_of j).edges (box_at_origin (shape_of j)) t first new
-      keeps edges);
-  halos = quiet_moved j.halos j.area t new halos;
-}
+line_marks_of j t old first new starred long keeps edges halos = grind (arith, common_steps, quiet_moved, still_quiet)
 
 -- ---- numbers whose cells carry their signals at all times
 same_if_not_other : (a b : Bool) → (a ≢ b → ⊥) → a ≡ b
@@ -105,37 +90,14 @@ same_if_not_other a b h = grind (arith, common_steps, common_steps)
 pub steady_after_check : (j : JobView) (vs : Values) (t : ℕ) (p : Planes) (events : List ℕ) → Shows j vs t p →
     t % 2 ≡ 1 → t < j.steps → IsHaloSet j vs t p → HasNoFaultOfKind j vs t Edge → AreEventMarks j t events → (u : ℕ) →
     IsUnmarked events u → IsNumberSteady j vs p u
-steady_after_check j vs t p events shows odd early halo none marks u free = record {
-  halo = λ a x y la lx ly at out.
-      halo x y lx ly a la out ∙ ap (is_live (valuation vs a))
-      (marks.halos x y lx ly (subst (IsUnmarked events) (sym at) free));
-  edge = λ a x y la lx ly at ring defined. shown_at j vs p t x y a shows la (ring_in_box j.area _ _ ring)
-      ∙ same_if_not_other _ _ (λ ne. none _ _ a la (
-        defined,
-        record { odd = odd; early = early; ring = ring; differs = ne },
-      ))
-      ∙ ap (is_live (valuation vs a)) (marks.edges x y lx ly (subst (IsUnmarked events) (sym at) free));
-}
+steady_after_check j vs t p events shows odd early halo none marks u free =
+    grind (arith, common_steps, shown_at, ring_in_box, same_if_not_other)
 
 -- they still do if the cells stay
 steady_kept : (j : JobView) (vs : Values) (p q : Planes) (u : ℕ) → IsReady j vs →
     HasWordsStrideRows vs.words (j.area.w / 2 + 1) (j.area.h / 2 + 1) p → IsSameAtNumber u p q →
     IsNumberSteady j vs p u → IsNumberSteady j vs q u
-steady_kept j vs p q u ready size same steady = record {
-  halo = λ a x y la lx ly at out. same.cells a x y (in_words a la) (in_row x lx) (number x y at)
-      ∙ steady.halo a x y la lx ly at out;
-  edge = λ a x y la lx ly at ring defined. same.cells a x y (in_words a la) (in_row x lx) (number x y at)
-      ∙ steady.edge a x y la lx ly at ring defined;
-}
-  where
-    in_words : (a : ℕ) → a < assignments j → a < 64 * p.words
-    in_words a la = let room = ready.room in let count = ready.count in let s0 = size.0 in omega arith
-
-    in_row : (x : ℕ) → x < j.area.w + 2 → x / 2 < p.stride
-    in_row x lx = let s1 = size.1 in let even = ready.job.even.w in omega arith
-
-    number : (x y : ℕ) → number_at j.area x y ≡ u → p.stride * (y / 2) + x / 2 ≡ u
-    number x y at = ap (λ (s : ℕ). s * (y / 2) + x / 2) size.1 ∙ at
+steady_kept j vs p q u ready size same steady = grind (arith, common_steps)
 
 pub still_settled : (j : JobView) (vs : Values) (m m' : MarkedPlanes) (marks : List ℕ) → IsReady j vs →
     HasWordsStrideRows vs.words (j.area.w / 2 + 1) (j.area.h / 2 + 1) m.planes → KeepsSettled m m' →
@@ -150,10 +112,8 @@ pub settled_after_odd : (j : JobView) (vs : Values) (t : ℕ) (p : Planes) (m' :
     AreEventMarks j t events →
     ((u : ℕ) → u < p.stride * p.rows → IsSettled m' u → IsSameAtNumber u p m'.planes) →
     IsSteadyWhereSettled j vs m' events
-settled_after_odd j vs t p m' events ready shows odd early halo none marks same u is free = record {
-  halo = λ a x y la lx ly at out. (after (number_small x y lx ly at)).halo a x y la lx ly at out;
-  edge = λ a x y la lx ly at ring defined. (after (number_small x y lx ly at)).edge a x y la lx ly at ring defined;
-}
+settled_after_odd j vs t p m' events ready shows odd early halo none marks same u is free =
+    grind (arith, common_steps, number_small, after)
   where
     number_small : (x y : ℕ) → x < j.area.w + 2 → y < j.area.h + 2 → number_at j.area x y ≡ u → u < p.stride * p.rows
     number_small x y lx ly at = rw (shows.size.1, shows.size.2, sym at)
@@ -189,13 +149,7 @@ steady_next j vs t m m' m'' old new ready shows early halo none marks unchanged 
 -- ---- numbers that need no look
 correct_if_steady : (j : JobView) (vs : Values) (t : ℕ) (p : Planes) (events : List ℕ) (u : ℕ) → Shows j vs t p →
     AreEventMarks j t events → IsUnmarked events u → IsNumberSteady j vs p u → IsNumberCorrect j vs t p u
-correct_if_steady j vs t p events u shows marks free steady = record {
-  halo = λ x y lx ly at a la out. steady.halo a x y la lx ly at out
-      ∙ sym (ap (is_live (valuation vs a)) (marks.halos x y lx ly (subst (IsUnmarked events) (sym at) free)));
-  edges = λ x y lx ly at a la f. f.1.differs (sym (shown_at j vs p t x y a shows la (ring_in_box j.area _ _ f.1.ring))
-      ∙ steady.edge a x y la lx ly at f.1.ring f.0
-      ∙ sym (ap (is_live (valuation vs a)) (marks.edges x y lx ly (subst (IsUnmarked events) (sym at) free))));
-}
+correct_if_steady j vs t p events u shows marks free steady = grind (arith, common_steps, shown_at, ring_in_box)
 
 correct_if_skippable : (j : JobView) (vs : Values) (t : ℕ) (p : Planes) (marks : List ℕ) (u : ℕ) → IsReady j vs →
     Shows j vs t p → AreLineMarks j t marks → AreSkippableBetween u (u + 1) marks p → IsNumberCorrect j vs t p u

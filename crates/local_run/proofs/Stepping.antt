@@ -46,8 +46,7 @@ less_none = omega (arith, ints)
 partner_inner : (c t x : ℕ) → c % 2 ≡ 0 → t % 2 ≡ 0 → partner t (box_coord c x) ≡ box_coord c (mate x)
 unfolding box_coord
 partner_inner c t x ec et = by_eq_or_not (x % 2) 0
-    (λ e. let m : c + mate x ≡ 1 + (c + x) = omega (arith, mate_even x e) in
-    up_pos t (c + x) (omega arith) ∙ ap pos (sym m))
+    (λ e. grind (arith, common_steps, mate_even, up_pos))
     (λ o. let p : 1 + (x - 1) ≡ x = omega arith in
     let m : mate x ≡ x - 1 = ap mate (sym p) ∙ mate_odd (x - 1) (omega arith) in
     let q : c + x ≡ 1 + (c + mate x) = omega arith in
@@ -63,8 +62,7 @@ outer_down t n et en = ap (partner t) (less_plus n) ∙ down_pos t n (omega arit
 partner_outer : (c t x : ℕ) → c % 2 ≡ 0 → t % 2 ≡ 1 → partner t (halo_coord c x) ≡ halo_coord c (mate x)
 unfolding halo_coord
 partner_outer c t x ec et = by_eq_or_not (x % 2) 0
-    (λ e. let m : 1 + (c + x) ≡ c + mate x = omega (arith, mate_even x e) in
-    outer_up t (c + x) et (omega arith) ∙ ap (λ n. pos n -ℤ pos 1) m)
+    (λ e. grind (arith, common_steps, mate_even, outer_up))
     (λ o. let p : 1 + (x - 1) ≡ x = omega arith in
     let m : mate x ≡ x - 1 = ap mate (sym p) ∙ mate_odd (x - 1) (omega arith) in
     let q : c + x ≡ 1 + (c + mate x) = omega arith in

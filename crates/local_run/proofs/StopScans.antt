@@ -56,11 +56,7 @@ where_it_is j vs t place a s x y rising tried e at la whole f =
       | inl lt ↦ absurd (tried.free f.is_listed.0 f.stop a lt h f.time la
           (whole, (λ is. f.differs (sym place_is ∙ is))))
       | inr (inl same) ↦ inl (same_Some _ _ (sym h ∙ ap (slice_get j.stops) same ∙ e))
-      | inr (inr gt) ↦ elim (later_moment s.at f.stop.at (rising.rises place f.is_listed.0 s f.stop gt e h)) [
-        | inl early ↦ absurd (let time = f.time in omega (arith, early, time, at))
-        | inr p ↦ inr (subst (λ (z : ℤ). IsLater s.at.cell.x s.at.cell.y z y) f.column
-            (subst (λ (z : ℤ). IsLater s.at.cell.x s.at.cell.y f.stop.at.cell.x z) f.row p.1))
-      ]
+      | inr (inr gt) ↦ grind (arith, common_steps, later_moment)
     ]
   where
     place_is : local_run j (valuation vs a) f.stop.at.time f.stop.at.cell.x f.stop.at.cell.y
@@ -79,8 +75,7 @@ not_left x y x' (inl l) m = less_itself y l
 not_left x y x' (inr p) m = omega (arith, ints, p.1, m)
 
 not_itself : (x y : ℤ) → ¬ IsLater x y x y
-not_itself x y (inl l) = less_itself y l
-not_itself x y (inr p) = less_itself x p.1
+not_itself x y = grind (arith, common_steps, less_itself)
 
 pub stop_first : (j : JobView) (vs : Values) (t place a : ℕ) (s : listed.Stop) →
     IsRising moment_cmp stop_moment j.stops → AreTried j vs t place → slice_get j.stops place ≡ Some s →
@@ -140,10 +135,7 @@ at_end j t place past k s l e = absurd (let lt = slice_get_within j.stops k s e 
 
 before_later : (j : JobView) (vs : Values) (t place : ℕ) (s : listed.Stop) → IsRising moment_cmp stop_moment j.stops →
     AreTried j vs t place → slice_get j.stops place ≡ Some s → s.at.time ≢ t → NoneLeft j t place
-before_later j vs t place s rising tried e other k r l h =
-    let le = later_stop j place k s r rising l e h in
-    let ge = tried.from place s (omega arith) e in
-    omega (arith, le, ge, other)
+before_later j vs t place s rising tried e other k r l h = grind (arith, common_steps, later_stop)
 
 pub record AreAllTried (j : JobView) (vs : Values) (t place : ℕ) : Type 0 where
   pub free : HasNoFaultOfKind j vs t Stop
@@ -185,10 +177,7 @@ none_between j vs t n place k low high from to x y a la found =
     let f : IsStopFault j (valuation vs a) k x y = found.1 in
     let at : slice_get j.stops f.is_listed.0 ≡ Some f.stop = stop_at j (valuation vs a) k x y f in
     let time : f.stop.at.time ≡ k = f.time in
-    elim (cases_lt f.is_listed.0 place) [
-      | inl l ↦ let h = low.before f.is_listed.0 f.stop l at in omega (arith, h, time, from)
-      | inr g ↦ let h = high.from f.is_listed.0 f.stop g at in omega (arith, h, time, to)
-    ]
+    grind (arith, common_steps, cases_lt)
 
 -- a place is that of the next stop also at later times, up to that of the stop
 pub next_later : (j : JobView) (t n place : ℕ) (s : listed.Stop) → IsRising moment_cmp stop_moment j.stops →

@@ -1,6 +1,5 @@
 -- The words of cuts: the bits of a counter, 64 values of the counter at once
-use Rattle.module_box.proofs.Imports.{Bool, ap, arith, bit, bit-zero, false}
-use Rattle.module_box.proofs.Imports.{refl, sym, true, ℕ, ◌*◌, ◌+◌}
+use Rattle.module_box.proofs.Imports.{Bool, ap, arith, bit, bit-zero, common_steps, false, refl, sym, true, ℕ, ◌*◌, ◌+◌}
 use Rattle.module_box.proofs.Imports.{◌-◌, ◌<◌, ◌∙◌, ◌≡◌, ◌≤◌}
 use Rattle.lemmas.proofs.Common.{bit_at_cat_high, bit_at_cat_low}
 use Rattle.bbm_rule.proofs.BitLemmas.{holds_below, below_from_test}
@@ -12,9 +11,7 @@ same false true = false
 same false false = true
 
 same_is : (x y : Bool) → same x y ≡ true → x ≡ y
-same_is true y e = sym e
-same_is false true e = cc
-same_is false false e = refl
+same_is x y h1 = grind (arith, common_steps)
 
 -- all 64 bits are set
 swap : (j b : ℕ) → 64 * j + b ≡ j * 64 + b

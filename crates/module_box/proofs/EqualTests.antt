@@ -34,8 +34,7 @@ signal_of false (Some w) = Wire w
 
 signal_back : (a : Signal) → signal_of (is_one a) (signal_wire a) ≡ a
 unfolding signal_of
-signal_back Zero = refl
-signal_back _ = refl
+signal_back a = grind (arith, common_steps)
 
 pub signal_decides : (a b : Signal) → Decides (same_signal a b) (a ≡ b)
 signal_decides a b = grind (arith, common_steps, both, options, signal_back, signal_of)
@@ -57,11 +56,7 @@ event_decides a b =
     (λ e. ap (λ h. h.at.time) e) (λ e. (ap (λ h. h.at.cell) e, ap (λ h. h.signal) e))
 
 pub signals_decides : ScheduleEqualityDecides
-signals_decides s t =
-    both _ _ (lists same_all_times all_times_decides s.all_times t.all_times)
-    (lists same_event event_decides s.events t.events)
-    (λ all_times events i. record { all_times = all_times i; events = events i }) (λ e. ap (λ s. s.all_times) e)
-    (λ e. ap (λ s. s.events) e)
+signals_decides s t = grind (arith, common_steps, both, lists, all_times_decides, event_decides)
 
 -- ---- gates
 source_of : Option Bool → GateKind
@@ -78,8 +73,7 @@ gate_kind_from place source delay =
 
 gate_kind_back : (r : GateKind) → gate_kind_from (gate_kind_number r) (source_bit r) (delay_steps r) ≡ r
 unfolding gate_kind_from source_of delay_of
-gate_kind_back (Source b) = refl
-gate_kind_back _ = refl
+gate_kind_back r = grind (arith, common_steps)
 
 gate_kind_decides : (a b : GateKind) → Decides (same_gate_kind a b) (a ≡ b)
 gate_kind_decides a b = grind (arith, common_steps, both, options, gate_kind_back, gate_kind_from)
@@ -95,10 +89,7 @@ pub locals_decides : LocalsEqualityDecides
 locals_decides l m =
     both _ _
     (both {R = (l.netlist ≡ m.netlist) × (l.circuit_wires ≡ m.circuit_wires)} _ _
-    (both {R = l.netlist ≡ m.netlist} _ _ (Decides-eqb l.netlist.given m.netlist.given)
-    (lists same_gate gate_decides l.netlist.gates m.netlist.gates)
-    (λ given gates i. record { given = given i; gates = gates i })
-    (λ e. ap (λ n. n.given) e) (λ e. ap (λ n. n.gates) e))
+    (grind (arith, common_steps, both, lists, gate_decides))
     (lists nat_eq Decides-eqb l.circuit_wires m.circuit_wires) (λ net wires. (net, wires)) (λ p. p.0) (λ p. p.1))
     (lists nat_eq Decides-eqb l.circuit_gates m.circuit_gates)
     (λ rest gates i. record { netlist = rest.0 i; circuit_wires = rest.1 i; circuit_gates = gates i })

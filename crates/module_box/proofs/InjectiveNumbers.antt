@@ -2,7 +2,7 @@
 use Rattle.module_box.proofs.Imports.{Cswap, Delay, Fredkin, GateKind, Interact, List, Source, Switch, Uninteract}
 use Rattle.module_box.proofs.Imports.{Unswitch, [], ap, append_assoc, ap₂, arith, common_steps, flat_map}
 use Rattle.module_box.proofs.Imports.{gate_code_numbers, gate_kind_number, get_or, length, nat_eq, range_with_len, refl}
-use Rattle.module_box.proofs.Imports.{suc, sym, true, zero, ℕ, ◌++◌, ◌+◌, ◌∙◌, ◌∷◌, ◌≡◌}
+use Rattle.module_box.proofs.Imports.{suc, sym, zero, ℕ, ◌++◌, ◌+◌, ◌∙◌, ◌∷◌, ◌≡◌}
 use Rattle.lemmas.proofs.Common.{same_head, same_tail}
 use Rattle.module_box.specs.Numbers.{IsPrefixFree, NumbersDetermineGates, length_prefixed, netlist_numbers}
 use Rattle.module_box.specs.Numbers.{gate_kind_parameter}
@@ -52,8 +52,7 @@ gate_kind_from place detail = get_or
 
 gate_kind_back : (r : GateKind) → gate_kind_from (gate_kind_number r) (gate_kind_parameter r) ≡ r
 unfolding gate_kind_from
-gate_kind_back (Source true) = refl
-gate_kind_back _ = refl
+gate_kind_back r = grind (arith, common_steps)
 
 gate_kinds_tell : IsPrefixFree (λ (r : GateKind). gate_kind_number r ∷ gate_kind_parameter r ∷ [])
 gate_kinds_tell a b r s e = grind (arith, common_steps, same_head, same_tail, gate_kind_back, gate_kind_from)
@@ -63,10 +62,4 @@ gates_tell g h r s e = grind (arith, common_steps, gate_kinds_tell, listed, list
 
 pub netlists_tell : NumbersDetermineGates
 unfolding netlist_numbers
-netlists_tell n m r s e =
-    let given = same_head n.given m.given (length_prefixed gate_code_numbers n.gates ++ r)
-    (length_prefixed gate_code_numbers m.gates ++ s) e in
-    let gates = counted_tell gate_code_numbers gates_tell n.gates m.gates r s
-    (same_tail n.given m.given (length_prefixed gate_code_numbers n.gates ++ r)
-    (length_prefixed gate_code_numbers m.gates ++ s) e) in
-    (λ i. record { given = given i; gates = gates.0 i }, gates.1)
+netlists_tell n m r s e = grind (arith, common_steps, same_head, counted_tell, gates_tell, same_tail)

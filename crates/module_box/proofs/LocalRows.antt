@@ -176,16 +176,13 @@ written words place n column old new column' old' same_column same_old long put 
 
 -- ---- a column of a module
 none_is : (b : Bool) (o : Option ℕ) → b ≡ is_none o → b ≡ true → o ≡ None
-none_is b None e h = refl
-none_is b (Some m) e h = absurd (true≢false (sym h ∙ e))
+none_is b o h1 h2 = grind (arith, common_steps)
 
 some_is : (b : Bool) (o : Option ℕ) → b ≡ is_none o → b ≡ false → (m : ℕ) × (o ≡ Some m)
-some_is b None e h = absurd (true≢false (sym e ∙ h))
-some_is b (Some m) e h = (m, refl)
+some_is b o h1 h2 = grind (arith, common_steps)
 
 gate_is : (o : Option ℕ) (k : ℕ) → is_this_gate o k ≡ true → o ≡ Some k
-gate_is None k e = absurd (true≢false (sym e))
-gate_is (Some m) k e = ap Some (eqb-true m k e)
+gate_is o k h1 = grind (arith, common_steps, eqb-true)
 
 is_gate_at : (o : Option ℕ) (k : ℕ) → o ≡ Some k → is_this_gate o k ≡ true
 is_gate_at o k e = ap (λ (o : Option ℕ). is_this_gate o k) e ∙ eq-eqb k k refl

@@ -1,11 +1,10 @@
 -- Boxes and signals that are moved
 use Rattle.module_box.proofs.Imports.{AllTimesSignal, Box2, Cell, Equal, Greater, IsRising, Less, List, Ordering, Some}
-use Rattle.module_box.proofs.Imports.{State, TimedSignal, Zero, [], all_times_at, ap, ap₂, arith, cell_cmp, cell_of}
+use Rattle.module_box.proofs.Imports.{State, TimedSignal, [], all_times_at, ap, ap₂, arith, cell_cmp, cell_of}
 use Rattle.module_box.proofs.Imports.{common_steps, event_at, in_box, in_halo, in_ring, in_span, ints, is_at, map}
-use Rattle.module_box.proofs.Imports.{moment_cmp, moment_of, moved_all_times, moved_event, nat_eq, not, pos, refl}
+use Rattle.module_box.proofs.Imports.{moment_cmp, moment_of, moved_all_times, moved_event, nat_eq, pos, refl}
 use Rattle.module_box.proofs.Imports.{some_neighbour, ℕ, ℤ, ◌&&◌, ◌+ℤ◌, ◌+◌, ◌∷◌, ◌≡◌}
-use Rattle.lemmas.proofs.Common.{if◌then◌else◌, unwrap_or, int_le, int_lt, ordering_then, down_moved, mapped_from}
-use Rattle.lemmas.proofs.Common.{up_moved}
+use Rattle.lemmas.proofs.Common.{if◌then◌else◌, int_le, int_lt, ordering_then, down_moved, mapped_from, up_moved}
 use Rattle.std.specs.Ordering.{int_eq, int_cmp, nat_cmp}
 use Rattle.bbm_rule.specs.Moves.{IsMoved}
 use Rattle.module_box.specs.Moves.{moved_cell, moved_signals, IsMovedBox, RingsAndHalosMoveAlong, SignalsMoveAlong}
@@ -43,15 +42,7 @@ some_moved dx dy s s' m x y = grind (arith, common_steps, down_moved, up_moved)
 
 pub boxes_moved : RingsAndHalosMoveAlong
 unfolding in_ring in_halo
-boxes_moved dx dy b b' m =
-    let inside = box_moved dx dy b b' m in
-    record {
-      box = inside;
-      ring = λ x y. ap₂ (λ p q. p && q) (inside x y)
-          (some_moved dx dy (λ x' y'. not (in_box b x' y')) (λ x' y'. not (in_box b' x' y'))
-          (λ x' y'. ap not (inside x' y')) x y);
-      halo = λ x y. ap₂ (λ p q. not p && q) (inside x y) (some_moved dx dy (in_box b) (in_box b') inside x y);
-    }
+boxes_moved dx dy b b' m = grind (arith, common_steps, box_moved, some_moved)
 
 -- ---- signals
 at_moved : (dx dy : ℤ) (c : Cell) (x y : ℤ) → is_at (moved_cell dx dy c) (x +ℤ dx) (y +ℤ dy) ≡ is_at c x y
@@ -73,8 +64,7 @@ event_moved dx dy (e ∷ es) t x y =
 
 pub signals_moved : SignalsMoveAlong
 unfolding signal_at
-signals_moved dx dy s t x y =
-    λ i. unwrap_or (all_times_moved dx dy s.all_times x y i) (unwrap_or (event_moved dx dy s.events t x y i) Zero)
+signals_moved dx dy s t x y = grind (arith, common_steps, all_times_moved, event_moved)
 
 -- ---- moved back
 sum_back : (a d e : ℤ) → d +ℤ e ≡ pos 0 → (a +ℤ d) +ℤ e ≡ a

@@ -44,8 +44,7 @@ module _ (o : OwnersView) (t : IsOwnersTable o) where
   -- and each block of a box inside has a place
   pub block_within : (b : Box2) → IsEven b → IsInside o.width o.height b → (k : ℕ) →
       HasBlockAtPlace b (o.width / 2) k → k < length o.numbers
-  block_within b even inside k here =
-      grind (arith, common_steps, among_from, div-add-mod', mod-lt, mul-le-mul_right)
+  block_within b even inside k here = grind (arith, common_steps, among_from, div-add-mod', mod-lt, mul-le-mul_right)
 
   -- ---- the cells of the boxes
 
@@ -130,5 +129,4 @@ puts_box o b may number stop new takes =
 
 pub no_box : (o : OwnersView) → IsOwnersTable o → o.numbers ≡ replicate ((o.height / 2) * (o.width / 2)) no_owner →
     ArePartOwners o []
-no_box o t are =
-    record { table = t; each = λ i b e. absurd cc; taken = (none_taken (o.width / 2) _ no_owner o.numbers are).taken }
+no_box o t are = grind (arith, common_steps, none_taken)

@@ -1,9 +1,8 @@
 -- The values of a circuit's wires, as a module sees them
-use Rattle.module_box.proofs.Imports.{AreLocalsOf, Bool, Gate, HasRow, LocalNet, Netlist, Option, Satisfies}
-use Rattle.module_box.proofs.Imports.{Some, Valuation, ap, arith, bit, circuit_wire, common_steps, eqb, false, get_or}
-use Rattle.module_box.proofs.Imports.{map, refl, renumber_gate, row, same_Some, slice_get}
-use Rattle.module_box.proofs.Imports.{slice_get-get_or, subst, suc, sym, true, zero, ℕ, ◌%◌, ◌*◌, ◌+◌}
-use Rattle.module_box.proofs.Imports.{◌/◌, ◌<◌, ◌∙◌, ◌≡◌}
+use Rattle.module_box.proofs.Imports.{AreLocalsOf, Bool, Gate, HasRow, LocalNet, Netlist, Option, Satisfies, Some}
+use Rattle.module_box.proofs.Imports.{Valuation, ap, arith, bit, circuit_wire, common_steps, eqb, false, get_or, map}
+use Rattle.module_box.proofs.Imports.{renumber_gate, row, same_Some, slice_get, slice_get-get_or, subst, suc, sym, true}
+use Rattle.module_box.proofs.Imports.{zero, ℕ, ◌%◌, ◌*◌, ◌+◌, ◌/◌, ◌<◌, ◌∙◌, ◌≡◌}
 use Rattle.lemmas.proofs.Common.{◌^◌, bit_at-suc, bit_at_lowest, map-map}
 use Rattle.bbm_rule.specs.Plane.{one_if}
 use Rattle.circuit.proofs.Valuations.{at_most_one}
@@ -32,8 +31,7 @@ low_part true m = omega arith
 low_part false m = omega arith
 
 is_one : (b : Bool) → eqb (one_if b) 1 ≡ b
-is_one true = refl
-is_one false = refl
+is_one b = grind (arith, common_steps)
 
 low_bit : (b : Bool) (m : ℕ) → bit (one_if b + 2 * m) 0 ≡ b
 unfolding bit

@@ -73,10 +73,7 @@ row_stops columns b free number row end stop old mid new even fits top bottom ro
       within = omega (arith, long, within, lt);
       taken = λ k p. (part k p).0;
       others = λ k p. (part k p).1;
-      ends = λ p. (
-        block_from b columns stop even (grind (arith, common_steps, in_row)),
-        grind (arith, common_steps),
-      );
+      ends = grind (arith, common_steps, block_from, in_row);
     }
 
 -- the whole row is taken, as far as the table goes

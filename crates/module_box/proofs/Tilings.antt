@@ -94,9 +94,7 @@ module _ (columns blocks free number stop : ℕ) (boxes : List Box2) (b : Box2) 
     taken = record {
       few = (let n = length_push boxes b in omega (arith, n, is, less));
       owned = λ k i lt h. let q : k < stop = omega (arith, lt, long) in same k q ∙ owned_next k i q h;
-      named = λ k lt taken.
-          let q : k < stop = omega (arith, lt, long) in
-          rw (same k q) (named_next k q (λ e. taken (same k q ∙ e)));
+      named = grind (arith, common_steps, named_next);
     };
     bound = (let w = takes.within in let b = t.bound in omega (arith, w, b, long));
     twice = λ lt. rw long (twice_next (omega (arith, lt, long)));
@@ -104,18 +102,7 @@ module _ (columns blocks free number stop : ℕ) (boxes : List Box2) (b : Box2) 
 
 pub none_taken : (columns blocks free : ℕ) (table : List ℕ) → table ≡ replicate blocks free →
     IsTakenBy columns blocks free [] table
-none_taken columns blocks free table are =
-    let long : length table ≡ blocks = ap length are ∙ length-replicate blocks free in
-    record {
-      taken = record {
-        few = omega arith;
-        owned = λ k i lt h. absurd (let e = h.numbered in cc);
-        named = λ k lt taken. absurd (taken (ap (λ l. slice_index l k) are
-            ∙ get_or-replicate blocks k free 0 (omega (arith, lt, long))));
-      };
-      bound = omega (arith, long);
-      twice = λ lt. absurd (omega (arith, lt, long));
-    }
+none_taken columns blocks free table are = grind (arith, common_steps, length-replicate, get_or-replicate)
 
 -- the same for the box at a place of a list, after those before it
 pub taken_by_place : (columns blocks n stop : ℕ) (boxes : List Box2) (b : Box2) (table new after : List ℕ) →
@@ -132,8 +119,7 @@ taken_by_place columns blocks n stop boxes b table new after t lt got takes e =
 
 pub taken_by_all : (columns blocks free n : ℕ) (boxes : List Box2) (table : List ℕ) →
     IsTakenBy columns blocks free (take n boxes) table → n ≡ length boxes → IsTakenBy columns blocks free boxes table
-taken_by_all columns blocks free n boxes table t e =
-    subst (λ bs. IsTakenBy columns blocks free bs table) (take_all n boxes (omega (arith, e))) t
+taken_by_all columns blocks free n boxes table t e = grind (arith, common_steps, take_all)
 
 pub taken_gap : (columns blocks free place : ℕ) (boxes : List Box2) (table : List ℕ) (c : Cell) →
     IsTakenBy columns blocks free boxes table → place < length table → slice_index table place ≡ free →

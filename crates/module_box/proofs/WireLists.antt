@@ -1,10 +1,10 @@
 -- Lists of wires: the place of a wire, and wires that are added
-use Rattle.module_box.proofs.Imports.{AreDistinct, IfSome, List, None, Option, Some, [], ap, append_assoc, ap₂, arith}
+use Rattle.module_box.proofs.Imports.{AreDistinct, IfSome, List, Option, Some, [], ap, append_assoc, ap₂, arith}
 use Rattle.module_box.proofs.Imports.{cases_lt, common_steps, drop, eqb-true, false, false≢true, get_or}
-use Rattle.module_box.proofs.Imports.{get_or-append-add, get_or_append_left, inl, inr, is_among, is_some, length}
-use Rattle.module_box.proofs.Imports.{length-append, nat_eq, ne_eqb, position, refl, same_Some, slice_get}
-use Rattle.module_box.proofs.Imports.{slice_get-get_or, slice_get_within, subst, suc, sym, take, take-append-drop}
-use Rattle.module_box.proofs.Imports.{take_more, zero, ℕ, ◌++◌, ◌+◌, ◌<◌, ◌==◌, ◌||◌, ◌∙◌, ◌∷◌, ◌≡◌, ◌≤◌}
+use Rattle.module_box.proofs.Imports.{get_or-append-add, get_or_append_left, is_among, is_some, length, length-append}
+use Rattle.module_box.proofs.Imports.{nat_eq, ne_eqb, position, refl, same_Some, slice_get, slice_get-get_or}
+use Rattle.module_box.proofs.Imports.{slice_get_within, subst, suc, sym, take, take-append-drop, zero, ℕ, ◌++◌, ◌+◌}
+use Rattle.module_box.proofs.Imports.{◌<◌, ◌==◌, ◌||◌, ◌∙◌, ◌∷◌, ◌≡◌, ◌≤◌}
 use Rattle.lemmas.proofs.Common.{Contains, drop_more, false_from_ne_true, list_any, list_any_at, position_or_len_is}
 use Rattle.lemmas.proofs.Common.{eq_itself, eq_sym}
 use Rattle.std.proofs.lemmas.List.Quantifiers.{position-Some}
@@ -18,8 +18,7 @@ place_same ws w i e = eqb-true (get_or ws i 0) w (position-Some (λ v. v == w) w
 -- so for each place that it finds
 pub place_holds : (ws : List ℕ) (w : ℕ) (o : Option ℕ) → o ≡ position (λ v. v == w) ws →
     IfSome o (λ i. get_or ws i 0 ≡ w)
-place_holds ws w None e = tt
-place_holds ws w (Some i) e = place_same ws w i e
+place_holds ws w o h1 = grind (arith, common_steps, place_same)
 
 -- it finds one if and only if the wire is among them
 pub place_among : (ws : List ℕ) (w : ℕ) → is_some (position (λ v. v == w) ws) ≡ is_among ws w
@@ -62,11 +61,6 @@ module _ (old ws : List ℕ) (i w : ℕ) (different : AreDistinct (old ++ ws)) (
       ap (λ (l : List ℕ). is_among l w) so_far
       ∙ fresh (old ++ take i ws) (drop (i + 1) ws) w (subst AreDistinct whole different)
 
-  -- it is added to them
-  pub wire_added : (known new : List ℕ) → known ≡ old ++ take i ws → new ≡ known ++ w ∷ [] →
-      new ≡ old ++ take (i + 1) ws
-  wire_added known new so_far added = grind (arith, common_steps, take_more)
-
 -- ---- the place of a wire among different ones
 
 -- the place at which it stands
@@ -97,16 +91,7 @@ last_wire (u ∷ ws) w (suc i) v l at = let r = last_wire ws w i v (omega arith)
 
 -- one more wire that is not among them
 pub different_push : (ws : List ℕ) (w : ℕ) → AreDistinct ws → is_among ws w ≡ false → AreDistinct (ws ++ w ∷ [])
-different_push ws w different new i j v at there = elim (cases_lt i (length ws)) [
-  | inl a ↦ elim (cases_lt j (length ws)) [
-    | inl b ↦ different i j v (front_wire ws w i v a at) (front_wire ws w j v b there)
-    | inr b ↦ absurd (apart i v (front_wire ws w i v a at) (last_wire ws w j v b there).1)
-  ]
-  | inr a ↦ elim (cases_lt j (length ws)) [
-    | inl b ↦ absurd (apart j v (front_wire ws w j v b there) (last_wire ws w i v a at).1)
-    | inr b ↦ (last_wire ws w i v a at).0 ∙ sym (last_wire ws w j v b there).0
-  ]
-]
+different_push ws w different new i j v at there = grind (arith, common_steps, cases_lt, front_wire, last_wire, apart)
   where
     apart : (k v : ℕ) → slice_get ws k ≡ Some v → w ≡ v → ⊥
     apart k v at e =

@@ -17,36 +17,16 @@ use Rattle.bbm_rule.proofs.MarkLemmas.{bit_ones}
 
 -- which of two
 pick_first : (a x y : Bool) → xor y (a && xor x y) ≡ cond a x y
-pick_first true true true = refl
-pick_first true true false = refl
-pick_first true false true = refl
-pick_first true false false = refl
-pick_first false true true = refl
-pick_first false true false = refl
-pick_first false false true = refl
-pick_first false false false = refl
+pick_first a x y = grind (arith, common_steps)
 
 pick_second : (a x y : Bool) → xor x (a && xor x y) ≡ cond a y x
-pick_second true true true = refl
-pick_second true true false = refl
-pick_second true false true = refl
-pick_second true false false = refl
-pick_second false true true = refl
-pick_second false true false = refl
-pick_second false false true = refl
-pick_second false false false = refl
+pick_second a x y = grind (arith, common_steps)
 
 second_only : (x y : Bool) → xor y (x && y) ≡ (not x && y)
-second_only true true = refl
-second_only true false = refl
-second_only false true = refl
-second_only false false = refl
+second_only x y = grind (arith, common_steps)
 
 first_only : (x y : Bool) → xor x (x && y) ≡ (x && not y)
-first_only true true = refl
-first_only true false = refl
-first_only false true = refl
-first_only false false = refl
+first_only x y = grind (arith, common_steps)
 
 first_bit : (a x y b : ℕ) → bit (bit_xor y (bit_and a (bit_xor x y))) b ≡ cond (bit a b) (bit x b) (bit y b)
 first_bit a x y b = grind (arith, common_steps, bit-xor, bit-and, pick_first)
@@ -66,32 +46,13 @@ forward o r b e = e ∙ ap (λ (v : Bool). row_unless_undefined v r) (sym (bit-z
 
 unswitch_bits : (c y z : Bool) → row Unswitch (c ∷ y ∷ z ∷ []) ≡ row_unless_undefined (cond c z y) (c ∷ (y || z) ∷ [])
 unfolding row
-unswitch_bits true false true = refl
-unswitch_bits false true false = refl
-unswitch_bits _ true true = refl
-unswitch_bits true _ false = refl
-unswitch_bits false false _ = refl
+unswitch_bits c y z = grind (arith, common_steps)
 
 uninteract_bits : (a b c d : Bool) →
     row Uninteract (a ∷ b ∷ c ∷ d ∷ [])
     ≡ row_unless_undefined (xor a d || ((a && (b || c)) || (b && c))) ((a || c) ∷ (a || b) ∷ [])
 unfolding row
-uninteract_bits false false false false = refl
-uninteract_bits false true false false = refl
-uninteract_bits false false true false = refl
-uninteract_bits true false false true = refl
-uninteract_bits true true true true = refl
-uninteract_bits true true true false = refl
-uninteract_bits true true false true = refl
-uninteract_bits true true false false = refl
-uninteract_bits true false true true = refl
-uninteract_bits true false true false = refl
-uninteract_bits true false false false = refl
-uninteract_bits false true true true = refl
-uninteract_bits false true true false = refl
-uninteract_bits false true false true = refl
-uninteract_bits false false true true = refl
-uninteract_bits false false false true = refl
+uninteract_bits a b c d = grind (arith, common_steps)
 
 words_row : (kind : GateKind) (a x y z b : ℕ) → b < 64 →
     row kind (take (uses kind) (bit a b ∷ bit x b ∷ bit y b ∷ bit z b ∷ []))
@@ -116,18 +77,7 @@ front_ins : (kind : GateKind) (f : ℕ → Bool) (ins : List ℕ) → length ins
     map f (take (uses kind) ins)
     ≡ take (uses kind) (f (get_or ins 0 0) ∷ f (get_or ins 1 0) ∷ f (get_or ins 2 0) ∷ f (get_or ins 3 0)
     ∷ [])
-front_ins kind f [] e = absurd (omega arith)
-front_ins kind f (a ∷ []) e = absurd (omega arith)
-front_ins kind f (a ∷ b ∷ []) e = absurd (omega arith)
-front_ins kind f (a ∷ b ∷ c ∷ []) e = absurd (omega arith)
-front_ins (Source v) f (a ∷ b ∷ c ∷ d ∷ l) e = refl
-front_ins Fredkin f (a ∷ b ∷ c ∷ d ∷ l) e = refl
-front_ins Cswap f (a ∷ b ∷ c ∷ d ∷ l) e = refl
-front_ins Interact f (a ∷ b ∷ c ∷ d ∷ l) e = refl
-front_ins Switch f (a ∷ b ∷ c ∷ d ∷ l) e = refl
-front_ins (Delay n) f (a ∷ b ∷ c ∷ d ∷ l) e = refl
-front_ins Unswitch f (a ∷ b ∷ c ∷ d ∷ l) e = refl
-front_ins Uninteract f (a ∷ b ∷ c ∷ d ∷ l) e = refl
+front_ins kind f ins h1 = grind (arith, common_steps)
 
 -- the words of the wires that a gate uses
 abbrev outs_of : GateKind → List ℕ → List ℕ → List ℕ
@@ -152,8 +102,7 @@ lane_row kind ins ws b h e =
     (word_of_input ws ins 3) b h
 
 many_outs : (kind : GateKind) (a x y z : ℕ) → length (gate_out_words kind a x y z) ≡ defines kind
-many_outs (Source true) a x y z = refl
-many_outs _ a x y z = refl
+many_outs kind a x y z = grind (arith, common_steps)
 
 pub gate_done : (ws new : List ℕ) (g : LocalGate) (none : ℕ) → length g.ins ≡ 4 → new ≡ ws ++ outs_of g.kind ws g.ins →
     none ≡ none_of g.kind ws g.ins → AddsRow (gate_of_local_gate g) ws new none
@@ -203,8 +152,7 @@ shift_suc k (Some m) = let e : k + 1 + m ≡ k + (m + 1) = omega arith in ap Som
 
 not_shifted : (k : ℕ) (o : Option ℕ) → is_this_gate (shift (k + 1) o) k ≡ false
 unfolding shift
-not_shifted k None = refl
-not_shifted k (Some m) = ne_eqb (k + 1 + m) k (λ e. omega (arith, e))
+not_shifted k o = grind (arith, common_steps, ne_eqb)
 
 pub column_start : (given : List ℕ) (gs : List LocalGate) (undefined : List ℕ) (b : ℕ) → b < 64 →
     InColumn given gs 0 given undefined 18446744073709551615 b
@@ -354,20 +302,11 @@ unfolding evaluate first_undefined_gate shift
 column_says given gs k words undefined defined b small past within all =
     let is : InColumn given gs k words undefined defined b = all.each b small in
     let none : drop k gs ≡ [] = drop_of_length-le gs past in
-    record {
-      values = λ e. sym (is.left e)
-          ∙ ap (λ (l : List LocalGate). evaluate (lane b words) (map gate_of_local_gate l)) none;
-      defined = told is none _ refl;
-      undefined = λ j h. is.undefined j (omega (arith, length-map gs gate_of_local_gate));
-    }
+    grind (arith, common_steps, length-map, told)
   where
     told : InColumn given gs k words undefined defined b → drop k gs ≡ [] → (v : Bool) → bit defined b ≡ v →
         bit defined b ≡ is_none (first_undefined_gate (lane b given) (map gate_of_local_gate gs))
-    told is none true e =
-        e ∙ ap is_none (ap (λ (l : List LocalGate).
-        option_map (λ m. k + m) (first_undefined_gate (lane b words) (map gate_of_local_gate l))) (sym none)
-        ∙ is.later e)
-    told is none false e = e ∙ ap is_none (sym (is.earlier e).2)
+    told h1 h2 v h3 = grind (arith, common_steps, option_map)
 
 pub column_long : (given : List ℕ) (gs : List LocalGate) (k : ℕ) (words undefined : List ℕ) (defined : ℕ) →
     length gs ≤ k → AreInColumn given gs k words undefined defined →

@@ -26,9 +26,7 @@ begins_above place p (m ∷ ns) r le n s e = elim (forms p m) [
   | inl none ↦ begins_above place (p + 1) ns r (omega (arith, le)) n s
       (sym (ap (λ (l : List ℕ). (l ++ sparse_entries_from (p + 1) ns) ++ 0 ∷ r) none.1) ∙ e)
   | inr some ↦
-      let head = same_head (p + 1) n _ s
-      (sym (ap (λ (l : List ℕ). (l ++ sparse_entries_from (p + 1) ns) ++ 0 ∷ r) some.1) ∙ e) in
-      inr (omega (arith, le, head))
+      grind (arith, common_steps, same_head)
 ]
 
 -- ---- entries tell their numbers

@@ -15,8 +15,7 @@ use Rattle.module_job.specs.contracts.job.StopPartialEq.TheImpl as stops
 
 -- the derived test is this
 and_apart : (p q r : Bool) → ((p && q) && r) ≡ (p && (q && r))
-and_apart true q r = refl
-and_apart false q r = refl
+and_apart p q r = grind (arith, common_steps)
 
 stop_test : (a b : Stop) → stops.eq-value.it a b ≡ same_stop a b
 stop_test a b = and_apart (nat_eq a.at.time b.at.time) (same_cell a.at.cell b.at.cell) (nat_eq a.wire b.wire)
@@ -35,8 +34,7 @@ demand_from (suc (suc (suc n))) w = Demanded.Any
 
 demand_back : (a : Demand) → demand_from (demand_kind_number a) (demand_wire a) ≡ a
 unfolding demand_from
-demand_back Demanded.Dead = refl
-demand_back _ = refl
+demand_back a = grind (arith, common_steps)
 
 pub demand_decides : (a b : Demand) → Decides (same_demand a b) (a ≡ b)
 demand_decides a b = grind (arith, common_steps, both, options, demand_back, demand_from)
@@ -63,17 +61,7 @@ jobs_decide j k =
     (λ p q. (p, q)) (λ p. p.0) (λ p. p.1))
     (both {R = (j.stops ≡ k.stops) × (j.kept ≡ k.kept)} _ _ (lists same_stop stop_decides j.stops k.stops)
     (lists nat_eq Decides-eqb j.kept k.kept) (λ p q. (p, q)) (λ p. p.0) (λ p. p.1))
-    (λ p rest i. record {
-      area = p.0.0.0.0 i;
-      steps = p.0.0.0.1 i;
-      locals = p.0.0.1 i;
-      starts = p.0.1.0 i;
-      demands = p.0.1.1 i;
-      edges = p.1.0 i;
-      halos = p.1.1 i;
-      stops = rest.0 i;
-      kept = rest.1 i;
-    })
+    (grind (arith, common_steps))
     (λ e. (
       (
         ((ap (λ l. l.area) e, ap (λ l. l.steps) e), ap (λ l. l.locals) e),
@@ -104,18 +92,7 @@ shapes_decide s t =
     (λ p q. (p, q)) (λ p. p.0) (λ p. p.1))
     (both {R = (s.stops ≡ t.stops) × (s.kept ≡ t.kept)} _ _ (lists same_stop stop_decides s.stops t.stops)
     (lists nat_eq Decides-eqb s.kept t.kept) (λ p q. (p, q)) (λ p. p.0) (λ p. p.1))
-    (λ p rest i. record {
-      width = p.0.0.0.0.0 i;
-      height = p.0.0.0.0.1 i;
-      steps = p.0.0.0.1 i;
-      netlist = p.0.0.1 i;
-      starts = p.0.1.0 i;
-      demands = p.0.1.1 i;
-      edges = p.1.0 i;
-      halos = p.1.1 i;
-      stops = rest.0 i;
-      kept = rest.1 i;
-    })
+    (grind (arith, common_steps))
     (λ e. (
       (
         (((ap (λ l. l.width) e, ap (λ l. l.height) e), ap (λ l. l.steps) e), ap (λ l. l.netlist) e),
@@ -146,10 +123,7 @@ parts_decide x y x' y' ws gs ws' gs' s t =
     (lists nat_eq Decides-eqb gs gs') (λ p q. (p, q)) (λ p. p.0) (λ p. p.1))
     (shapes_decide s t)
     (λ p shape i. job_of_shape (p.0.0.0 i) (p.0.0.1 i) (p.0.1 i) (p.1 i) (shape i))
-    (λ e. (
-      ((ap (λ j. j.area.x) e, ap (λ j. j.area.y) e), ap (λ j. j.locals.circuit_wires) e),
-      ap (λ j. j.locals.circuit_gates) e,
-    ))
+    (grind (arith, common_steps))
     (λ e. sym (shape_placed x y ws gs s) ∙ ap shape_of e ∙ shape_placed x' y' ws' gs' t)
 
 pub parts_tell : (x y x' y' : ℕ) (ws gs ws' gs' : List ℕ) (s t : ShapeView) →

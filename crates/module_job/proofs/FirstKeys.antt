@@ -1,7 +1,7 @@
 -- The first keys that are the same, as a map has them
 use Rattle.module_job.proofs.Imports.{IsFirstLike, List, None, Option, Some, arith, cases_Bool, cases_lt, common_steps}
-use Rattle.module_job.proofs.Imports.{false≢true, if◌then◌else◌, lists, refl, same_key, slice_get, sym, unwrap_or, ℕ}
-use Rattle.module_job.proofs.Imports.{◌+◌, ◌<◌, ◌∙◌, ◌≡◌, ◌≢◌}
+use Rattle.module_job.proofs.Imports.{false≢true, if◌then◌else◌, lists, same_key, slice_get, unwrap_or, ℕ, ◌+◌, ◌<◌}
+use Rattle.module_job.proofs.Imports.{◌≡◌, ◌≢◌}
 
 -- what is known of a key after the first n
 abbrev pub IsFirstOf : List (List ℕ) → ℕ → List ℕ → Option ℕ → Type 0
@@ -11,9 +11,7 @@ IsFirstOf keys n key (Some f) =
 
 pub first_found : (keys : List (List ℕ)) (n : ℕ) (key : List ℕ) (o : Option ℕ) → slice_get keys n ≡ Some key →
     IsFirstOf keys n key o → IsFirstLike keys n (unwrap_or o n)
-first_found keys n key None there known = record { same = refl; first = λ i lt e. known i lt (e ∙ there) }
-first_found keys n key (Some f) there known =
-    record { same = known.1 ∙ sym there; first = λ i lt e. known.2 i lt (e ∙ there) }
+first_found keys n key o h1 h2 = grind (arith, common_steps)
 
 pub found_within : (keys : List (List ℕ)) (n : ℕ) (key : List ℕ) (o : Option ℕ) → IsFirstOf keys n key o →
     unwrap_or o n < n + 1
@@ -26,8 +24,7 @@ same_one x y o e f = cc
 
 its_first : (keys : List (List ℕ)) (n : ℕ) (key : List ℕ) (o : Option ℕ) → slice_get keys n ≡ Some key →
     IsFirstOf keys n key o → IsFirstOf keys (n + 1) key (Some (unwrap_or o n))
-its_first keys n key None there known = (omega arith, there, known)
-its_first keys n key (Some f) there known = let lt = known.0 in (omega (arith, lt), known.1, known.2)
+its_first keys n key o h1 h2 = grind (arith, common_steps)
 
 others_first : (keys : List (List ℕ)) (n : ℕ) (key other : List ℕ) (o : Option ℕ) → slice_get keys n ≡ Some key →
     (key ≡ other → ⊥) → IsFirstOf keys n other o → IsFirstOf keys (n + 1) other o

@@ -1,8 +1,7 @@
 -- The first of a list with each summary, and the first with each key of those that differ from it: for `job_groups`.
-use Rattle.module_job.proofs.Imports.{IsFirstLike, List, None, Option, Some, ap, arith, cases_Bool, cases_lt}
-use Rattle.module_job.proofs.Imports.{common_steps, cond-false, cond-true, false≢true, if◌then◌else◌, inl, inr, lists}
-use Rattle.module_job.proofs.Imports.{map, mapped_at, same_key, slice_get, slice_get-map, sym, unwrap_or, ℕ, ◌+◌, ◌<◌}
-use Rattle.module_job.proofs.Imports.{◌∙◌, ◌≡◌, ◌≢◌, ◌⊎◌}
+use Rattle.module_job.proofs.Imports.{IsFirstLike, List, Option, Some, ap, arith, cases_Bool, cases_lt, common_steps}
+use Rattle.module_job.proofs.Imports.{cond-false, cond-true, false≢true, if◌then◌else◌, lists, map, mapped_at, same_key}
+use Rattle.module_job.proofs.Imports.{slice_get, slice_get-map, sym, unwrap_or, ℕ, ◌+◌, ◌<◌, ◌∙◌, ◌≡◌, ◌≢◌, ◌⊎◌}
 use Rattle.lemmas.proofs.Common.{option_map}
 use Rattle.module_job.proofs.FirstKeys.{IsFirstOf, first_found}
 use Rattle.module_job.proofs.FirstShapes.{one_value}
@@ -44,8 +43,7 @@ head_same summary xs n h x there like head = grind (arith, common_steps, mapped_
 
 -- ---- one more
 bound_more : (o : Option ℕ) (n i : ℕ) → i < unwrap_or o (n + 1) → (i < unwrap_or o n) ⊎ (i ≡ n)
-bound_more None n i lt = elim (cases_lt i n) [ inl less ↦ inl less | inr large ↦ inr (omega (arith, lt, large)) ]
-bound_more (Some f) n i lt = inl lt
+bound_more o n i h1 = grind (arith, common_steps, cases_lt)
 
 pub heads_more : {A : Type 0} (summary key : A → List ℕ) (xs : List A) (n : ℕ) (firsts : List ℕ → Option ℕ) (x : A) →
     slice_get xs n ≡ Some x → IsHead summary xs x → AreHeadsBefore summary key xs n firsts →

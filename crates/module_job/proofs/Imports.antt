@@ -2,9 +2,9 @@
 pub use Rattle.bbm_rule.proofs.Imports.{cond-false, cond-true, nat_tests}
 pub use Rattle.circuit.proofs.Imports.{slice_get-map}
 pub use Rattle.indexmap.specs.IndexMap.{get}
-pub use Rattle.lemmas.proofs.Common.{Decides, Decides-eqb, arc_value, if◌then◌else◌, length-replicate}
-pub use Rattle.lemmas.proofs.Common.{mapped_at, pointwise, replicate, same_from_decides, same_head, same_tail}
-pub use Rattle.lemmas.proofs.Common.{unwrap_or, unwrap_or-slice_get}
+pub use Rattle.lemmas.proofs.Common.{Decides, Decides-eqb, arc_value, if◌then◌else◌, length-replicate, mapped_at}
+pub use Rattle.lemmas.proofs.Common.{pointwise, replicate, same_from_decides, same_head, same_tail, unwrap_or}
+pub use Rattle.lemmas.proofs.Common.{unwrap_or-slice_get}
 pub use Rattle.module_box.proofs.EqualTests.{both, lists, signal_decides}
 pub use Rattle.module_box.proofs.Imports.{All, All-head, All-tail, Bool, List, None, Option, Some, [], ap, append_assoc}
 pub use Rattle.module_box.proofs.Imports.{ap₂, arith, cases_Bool, cases_lt, common_steps, false≢true, flat_map, get_or}
@@ -14,7 +14,7 @@ pub use Rattle.module_box.proofs.Imports.{ℕ, ℤ, ◌&&◌, ◌*◌, ◌++◌,
 pub use Rattle.module_box.specs.Equality.{same_signal}
 pub use Rattle.module_box.specs.Numbers.{IsPrefixFree}
 pub use Rattle.module_box.specs.declared.schedules.Signal.{Signal}
-pub use Rattle.module_box.specs.declared.schedules.Signal.TheVariants.{One, Wire, Zero}
+pub use Rattle.module_box.specs.declared.schedules.Signal.TheVariants.{Zero}
 pub use Rattle.module_job.specs.CellLists.{demand_from_number, signal_from_number}
 pub use Rattle.module_job.specs.Equality.{same_demand, same_job, same_shape}
 pub use Rattle.module_job.specs.Groups.{IsFirstLike, same_key}

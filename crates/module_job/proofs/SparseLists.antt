@@ -23,9 +23,7 @@ are_from place p (m ∷ ns) le n r e = elim (forms p m) [
   | inl none ↦ are_from place (p + 1) ns (omega (arith, le)) n r
       (sym (ap (λ (l : List ℕ). l ++ sparse_entries_from (p + 1) ns) none.1) ∙ e)
   | inr some ↦
-      let same = sym (ap (λ (l : List ℕ). l ++ sparse_entries_from (p + 1) ns) some.1) ∙ e in
-      let head : p + 1 ≡ n = cc in
-      omega (arith, le, head)
+      grind (arith, common_steps)
 ]
 
 -- a place before that of the first entry has the number 0
@@ -304,15 +302,7 @@ finds place ns lt =
                 (are_from (place + 1) (place + 1) (drop (place + 1) ns) (omega arith)) (sym value ∙ e),
           )
       | inr some ↦
-          let tail = (place + 1) ∷ n ∷ rest in
-          let same : sparse_entries_from 0 ns ≡ first ++ tail =
-          parts ∙ ap (λ (l : List ℕ). first ++ (l ++ rest)) some.1 in
-          let count = ap length same ∙ length-append first tail in
-          let value : get_or (sparse_entries_from 0 ns) (length first) 0 ≡ place + 1 =
-          ap₂ (λ (l : List ℕ) (i : ℕ). get_or l i 0) same (omega arith) ∙ get_or-append-add first tail 0 0 in
-          let next : get_or (sparse_entries_from 0 ns) (length first + 1) 0 ≡ n =
-          ap (λ (l : List ℕ). get_or l (length first + 1) 0) same ∙ get_or-append-add first tail 1 0 in
-          inr (omega (arith, count), value, next)
+          grind (arith, common_steps, length-append, get_or-append-add)
     ]
 
 module _ (place at : ℕ) (ns es : List ℕ) (lt : place < length ns) (are : es ≡ sparse_entries_from 0 ns)

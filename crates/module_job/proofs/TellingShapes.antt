@@ -1,51 +1,29 @@
 -- The numbers of a shape tell it, and the bytes of numbers tell them
-use Rattle.module_job.proofs.Imports.{All-head, All-tail, Demand, IsPrefixFree, List, One, ShapeView, Signal, Wire}
-use Rattle.module_job.proofs.Imports.{Zero, [], all_times_numbers, ap, append_assoc, ap₂, arith, cases_Bool}
-use Rattle.module_job.proofs.Imports.{common_steps, cond-false, cond-true, demand_number, event_numbers, flat_map, inl}
-use Rattle.module_job.proofs.Imports.{inr, nat_tests, number_bytes, pos, refl, same_head, same_tail, signal_number}
-use Rattle.module_job.proofs.Imports.{sparse_list_numbers, stop_numbers, sym, ℕ, ℤ, ◌++◌, ◌<◌, ◌∙◌, ◌∷◌, ◌≡◌, ◌⊎◌}
-use Rattle.lemmas.proofs.Common.{◌^◌, negsuc, from_le_bytes-to_le_bytes_2, from_le_bytes-to_le_bytes_8, to_le_bytes}
-use Rattle.lemmas.proofs.Common.{w16}
+use Rattle.module_job.proofs.Imports.{All-head, All-tail, Demand, IsPrefixFree, List, ShapeView, Signal, []}
+use Rattle.module_job.proofs.Imports.{all_times_numbers, append_assoc, ap₂, arith, cases_Bool, common_steps, cond-false}
+use Rattle.module_job.proofs.Imports.{cond-true, demand_number, event_numbers, flat_map, inl, inr, nat_tests}
+use Rattle.module_job.proofs.Imports.{number_bytes, refl, same_head, same_tail, signal_number, sparse_list_numbers}
+use Rattle.module_job.proofs.Imports.{stop_numbers, sym, ℕ, ℤ, ◌++◌, ◌<◌, ◌∙◌, ◌∷◌, ◌≡◌, ◌⊎◌}
+use Rattle.lemmas.proofs.Common.{◌^◌, from_le_bytes-to_le_bytes_2, from_le_bytes-to_le_bytes_8, to_le_bytes, w16}
 use Rattle.std.specs.Int.{w64}
 use Rattle.module_box.specs.Numbers.{length_prefixed, netlist_numbers}
 use Rattle.module_box.proofs.InjectiveNumbers.{counted_tell, listed, lists_tell, netlists_tell, same_length}
 use Rattle.module_job.specs.Keys.{BytesDetermineNumbers, NumbersDetermineShapes, cell_numbers, zigzag_number}
 use Rattle.module_job.specs.Keys.{shape_numbers, signals_numbers}
 use Rattle.module_job.proofs.CellEntries.{cells_tell_all}
-use Rattle.module_job.specs.declared.job.Demand.TheVariants as Demanded
 
 -- ---- one number
 one_tells : {A : Type 0} (f : A → ℕ) → ((a b : A) → f a ≡ f b → a ≡ b) → IsPrefixFree (λ (a : A). f a ∷ [])
 one_tells f tells a b r s e = (tells a b (same_head (f a) (f b) r s e), same_tail (f a) (f b) r s e)
 
 signal_told : (a b : Signal) → signal_number a ≡ signal_number b → a ≡ b
-signal_told Zero Zero e = refl
-signal_told Zero (Wire w) e = absurd (omega (arith, e))
-signal_told One One e = refl
-signal_told (Wire v) Zero e = absurd (omega (arith, e))
-signal_told (Wire v) (Wire w) e = ap Wire (omega (arith, e))
-signal_told _ One e = absurd (omega (arith, e))
-signal_told One _ e = absurd (omega (arith, e))
+signal_told a b h1 = grind (arith, common_steps)
 
 demand_told : (a b : Demand) → demand_number a ≡ demand_number b → a ≡ b
-demand_told Demanded.Dead Demanded.Dead e = refl
-demand_told Demanded.Dead Demanded.Any e = absurd (omega (arith, e))
-demand_told Demanded.Dead (Demanded.Wire w) e = absurd (omega (arith, e))
-demand_told Demanded.Live Demanded.Live e = refl
-demand_told Demanded.Any Demanded.Dead e = absurd (omega (arith, e))
-demand_told Demanded.Any Demanded.Any e = refl
-demand_told Demanded.Any (Demanded.Wire w) e = absurd (omega (arith, e))
-demand_told (Demanded.Wire v) Demanded.Dead e = absurd (omega (arith, e))
-demand_told (Demanded.Wire v) Demanded.Any e = absurd (omega (arith, e))
-demand_told (Demanded.Wire v) (Demanded.Wire w) e = ap Demanded.Wire (omega (arith, e))
-demand_told _ Demanded.Live e = absurd (omega (arith, e))
-demand_told Demanded.Live _ e = absurd (omega (arith, e))
+demand_told a b h1 = grind (arith, common_steps)
 
 integer_told : (a b : ℤ) → zigzag_number a ≡ zigzag_number b → a ≡ b
-integer_told (pos n) (pos m) e = ap pos (omega (arith, e))
-integer_told (pos n) (negsuc m) e = absurd (omega (arith, e))
-integer_told (negsuc n) (pos m) e = absurd (omega (arith, e))
-integer_told (negsuc n) (negsuc m) e = ap negsuc (omega (arith, e))
+integer_told a b h1 = grind (arith, common_steps)
 
 -- ---- cells, and what stands at them
 cells_tell : IsPrefixFree cell_numbers
@@ -105,21 +83,7 @@ shapes_tell a b r s e =
     let stop = counted_tell stop_numbers stops_tell a.stops b.stops _ _ halos.1 in
     let kept = lists_tell a.kept b.kept r s stop.1 in
     let height = same_tail a.width b.width _ _ three.0 in
-    let steps = same_tail a.height b.height _ _ height in (
-      λ i. record {
-        width = same_head a.width b.width _ _ three.0 i;
-        height = same_head a.height b.height _ _ height i;
-        steps = same_head a.steps b.steps _ _ steps i;
-        netlist = net.0 i;
-        starts = start.0 i;
-        demands = demand.0 i;
-        edges = edges.0 i;
-        halos = halos.0 i;
-        stops = stop.0 i;
-        kept = kept.0 i;
-      },
-      kept.1,
-    )
+    let steps = same_tail a.height b.height _ _ height in grind (arith, common_steps, same_head)
 
 -- ---- bytes
 abbrev Forms : ℕ → Type 0
@@ -139,8 +103,7 @@ eight_tell n m r s few few' e = grind (arith, common_steps, same_length, from_le
 
 bytes_tell : (n m : ℕ) (r s : List ℕ) → Forms n → Forms m → n < 2 ^ 64 → m < 2 ^ 64 →
     number_bytes n ++ r ≡ number_bytes m ++ s → (n ≡ m) × (r ≡ s)
-bytes_tell n m r s (inl f) (inl g) few few' e = let h = sym (ap (λ l. l ++ r) f.1) ∙ e ∙ ap (λ l. l ++ s) g.1 in
-    (same_head n m r s h, same_tail n m r s h)
+bytes_tell n m r s (inl f) (inl g) few few' e = grind (arith, common_steps, same_head, same_tail)
 bytes_tell n m r s (inl f) (inr (inr g)) few few' e = grind (arith, common_steps, same_head)
 bytes_tell n m r s (inr (inl f)) (inr (inl g)) few few' e = grind (arith, common_steps, two_tell, same_tail)
 bytes_tell n m r s (inr (inr f)) (inl g) few few' e = grind (arith, common_steps, same_head)
@@ -152,9 +115,7 @@ empty : (x : ℕ) (xs : List ℕ) → [] ≡ x ∷ xs → ⊥
 empty x xs e = cc
 
 some_bytes : (n : ℕ) (r : List ℕ) → Forms n → [] ≡ number_bytes n ++ r → ⊥
-some_bytes n r (inl f) e = empty n r (e ∙ ap (λ l. l ++ r) f.1)
-some_bytes n r (inr (inl f)) e = empty 254 (to_le_bytes w16 n ++ r) (e ∙ ap (λ l. l ++ r) f.1)
-some_bytes n r (inr (inr f)) e = empty 255 (to_le_bytes w64 n ++ r) (e ∙ ap (λ l. l ++ r) f)
+some_bytes n r h1 h2 = grind (arith, common_steps, empty)
 
 pub numbers_told : BytesDetermineNumbers
 numbers_told [] [] few few' e = refl

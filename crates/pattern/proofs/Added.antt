@@ -2,24 +2,22 @@
 use Rattle.pattern.proofs.Imports.{AreGoodAfter, Ball, Bool, Box2, Cell, In, LayoutHeader, LayoutLine, List, Mirror}
 use Rattle.pattern.proofs.Imports.{None, Out, Pattern, Port, RefusalCode, Waste, [], ap, append-nil, append_assoc}
 use Rattle.pattern.proofs.Imports.{arith, cell_fault, cells_taken_at_end, cells_taken_at_start, code_if, common_steps}
-use Rattle.pattern.proofs.Imports.{false, has_later_kind_before, length, limit_fault, list_any-append, nat_tests, not}
-use Rattle.pattern.proofs.Imports.{or_last, order_fault, parts_of, refl, subst, sym, takes_at_end, takes_at_start, true}
-use Rattle.pattern.proofs.Imports.{ℕ, ℤ, ◌&&◌, ◌++◌, ◌==◌, ◌||◌, ◌∙◌, ◌∷◌, ◌≡◌}
+use Rattle.pattern.proofs.Imports.{false, has_later_kind_before, limit_fault, list_any-append, nat_tests, not, or_last}
+use Rattle.pattern.proofs.Imports.{order_fault, parts_of, subst, sym, takes_at_end, takes_at_start, ℕ, ℤ, ◌&&◌, ◌++◌}
+use Rattle.pattern.proofs.Imports.{◌==◌, ◌||◌, ◌∙◌, ◌∷◌, ◌≡◌}
 use Rattle.lemmas.proofs.Common.{map-append}
 use Rattle.pattern.specs.Lines.{holds}
 use Rattle.pattern.proofs.Orders.{is_nonempty, late_mirror, late_ball, late_in, late_out}
 
 -- no code: the test was not failed
 pub no_code : (b : Bool) (code : RefusalCode) → code_if b code ≡ None → b ≡ false
-no_code true code e = absurd cc
-no_code false code e = refl
+no_code b code h1 = grind (arith, common_steps)
 
 is_zero : (n : ℕ) → not (n == 0) ≡ false → n ≡ 0
 is_zero n e = grind (arith, nat_tests)
 
 none_of : {X : Type 0} (xs : List X) → is_nonempty xs ≡ false → xs ≡ []
-none_of [] e = refl
-none_of (x ∷ xs) e = let none : length (x ∷ xs) ≡ 0 = is_zero (length (x ∷ xs)) e in absurd (omega arith)
+none_of xs h1 = grind (arith, common_steps, is_zero)
 
 -- none of some lists has an element
 module _ {A B C D : Type 0} (ks : List A) (ls : List B) (ms : List C) (ns : List D) where
@@ -30,11 +28,7 @@ module _ {A B C D : Type 0} (ks : List A) (ls : List B) (ms : List C) (ns : List
     pub fourth : ns ≡ []
 
   bits : (a b c d : Bool) → (a || (b || (c || d))) ≡ false → (a ≡ false) × (b ≡ false) × (c ≡ false) × (d ≡ false)
-  bits false false false false e = (refl, refl, refl, refl)
-  bits true b c d e = absurd cc
-  bits false true c d e = absurd cc
-  bits false false true d e = absurd cc
-  bits false false false true e = absurd cc
+  bits a b c d h1 = grind (arith, common_steps)
 
   pub are_empty : (is_nonempty ks || (is_nonempty ls || (is_nonempty ms || is_nonempty ns))) ≡ false → AreEmpty
   are_empty e =

@@ -1,10 +1,9 @@
 -- The cells that are live at the start of a good layout lie inside it.
 use Rattle.pattern.proofs.Imports.{AreGoodAfter, Ball, Bool, Box2, Cell, In, LayoutHeader, LayoutLine, List, Mirror}
-use Rattle.pattern.proofs.Imports.{None, Pattern, Port, TakenCell, [], arith, code_if}
-use Rattle.pattern.proofs.Imports.{common_steps, false, get_or, in_cells, in_layout, in_ports_on}
-use Rattle.pattern.proofs.Imports.{in_rectangles, in_span, is_at, is_inside, is_layout_side, length, list_all}
-use Rattle.pattern.proofs.Imports.{list_any, nat_tests, negsuc, not, parts_of, pos, refl, size_fault, start, suc, true}
-use Rattle.pattern.proofs.Imports.{zero, ℕ, ℤ, ◌%◌, ◌&&◌, ◌++◌, ◌+◌, ◌<◌, ◌||◌, ◌∷◌, ◌≡◌, ◌≤◌}
+use Rattle.pattern.proofs.Imports.{None, Pattern, Port, TakenCell, [], arith, code_if, common_steps, get_or, in_cells}
+use Rattle.pattern.proofs.Imports.{in_layout, in_ports_on, in_rectangles, in_span, is_at, is_inside, is_layout_side}
+use Rattle.pattern.proofs.Imports.{length, list_all, list_any, nat_tests, negsuc, not, parts_of, pos, refl, size_fault}
+use Rattle.pattern.proofs.Imports.{start, suc, true, zero, ℕ, ℤ, ◌%◌, ◌&&◌, ◌++◌, ◌+◌, ◌<◌, ◌||◌, ◌∷◌, ◌≡◌, ◌≤◌}
 use Rattle.lemmas.proofs.Common.{list_all-append, list_all-map, left_is_true, right_is_true}
 use Rattle.bbm_rule.specs.Boxes.{in_box}
 use Rattle.pattern.proofs.TakenLemmas.{faultless_is_inside, mirror_fits}
@@ -28,8 +27,7 @@ size_sides s e = grind (arith, common_steps, no_code, left_is_true, side_length,
 -- ---- the parts
 
 first_holds : (a b : Bool) → code_if (not a || b) TakenCell ≡ None → a ≡ true
-first_holds true b e = refl
-first_holds false b e = cc
+first_holds a b h1 = grind (arith, common_steps)
 
 pub parts_inside : (s : LayoutHeader) (before parts : List LayoutLine) → AreGoodAfter s before parts →
     list_all (is_inside s) parts ≡ true
@@ -51,16 +49,14 @@ pub mirrors_fit : (s : LayoutHeader) (rs : List Box2) → list_all (λ r. is_ins
     s.h ≤ max_side → (k : ℕ) (d : Box2) → k < length rs →
     ((get_or rs k d).x + (get_or rs k d).w ≤ max_side) × ((get_or rs k d).y + (get_or rs k d).h ≤ max_side)
 mirrors_fit s [] e w h k d lt = absurd (omega arith)
-mirrors_fit s (r ∷ rs) e w h zero d lt = let f = mirror_fits s r (left_is_true _ _ e) in
-    (omega (arith, f.0), omega (arith, f.1))
+mirrors_fit s (r ∷ rs) e w h zero d lt = grind (arith, common_steps, mirror_fits, left_is_true)
 mirrors_fit s (r ∷ rs) e w h (suc k) d lt = mirrors_fit s rs (right_is_true _ _ e) w h k d (omega arith)
 
 -- ---- the start
 
 one_or_rest : (here rest b : Bool) → (here ≡ true → b ≡ true) → (rest ≡ true → b ≡ true) → (here || rest) ≡ true →
     b ≡ true
-one_or_rest true rest b f g h = f refl
-one_or_rest false rest b f g h = g h
+one_or_rest here rest b h1 h2 h3 = grind (arith, common_steps)
 
 any_among : {X : Type 0} (p q : X → Bool) (b : Bool) → ((x : X) → q x ≡ true → p x ≡ true → b ≡ true) → (xs : List X) →
     list_all q xs ≡ true → list_any p xs ≡ true → b ≡ true
@@ -94,8 +90,7 @@ port_inside s b q x y e h = at_inside s q.cell x y e (right_is_true _ _ h)
 
 or_either : (a b c d : Bool) → (a || b || c) ≡ true → (a ≡ true → d ≡ true) → (b ≡ true → d ≡ true) →
     (c ≡ true → d ≡ true) → d ≡ true
-or_either true b c d h f g k = f refl
-or_either false b c d h f g k = one_or_rest b c d g k h
+or_either a b c d h1 h2 h3 h4 = grind (arith, common_steps, one_or_rest)
 
 pub start_inside : (p : Pattern) (on : List ℕ → Bool) → BeginsInside p → (x y : ℤ) → start p on x y ≡ true →
     in_layout p.size x y ≡ true

@@ -15,10 +15,8 @@ named_part ports s before part e = grind (arith, common_steps, no_code_first, no
 named_parts : (l : Limits) (ports : Option PortNameLists) (s : LayoutHeader) (before parts : List LayoutLine) →
     AreFaultless (layout_grammar l ports) s before parts → AllByRecursion (λ part. name_fault ports part ≡ None) parts
 named_parts l ports s before [] good = tt
-named_parts l ports s before (part ∷ parts) good = (
-  named_part ports s before part (no_code_second _ _ (no_code_second _ _ good.0)),
-  named_parts l ports s (before ++ part ∷ []) parts good.1,
-)
+named_parts l ports s before (part ∷ parts) good =
+    grind (arith, common_steps, named_part, no_code_second, named_parts l ports s (before ++ part ∷ []) parts good.1)
 
 -- where they have no fault
 pub faultless_named : (l : Limits) (ports : Option PortNameLists) (s : LayoutHeader) (parts : List LayoutLine) →

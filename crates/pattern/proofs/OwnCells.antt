@@ -21,8 +21,7 @@ or_right : (a b : Bool) → (a || (b || false)) ≡ false → b ≡ false
 or_right a b e = grind arith
 
 not_taken : (a b : Bool) → code_if (not a || b) TakenCell ≡ None → b ≡ false
-not_taken true b e = no_code b TakenCell e
-not_taken false b e = absurd cc
+not_taken a b h1 = grind (arith, common_steps, no_code)
 
 one_of : (b : Bool) → (b || false) ≡ false → b ≡ false
 one_of b e = grind arith
@@ -37,8 +36,7 @@ module _ (make : Port → LayoutLine) (taken : List LayoutLine → State)
   free : (before : List LayoutLine) (ports : List Port) → AreGoodAfter s before (map make ports ++ rest) →
       (i : ℕ) (q : Port) → slice_get ports i ≡ Some q → taken before q.cell.x q.cell.y ≡ false
   free before [] good i q e = absurd cc
-  free before (p ∷ ports) good zero q e = let same : p ≡ q = same_Some p q e in
-      subst (λ (r : Port). taken before r.cell.x r.cell.y ≡ false) same (is_free s before p good.1)
+  free before (p ∷ ports) good zero q e = grind (arith, common_steps, same_Some)
   free before (p ∷ ports) good (suc i) q e =
       grind (arith, common_steps, free (before ++ make p ∷ []) ports good.2 i q e, left_is_false)
 

@@ -2,7 +2,7 @@
 use Rattle.pattern.proofs.Imports.{Bool, Cell, EndsWith, IsDeadOutside, LayoutHeader, LeavesAt, List, Pattern, State}
 use Rattle.pattern.proofs.Imports.{ap, arith, common_steps, false, get_or, in_cells, in_layout, inside_is_span, length}
 use Rattle.pattern.proofs.Imports.{live, live_cells, refl, run, start, subst, sym, true, ℕ, ℤ, ◌+◌, ◌<◌, ◌∙◌, ◌≡◌, ◌≤◌}
-use Rattle.lemmas.proofs.Common.{Err, Ok, OnErr, OnOk, Result, add-one, cases_lt, is_err, list_any_at}
+use Rattle.lemmas.proofs.Common.{OnErr, OnOk, Result, add-one, cases_lt, is_err, list_any_at}
 use Rattle.bbm_rule.specs.Plane.{step}
 use Rattle.bbm_rule.specs.Board.{Board, is_inside, IsStep, Leaves}
 use Rattle.bbm_rule.proofs.Boards.{live_is_inside}
@@ -76,9 +76,7 @@ ends_with p on g g' cells same runs e = grind (arith, common_steps, same_state)
 -- ---- results
 
 pub at_err : {T E : Type 0} (r : Result T E) (P : Type 0) → OnErr r P → is_err r ≡ true → P
-at_err (Ok x) P h e = cc
-at_err (Err x) P h e = h
+at_err r P h1 h2 = grind (arith, common_steps)
 
 pub at_ok : {T E : Type 0} (r : Result T E) (P : Type 0) → OnOk r P → is_err r ≡ false → P
-at_ok (Ok x) P h e = h
-at_ok (Err x) P h e = cc
+at_ok r P h1 h2 = grind (arith, common_steps)

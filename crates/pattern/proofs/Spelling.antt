@@ -1,9 +1,9 @@
 -- Each line of the layout section is the spelling of its form.
 use Rattle.pattern.proofs.Imports.{Ball, Box2, Cell, End, Header, In, Item, LayoutHeader, List, Mirror, Out, Port, Some}
-use Rattle.pattern.proofs.Imports.{Waste, [], ap, arith, box_of, cell_after_keyword, cell_of_words_from, cell_words}
-use Rattle.pattern.proofs.Imports.{codes, common_steps, form_text, inl, inr, length, name_at, number_at}
-use Rattle.pattern.proofs.Imports.{port_after_keyword, port_of, port_words, box_words, refl, same_Some, size_of}
-use Rattle.pattern.proofs.Imports.{size_words, slice_get, subst, true, ℕ, ◌+◌, ◌∷◌, ◌≡◌}
+use Rattle.pattern.proofs.Imports.{Waste, [], arith, box_of, cell_after_keyword, cell_of_words_from, cell_words, codes}
+use Rattle.pattern.proofs.Imports.{common_steps, form_text, inl, inr, length, name_at, number_at, port_after_keyword}
+use Rattle.pattern.proofs.Imports.{port_of, port_words, box_words, refl, same_Some, size_of, size_words, slice_get}
+use Rattle.pattern.proofs.Imports.{subst, true, ℕ, ◌+◌, ◌∷◌, ◌≡◌}
 use Rattle.lemmas.proofs.Common.{eqb, decimal, eqb-true, option_and_then_some}
 use Rattle.section_text.specs.Words.{◌>>=◌, words_of, is_word_at, if_one_word}
 use Rattle.section_text.specs.Section.{with_line_feed}
@@ -44,9 +44,7 @@ port_spelled ws w p at e =
     option_and_then_some (λ c. Some (record { name = n; cell = c })) (cell_of_words_from ws 2) p rest (λ c at_cell made.
     let words = cell_spelled ws 2 c at_cell in
     subst (λ (q : Port). ws ≡ w ∷ port_words q) (same_Some (record { name = n; cell = c }) p made)
-    (four_words ws w n (decimal (natural_or_zero c.x)) (decimal (natural_or_zero c.y)) (eqb-true _ _ found.0)
-    (is_at_is ws 0 w at)
-    (name_at_is ws 1 n named) words.column words.row)))
+    (grind (arith, common_steps, four_words, eqb-true, is_at_is, name_at_is))))
 
 pub box_spelled : (ws : List (List ℕ)) (v : List ℕ) (r : Box2) → is_word_at ws 0 v ≡ true →
     box_of ws ≡ Some r → ws ≡ v ∷ box_words r
@@ -146,5 +144,4 @@ text_of (Item (Mirror r)) = refl
 text_of _ = refl
 
 pub form_line : (l : List ℕ) (f : Line) → form_of (words_of l) ≡ Some f → with_line_feed l ≡ form_text f
-form_line l f e =
-    rw (text_of f) (ap with_line_feed (line_from_words l (first_of f) (others_of f) (form_words (words_of l) f e)))
+form_line l f e = grind (arith, common_steps, text_of, line_from_words, first_of, others_of, form_words)

@@ -1,8 +1,7 @@
 -- The start as a list of cells.
-use Rattle.pattern.proofs.Imports.{Bool, Box2, Cell, List, Pattern, Port, [], ap, arith, common_steps, cond, false}
-use Rattle.pattern.proofs.Imports.{flat_map, in_cells, in_ports_on, in_rectangles, is_at, list_any-append, map}
-use Rattle.pattern.proofs.Imports.{rectangle_cells, refl, start, start_cells_by_kind, true, ℕ, ℤ, ◌&&◌, ◌++◌, ◌||◌, ◌∙◌}
-use Rattle.pattern.proofs.Imports.{◌∷◌, ◌≡◌}
+use Rattle.pattern.proofs.Imports.{Bool, Box2, Cell, List, Pattern, Port, [], arith, common_steps, cond, flat_map}
+use Rattle.pattern.proofs.Imports.{in_cells, in_ports_on, in_rectangles, is_at, list_any-append, map, rectangle_cells}
+use Rattle.pattern.proofs.Imports.{refl, start, start_cells_by_kind, ℕ, ℤ, ◌&&◌, ◌++◌, ◌||◌, ◌∙◌, ◌∷◌, ◌≡◌}
 use Rattle.lemmas.proofs.Common.{filter}
 use Rattle.bbm_rule.proofs.RectangleLemmas.{in_box_cells}
 
@@ -13,8 +12,7 @@ in_mirrors (r ∷ rs) x y = list_any-append (λ (c : Cell). is_at c x y) (rectan
 
 in_port : (b : Bool) (q : Port) (qs : List Port) (x y : ℤ) (rest : Bool) → in_cells (map (λ q. q.cell) qs) x y ≡ rest →
     in_cells (map (λ q. q.cell) (cond b (q ∷ qs) qs)) x y ≡ (b && is_at q.cell x y || rest)
-in_port true q qs x y rest e = ap (λ (c : Bool). is_at q.cell x y || c) e
-in_port false q qs x y rest e = e
+in_port b q qs x y rest h1 = grind (arith, common_steps)
 
 in_ports : (on : List ℕ → Bool) (qs : List Port) (x y : ℤ) →
     in_cells (map (λ q. q.cell) (filter (λ q. on q.name) qs)) x y ≡ in_ports_on on qs x y

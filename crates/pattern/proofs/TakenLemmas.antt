@@ -1,11 +1,11 @@
 -- The cells of a line, and the cells that are taken.
-use Rattle.pattern.proofs.Imports.{All, AllByRecursion, Bool, Box2, Cell, LayoutHeader, LayoutLine, List}
-use Rattle.pattern.proofs.Imports.{Mirror, None, Some, TakenCell, [], arith, cell_fault, cells_of}
-use Rattle.pattern.proofs.Imports.{cells_taken_at_end, cells_taken_at_start, code_if, common_steps, false, flat_map}
-use Rattle.pattern.proofs.Imports.{in_cells, in_layout, in_span, inside_is_span, is_inside, is_layout_side, is_taken}
-use Rattle.pattern.proofs.Imports.{list_any, nat_tests, not, pos, range_with_len, rectangle_cells, refl, row_cells}
-use Rattle.pattern.proofs.Imports.{size_fault, subst, suc, sym, takes_at_end, takes_at_start, true, zero, ℕ, ℤ, ◌%◌}
-use Rattle.pattern.proofs.Imports.{◌&&◌, ◌++◌, ◌+◌, ◌<◌, ◌||◌, ◌∙◌, ◌∷◌, ◌≡◌, ◌≤◌}
+use Rattle.pattern.proofs.Imports.{All, AllByRecursion, Bool, Box2, Cell, LayoutHeader, LayoutLine, List, Mirror, None}
+use Rattle.pattern.proofs.Imports.{Some, TakenCell, [], arith, cell_fault, cells_of, cells_taken_at_end}
+use Rattle.pattern.proofs.Imports.{cells_taken_at_start, common_steps, false, flat_map, in_cells, in_layout, in_span}
+use Rattle.pattern.proofs.Imports.{inside_is_span, is_inside, is_layout_side, is_taken, list_any, nat_tests, not, pos}
+use Rattle.pattern.proofs.Imports.{range_with_len, rectangle_cells, refl, row_cells, size_fault, subst, suc, sym}
+use Rattle.pattern.proofs.Imports.{takes_at_end, takes_at_start, true, zero, ℕ, ℤ, ◌%◌, ◌&&◌, ◌++◌, ◌+◌, ◌<◌, ◌||◌, ◌∙◌}
+use Rattle.pattern.proofs.Imports.{◌∷◌, ◌≡◌, ◌≤◌}
 use Rattle.lemmas.proofs.Common.{if◌then◌else◌, All-from_recursion, and_parts, at_most_by_test}
 use Rattle.pattern.specs.DraftBoards.{LiesOn}
 use Rattle.pattern.proofs.Added.{no_code, begun_push, ended_push}
@@ -20,10 +20,7 @@ pub record IsSized (s : LayoutHeader) : Type 0 where
   pub steps : s.steps ≤ max_steps
 
 all_three : (a b c : Bool) → not (a && b && c) ≡ false → (a ≡ true) × (b ≡ true) × (c ≡ true)
-all_three true true true e = (refl, refl, refl)
-all_three true true false e = absurd cc
-all_three true false c e = absurd cc
-all_three false b c e = absurd cc
+all_three a b c h1 = grind (arith, common_steps)
 
 side : (n : ℕ) → is_layout_side n ≡ true → (2 ≤ n) × (n ≤ max_side) × (n % 2 ≡ 0)
 side n e = grind (arith, nat_tests)
@@ -92,24 +89,18 @@ cells_on_board b s w h part cells same inside =
 same_sides : (w h : ℕ) (s : LayoutHeader) → w ≡ s.w → h ≡ s.h → (part : LayoutLine) →
     is_inside (record { w = w; h = h; steps = 0 }) part ≡ is_inside s part
 unfolding is_inside
-same_sides w h s e f (Mirror r) = rw (e, f) refl
-same_sides w h s e f _ = rw (e, f) refl
+same_sides w h s h1 h2 part = grind (arith, common_steps)
 
 -- the cells of a line that lies inside are on a board of the layout's size
 pub lies_on : (b : Board) (s : LayoutHeader) → size_fault s ≡ None → b.width ≡ s.w → b.height ≡ s.h →
     (part : LayoutLine) → is_inside s part ≡ true → LiesOn b part
 lies_on b s good w h part inside =
     let sized = is_sized s good in
-    record {
-      inside = same_sides b.width b.height s w h part ∙ inside;
-      width = omega (arith, w, sized.width.1);
-      height = omega (arith, h, sized.height.1);
-    }
+    grind (arith, common_steps, same_sides)
 
 pub cells_lie_on : (b : Board) (part : LayoutLine) → LiesOn b part →
     All (λ c. is_on_board b c.x c.y ≡ true) (cells_of part)
-cells_lie_on b part on =
-    cells_on_board b (record { w = b.width; h = b.height; steps = 0 }) refl refl part (cells_of part) refl on.inside
+cells_lie_on b part on = grind (arith, common_steps, cells_on_board)
 
 pub one_lies_on : (b : Board) (part : LayoutLine) (c : Cell) → cells_of part ≡ c ∷ [] → LiesOn b part →
     All (λ k. is_on_board b k.x k.y ≡ true) (c ∷ [])
@@ -119,10 +110,7 @@ one_lies_on b part c are on =
 -- where the corner of a mirror on a board is
 pub mirror_lies_on : (b : Board) (part : LayoutLine) (r : Box2) → part ≡ Mirror r → LiesOn b part →
     ((r.x + r.w ≤ b.width) × (r.x + r.w ≤ max_side)) × ((r.y + r.h ≤ b.height) × (r.y + r.h ≤ max_side))
-mirror_lies_on b part r is on =
-    let size : LayoutHeader = record { w = b.width; h = b.height; steps = 0 } in
-    let fits = mirror_fits size r (subst (λ (p : LayoutLine). is_inside size p ≡ true) is on.inside) in
-    omega (arith, fits.0, fits.1, on.width, on.height)
+mirror_lies_on b part r is on = grind (arith, common_steps, mirror_fits)
 
 pub among_cells_of : (p q : Cell → Bool) (part : LayoutLine) (cells : List Cell) (b : Bool) → takes_at_start part ≡ b →
     cells_of part ≡ cells → (if b then list_any p cells else list_any q cells)
@@ -186,8 +174,4 @@ outside_is_fault s parts part outside = rw outside refl
 pub faultless_is_inside : (s : LayoutHeader) (parts : List LayoutLine) (part : LayoutLine) →
     cell_fault s parts part ≡ None → is_inside s part ≡ true
 unfolding cell_fault
-faultless_is_inside s parts part none = by (is_inside s part) (is_taken parts part) none
-  where
-    by : (inside taken : Bool) → code_if (not inside || taken) TakenCell ≡ None → inside ≡ true
-    by true taken e = refl
-    by false taken e = absurd cc
+faultless_is_inside s parts part none = grind (arith, common_steps)

@@ -1,8 +1,6 @@
 -- The first bytes of a text, one after the other.
-use Rattle.section_text.proofs.Imports.{List, Option, Some, [], ap, arith, bytes_eq}
-use Rattle.section_text.proofs.Imports.{false, slice_get, suc, sym, take, true, zero, ℕ, ◌+◌, ◌<◌, ◌∙◌}
-use Rattle.section_text.proofs.Imports.{◌∷◌, ◌≡◌}
-use Rattle.section_text.proofs.Imports.{Bool, subst, refl}
+use Rattle.section_text.proofs.Imports.{Bool, List, Option, Some, [], ap, arith, bytes_eq, common_steps, false, refl}
+use Rattle.section_text.proofs.Imports.{slice_get, subst, suc, sym, take, true, zero, ℕ, ◌+◌, ◌<◌, ◌∙◌, ◌∷◌, ◌≡◌}
 use Rattle.lemmas.proofs.Common.{same_bytes, ◌≢◌}
 use Rattle.section_text.specs.Limits.{front_bytes}
 
@@ -32,15 +30,12 @@ taken_at (suc n) zero (x ∷ xs) lt = refl
 taken_at (suc n) (suc k) (x ∷ xs) lt = taken_at n k xs (omega (arith, lt))
 
 differs : (a b : List ℕ) (t : Bool) → bytes_eq a b ≡ t → (a ≡ b → ⊥) → false ≡ t
-differs a b false e apart = refl
-differs a b true e apart = absurd (apart (same_bytes a b e))
+differs a b t h1 h2 = grind (arith, common_steps, same_bytes)
 
 -- another byte, or none
 pub other_byte : (xs : List ℕ) (k : ℕ) (o : Option ℕ) → k < 9 → slice_get xs k ≡ o → o ≢ slice_get front_bytes k →
     false ≡ bytes_eq (take 9 xs) front_bytes
-other_byte xs k o lt at other =
-    differs (take 9 xs) front_bytes _ refl
-    (λ same. other (sym at ∙ sym (taken_at 9 k xs lt) ∙ ap (λ l. slice_get l k) same))
+other_byte xs k o lt at other = grind (arith, common_steps, differs, taken_at, slice_get)
 
 pub all_bytes : (xs : List ℕ) → take 9 xs ≡ take 9 front_bytes → true ≡ bytes_eq (take 9 xs) front_bytes
 all_bytes xs same = sym (ap (λ l. bytes_eq l front_bytes) same)

@@ -2,7 +2,7 @@
 use Rattle.section_text.proofs.Imports.{End, FeedView, Form, Grammar, Header, Item, List, None, Ok, Option, ReadFault}
 use Rattle.section_text.proofs.Imports.{Reads, Refusal, RefusalCode, Result, Some, [], ahead, append-nil, arith}
 use Rattle.section_text.proofs.Imports.{common_steps, refl, refused_if_code, result_after_header, result_after_line}
-use Rattle.section_text.proofs.Imports.{section_body_of, section_of, subst, sym, words_of, ℕ, ◌++◌, ◌+◌, ◌∷◌, ◌≡◌}
+use Rattle.section_text.proofs.Imports.{section_body_of, section_of, words_of, ℕ, ◌++◌, ◌+◌, ◌∷◌, ◌≡◌}
 
 module _ {H I : Type 0} (g : Grammar H I) where
   -- each item has no fault after the items before it
@@ -25,8 +25,7 @@ module _ {H I : Type 0} (g : Grammar H I) where
   unless_ok : (n : ℕ) (o : Option RefusalCode) (r : Result (H × List I) Refusal) (y : H × List I) →
       refused_if_code n o r ≡ Ok y →
       (o ≡ None) × (r ≡ Ok y)
-  unless_ok n None r y e = (refl, e)
-  unless_ok n (Some code) r y e = absurd cc
+  unless_ok n o r y h1 = grind (arith, common_steps)
 
   ok_is : (x y : H × List I) → ◌≡◌ {A = Result (H × List I) Refusal} (Ok x) (Ok y) → x ≡ y
   ok_is x y e = cc
@@ -53,12 +52,7 @@ module _ {H I : Type 0} (g : Grammar H I) where
   header_faultless ls n h rows (Some (Header k)) e =
       let good = unless_ok n (g.header_fault k) (section_body_of g k [] (n + 1) ls) (h, rows) e in
       let t = body_faultless ls k [] (n + 1) h rows good.1 in
-      record {
-        header = subst (λ (j : H). g.header_fault j ≡ None) (sym t.same) good.0;
-        each = subst (λ (j : H). AreFaultless j [] rows) (sym t.same)
-            (subst (AreFaultless k []) (sym t.rows_are) t.each);
-        end = subst (λ (j : H). g.end_fault j rows ≡ None) (sym t.same) t.end;
-      }
+      grind (arith, common_steps)
   header_faultless ls n h rows _ e = absurd cc
 
   pub read_faultless : (n : ℕ) (ls : List (List ℕ)) (h : H) (rows : List I) → section_of g n ls ≡ Ok (h, rows) →

@@ -1,9 +1,8 @@
 -- Readers one after the other read sections one after the other.
-use Rattle.section_text.proofs.Imports.{Err, FailsAsReading, FeedView, Grammar, List, Memory, None, Ok, ReadFault}
-use Rattle.section_text.proofs.Imports.{Reads, Refusal, Result, TextCut, [], ahead, ap, arith, common_steps, drop-drop}
-use Rattle.section_text.proofs.Imports.{refl, refusal, refused_at, section_of, subst, sym, ℕ, ◌+◌, ◌∙◌, ◌∷◌, ◌≡◌}
+use Rattle.section_text.proofs.Imports.{Err, FailsAsReading, FeedView, Grammar, List, None, Ok, ReadFault, Reads}
+use Rattle.section_text.proofs.Imports.{Refusal, Result, TextCut, [], ahead, ap, arith, common_steps, drop-drop, refl}
+use Rattle.section_text.proofs.Imports.{refusal, refused_at, section_of, subst, sym, ℕ, ◌+◌, ◌∙◌, ◌≡◌}
 use Rattle.lemmas.proofs.Common.{◌≢◌}
-use Rattle.section_text.specs.declared.fault.ReadFault.TheVariants.{Refused}
 use Rattle.section_text.specs.Sections.{section_then, value_if_at_end}
 
 module _ {H I A B : Type 0} (g : Grammar H I) (view : A → H × List I) (old new : FeedView) (going : old.stop ≡ None)
@@ -22,8 +21,7 @@ module _ {H I A B : Type 0} (g : Grammar H I) (view : A → H × List I) (old ne
   -- the section was not read: the fault is that of all
   fails_first : (fault : ReadFault) → FailsAsReading fault (section_of g old.taken (ahead old)) →
       FailsAsReading fault (section_then g old.taken (ahead old) next)
-  fails_first Memory e = tt
-  fails_first (Refused r) e = grind (arith, common_steps)
+  fails_first fault h1 = grind (arith, common_steps)
 
   pub section_failed : (fault : ReadFault) → Reads g view old new (Err fault) →
       FailsAsReading fault (section_then g old.taken (ahead old) next)
@@ -43,9 +41,7 @@ at_the_end n ls rest value none nothing = rw (none, nothing) refl
 
 pub goes_on : {B : Type 0} (n : ℕ) (ls : List (List ℕ)) (rest : List ℕ) (value : B) → (ls ≡ [] → rest ≢ []) →
     value_if_at_end n ls rest value ≡ refused_at n TextCut
-goes_on n [] [] value more = absurd (more refl refl)
-goes_on n [] (b ∷ rest) value more = refl
-goes_on n (l ∷ ls) rest value more = refl
+goes_on n ls rest value h1 = grind (arith, common_steps)
 
 pub more_fails : {B : Type 0} (n : ℕ) (ls : List (List ℕ)) (rest : List ℕ) (value : B) (fault : ReadFault) →
     (ls ≡ [] → rest ≢ []) → fault ≡ refusal (n + 1) TextCut → FailsAsReading fault (value_if_at_end n ls rest value)

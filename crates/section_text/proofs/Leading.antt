@@ -61,9 +61,7 @@ put_before : (ds line w : List ℕ) (ws : List (List ℕ)) → list_all is_digit
     words_of (ds ++ line) ≡ (ds ++ w) ∷ ws
 put_before [] line w ws digits e = e
 put_before (d ∷ ds) line w ws digits e =
-    let all = and_parts (is_digit d) (list_all is_digit ds) digits in
-    slice_split-cons_no is_space d (ds ++ line) (digit_is_no_space d all.0)
-    ∙ ap (onto_first d) (put_before ds line w ws all.1 e)
+    grind (arith, common_steps, and_parts, slice_split-cons_no, digit_is_no_space, put_before ds line w ws)
 
 pub first_of : (ws : List (List ℕ)) → 0 < length ws → (w : List ℕ) × (vs : List (List ℕ)) × (ws ≡ w ∷ vs)
 first_of [] some = absurd (omega arith)
@@ -82,8 +80,7 @@ no_number w e = cond-false _ _ _ e
 
 not_leading : (w : List ℕ) (ws : List (List ℕ)) → is_number w ≡ false → None ≡ leading_number (w ∷ ws)
 unfolding leading_number
-not_leading w [] e = refl
-not_leading w (v ∷ ws) e = sym (ap (λ o. o >>= λ n. Some (n, v ∷ ws)) (no_number w e))
+not_leading w ws h1 = grind (arith, common_steps, no_number)
 
 a_number : (w : List ℕ) → is_number w ≡ true → number_of w ≡ Some (append_digits 0 w)
 unfolding number_of
@@ -105,8 +102,7 @@ read_one_more n [] b = refl
 read_one_more n (d ∷ ds) b = read_one_more (10 * n + (d - 48)) ds b
 
 and_false : (a b : Bool) → b ≡ false → (a && b) ≡ false
-and_false true b e = e
-and_false false b e = refl
+and_false a b h1 = grind (arith, common_steps)
 
 not_all : (ds : List ℕ) (b : ℕ) (w : List ℕ) → is_digit b ≡ false → list_all is_digit (ds ++ b ∷ w) ≡ false
 not_all [] b w other = rw other refl
@@ -179,12 +175,8 @@ reads_is ds (b ∷ line) begin = elim (cases_Bool (is_digit b)) [
 -- the number of a word that begins with a digit other than `0`
 pub reads_whole : (first : ℕ) (line : List ℕ) → 49 ≤ first → first ≤ 57 →
     reads (first - 48) 1 line ≡ leading_number (words_of (first ∷ line))
-reads_whole first line low high = ap (λ n. reads n 1 line) (omega arith) ∙ reads_is (first ∷ []) line (record {
-  digits = grind (arith, nat_tests);
-  some = omega arith;
-  few = omega arith;
-  plain = omega arith;
-})
+reads_whole first line low high = ap (λ n. reads n 1 line) (omega arith) ∙ reads_is (first ∷ []) line
+    (grind (arith, common_steps, nat_tests))
 
 -- ---- words that begin otherwise
 
@@ -211,10 +203,8 @@ zero_then (b ∷ line) some space = grind (arith, common_steps, take_rest, zero_
 
 pub zero_else : (line : List ℕ) → (0 < length line → get_or line 0 0 ≡ 32 → ⊥) →
     None ≡ leading_number (words_of (48 ∷ line))
-zero_else [] other = zero_ends
-zero_else (b ∷ line) other = zero_goes_on b line (other_than b (other (omega arith)))
+zero_else line h1 = grind (arith, common_steps, zero_ends, zero_goes_on, other_than)
 
 pub empty_line : (line : List ℕ) → length line ≡ 0 → None ≡ leading_number (words_of line)
 unfolding leading_number
-empty_line [] none = refl
-empty_line (b ∷ line) none = absurd (omega arith)
+empty_line line h1 = grind (arith, common_steps)

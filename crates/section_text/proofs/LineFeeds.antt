@@ -1,12 +1,11 @@
 -- The first byte of a kind, as a search for it finds it, and where a list is searched in two parts.
-use Rattle.section_text.proofs.Imports.{Bool, List, None, Option, Some, arith, false, length, nat_tests, position, refl}
-use Rattle.section_text.proofs.Imports.{true, ℕ, ◌==◌, ◌≡◌}
+use Rattle.section_text.proofs.Imports.{Bool, List, None, Option, Some, arith, common_steps, false, length, nat_tests}
+use Rattle.section_text.proofs.Imports.{position, true, ℕ, ◌==◌, ◌≡◌}
 use Rattle.lemmas.proofs.Common.{position_or_len, position_or_len_is}
 use Rattle.memchr.specs.Find.{IsFirstByte, is_byte}
 
 fails : (b : Bool) → (b ≡ true → ⊥) → b ≡ false
-fails false rest = refl
-fails true rest = absurd (rest refl)
+fails b h1 = grind (arith, common_steps)
 
 pub first_is_position : (byte : ℕ) (text : List ℕ) (found : Option ℕ) → IsFirstByte (is_byte byte) text found →
     found ≡ position (λ b. b == byte) text
@@ -16,7 +15,4 @@ first_is_position byte text None none =
     (λ lt. absurd (omega arith)) in
     grind (arith, nat_tests, all)
 first_is_position byte text (Some at) first =
-    let here : position_or_len (λ b. b == byte) text ≡ at =
-    position_or_len_is (λ b. b == byte) text at 0 (omega (arith, first.0.high))
-    (λ k lt. fails _ (first.0.before k (omega arith) lt)) (λ lt. first.1) in
-    grind (arith, nat_tests, here, first.0.high)
+    grind (arith, common_steps, position_or_len_is, fails, nat_tests)

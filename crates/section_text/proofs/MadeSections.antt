@@ -1,8 +1,8 @@
 -- Lines with the forms of a section and without a fault are read as that section, and their text is that of the forms
 use Rattle.section_text.proofs.Imports.{End, Form, Grammar, Header, IsSection, Item, List, None, Ok, Option, Some, []}
-use Rattle.section_text.proofs.Imports.{ap, append-nil, append_assoc, ap₂, bytes_after_last_line_feed, flat_map, map}
-use Rattle.section_text.proofs.Imports.{refl, section_body_of, section_of, subst, sym, with_line_feed, words_of, ℕ}
-use Rattle.section_text.proofs.Imports.{◌++◌, ◌+◌, ◌∙◌, ◌∷◌, ◌≡◌}
+use Rattle.section_text.proofs.Imports.{ap, append-nil, append_assoc, ap₂, arith, bytes_after_last_line_feed}
+use Rattle.section_text.proofs.Imports.{common_steps, flat_map, map, refl, section_body_of, section_of, subst, sym}
+use Rattle.section_text.proofs.Imports.{with_line_feed, words_of, ℕ, ◌++◌, ◌+◌, ◌∙◌, ◌∷◌, ◌≡◌}
 use Rattle.lemmas.proofs.Common.{append_cancel_left}
 use Rattle.section_text.proofs.Again.{AreLines, lines_again}
 use Rattle.section_text.proofs.Good.{AreFaultless, IsFaultless}
@@ -107,6 +107,4 @@ pub nothing_follows : (ls : List (List ℕ)) → AreLines ls → bytes_after_las
 nothing_follows ls clean =
     let text = flat_map with_line_feed ls in
     append_cancel_left text (bytes_after_last_line_feed text) []
-    (ap (λ ks. flat_map with_line_feed ks ++ bytes_after_last_line_feed text) (sym (lines_again ls clean))
-    ∙ whole_text text
-    ∙ sym (append-nil text))
+    (grind (arith, common_steps, lines_again, whole_text, append-nil))

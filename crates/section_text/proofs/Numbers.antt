@@ -2,7 +2,7 @@
 use Rattle.section_text.proofs.Imports.{Bool, List, None, Option, Some, [], ap, append_digits, arith, cases_Bool}
 use Rattle.section_text.proofs.Imports.{common_steps, cond-false, cond-true, cond_some, decimal, false, false≢true}
 use Rattle.section_text.proofs.Imports.{get_or, inl, inr, is_digit, is_number, length, list_all, nat_tests, number_of}
-use Rattle.section_text.proofs.Imports.{rules, suc, sym, true, zero, ℕ, ◌<◌, ◌^◌, ◌∙◌, ◌∷◌, ◌≡◌, ◌≤◌, ◌⊎◌}
+use Rattle.section_text.proofs.Imports.{rules, sym, true, ℕ, ◌<◌, ◌^◌, ◌∙◌, ◌∷◌, ◌≡◌, ◌≤◌, ◌⊎◌}
 use Rattle.lemmas.proofs.Common.{IfNone, IfSome}
 use Rattle.std.proofs.lemmas.Str.Parse.{IsNumeralModel, numerals_by_fold, digits_value_short}
 use Rattle.std.proofs.lemmas.Fmt.{decimal-digits_value, digits_decimal, digits_value-decimal, decimal_digit}
@@ -44,8 +44,7 @@ is_one (b ∷ bs) digits some few (inl one) = grind (arith, nat_tests)
 is_one (b ∷ bs) digits some few (inr high) = grind (arith, nat_tests)
 
 first_digit : (n : ℕ) → n < 10 ^ 9 → (length (decimal n) ≡ 1) ⊎ (48 < get_or (decimal n) 0 0)
-first_digit zero small = inl (ap length (decimal_digit 0 (omega arith)))
-first_digit (suc n) small = inr (first_decimal (suc n) (omega arith) (omega arith))
+first_digit n h1 = grind (arith, common_steps, decimal_digit, first_decimal)
 
 pub number_written : (n : ℕ) → n < 10 ^ 9 → number_of (decimal n) ≡ Some n
 unfolding number_of
@@ -64,8 +63,7 @@ pub number_read : (w : List ℕ) (o : Option ℕ) → list_all is_digit w ≡ is
     IfSome o (λ n. (list_all is_digit w ≡ true) × (n ≡ append_digits 0 w)) → IfNone o (list_all is_digit w ≡ false) →
     o ≡ number_of w
 unfolding number_of
-number_read w None same some none = sym (cond-false _ _ _ (sym same ∙ none))
-number_read w (Some n) same some none = ap Some some.1 ∙ sym (cond-true _ _ _ (sym same ∙ some.0))
+number_read w o h1 h2 h3 = grind (arith, common_steps, cond-false, cond-true)
 
 pub not_read : (w : List ℕ) (r : Bool) → (is_number w ≡ true → r ≡ true) → r ≡ false → None ≡ number_of w
 unfolding number_of

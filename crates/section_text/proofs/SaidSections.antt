@@ -1,5 +1,5 @@
 -- The content of a section, by the forms of its lines.
-use Rattle.section_text.proofs.Imports.{End, Form, Grammar, Header, IsSection, Item, List, None, Ok, Option, Refusal}
+use Rattle.section_text.proofs.Imports.{End, Form, Grammar, Header, IsSection, Item, List, Ok, Option, Refusal}
 use Rattle.section_text.proofs.Imports.{RefusalCode, Result, Some, [], ap, append-nil, append_assoc, ap₂, arith}
 use Rattle.section_text.proofs.Imports.{common_steps, drop, length, map, refl, refused_if_code, result_after_header}
 use Rattle.section_text.proofs.Imports.{result_after_line, section_body_of, section_of, suc, sym, take, words_of, ℕ}
@@ -21,8 +21,7 @@ module _ {H I : Type 0} (g : Grammar H I) where
 
   unless_ok : (n : ℕ) (o : Option RefusalCode) (r : Result (H × List I) Refusal) (y : H × List I) →
       refused_if_code n o r ≡ Ok y → r ≡ Ok y
-  unless_ok n None r y e = e
-  unless_ok n (Some code) r y e = absurd cc
+  unless_ok n o r y h1 = grind (arith, common_steps)
 
   ok_is : (x y : H × List I) → ◌≡◌ {A = Result (H × List I) Refusal} (Ok x) (Ok y) → x ≡ y
   ok_is x y e = cc
@@ -38,24 +37,8 @@ module _ {H I : Type 0} (g : Grammar H I) where
       → ((i : I) → section_body_of g h (before ++ i ∷ []) (n + 1) ls ≡ Ok (h', rows) →
       BodySaid (before ++ i ∷ []) ls h h' rows)
       → BodySaid before (l ∷ ls) h h' rows
-  line_said l ls h before n h' rows (Some (Item i)) f e rec =
-      let t = rec i (unless_ok n (g.item_fault h before i) (section_body_of g h (before ++ i ∷ []) (n + 1) ls)
-      (h', rows) e) in
-      record {
-        more = i ∷ t.more;
-        rows_are = t.rows_are ∙ append_assoc before (i ∷ []) t.more;
-        same = t.same;
-        said = one_more l ls (length t.more) ∙ ap₂ (λ a b. a ∷ b) f t.said;
-      }
-  line_said l ls h before n h' rows (Some End) f e rec =
-      let are = ok_is (h, before) (h', rows) (unless_ok n (g.end_fault h before) (Ok (h, before)) (h', rows) e) in
-      record {
-        more = [];
-        rows_are = sym (ap (λ (p : H × List I). p.1) are) ∙ sym (append-nil before);
-        same = sym (ap (λ (p : H × List I). p.0) are);
-        said = ap (λ a. a ∷ []) f;
-      }
-  line_said l ls h before n h' rows _ f e rec = absurd cc
+  line_said l ls h before n h' rows o h1 h2 h3 =
+      grind (arith, common_steps, unless_ok, append_assoc, one_more, ok_is, append-nil)
 
   body_said : (ls : List (List ℕ)) (h : H) (before : List I) (n : ℕ) (h' : H) (rows : List I) →
       section_body_of g h before n ls ≡ Ok (h', rows) → BodySaid before ls h h' rows
@@ -80,8 +63,7 @@ module _ {H I : Type 0} (g : Grammar H I) where
   pub section_said : (n : ℕ) (ls : List (List ℕ)) (h : H) (rows : List I) → section_of g n ls ≡ Ok (h, rows) →
       IsSection g.form (take (length rows + 2) ls) h rows
   unfolding section_of
-  section_said n [] h rows e = absurd cc
-  section_said n (l ∷ ls) h rows e = header_said l ls n h rows (g.form (words_of l)) refl e
+  section_said n ls h rows h1 = grind (arith, common_steps, header_said)
 
 -- ---- lines begin with one section at most
 
@@ -123,9 +105,7 @@ module _ {H I : Type 0} where
         (ap (λ fs. fs ++ forms rest) (sym is) ∙ sym (map-append _ a rest) ∙ ap forms e ∙ map-append _ b rest'
         ∙ ap (λ fs. fs ++ forms rest') is') in
         let long : length a ≡ length b =
-        sym (length-map a (λ l. form (words_of l))) ∙ ap length is
-        ∙ ap₂ (λ (j : H) (zs : List I). length (headed j zs)) both.0 both.1 ∙ sym (ap length is')
-        ∙ length-map b (λ l. form (words_of l)) in
+        grind (arith, common_steps, length-map, headed) in
         record {
           header = both.0;
           items = both.1;

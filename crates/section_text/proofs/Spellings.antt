@@ -1,18 +1,15 @@
 -- The words of a line, from the tests that the line passes.
 use Rattle.section_text.proofs.Imports.{Bool, List, None, Option, Some, [], arith, common_steps, cond, decimal, false}
-use Rattle.section_text.proofs.Imports.{inl, inr, length, number_at, option_and_then_some, refl, slice_get, true, ℕ}
-use Rattle.section_text.proofs.Imports.{◌∷◌, ◌≡◌, ◌⊎◌}
+use Rattle.section_text.proofs.Imports.{length, number_at, option_and_then_some, slice_get, true, ℕ, ◌∷◌, ◌≡◌, ◌⊎◌}
 use Rattle.section_text.proofs.Numbers.{number_spelled}
 
 -- which way a test went
 pub chosen : {A : Type 0} (b : Bool) (x y z : A) → cond b x y ≡ z → ((b ≡ true) × (x ≡ z)) ⊎ ((b ≡ false) × (y ≡ z))
-chosen true x y z e = inl (refl, e)
-chosen false x y z e = inr (refl, e)
+chosen b x y z h1 = grind (arith, common_steps)
 
 -- a test that must not fail
 pub passed : {A : Type 0} (b : Bool) (o : Option A) (y : A) → cond b o None ≡ Some y → (b ≡ true) × (o ≡ Some y)
-passed true o y e = (refl, e)
-passed false o y e = absurd cc
+passed b o y h1 = grind (arith, common_steps)
 
 pub number_at_spelled : (ws : List (List ℕ)) (i n : ℕ) → number_at ws i ≡ Some n → slice_get ws i ≡ Some (decimal n)
 unfolding number_at

@@ -14,12 +14,10 @@ use Rattle.section_text.proofs.NameLemmas.{letters_of_name}
 
 -- where the first space is
 found_by : (b : Bool) (p i : ℕ) → cond b (Some p) None ≡ Some i → (b ≡ true) × (p ≡ i)
-found_by true p i e = (refl, cc)
-found_by false p i e = absurd cc
+found_by b p i h1 = grind (arith, common_steps)
 
 missed_by : (b : Bool) (p : ℕ) → cond b (Some p) None ≡ None → b ≡ false
-missed_by true p e = absurd cc
-missed_by false p e = refl
+missed_by b p h1 = grind (arith, common_steps)
 
 pub split_some : (line : List ℕ) (i : ℕ) → position is_space line ≡ Some i →
     words_of line ≡ take i line ∷ words_of (take (length line - (i + 1)) (drop (i + 1) line))
@@ -52,8 +50,7 @@ not_four n = grind arith
 
 five_or_more : (zs : List (List ℕ)) → 0 < length zs → (ws : List (List ℕ)) →
     None ≡ (if suc (suc (suc (suc (length zs)))) == 4 then Some ws else None)
-five_or_more [] h ws = absurd (omega arith)
-five_or_more (z ∷ zs) h ws = rw (not_four (length zs)) refl
+five_or_more zs h1 ws = grind (arith, common_steps, not_four)
 
 pub many_words : (l w r v s u t x y : List ℕ) → words_of l ≡ w ∷ words_of r → words_of r ≡ v ∷ words_of s →
     words_of s ≡ u ∷ words_of t → words_of t ≡ x ∷ words_of y → None ≡ words_of_four (words_of l)
@@ -68,8 +65,7 @@ four_are l w r v s u t a b c d = rw (a, b, c, d) refl
 -- ---- lines of five words, by those of four
 
 test_of : {A : Type 0} (b : Bool) (x y : A) → (if b then Some x else None) ≡ Some y → (b ≡ true) × (x ≡ y)
-test_of true x y e = (refl, same_Some x y e)
-test_of false x y e = absurd cc
+test_of b x y h1 = grind (arith, common_steps, same_Some)
 
 one_more : (n : ℕ) → (n == 4) ≡ true → (suc n == 5) ≡ true
 one_more n e = grind (arith, nat_tests)
@@ -136,8 +132,7 @@ letters_alone is_letter no_space (b ∷ bs) e =
     ∙ ap (onto_first b) (letters_alone is_letter no_space bs all.1)
   where
     both : (a b : Bool) → (a && b) ≡ true → (a ≡ true) × (b ≡ true)
-    both true b e = (refl, e)
-    both false b e = absurd cc
+    both a b h1 = grind (arith, common_steps)
 
 pub letter_is_no_space : (b : ℕ) → is_name_byte b ≡ true → is_space b ≡ false
 letter_is_no_space b e = grind (arith, nat_tests)

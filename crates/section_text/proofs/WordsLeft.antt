@@ -67,27 +67,19 @@ names_fit ws k (suc n) ns e le =
     option_and_then_some (λ first. names_at ws (k + 1) n >>= λ others. Some (first ∷ others)) (name_at ws k) ns e
     (λ first named rest.
     option_and_then_some (λ others. Some (first ∷ others)) (names_at ws (k + 1) n) ns rest (λ others more made.
-    let within = slice_get_within ws k first (name_at_is ws k first named) in
-    let others_fit = names_fit ws (k + 1) n others more (omega (arith, within)) in
-    omega (arith, others_fit)))
+    grind (arith, common_steps, slice_get_within, name_at_is, names_fit ws (k + 1) n others more)))
 
 -- ---- names on both sides of an arrow
 
 unless_both : {A : Type 0} (a b : Bool) → ◌≡◌ {A = Option A} None (if a then (if b then None else None) else None)
-unless_both true true = refl
-unless_both true false = refl
-unless_both false b = refl
+unless_both a b = grind (arith, common_steps)
 
 unless_one : {A : Type 0} (a : Bool) → ◌≡◌ {A = Option A} None (if a then None else None)
-unless_one true = refl
-unless_one false = refl
+unless_one a = grind (arith, common_steps)
 
 unless_three : {A B : Type 0} (a b : Bool) (o : Option B) →
     ◌≡◌ {A = Option A} None (if a then (if b then (o >>= λ x. None) else None) else None)
-unless_three true true (Some x) = refl
-unless_three true true None = refl
-unless_three true false o = refl
-unless_three false b o = refl
+unless_three a b o = grind (arith, common_steps)
 
 is_no : (n m : ℕ) → m < n → (n == m) ≡ false
 is_no n m lt = grind (arith, nat_tests)

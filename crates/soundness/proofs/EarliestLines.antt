@@ -14,7 +14,6 @@ use Rattle.soundness.specs.FirstFaults.{EarliestLineIsFirstFault, EarliestLineIs
 use Rattle.core_book.specs.declared.verdict.ReportLine.TheVariants.{Local, Keep, Border}
 use Rattle.soundness.proofs.FirstFaults.{assigned, first_means}
 use Rattle.soundness.proofs.PlainCertificates.{greater, nat_greater}
-use Rattle.certificate.specs.declared.times.TimeLine.TheVariants as times
 
 -- ---- which line a list has
 
@@ -33,8 +32,7 @@ not_optional f (Some x) y never h = never x (one_in (f x) y h)
 
 optional_there : {X Y : Type 0} (f : X → Y) (o : Option X) (x : X) → o ≡ Some x →
     Contains (option_to_list (option_map f o)) (f x)
-optional_there f None x e = absurd cc
-optional_there f (Some z) x e = subst (λ z. Contains (f z ∷ []) (f x)) (sym (same_Some z x e)) (at_head (f x) [])
+optional_there f o x h1 = grind (arith, common_steps, same_Some, at_head)
 
 local_number : ReportLine → ℕ
 local_number (Local n f) = n
@@ -125,8 +123,7 @@ lists_border number (suc k) (g ∷ fs) (b ∷ bs) f at lt =
     (lists_border (number + 1) k fs bs f at (omega (arith, lt))))
 
 not_timing : (i : ℕ) (f : Fault) (l : TimeLine) → ¬ (timing_report_line l ≡ Local i f)
-not_timing i f (times.Delay k n gap) e = cc
-not_timing i f (times.Meet k at) e = cc
+not_timing i f l = grind (arith, common_steps)
 
 -- ---- times
 
@@ -138,10 +135,7 @@ unfolding border_cmp
 border_greater f g lt = ap (λ o. ordering_then o (cell_cmp f.cell g.cell)) (nat_greater f.time g.time lt)
 
 no_later_border : (f g : BorderFault) → border_cmp f g ≢ Greater → f.time ≤ g.time
-no_later_border f g least = by_lt (λ lt. least (border_greater f g lt))
-  where
-    by_lt : (g.time < f.time → ⊥) → f.time ≤ g.time
-    by_lt never = grind (arith, never)
+no_later_border f g least = grind (arith, common_steps, border_greater)
 
 -- ---- the report
 

@@ -1,11 +1,11 @@
 -- A ball that goes two steps along a diagonal, in a rectangle that is one module, is accepted by computation.
 use Rattle.soundness.proofs.Imports.{AreJobsOf, AreModules, AreOrdered, BelongTogether, CircuitLine, Input, JobView}
 use Rattle.soundness.proofs.Imports.{List, ModuleLines, Output, Pattern, Port, [], all_times_at, arith, bit, cell_fault}
-use Rattle.soundness.proofs.Imports.{cells_of, cells_taken_at_end, circuit_of, end_demand, evaluate, event_at, in_box}
-use Rattle.soundness.proofs.Imports.{in_halo, in_ring, in_span, is_inside, is_taken, job_demand, job_start, local_run}
-use Rattle.soundness.proofs.Imports.{map, netlist_of, number, place_of, port_at, rectangle_cells, refl, setting_of}
-use Rattle.soundness.proofs.Imports.{signal_at, size_fault, some_neighbour, start_signal, step, takes_at_end}
-use Rattle.soundness.proofs.Imports.{takes_at_start, whole, with_halo, ℕ, ◌∷◌}
+use Rattle.soundness.proofs.Imports.{cells_of, cells_taken_at_end, circuit_of, common_steps, end_demand, evaluate}
+use Rattle.soundness.proofs.Imports.{event_at, in_box, in_halo, in_ring, in_span, is_inside, is_taken, job_demand}
+use Rattle.soundness.proofs.Imports.{job_start, local_run, map, netlist_of, number, place_of, port_at, rectangle_cells}
+use Rattle.soundness.proofs.Imports.{refl, setting_of, signal_at, size_fault, some_neighbour, start_signal, step}
+use Rattle.soundness.proofs.Imports.{takes_at_end, takes_at_start, whole, with_halo, ℕ, ◌∷◌}
 use Rattle.bbm_rule.specs.Plane.{partner, turned}
 use Rattle.section_text.proofs.Good.{IsFaultless}
 use Rattle.bbm_rule.specs.CellLists.{cell}
@@ -76,13 +76,7 @@ are_jobs = are_jobs_of lines layout modules is_ordered (λ k m at. (are_modules.
 is_bundle : BelongTogether lines layout modules jobs
 unfolding size_fault limit_fault cell_fault is_inside is_taken takes_at_start takes_at_end cells_of cells_taken_at_start
     cells_taken_at_end in_span
-is_bundle = record {
-  ordered = is_ordered;
-  limits = refl;
-  laid_out = (refl, refl, (refl, refl, tt));
-  are_modules = are_modules;
-  are_jobs = are_jobs;
-}
+is_bundle = grind (arith, common_steps, is_ordered, are_modules, are_jobs)
 
 pass : PassTests (setting_of lines layout) modules jobs
 unfolding place_of number rectangle_cells in_box in_ring in_halo some_neighbour in_span entries.change_last

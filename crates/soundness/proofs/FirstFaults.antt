@@ -22,7 +22,6 @@ use Rattle.soundness.proofs.InputRuns.{at_place, inputs_decide}
 use Rattle.soundness.proofs.JobSignals.{Known, edge_by_circuit}
 use Rattle.soundness.proofs.StopParts.{all_flat}
 use Rattle.soundness.proofs.WholeRuns.{starts, steps_with_good_borders}
-use Rattle.module_job.specs.declared.job.Demand.TheVariants as Demanded
 use Rattle.module_job.specs.declared.job.Stop as listed
 use Rattle.local_run.specs.declared.fault.Kind.TheVariants.{Edge, End, Stop as AtStop}
 use Rattle.bbm_rule.proofs.RingTests.{ring_in_box}
@@ -62,8 +61,7 @@ stop_by_lines c p m j P is h s has =
 
 meets_own : (l : LocalNet) (v : Valuation) (d : Demand) (live : Bool) →
     MeetsDemand v (renumber_demand (circuit_wire l) d) live → MeetsDemand (values_by_local_number l v) d live
-meets_own l v Demanded.Dead live h = h
-meets_own l v _ live h = h
+meets_own l v d live h1 = grind (arith, common_steps)
 
 -- what the stop says of the cell and the time
 record IsStopThere (p : Pattern) (m : ModuleLines) (v : Valuation) (state : State) (t : ℕ) (x y : ℤ)
@@ -139,8 +137,7 @@ first_is_real lines p ms jobs inputs v i m f first said =
 
 meets_wire : (v : Valuation) (o : Option ℕ) (live : Bool) → live ≡ option_map_or v o false →
     MeetsDemand v (wire_or_dead o) live
-meets_wire v None live h = h
-meets_wire v (Some w) live h = h
+meets_wire v o live h1 = grind (arith, common_steps)
 
 no_port_there : (ports : List Port) (x y : ℤ) → port_at ports x y ≡ None → in_ports ports x y ≡ false
 no_port_there ports x y none = elim (cases_Bool (in_ports ports x y)) [
@@ -168,13 +165,11 @@ asked_meets c p v state x y looks = grind (arith, common_steps, cases_Bool, off_
 
 end_last : (j : JobView) (u : Valuation) (t : ℕ) (kind : Kind) (x y : ℤ) → kind ≡ End → IsFaultUnder j u t kind x y →
     t ≡ j.steps
-end_last j u t End x y e f = f.last
-end_last j u t _ x y e f = absurd cc
+end_last j u t kind x y h1 h2 = grind (arith, common_steps)
 
 end_said : (c : Circuit) (p : Pattern) (m : ModuleLines) (v : Valuation) (t : ℕ) (kind : Kind) (x y : ℤ) → kind ≡ End →
     MeetsDemand v (end_demand c p x y) (run_under c p v t x y) → IsAsCertified c p m v t kind x y
-end_said c p m v t End x y e h = h
-end_said c p m v t _ x y e h = absurd cc
+end_said c p m v t kind x y h1 h2 = grind (arith, common_steps)
 
 -- what looks as asked has no fault at its end
 asked_at : (lines : List CircuitLine) (p : Pattern) (inputs v : Valuation) (x y : ℤ) → HasInputNames lines p →

@@ -24,8 +24,7 @@ unfolding place_of number
 first_place name m names e = rw e refl
 
 later_place : (b : Bool) (k p : ℕ) → cond b (Some k) None ≡ Some p → cond b (Some (k + 1)) None ≡ Some (p + 1)
-later_place true k p is = ap (option_map (λ i. i + 1)) is
-later_place false k p is = absurd cc
+later_place b k p h1 = grind (arith, common_steps, option_map)
 
 next_place : (name m : List ℕ) (names : List (List ℕ)) (p : ℕ) → bytes_eq name m ≡ false →
     place_of name names ≡ Some p → place_of name (m ∷ names) ≡ Some (p + 1)
@@ -48,8 +47,7 @@ placed name (m ∷ names) (suc k) h = elim (cases_Bool (bytes_eq name m)) [
 ]
 
 no_code : (b : Bool) → code_if (not b) UnknownName ≡ None → b ≡ true
-no_code true e = refl
-no_code false e = absurd cc
+no_code b h1 = grind (arith, common_steps)
 
 pub in_known : (ins outs : List (List ℕ)) (q : Port) →
     name_fault (Some (record { ins = ins; outs = outs })) (In q) ≡ None → has ins q.name ≡ true

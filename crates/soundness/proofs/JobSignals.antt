@@ -1,30 +1,27 @@
 -- The jobs of modules: which one has a cell, and what their signals say by the wires of the circuit
 use Rattle.soundness.proofs.Imports.{All, All-head, All-tail, AllTimesSignal, BelongTogether, Bool, BorderLine, Box2}
-use Rattle.soundness.proofs.Imports.{Cell, Circuit, CircuitLine, Demand, IsEven, IsJobOf, IsModule, JobView, List}
-use Rattle.soundness.proofs.Imports.{LocalNet, MeetsDemand, ModuleLines, None, Option, Pattern, Signal, Some}
-use Rattle.soundness.proofs.Imports.{TimedSignal, Valuation, Zero, [], all_times_at, all_times_of_line, ap, arith}
-use Rattle.soundness.proofs.Imports.{cases_Bool, cell_same, circuit_of, circuit_wire, common_steps, edge_signal, edges}
-use Rattle.soundness.proofs.Imports.{event_at, events_of_line, false, flat_map, halo_same, halo_signal, halos, in_box}
-use Rattle.soundness.proofs.Imports.{in_ring, is_at, is_live, line_signals, mapped_from, one_or_named_wire, refl}
+use Rattle.soundness.proofs.Imports.{Cell, Circuit, CircuitLine, Demand, IsJobOf, IsModule, JobView, List, LocalNet}
+use Rattle.soundness.proofs.Imports.{MeetsDemand, ModuleLines, None, Option, Pattern, Signal, Some, TimedSignal}
+use Rattle.soundness.proofs.Imports.{Valuation, Zero, [], all_times_at, all_times_of_line, ap, arith, cases_Bool}
+use Rattle.soundness.proofs.Imports.{cell_same, circuit_of, circuit_wire, common_steps, edge_signal, edges, event_at}
+use Rattle.soundness.proofs.Imports.{events_of_line, false, flat_map, halo_same, halo_signal, halos, in_box, in_ring}
+use Rattle.soundness.proofs.Imports.{is_at, is_live, line_signals, mapped_from, one_or_named_wire, refl}
 use Rattle.soundness.proofs.Imports.{renumber_demand, renumber_signal, setting_of, signal_at, slice_get}
-use Rattle.soundness.proofs.Imports.{slice_get_within, some_at, subst, sym, true, true≢false, values_by_local_number}
-use Rattle.soundness.proofs.Imports.{whole, ℕ, ℤ, ◌&&◌, ◌++◌, ◌==◌, ◌∙◌, ◌∷◌, ◌≡◌}
+use Rattle.soundness.proofs.Imports.{slice_get_within, some_at, sym, true, true≢false, values_by_local_number, whole, ℕ}
+use Rattle.soundness.proofs.Imports.{ℤ, ◌++◌, ◌∙◌, ◌∷◌, ◌≡◌}
 use Rattle.lemmas.proofs.Common.{cond-false, and-false}
 use Rattle.border_match.proofs.Bridge.{edge_same}
-use Rattle.module_job.specs.declared.job.Demand.TheVariants as Demanded
 
 -- ---- signals by the wires of the circuit
 
 live_seen : (l : LocalNet) (v : Valuation) (s : Signal) →
     is_live (values_by_local_number l v) s ≡ is_live v (renumber_signal (circuit_wire l) s)
-live_seen l v Zero = refl
-live_seen l v _ = refl
+live_seen l v s = grind (arith, common_steps)
 
 pub meets_for_circuit_wires : (l : LocalNet) (v : Valuation) (d : Demand) (live : Bool) →
     MeetsDemand (values_by_local_number l v) d live →
     MeetsDemand v (renumber_demand (circuit_wire l) d) live
-meets_for_circuit_wires l v Demanded.Dead live h = h
-meets_for_circuit_wires l v _ live h = h
+meets_for_circuit_wires l v d live h1 = grind (arith, common_steps)
 
 pub live_renumbered : (l : LocalNet) (v : Valuation) (s r : Signal) → renumber_signal (circuit_wire l) s ≡ r →
     is_live (values_by_local_number l v) s ≡ is_live v r
@@ -45,10 +42,6 @@ pub known_job : (lines : List CircuitLine) (p : Pattern) (ms : List ModuleLines)
 known_job lines p ms jobs i j b e =
     let m = some_at ms i (let lt = slice_get_within jobs i j e in let n = b.are_jobs.count in omega (arith, lt, n)) in
     record { of = m.0; numbered = m.1; is_job = b.are_jobs.each i m.0 j m.1 e; good = b.are_modules.each i m.0 m.1 }
-
-pub job_even : (lines : List CircuitLine) (p : Pattern) (ms : List ModuleLines) (i : ℕ) (j : JobView) →
-    Known lines p ms i j → IsEven j.area
-job_even lines p ms i j k = subst IsEven (sym k.is_job.area) k.good.even
 
 -- which job has a cell of the rectangle
 pub record Owner (lines : List CircuitLine) (p : Pattern) (ms : List ModuleLines) (jobs : List JobView)
@@ -83,15 +76,13 @@ one_all_times : (e : BorderLine) (time : Option ℕ) (s : Signal) (rest : List A
     all_times_at rest x y ≡ None →
     all_times_at (all_times_of_line e time s ++ rest) x y ≡ None
 unfolding all_times_at
-one_all_times e None s rest x y h r = cond-false _ _ _ h ∙ r
-one_all_times e (Some t) s rest x y h r = r
+one_all_times e time s rest x y h1 h2 = grind (arith, common_steps, cond-false)
 
 one_event : (e : BorderLine) (time : Option ℕ) (s : Signal) (rest : List TimedSignal) (t : ℕ) (x y : ℤ) →
     is_at e.cell x y ≡ false → event_at rest t x y ≡ None →
     event_at (events_of_line e time s ++ rest) t x y ≡ None
 unfolding event_at
-one_event e None s rest t x y h r = r
-one_event e (Some u) s rest t x y h r = cond-false _ _ _ (ap (λ b. (u == t) && b) h ∙ and-false (u == t)) ∙ r
+one_event e time s rest t x y h1 h2 = grind (arith, common_steps, cond-false, and-false)
 
 abbrev NamesNot : ℤ → ℤ → BorderLine → Type 0
 NamesNot x y e = is_at e.cell x y ≡ false

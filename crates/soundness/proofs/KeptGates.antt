@@ -49,12 +49,7 @@ place_of f (p ∷ places) count n all e = elim (cases_Bool (eqb (f p) n)) [
   | inr other ↦
       let rest : PlaceOf f places count n =
       place_of f places count n (All-tail (λ k. k < count) p places all) (rw other at e) in
-      record {
-        place = rest.place;
-        listed = listed_later p rest.place places rest.listed;
-        below = rest.below;
-        same = rest.same;
-      }
+      grind (arith, common_steps, listed_later)
 ]
 
 pub none_is_undefined : AcceptedHasNoUndefinedGate

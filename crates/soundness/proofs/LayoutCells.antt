@@ -1,15 +1,14 @@
 -- The cells of a layout: their ports, the start, and the demand at the end
 use Rattle.soundness.proofs.Imports.{AreGoodAfter, Ball, Bool, Box2, Cell, Circuit, In, IsEven, LayoutHeader}
-use Rattle.soundness.proofs.Imports.{LayoutLine, List, MeetsDemand, Mirror, None, One, Option, Out, Pattern, Port, Some}
-use Rattle.soundness.proofs.Imports.{Valuation, Waste, [], and_from, and_parts, any_at, ap}
-use Rattle.soundness.proofs.Imports.{arith, cell_fault, cell_same, cells_of, cells_taken_at_end, code_if, common_steps}
-use Rattle.soundness.proofs.Imports.{end_demand, false, false≢true, if◌then◌else◌, in_box, in_cells, in_ports}
-use Rattle.soundness.proofs.Imports.{in_ports_on, in_rectangles, is_at, is_inside, is_live, is_taken, kept, map}
-use Rattle.soundness.proofs.Imports.{none_stands, not, option_map, option_map_or, parts_of, passed, port_at}
-use Rattle.soundness.proofs.Imports.{port_stands, refl, same_Some, same_truth, size_fault, slice_get, slice_get-map}
-use Rattle.soundness.proofs.Imports.{start, start_signal, suc, sym, takes_at_end, takes_at_start, true, true≢false}
-use Rattle.soundness.proofs.Imports.{values_by_name, whole, wire_of, wire_of_optional_name, wire_or_dead, wire_or_zero}
-use Rattle.soundness.proofs.Imports.{zero, ℕ, ℤ, ◌&&◌, ◌++◌, ◌||◌, ◌∙◌, ◌∷◌, ◌≡◌}
+use Rattle.soundness.proofs.Imports.{LayoutLine, List, MeetsDemand, Mirror, None, Option, Out, Pattern, Port, Some}
+use Rattle.soundness.proofs.Imports.{Valuation, Waste, [], and_from, and_parts, any_at, ap, arith, cell_fault}
+use Rattle.soundness.proofs.Imports.{cell_same, cells_of, cells_taken_at_end, common_steps, end_demand, false}
+use Rattle.soundness.proofs.Imports.{false≢true, in_box, in_cells, in_ports, in_ports_on, in_rectangles, is_at}
+use Rattle.soundness.proofs.Imports.{is_inside, is_live, is_taken, kept, map, none_stands, option_map, option_map_or}
+use Rattle.soundness.proofs.Imports.{parts_of, passed, port_at, port_stands, refl, same_Some, same_truth, size_fault}
+use Rattle.soundness.proofs.Imports.{slice_get, slice_get-map, start, start_signal, suc, sym, takes_at_end}
+use Rattle.soundness.proofs.Imports.{takes_at_start, true, true≢false, values_by_name, whole, wire_or_dead, zero, ℕ, ℤ}
+use Rattle.soundness.proofs.Imports.{◌&&◌, ◌++◌, ◌||◌, ◌∙◌, ◌∷◌, ◌≡◌}
 use Rattle.lemmas.proofs.Common.{left_is_false}
 use Rattle.bbm_rule.specs.Boxes.{in_box}
 use Rattle.pattern.specs.Layout.{HaveDistinctCells, in_layout}
@@ -21,7 +20,6 @@ use Rattle.bbm_rule.proofs.RectangleLemmas.{in_box_cells}
 use Rattle.pattern.proofs.TakenLemmas.{is_sized}
 use Rattle.module_box.proofs.BoxCells.{same_some}
 use Rattle.bbm_rule.proofs.SameCells.{cell_itself}
-use Rattle.section_text.specs.declared.code.RefusalCode.TheVariants.{TakenCell}
 
 -- ---- the ports at a cell
 
@@ -79,23 +77,11 @@ no_port ports x y (Some n) none e =
 
 -- ---- the start
 
-live_cases : (v : Valuation) (o : Option ℕ) → is_live v (wire_or_zero o) ≡ option_map_or v o false
-live_cases v None = refl
-live_cases v (Some w) = refl
-
-start_cases : (c : Circuit) (v : Valuation) (m b : Bool) (o : Option (List ℕ)) →
-    is_live v (if m || b then One else wire_or_zero (wire_of_optional_name c o))
-    ≡ (m || b || is_on (values_by_name c v) o)
-start_cases c v true b o = refl
-start_cases c v false true o = refl
-start_cases c v false false None = refl
-start_cases c v false false (Some n) = live_cases v (wire_of c n)
-
 -- what the job's signals say of the start is the start
 pub live_start : (c : Circuit) (p : Pattern) (v : Valuation) (x y : ℤ) → AreGoodAfter p.size [] (parts_of p) →
     is_live v (start_signal c p x y) ≡ start p (values_by_name c v) x y
 unfolding start_signal start
-live_start c p v x y good = grind (arith, common_steps, start_cases, on_by, ins_apart)
+live_start c p v x y good = grind (arith, common_steps, on_by, ins_apart)
 
 pub whole_inside : (s : LayoutHeader) (x y : ℤ) → in_box (whole s) x y ≡ in_layout s x y
 unfolding in_box
@@ -105,14 +91,10 @@ pub whole_even : (s : LayoutHeader) → size_fault s ≡ None → IsEven (whole 
 whole_even s limits = let sized = is_sized s limits in
     record { x = refl; y = refl; w = sized.width.2; h = sized.height.2 }
 
-absent : (a b : Bool) → (a ≡ true → b ≡ true) → b ≡ false → a ≡ false
-absent true b f e = absurd (false≢true (sym e ∙ f refl))
-absent false b f e = refl
-
 -- nothing begins outside the rectangle
 pub start_outside : (p : Pattern) (on : List ℕ → Bool) (x y : ℤ) → AreGoodAfter p.size [] (parts_of p) →
     in_box (whole p.size) x y ≡ false → start p on x y ≡ false
-start_outside p on x y good out = grind (arith, common_steps, absent, start_inside, begins_inside, whole_inside)
+start_outside p on x y good out = grind (arith, common_steps, start_inside, begins_inside, whole_inside)
 
 mirror_starts : (p : Pattern) (x y : ℤ) → in_rectangles p.mirrors x y ≡ true → start p (λ n. false) x y ≡ true
 unfolding start
@@ -130,15 +112,10 @@ record IsFree (s : LayoutHeader) (before : List LayoutLine) (q : Port) : Type 0 
   inside : in_layout s q.cell.x q.cell.y ≡ true
   free : cells_taken_at_end before q.cell.x q.cell.y ≡ false
 
-two_tests : (a b : Bool) → code_if (not a || (b || false)) TakenCell ≡ None → (a ≡ true) × (b ≡ false)
-two_tests true true e = absurd cc
-two_tests true false e = (refl, refl)
-two_tests false b e = absurd cc
-
 free_here : (s : LayoutHeader) (before : List LayoutLine) (q : Port) → cell_fault s before (Out q) ≡ None →
     IsFree s before q
 unfolding cell_fault is_taken cells_of takes_at_start is_inside
-free_here s before q e = grind (arith, common_steps, two_tests)
+free_here s before q e = grind (arith, common_steps)
 
 all_free : (s : LayoutHeader) (before : List LayoutLine) (ports : List Port) (rest : List LayoutLine) →
     AreGoodAfter s before (map Out ports ++ rest) →
@@ -173,10 +150,7 @@ mirror_ended p x y h =
     let s = passed (λ (r : Box2). in_box r x y) p.mirrors h in
     let at : slice_get (map Mirror p.mirrors) s.place ≡ Some (Mirror s.element) =
     slice_get-map Mirror p.mirrors s.place ∙ ap (option_map Mirror) s.stands in
-    any_at (λ (b : LayoutLine). takes_at_end b && holds b x y) _ s.place (Mirror s.element)
-    (kept (map Mirror p.mirrors ++ map Ball p.balls) (map In p.ins) s.place (Mirror s.element)
-    (kept (map Mirror p.mirrors) (map Ball p.balls) s.place (Mirror s.element) at))
-    (mirror_ends s.element x y s.passes)
+    grind (arith, common_steps, any_at, kept, mirror_ends)
 
 -- an output cell is inside, no mirror has it, and it is the output's own
 pub record IsOutput (p : Pattern) (q : Port) : Type 0 where
@@ -188,11 +162,7 @@ pub is_output : (p : Pattern) → AreGoodAfter p.size [] (parts_of p) → (i : �
     IsOutput p q
 is_output p good i q e =
     let f = output_free p good i q e in
-    record {
-      inside = whole_inside p.size q.cell.x q.cell.y ∙ f.inside;
-      no_mirror = absent _ _ (mirror_ended p q.cell.x q.cell.y) f.free;
-      port = port_is p.outs q i _ (outs_apart p good) e refl;
-    }
+    grind (arith, common_steps, whole_inside, mirror_ended, port_is, outs_apart)
 
 -- ---- the end
 
@@ -204,8 +174,7 @@ met_mirror c p v x y live e h = grind (arith, common_steps)
 
 by_wire : (v : Valuation) (o : Option ℕ) (live : Bool) → MeetsDemand v (wire_or_dead o) live →
     live ≡ option_map_or v o false
-by_wire v None live h = h
-by_wire v (Some w) live h = h
+by_wire v o live h1 = grind (arith, common_steps)
 
 pub met_output : (c : Circuit) (p : Pattern) (v : Valuation) (x y : ℤ) (n : List ℕ) (live : Bool) →
     in_rectangles p.mirrors x y ≡ false →

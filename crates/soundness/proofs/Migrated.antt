@@ -1,18 +1,17 @@
 -- From modules with halo lines to modules without
-use Rattle.soundness.proofs.Imports.{Accepts, AreDistinct, AreJobsOf, AreModules, Bool, BorderLine, Box2, Cell, Circuit}
+use Rattle.soundness.proofs.Imports.{Accepts, AreDistinct, AreJobsOf, AreModules, Bool, BorderLine, Box2, Circuit}
 use Rattle.soundness.proofs.Imports.{CircuitLine, Fault, IfSome, IsFault, IsJobOf, IsKeepFault, IsModule}
-use Rattle.soundness.proofs.Imports.{IsSignalWireBelow, IsTrue, JobView, KeepFault, List, ModuleLines, None, One}
-use Rattle.soundness.proofs.Imports.{Option, Pattern, Setting, Signal, Some, Wire, Zero, [], any_at, ap, are_all_obeyed}
-use Rattle.soundness.proofs.Imports.{arith, cases_Bool, circuit_of, circuit_wire, common_steps, edge_signal, edges}
-use Rattle.soundness.proofs.Imports.{false, first_seen, halo_same, halo_signal, halos, in_box, in_halo, inl, inr}
-use Rattle.soundness.proofs.Imports.{is_among, is_local, is_local_wire, job_demand, job_start, known, last_seen, length}
+use Rattle.soundness.proofs.Imports.{IsSignalWireBelow, IsTrue, JobView, KeepFault, List, ModuleLines, None, Option}
+use Rattle.soundness.proofs.Imports.{Pattern, Setting, Signal, Some, Wire, Zero, [], ap, are_all_obeyed, arith}
+use Rattle.soundness.proofs.Imports.{cases_Bool, circuit_of, circuit_wire, common_steps, edge_signal, edges, false}
+use Rattle.soundness.proofs.Imports.{first_seen, halo_same, halo_signal, halos, in_box, in_halo, inl, inr, is_among}
+use Rattle.soundness.proofs.Imports.{is_local, is_local_wire, job_demand, job_start, known, last_seen, length}
 use Rattle.soundness.proofs.Imports.{length-map, line_signals, list_any, map, mapped_from, modules, nat_lt, nat_tests}
 use Rattle.soundness.proofs.Imports.{not, one_or_named_wire, refl, renumber_signal, renumber_signals, setting}
-use Rattle.soundness.proofs.Imports.{setting_of, signal_at, slice_get, slice_get-get_or, slice_get_within, slice_index}
-use Rattle.soundness.proofs.Imports.{some_at, stops, stops_of_lines, stops_stand, subst, sym, time_lines_of_gates, true}
-use Rattle.soundness.proofs.Imports.{true≢false, whole, wire_of, wire_or_zero, wires, ℕ, ℤ, ◌%◌, ◌<◌, ◌∙◌, ◌∷◌, ◌≡◌}
-use Rattle.soundness.proofs.Imports.{◌≤◌}
-use Rattle.lemmas.proofs.Common.{slice_index_or, eq_test, mapped_at}
+use Rattle.soundness.proofs.Imports.{setting_of, signal_at, slice_get, slice_get_within, slice_index, some_at, stops}
+use Rattle.soundness.proofs.Imports.{stops_of_lines, stops_stand, subst, sym, time_lines_of_gates, true, whole, wire_of}
+use Rattle.soundness.proofs.Imports.{wire_or_zero, wires, ℕ, ℤ, ◌%◌, ◌<◌, ◌∙◌, ◌∷◌, ◌≡◌, ◌≤◌}
+use Rattle.lemmas.proofs.Common.{slice_index_or, mapped_at}
 use Rattle.std.specs.List.{All}
 use Rattle.certificate_lines.specs.Entries.{modules_of}
 use Rattle.certificate_lines.specs.Versions.{edge_lines_beside, is_haloless_version, is_nonlocal_signal}
@@ -45,26 +44,12 @@ none_any test (x ∷ xs) h = rw (h x (inl refl), none_any test xs (λ y i. h y (
 
 -- a local name is that of a wire
 local_wire_of : (c : Circuit) (local name : List ℕ) → is_local c local name ≡ true → (w : ℕ) × (wire_of c name ≡ Some w)
-local_wire_of c local name h = by (wire_of c name) refl
-  where
-    by : (o : Option ℕ) → wire_of c name ≡ o → (w : ℕ) × (wire_of c name ≡ Some w)
-    by None e = absurd (true≢false (sym h ∙ ap (is_local_wire local) e))
-    by (Some w) e = (w, e)
+local_wire_of c local name h = grind (arith, common_steps)
 
 -- the wire that stands for a wire by other numbers
 wire_behind : (f : ℕ → ℕ) (n : ℕ) (s : Signal) (w : ℕ) → IsSignalWireBelow n s → renumber_signal f s ≡ Wire w →
     (i : ℕ) × (i < n) × (f i ≡ w)
-wire_behind f n Zero w b e = absurd cc
-wire_behind f n One w b e = absurd cc
-wire_behind f n (Wire i) w b e = (i, b, ap named e)
-  where
-    named : Signal → ℕ
-    named Zero = 0
-    named One = 0
-    named (Wire v) = v
-
-among_at : (ws : List ℕ) (i w : ℕ) → i < length ws → slice_index ws i ≡ w → is_among ws w ≡ true
-among_at ws i w lt e = grind (arith, common_steps, any_at, slice_get-get_or, eq_test)
+wire_behind f n s w h1 h2 = grind (arith, common_steps)
 
 module _ (lines : List CircuitLine) (p : Pattern) (ms : List ModuleLines) (jobs : List JobView)
     (good : AreModules (setting_of lines p) ms) (own : AreJobsOf (circuit_of lines) p ms jobs)
@@ -108,18 +93,11 @@ module _ (lines : List CircuitLine) (p : Pattern) (ms : List ModuleLines) (jobs 
       let is = own.each i m j.0 at j.1 in
       let named = wire_behind (circuit_wire j.0.locals) (wires j.0.locals.netlist) (signal_at j.0.halos t x y) w
       (halo_below j.0 t x y is.own) (halo_same lines p m j.0 t x y is ∙ e) in
-      subst (λ ws. is_among ws w ≡ true) is.wires
-      (among_at j.0.locals.circuit_wires named.0 w
-      (let lt = named.1 in let n = is.locals.sized in omega (arith, lt, n)) named.2)
+      grind (arith, common_steps)
 
   time_of : (e : BorderLine) → IfSome e.time (λ t. (t % 2 ≡ 1) × (t < p.size.steps)) → 1 < p.size.steps →
       (t : ℕ) × SaysAt t e.time × (t % 2 ≡ 1) × (t < p.size.steps)
-  time_of e odd long = by e.time odd
-    where
-      by : (time : Option ℕ) → IfSome time (λ t. (t % 2 ≡ 1) × (t < p.size.steps)) →
-          (t : ℕ) × SaysAt t time × (t % 2 ≡ 1) × (t < p.size.steps)
-      by None odd = (1, tt, omega arith, long)
-      by (Some t) odd = (t, refl, odd.0, odd.1)
+  time_of e odd long = grind (arith, common_steps)
 
   named_local : (i : ℕ) (m : ModuleLines) (e : BorderLine) (s : Option (List ℕ)) → slice_get ms i ≡ Some m →
       In e (edge_lines_beside g ms m.area) → e.signal ≡ s → is_nonlocal_signal c (known c m) s ≡ false
@@ -145,9 +123,8 @@ module _ (lines : List CircuitLine) (p : Pattern) (ms : List ModuleLines) (jobs 
   no_strange = none_any (λ m. list_any (λ e. is_nonlocal_signal c (known c m) e.signal) (edge_lines_beside g ms m.area))
       ms
       (λ m i.
-      none_any (λ e. is_nonlocal_signal c (known c m) e.signal) (edge_lines_beside g ms m.area) (λ e j.
-      let k = placed m ms i in
-      named_local k.0 m e e.signal k.1 j refl))
+      none_any (λ e. is_nonlocal_signal c (known c m) e.signal) (edge_lines_beside g ms m.area) (
+      grind (arith, common_steps, placed, named_local)))
 
   -- ---- the job of a module, and that of the module with the edge lines beside it
 
@@ -157,9 +134,7 @@ module _ (lines : List CircuitLine) (p : Pattern) (ms : List ModuleLines) (jobs 
   none_outside : (m : ModuleLines) → IsModule g m → (t : ℕ) (x y : ℤ) → in_box (whole p.size) x y ≡ false →
       halo_signal c m t x y ≡ Zero
   none_outside m is t x y out =
-      no_signal c (halos m) t x y (λ n d lt.
-      other_cell _ x y (λ same. true≢false
-      (sym (is.halo_lines n d lt).inside ∙ ap (λ (c : Cell). in_box (whole p.size) c.x c.y) same ∙ out)))
+      no_signal c (halos m) t x y (grind (arith, common_steps, other_cell))
 
   module _ (i : ℕ) (m : ModuleLines) (j k : JobView) (at : slice_get ms i ≡ Some m) (of_j : IsJobOf c p m j)
       (of_k : IsJobOf c p (with_halos g ms m) k) where
@@ -191,16 +166,7 @@ module _ (lines : List CircuitLine) (p : Pattern) (ms : List ModuleLines) (jobs 
       demand = of_k.demand;
       edges = of_k.edges ∙ ap (line_signals c) (full_edges g ms good m);
       halos = ap (λ ws. renumber_signals (slice_index ws) j.halos) same_wires ∙ of_j.halos;
-      own = record {
-        starts = of_k.own.starts;
-        demands = of_k.own.demands;
-        edge_all_times = of_k.own.edge_all_times;
-        edge_events = of_k.own.edge_events;
-        halo_all_times = subst (λ n. All (λ h. IsSignalWireBelow n h.signal) j.halos.all_times) many
-            of_j.own.halo_all_times;
-        halo_events = subst (λ n. All (λ e. IsSignalWireBelow n e.signal) j.halos.events) many of_j.own.halo_events;
-        stops = of_k.own.stops;
-      };
+      own = grind (arith, common_steps, many);
       stops = of_k.stops ∙ ap (stops_of_lines c) (full_stops g ms good m);
       kept = of_k.kept ∙ full_keeps g ms good m;
       kept_are_used = of_k.kept_are_used;
@@ -251,12 +217,10 @@ module _ (lines : List CircuitLine) (p : Pattern) (ms : List ModuleLines) (jobs 
     between_is = one_job c p m between j (good.each i m at).local.different of_between of_j
 
     fault_kept : (f : Fault) → IsFault k f → IsFault j f
-    fault_kept f is = subst (λ (l : JobView). IsFault l f) between_is
-        (same_halos_agree k j.halos f early_stops say_the_same is)
+    fault_kept f is = grind (arith, common_steps, between_is, same_halos_agree, early_stops, say_the_same)
 
     keep_fault_kept : (f : KeepFault) → IsKeepFault k f → IsKeepFault j f
-    keep_fault_kept f is = subst (λ (l : JobView). IsKeepFault l f) between_is
-        (record { in_range = is.in_range; is_kept = is.is_kept; shown = is.shown })
+    keep_fault_kept f is = grind (arith, common_steps, between_is)
 
   pub accepted_without : IsAcceptedWithoutHalos lines p ms
   accepted_without = record {
@@ -298,8 +262,5 @@ migration_accepted l s jobs one section own ok =
     (subst (λ ns. Accepts (setting s) ns jobs) same ok) in
     record {
       section = section_without_halos l (setting s) s.entries section a.complete;
-      accepted = λ others are. subst (λ ns. Accepts (setting s) ns others)
-          (sym (migrated_modules (setting s) s.entries))
-          (a.accepted others (subst (λ ns. AreJobsOf (circuit_of s.circuit) s.layout ns others)
-          (migrated_modules (setting s) s.entries) are));
+      accepted = grind (arith, common_steps, migrated_modules);
     }

@@ -1,16 +1,15 @@
 -- A module has one job
 use Rattle.lemmas.proofs.Common.{common_steps}
+use Rattle.lemmas.proofs.Common.{cond-true, same_head, same_tail}
 use Rattle.soundness.proofs.Imports.{All, All-head, All-tail, AllTimesSignal, AreDistinct, AreLocalsOf, AreOrdered}
-use Rattle.soundness.proofs.Imports.{Box2, Circuit, Demand, Gate, GateKind}
-use Rattle.soundness.proofs.Imports.{IsDemandWireBelow, IsJobOf, IsSignalWireBelow, IsTrue, JobView, List, LocalNet}
-use Rattle.soundness.proofs.Imports.{ModuleLines, Netlist, One, Pattern, Signal, Signals, Some, Source}
-use Rattle.soundness.proofs.Imports.{TimedSignal, Wire, Zero, [], ap, ap₂, arith, cases_Bool}
-use Rattle.soundness.proofs.Imports.{circuit_gate, circuit_wire, defines, in_box, inl, inr, job_demand}
+use Rattle.soundness.proofs.Imports.{Box2, Circuit, Demand, Gate, GateKind, IsDemandWireBelow, IsJobOf}
+use Rattle.soundness.proofs.Imports.{IsSignalWireBelow, IsTrue, JobView, List, LocalNet, ModuleLines, Netlist, Pattern}
+use Rattle.soundness.proofs.Imports.{Signal, Signals, Some, Source, TimedSignal, Wire, Zero, [], ap, ap₂, arith}
+use Rattle.soundness.proofs.Imports.{cases_Bool, circuit_gate, circuit_wire, defines, in_box, inl, inr, job_demand}
 use Rattle.soundness.proofs.Imports.{job_start, known, length, map, place_in, range_with_len, refl, renumber_all_times}
 use Rattle.soundness.proofs.Imports.{renumber_demand, renumber_event, renumber_signal, renumber_signals, renumber_stop}
 use Rattle.soundness.proofs.Imports.{same_Some, slice_get, slice_get-get_or, slice_index, subst, suc, sym, true}
 use Rattle.soundness.proofs.Imports.{unwrap_or, wires, ℕ, ℤ, ◌*◌, ◌+◌, ◌<◌, ◌∙◌, ◌∷◌, ◌≡◌, ◌≤◌}
-use Rattle.lemmas.proofs.Common.{cond-true, same_head, same_tail}
 use Rattle.circuit.specs.Meaning.{wires_after}
 use Rattle.module_box.specs.Locals.{renumber_gate}
 use Rattle.soundness.specs.ModuleLaws.{ModuleHasOneJob}
@@ -35,10 +34,6 @@ abbrev wire_in : Signal → ℕ
 wire_in (Wire w) = w
 wire_in _ = 0
 
-abbrev demanded_in : Demand → ℕ
-demanded_in (Demanded.Wire w) = w
-demanded_in _ = 0
-
 module _ (ws : List ℕ) (different : AreDistinct ws) where
   abbrev f : ℕ → ℕ
   f = slice_index ws
@@ -49,28 +44,11 @@ module _ (ws : List ℕ) (different : AreDistinct ws) where
 
   pub signal_back : (s t : Signal) → IsSignalWireBelow (length ws) s → IsSignalWireBelow (length ws) t →
       renumber_signal f s ≡ renumber_signal f t → s ≡ t
-  signal_back Zero Zero a b e = refl
-  signal_back Zero One a b e = e
-  signal_back One Zero a b e = e
-  signal_back One One a b e = refl
-  signal_back (Wire v) (Wire w) a b e = ap Wire (number_back v w a b (ap wire_in e))
-  signal_back _ (Wire w) a b e = absurd cc
-  signal_back (Wire v) _ a b e = absurd cc
+  signal_back s t h1 h2 h3 = grind (arith, common_steps, number_back)
 
   demand_back : (s t : Demand) → IsDemandWireBelow (length ws) s → IsDemandWireBelow (length ws) t →
       renumber_demand f s ≡ renumber_demand f t → s ≡ t
-  demand_back Demanded.Dead Demanded.Dead a b e = refl
-  demand_back Demanded.Dead Demanded.Live a b e = e
-  demand_back Demanded.Dead Demanded.Any a b e = e
-  demand_back Demanded.Live Demanded.Dead a b e = e
-  demand_back Demanded.Live Demanded.Live a b e = refl
-  demand_back Demanded.Live Demanded.Any a b e = e
-  demand_back (Demanded.Wire v) (Demanded.Wire w) a b e = ap Demanded.Wire (number_back v w a b (ap demanded_in e))
-  demand_back Demanded.Any Demanded.Dead a b e = e
-  demand_back Demanded.Any Demanded.Live a b e = e
-  demand_back Demanded.Any Demanded.Any a b e = refl
-  demand_back _ (Demanded.Wire w) a b e = absurd cc
-  demand_back (Demanded.Wire v) _ a b e = absurd cc
+  demand_back s t h1 h2 h3 = grind (arith, common_steps, number_back)
 
   all_times_back : (s t : AllTimesSignal) → IsSignalWireBelow (length ws) s.signal →
       IsSignalWireBelow (length ws) t.signal →
@@ -101,9 +79,7 @@ module _ (ws : List ℕ) (different : AreDistinct ws) where
 
   stop_back : (s t : listed.Stop) → s.wire < length ws → t.wire < length ws → renumber_stop f s ≡ renumber_stop f t →
       s ≡ t
-  stop_back s t a b e =
-      let wire = number_back s.wire t.wire a b (ap (λ (r : listed.Stop). r.wire) e) in
-      λ i. record { at = ap (λ (r : listed.Stop). r.at) e i; wire = wire i }
+  stop_back s t a b e = grind (arith, common_steps, number_back)
 
   -- ---- gates
 
@@ -117,10 +93,7 @@ module _ (ws : List ℕ) (different : AreDistinct ws) where
   grows n (g ∷ gs) = let more = grows (n + defines g.kind) gs in omega (arith, more)
 
   too_many : (n : ℕ) (g : Gate) (gs : List Gate) → n ≡ length ws → wires_after (n + defines g.kind) gs ≡ length ws → ⊥
-  too_many n g gs a b =
-      let some = defines_some g.kind in
-      let more = grows (n + defines g.kind) gs in
-      omega (arith, some, more, a, b)
+  too_many n g gs a b = grind (arith, common_steps, defines_some, grows)
 
   gate_back : (n : ℕ) (g h : Gate) → n ≤ length ws → All (λ w. w < n) g.ins → All (λ w. w < n) h.ins →
       g.outs ≡ range_with_len n (defines g.kind) → h.outs ≡ range_with_len n (defines h.kind) →
@@ -170,11 +143,7 @@ locals_back n l m a b same_wires same_gates same_given different =
     let gates : l.netlist.gates ≡ m.netlist.gates =
     gates_back l.circuit_wires different given l.netlist.gates m.netlist.gates a.ordered ordered
     (sym a.sized) sized each in
-    λ i. record {
-      netlist = record { given = same_given i; gates = gates i };
-      circuit_wires = same_wires i;
-      circuit_gates = same_gates i;
-    }
+    grind (arith, common_steps)
 
 -- ---- two jobs of a module
 
@@ -285,23 +254,18 @@ module _ (c : Circuit) (p : Pattern) (m : ModuleLines) (j k : JobView) (differen
   unfolding job_demand
   demand_inside i x y h = cond-true _ _ _ h
 
-  inside_k : (x y : ℤ) → in_box j.area x y ≡ true → in_box k.area x y ≡ true
-  inside_k x y h = ap (λ b. in_box b x y) (sym same_area) ∙ h
-
   area_of_j : m.area.w * m.area.h ≡ j.area.w * j.area.h
   area_of_j = ap (λ (b : Box2). b.w * b.h) (sym of_j.area)
 
   same_starts : j.starts ≡ k.starts
   same_starts = same_over_box j.area j.starts k.starts Zero (of_j.start_count ∙ area_of_j)
       (of_k.start_count ∙ area_of_j)
-      (λ x y h. sym (start_inside j x y h) ∙ same_start x y ∙ start_inside k x y (inside_k x y h)
-      ∙ ap (λ b. unwrap_or (slice_get k.starts (place_in b x y)) Zero) (sym same_area))
+      (λ x y h. grind (arith, common_steps, start_inside, same_start, slice_get, same_area))
 
   same_demands : j.demands ≡ k.demands
   same_demands = same_over_box j.area j.demands k.demands Demanded.Dead (of_j.demand_count ∙ area_of_j)
       (of_k.demand_count ∙ area_of_j)
-      (λ x y h. sym (demand_inside j x y h) ∙ same_demand x y ∙ demand_inside k x y (inside_k x y h)
-      ∙ ap (λ b. unwrap_or (slice_get k.demands (place_in b x y)) Demanded.Dead) (sym same_area))
+      (λ x y h. grind (arith, common_steps, demand_inside, same_demand, slice_get, same_area))
 
   same_job : j ≡ k
   same_job = λ i. record {

@@ -1,7 +1,7 @@
 -- The wires that signals name, by their places in a list of wires
 use Rattle.soundness.proofs.Imports.{AllTimesSignal, Bool, BorderLine, Circuit, Each, IfSome, IsSignalWireBelow, IsTrue}
 use Rattle.soundness.proofs.Imports.{List, None, One, Option, Signal, Signals, Some, TimedSignal, Wire, Zero, []}
-use Rattle.soundness.proofs.Imports.{all_times_of_line, ap, arith, common_steps, events_of_line, false, false≢true}
+use Rattle.soundness.proofs.Imports.{all_times_of_line, arith, common_steps, events_of_line, false, false≢true}
 use Rattle.soundness.proofs.Imports.{if◌then◌else◌, is_among, is_local, is_local_wire, length, line_signals, map}
 use Rattle.soundness.proofs.Imports.{nat_tests, one_or_named_wire, refl, renumber_all_times, renumber_event}
 use Rattle.soundness.proofs.Imports.{renumber_signal, slice_index, suc, true, wire_of, wire_or_zero, ℕ, ◌++◌, ◌<◌, ◌==◌}
@@ -49,8 +49,7 @@ module _ (c : Circuit) (ws : List ℕ) where
 
   pub wire_numbered : (o : Option ℕ) → is_local_wire ws o ≡ true → IsNumbered ws (wire_or_zero o)
   unfolding numbered
-  wire_numbered None h = absurd (false≢true h)
-  wire_numbered (Some w) h = let p = is_place ws w h in record { back = ap (λ v. Wire v) p.there; below = p.below }
+  wire_numbered o h1 = grind (arith, common_steps, false≢true, is_place)
 
   pub signal_numbered : (s : Option (List ℕ)) → IfSome s (λ name. IsTrue (is_local c ws name)) →
       IsNumbered ws (one_or_named_wire c s)

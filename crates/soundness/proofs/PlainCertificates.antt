@@ -1,8 +1,8 @@
 -- A plain certificate decides whether its layout is correct
 use Rattle.soundness.proofs.Imports.{Accepts, All, All-append, All-cons, All-contains, All-head, All-nil, All-tail}
 use Rattle.soundness.proofs.Imports.{AreDistinct, AreLeastFaultsOfJob, AreOrdered, AreReportLines, BelongTogether, Bool}
-use Rattle.soundness.proofs.Imports.{BorderFault, BorderLine, Circuit, CircuitLine, Contains, Contains-append_left}
-use Rattle.soundness.proofs.Imports.{Delay, Fault, Gate, IsModuleAssignmentOf, Greater, HasGoodBorders, HasInputNames}
+use Rattle.soundness.proofs.Imports.{BorderFault, Circuit, CircuitLine, Contains, Contains-append_left, Delay, Fault}
+use Rattle.soundness.proofs.Imports.{Gate, IsModuleAssignmentOf, Greater, HasGoodBorders, HasInputNames}
 use Rattle.soundness.proofs.Imports.{IsAcceptedBundle, IsAsCertified, IsAssignmentOf, IsBorderFault, IsCorrect, IsFault}
 use Rattle.soundness.proofs.Imports.{IsFaultUnder, IsFirstFault, IsInputName, IsJobOf, IsKeepFault, IsLeastBorderFault}
 use Rattle.soundness.proofs.Imports.{IsLeastFault, IsLeastKeepFault, IsRunOfJobs, IsStop, IsVerdict, JobView, KeepFault}
@@ -11,16 +11,15 @@ use Rattle.soundness.proofs.Imports.{Some, StopGap, StopHolds, StopLine, TimeLin
 use Rattle.soundness.proofs.Imports.{and_from, ap, append-nil, ap₂, are_all_obeyed, arith, assignments, bit}
 use Rattle.soundness.proofs.Imports.{border_line, cases_Bool, circuit_gate, circuit_of, common_steps, cut_wires, cuts}
 use Rattle.soundness.proofs.Imports.{defines, delay_and_meet_lines, edge_signal, eq-eqb, eqb, eqb-true, false}
-use Rattle.soundness.proofs.Imports.{false≢true, fault_cmp, halo_parts, has_valuation, if◌then◌else◌, in_ring}
-use Rattle.soundness.proofs.Imports.{inl, inr, is_among, is_inverse, is_live, keep_line, keeps, kept, known, length}
-use Rattle.soundness.proofs.Imports.{line_signals, list_all, local_line, local_run, local_values_agree, map, netlist_of}
-use Rattle.soundness.proofs.Imports.{not, nothing_prop, only_inverse, option_map, option_map_or, option_to_list}
-use Rattle.soundness.proofs.Imports.{ordering_then, props, range_with_len, refl, renumber_keep, report_lines_from}
-use Rattle.soundness.proofs.Imports.{run_under, same_Some, setting_of, signal_at, slice_get, slice_get_within, some_at}
-use Rattle.soundness.proofs.Imports.{stops, subst, suc, sym, timing_report_line, true, true≢false, undefined_has_none}
-use Rattle.soundness.proofs.Imports.{undefined_is_seen, unkept, unkept_from, unkept_lines, values_by_local_number}
-use Rattle.soundness.proofs.Imports.{whole, wire_of, zero, ℕ, ℤ, ∥∥₁_elim, ◌&&◌, ◌++◌, ◌+◌, ◌<◌, ◌||◌, ◌∙◌, ◌∷◌, ◌≡◌}
-use Rattle.soundness.proofs.Imports.{◌≢◌, ◌≤◌}
+use Rattle.soundness.proofs.Imports.{false≢true, fault_cmp, halo_parts, has_valuation, if◌then◌else◌, in_ring, inl, inr}
+use Rattle.soundness.proofs.Imports.{is_among, is_inverse, is_live, keep_line, keeps, kept, known, length, list_all}
+use Rattle.soundness.proofs.Imports.{local_line, local_run, local_values_agree, map, netlist_of, not, nothing_prop}
+use Rattle.soundness.proofs.Imports.{only_inverse, option_map, option_map_or, option_to_list, ordering_then, props}
+use Rattle.soundness.proofs.Imports.{refl, renumber_keep, report_lines_from, same_Some, setting_of, signal_at}
+use Rattle.soundness.proofs.Imports.{slice_get, slice_get_within, some_at, stops, subst, suc, sym, timing_report_line}
+use Rattle.soundness.proofs.Imports.{true, undefined_has_none, undefined_is_seen, unkept, unkept_from, unkept_lines}
+use Rattle.soundness.proofs.Imports.{values_by_local_number, whole, wire_of, zero, ℕ, ℤ, ∥∥₁_elim, ◌&&◌, ◌++◌, ◌+◌, ◌<◌}
+use Rattle.soundness.proofs.Imports.{◌||◌, ◌∙◌, ◌∷◌, ◌≡◌, ◌≢◌, ◌≤◌}
 use Rattle.lemmas.proofs.Common.{nat_cmp}
 use Rattle.circuit.specs.Gates.{uses}
 use Rattle.certificate.specs.Arrivals.{AreOnTime, IsFirstTime, IsLastTime, TakesSteps, IsTimeLineTrue, IsDelayGapTrue}
@@ -38,12 +37,12 @@ use Rattle.soundness.proofs.FirstFaults.{IsPlacedWire, assigned, first_means, pl
 use Rattle.soundness.proofs.InputRuns.{at_place, inputs_decide}
 use Rattle.soundness.proofs.JobSignals.{Known, edge_by_circuit, no_signal}
 use Rattle.soundness.proofs.WholeRuns.{correct, off_rim, on_time, starts, steps_with_good_borders}
+use Rattle.local_run.specs.declared.fault.Kind.TheVariants.{Edge, End, Stop as AtStop}
+use Rattle.bbm_rule.proofs.RingTests.{ring_in_box}
 use Rattle.certificate.specs.declared.times.TimeLine.TheVariants as times
 use Rattle.module_job.specs.declared.job.Stop as listed
-use Rattle.local_run.specs.declared.fault.Kind.TheVariants.{Edge, End, Stop as AtStop}
 use Rattle.certificate.specs.Keeps as keeping
 use Rattle.core_book.specs.declared.verdict.ReportLine.TheVariants as line
-use Rattle.bbm_rule.proofs.RingTests.{ring_in_box}
 
 pub nat_greater : (a b : ℕ) → b < a → nat_cmp a b ≡ Greater
 nat_greater a b lt = grind arith
@@ -69,8 +68,7 @@ place_has (u ∷ us) k w e = elim (cases_Bool (eqb u w)) [
   where
     later : ((k w : ℕ) → slice_get us k ≡ Some w → slice_get us (place us w) ≡ Some w) → (k : ℕ) →
         slice_get (u ∷ us) k ≡ Some w → eqb u w ≡ false → slice_get us (place us w) ≡ Some w
-    later rest zero e h = absurd (true≢false (sym (eq-eqb u w (same_Some u w e)) ∙ h))
-    later rest (suc k) e h = rest k w e
+    later h1 k h2 h3 = grind (arith, common_steps, eq-eqb, same_Some)
 
 inputs_of : List ℕ → ℕ → Valuation
 inputs_of ws a w = bit a (place ws w)
@@ -80,12 +78,6 @@ unfolding inputs_of
 value_there ws a k w different e = ap (bit a) (different (place ws w) k w (place_has ws k w e) e)
 
 -- ---- what is on time keeps the rules on times
-
-last_one : (c : Circuit) (ss : List StopLine) (w s t : ℕ) → IsLastTime c ss w s → IsLastTime c ss w t → s ≡ t
-last_one c ss w s t a b = grind (arith, common_steps)
-
-first_one : (c : Circuit) (ss : List StopLine) (w s t : ℕ) → IsFirstTime c ss w s → IsFirstTime c ss w t → s ≡ t
-first_one c ss w s t a b = grind (arith, common_steps)
 
 -- a delay uses one wire and defines one
 record HasOneWire (g : Gate) : Type 0 where
@@ -107,21 +99,15 @@ delay_wires m n (f ∷ gs) zero g ordered at is =
     let same : f ≡ g = same_Some f g at in
     let kind : f.kind ≡ Delay n = ap (λ (g : Gate). g.kind) same ∙ is in
     let used = one_element f.ins (ordered.1 ∙ ap uses kind) in
-    subst HasOneWire same (record {
-      used = used.0;
-      made = m;
-      ins = used.1;
-      outs = ordered.2 ∙
-          ap (λ r. range_with_len m (defines r)) kind;
-    })
+    subst HasOneWire same (grind (arith, common_steps))
 delay_wires m n (f ∷ gs) (suc k) g ordered at is = delay_wires (m + defines f.kind) n gs k g ordered.3 at is
 
 same_steps : (c : Circuit) (ss : List StopLine) (m n a b : ℕ) → TakesSteps c ss m a b → TakesSteps c ss n a b → m ≡ n
-same_steps c ss m n a b s t = grind (arith, common_steps, last_one, first_one)
+same_steps c ss m n a b s t = grind (arith, common_steps)
 
 not_before : (c : Circuit) (ss : List StopLine) (n a b s t : ℕ) → TakesSteps c ss n a b → IsLastTime c ss a s →
     IsFirstTime c ss b t → t < s → ⊥
-not_before c ss n a b s t takes last first lt = grind (arith, common_steps, last_one, first_one)
+not_before c ss n a b s t takes last first lt = grind (arith, common_steps)
 
 kept_gap : (c : Circuit) (ss : List StopLine) (k n a b : ℕ) (gap : StopGap) → TakesSteps c ss n a b →
     IsDelayGapTrue c ss gap a b → is_obeyed (times.Delay k n gap) ≡ true
@@ -135,11 +121,7 @@ kept_line : (lines : List CircuitLine) (ss : List StopLine) (l : TimeLine) → A
 kept_line lines ss (times.Delay k n gap) ordered timed (g, at, is, tells) =
     let w = delay_wires (netlist_of lines).given n (netlist_of lines).gates k g ordered at is in
     let a = w.used in let b = w.made in
-    let same : g ≡ record { kind = Delay n; ins = a ∷ []; outs = b ∷ [] } = λ i. record {
-      kind = is i;
-      ins = w.ins i;
-      outs = w.outs i;
-    } in
+    let same : g ≡ record { kind = Delay n; ins = a ∷ []; outs = b ∷ [] } = grind (arith, common_steps) in
     kept_gap (circuit_of lines) ss k n a b gap (timed.delays k n a b (at ∙ ap Some same)) (tells a b w.ins w.outs)
 kept_line lines ss (times.Meet k (Some t)) ordered timed tells = refl
 kept_line lines ss (times.Meet k None) ordered timed (g, at, tells) = grind (arith, common_steps)
@@ -201,9 +183,7 @@ all_timed P Q (l ∷ ls) h all =
 -- where each inverse gate is kept, none is listed as unkept
 not_listed : (n : ℕ) (inverse kept : Bool) → (inverse ≡ true → kept ≡ true) →
     (if inverse && not kept then n ∷ [] else []) ≡ []
-not_listed n true true h = refl
-not_listed n true false h = absurd (false≢true (h refl))
-not_listed n false kept h = refl
+not_listed n inverse kept h1 = grind (arith, common_steps, false≢true)
 
 none_unkept : (ms : List ModuleLines) (n : ℕ) (gs : List Gate) →
     ((k : ℕ) (g : Gate) → slice_get gs k ≡ Some g → is_inverse g.kind ≡ true → keeping.is_kept ms (n + k) ≡ true) →
@@ -219,12 +199,10 @@ none_unkept ms n (g ∷ gs) h =
 
 -- the one module
 pub only_module : (m k : ModuleLines) (n : ℕ) → slice_get (m ∷ []) n ≡ Some k → m ≡ k
-only_module m k zero e = same_Some m k e
-only_module m k (suc n) e = absurd cc
+only_module m k n h1 = grind (arith, common_steps, same_Some)
 
 only_number : (m k : ModuleLines) (n : ℕ) → slice_get (m ∷ []) n ≡ Some k → n ≡ 0
-only_number m k zero e = refl
-only_number m k (suc n) e = absurd cc
+only_number m k n h1 = grind (arith, common_steps)
 
 module _ (lines : List CircuitLine) (p : Pattern) (m : ModuleLines) (jobs : List JobView)
     (named : HasInputNames lines p)
@@ -283,8 +261,7 @@ module _ (lines : List CircuitLine) (p : Pattern) (m : ModuleLines) (jobs : List
   -- ---- where the run keeps off the rim, borders are good
 
   no_edge_signal : (t : ℕ) (x y : ℤ) → edge_signal c m t x y ≡ Zero
-  no_edge_signal t x y = ap (λ (es : List BorderLine). signal_at (line_signals c es) t x y) plain.no_edge ∙
-      no_signal c [] t x y (All-nil _)
+  no_edge_signal t x y = grind (arith, common_steps, no_signal)
 
   edge_touches : (inputs v : Valuation) (t n : ℕ) (j : JobView) (x y : ℤ) → Satisfies (netlist_of lines) inputs v →
       IsRunOfJobs lines p jobs v t → IsItsJob n j → IsEdgeFault j (values_by_local_number j.locals v) t x y →
@@ -314,8 +291,7 @@ module _ (lines : List CircuitLine) (p : Pattern) (m : ModuleLines) (jobs : List
 
   edge_of : (j : JobView) (u : Valuation) (t : ℕ) (kind : Kind) (x y : ℤ) → kind ≡ Edge → IsFaultUnder j u t kind x y →
       IsEdgeFault j u t x y
-  edge_of j u t Edge x y e f = f
-  edge_of j u t _ x y e f = absurd cc
+  edge_of j u t kind x y h1 h2 = grind (arith, common_steps)
 
   good : (inputs v : Valuation) (t : ℕ) → ¬ TouchesRim lines p → Satisfies (netlist_of lines) inputs v →
       IsRunOfJobs lines p jobs v t → HasGoodBorders lines p (m ∷ []) jobs v t
@@ -353,9 +329,7 @@ module _ (lines : List CircuitLine) (p : Pattern) (m : ModuleLines) (jobs : List
   stops_said inputs v t x y held s line has time column row =
       let holds : StopHolds c p line = All-contains (StopHolds c p) (all_stops (m ∷ [])) line held
       (Contains-append_left (stops m) [] line has) in
-      inputs_decide lines p inputs v t x y named s
-      ∙ ap (λ n. run_under c p inputs n x y) (sym time) ∙ ap₂ (run_under c p inputs line.time) (sym column) (sym row) ∙
-      holds inputs v s
+      grind (arith, common_steps, inputs_decide)
 
   none_under : (inputs v : Valuation) (t n : ℕ) (kind : Kind) (x y : ℤ) (j : JobView) → IsCorrect lines p → AreHeld →
       ¬ TouchesRim lines p → Satisfies (netlist_of lines) inputs v → IsItsJob n j →
@@ -497,10 +471,7 @@ module _ (lines : List CircuitLine) (p : Pattern) (m : ModuleLines) (jobs : List
         satisfied = v.1;
         real = real;
         on_rim = λ e. on_rim f j v.0 e it fault least v.1;
-        wrong_stop = λ e held.
-            real.differs (subst (λ k. IsAsCertified c p m v.0 f.time k f.cell.x f.cell.y) (sym e)
-            (stops_said inputs v.0 f.time f.cell.x f.cell.y
-            (subst (All (StopHolds c p)) (sym (append-nil (stops m))) held) v.1));
+        wrong_stop = grind (arith, common_steps, stops_said, append-nil);
       }
 
   by_kind : (f : Fault) (kind : Kind) → f.kind ≡ kind → LocalLineMeans lines p m f → IsWrongDesign lines p m
@@ -531,18 +502,13 @@ module _ (lines : List CircuitLine) (p : Pattern) (m : ModuleLines) (jobs : List
   Means l = LineMeans lines p m l
 
   gap_is : (k n : ℕ) (gap : StopGap) → is_obeyed (times.Delay k n gap) ≡ true → gap ≡ Steps n
-  gap_is k n (Steps s) e = ap Steps (eqb-true s n e)
-  gap_is k n _ e = absurd (false≢true e)
+  gap_is k n gap h1 = grind (arith, common_steps, eqb-true, false≢true)
 
   delay_means : (ss : List StopLine) (k n : ℕ) (gap : StopGap) → IsTimeLineTrue c ss (times.Delay k n gap) →
       DelayLineMeans lines ss k n gap
   delay_means ss k n gap (g, at, is, tells) =
       let w = delay_wires (netlist_of lines).given n (netlist_of lines).gates k g b.ordered at is in
-      let same : g ≡ record { kind = Delay n; ins = w.used ∷ []; outs = w.made ∷ [] } = λ i. record {
-        kind = is i;
-        ins = w.ins i;
-        outs = w.outs i;
-      } in
+      let same : g ≡ record { kind = Delay n; ins = w.used ∷ []; outs = w.made ∷ [] } = grind (arith, common_steps) in
       let takes : IsDelayGapTrue c ss gap w.used w.made = tells w.used w.made w.ins w.outs in
       let kept : TakesSteps c ss n w.used w.made → gap ≡ Steps n =
       λ steps. gap_is k n gap (kept_gap c ss k n w.used w.made gap steps takes) in
@@ -560,10 +526,7 @@ module _ (lines : List CircuitLine) (p : Pattern) (m : ModuleLines) (jobs : List
   meet_means ss k o (g, at, tells) = grind (arith, common_steps)
 
   time_means : (l : TimeLine) → IsTimeLineTrue c (all_stops (m ∷ [])) l → Means (timing_report_line l)
-  time_means (times.Delay k n gap) tells = subst (λ (ss : List StopLine). DelayLineMeans lines ss k n gap)
-      (append-nil (stops m)) (delay_means (all_stops (m ∷ [])) k n gap tells)
-  time_means (times.Meet k o) tells = subst (λ (ss : List StopLine). MeetLineMeans lines ss k o)
-      (append-nil (stops m)) (meet_means (all_stops (m ∷ [])) k o tells)
+  time_means l h1 = grind (arith, common_steps, append-nil, delay_means, meet_means)
 
   keep_means : (n : ℕ) (j : JobView) (o : Option KeepFault) (f : KeepFault) → IsJobOf c p m j → IsLeastKeepFault j o →
       option_map (renumber_keep j) o ≡ Some f → Means (line.Keep n f)

@@ -2,20 +2,17 @@
 use Rattle.lemmas.proofs.Common.{common_steps}
 use Rattle.soundness.proofs.Imports.{AreOrdered, Bool, BorderFault, Box2, Cell, Demand, Edge, End, Fault, IsBorderFault}
 use Rattle.soundness.proofs.Imports.{IsFault, IsFaultUnder, IsJob, IsKeepFault, IsLeastBorderFault, IsLeastFault}
-use Rattle.soundness.proofs.Imports.{IsLeastKeepFault, IsTrue, JobView, KeepFault, Kind, List}
-use Rattle.soundness.proofs.Imports.{MeetsDemand, ModuleLines, None, One, Option, Setting, Signal, Some, Stop}
-use Rattle.soundness.proofs.Imports.{Valuation, Wire, Zero, [], ap, arith, as_values, assignments, bit}
-use Rattle.soundness.proofs.Imports.{border_cmp, box_place, decided, edge_signal, false, fault_cmp, flat_map}
+use Rattle.soundness.proofs.Imports.{IsLeastKeepFault, IsTrue, JobView, KeepFault, Kind, List, MeetsDemand, ModuleLines}
+use Rattle.soundness.proofs.Imports.{None, Option, Setting, Some, Stop, Valuation, [], ap, arith, as_values}
+use Rattle.soundness.proofs.Imports.{assignments, bit, border_cmp, box_place, decided, edge_signal, fault_cmp, flat_map}
 use Rattle.soundness.proofs.Imports.{get_or_from_slice_get, halo_signal, in_box, in_halo, in_ring, inl, inr, is_among}
 use Rattle.soundness.proofs.Imports.{is_live, job_demand, local_run, map, range_with_len, rectangle_cells, refl}
 use Rattle.soundness.proofs.Imports.{signal_at, slice_get, slice_get-get_or, slice_get_within, subst, true}
 use Rattle.soundness.proofs.Imports.{undefined_has_none, whole, ℕ, ℤ, ∥∥₁_elim, ◌%◌, ◌+◌, ◌<◌, ◌∙◌, ◌∷◌, ◌≡◌, ◌≢◌, ◌⊎◌}
-use Rattle.lemmas.proofs.Common.{Decides-int_eq}
 use Rattle.circuit.proofs.Undefined.{stopped, undefined_is_one}
 use Rattle.module_box.specs.LocalValues.{IsFirstLocalGateWithoutRow}
 use Rattle.certificate_lines.proofs.LineOrder.{In, flat_in}
 use Rattle.certificate.proofs.FullModules.{stands}
-use Rattle.module_job.specs.Jobs.{IsStopOf}
 use Rattle.local_run.specs.Order.{keep_cmp}
 use Rattle.local_run.proofs.Leasts.{undefined_no_fault}
 use Rattle.border_match.proofs.FaultOrder.{border_total}
@@ -23,13 +20,9 @@ use Rattle.soundness.proofs.SomeLeast.{Decided, HasOne, among_in, below_decided,
 use Rattle.soundness.proofs.SomeLeast.{decided_by, in_map, in_range, least_of_all, not_decided, numbers_decided}
 use Rattle.soundness.proofs.SomeLeast.{some_decided, true_decided}
 use Rattle.soundness.proofs.SomeValues.{HasStop, HasValues, values_or_stop}
-use Rattle.module_job.specs.declared.job.Demand.TheVariants as Demanded
-use Rattle.module_job.specs.declared.job.Stop as listed
 use Rattle.bbm_rule.proofs.RingTests.{ring_in_box}
 use Rattle.local_run.proofs.Least.{fault_total, keep_total}
-
-integers_decided : (a b : ℤ) → Decided (a ≡ b)
-integers_decided a b = decided_by (Decides-int_eq a b).0 (Decides-int_eq a b).1 (true_decided _)
+use Rattle.module_job.specs.declared.job.Stop as listed
 
 in_cells_of_box : (b : Box2) (d : Cell) → in_box b d.x d.y ≡ true → In d (rectangle_cells b)
 in_cells_of_box b d h = stands (rectangle_cells b) _ d (box_place b d.x d.y h)
@@ -38,16 +31,13 @@ in_cells_of_box b d h = stands (rectangle_cells b) _ d (box_place b d.x d.y h)
 
 module _ (j : JobView) (u : Valuation) (t : ℕ) (x y : ℤ) where
   meets_decided : (d : Demand) (live : Bool) → Decided (MeetsDemand u d live)
-  meets_decided Demanded.Dead live = bools_decided live false
-  meets_decided Demanded.Live live = bools_decided live true
-  meets_decided (Demanded.Wire w) live = bools_decided live (u w)
-  meets_decided Demanded.Any live = inl tt
+  meets_decided d live = grind (arith, common_steps, bools_decided)
 
   abbrev IsMissed : listed.Stop → Type 0
   IsMissed s = (s.at.time ≡ t) × ((s.at.cell.x ≡ x) × ((s.at.cell.y ≡ y) × (local_run j u t x y ≢ u s.wire)))
 
   missed_decided : (s : listed.Stop) → Decided (IsMissed s)
-  missed_decided s = grind (arith, common_steps, both_decided, numbers_decided, integers_decided, bools_decided)
+  missed_decided s = grind (arith, common_steps, both_decided, numbers_decided, bools_decided)
 
   under_decided : (kind : Kind) → Decided (IsFaultUnder j u t kind x y)
   under_decided Edge = decided_by
@@ -58,18 +48,7 @@ module _ (j : JobView) (u : Valuation) (t : ℕ) (x y : ℤ) where
       both_decided (true_decided (in_ring j.area x y)) (λ _.
       not_decided (bools_decided (local_run j u t x y) (is_live u (signal_at j.edges t x y)))))))
   under_decided Stop = decided_by
-      (λ (h : HasOne IsMissed j.stops). record {
-        stop = h.one;
-        is_listed = (
-          h.number,
-          slice_get_within j.stops h.number h.one h.at,
-          get_or_from_slice_get j.stops h.number h.one h.one h.at,
-        );
-        time = h.holds.0;
-        column = h.holds.1.0;
-        row = h.holds.1.1.0;
-        differs = h.holds.1.1.1;
-      })
+      (grind (arith, common_steps, slice_get_within, get_or_from_slice_get))
       (λ f. record {
         number = f.is_listed.0;
         one = f.stop;
@@ -90,15 +69,8 @@ module _ (j : JobView) (is : IsJob j) (ordered : AreOrdered j.locals.netlist.giv
   abbrev Bounded : Fault → Type 0
   Bounded f = (f.time < j.steps + 1) × (in_box j.area f.cell.x f.cell.y ≡ true)
 
-  stop_inside : (f : Fault) (s : listed.Stop) → IsStopOf j s → s.at.time ≡ f.time → s.at.cell.x ≡ f.cell.x →
-      s.at.cell.y ≡ f.cell.y → Bounded f
-  stop_inside f s stop time column row = grind (arith, common_steps)
-
   bounded : (u : Valuation) (f : Fault) (kind : Kind) → IsFaultUnder j u f.time kind f.cell.x f.cell.y → Bounded f
-  bounded u f Edge h = ((let lt = h.early in omega (arith, lt)), ring_in_box j.area f.cell.x f.cell.y h.ring)
-  bounded u f Stop h = stop_inside f h.stop
-      (subst (IsStopOf j) h.is_listed.2 (is.stops h.is_listed.0 h.stop h.is_listed.1)) h.time h.column h.row
-  bounded u f End h = ((let e = h.last in omega (arith, e)), h.inside)
+  bounded u f kind h1 = grind (arith, common_steps, ring_in_box)
 
   abbrev kinds : List Kind
   kinds = Edge ∷ Stop ∷ End ∷ []
@@ -115,9 +87,7 @@ module _ (j : JobView) (is : IsJob j) (ordered : AreOrdered j.locals.netlist.giv
 
   in_kinds : (k : Kind) → In k kinds
   unfolding In
-  in_kinds Edge = inl refl
-  in_kinds Stop = inr (inl refl)
-  in_kinds End = inr (inr (inl refl))
+  in_kinds k = grind (arith, common_steps)
 
   in_places : (f : Fault) → Bounded f → f.assignment < assignments j → In f places_of
   in_places f b small =
@@ -166,11 +136,7 @@ module _ (j : JobView) (is : IsJob j) (ordered : AreOrdered j.locals.netlist.giv
     | inl v ↦ inr (λ h. ∥∥₁_elim h.shown (λ x y. absurd x)
         (λ s. undefined_has_none j.locals.netlist (bit f.assignment) (as_values v.0) f.gate ordered s v.1.satisfies))
     | inr s ↦ elim (numbers_decided s.0 f.gate) [
-      | inl same ↦ inl (record {
-        in_range = small;
-        is_kept = kept;
-        shown = ∣ subst (λ k. IsFirstLocalGateWithoutRow j.locals f.assignment k) same (undefined_at f.assignment s) ∣₁;
-      })
+      | inl same ↦ grind (arith, common_steps, in_range, undefined_at)
       | inr other ↦ inr (λ h. ∥∥₁_elim h.shown (λ x y. absurd x)
           (λ r. other (undefined_is_one j.locals.netlist (bit f.assignment) s.0 f.gate ordered
           (undefined_at f.assignment s) r)))
@@ -205,23 +171,10 @@ module _ (j : JobView) (is : IsJob j) (ordered : AreOrdered j.locals.netlist.giv
 
 -- ---- border faults
 
-signals_decided : (a b : Signal) → Decided (a ≡ b)
-signals_decided Zero Zero = inl refl
-signals_decided Zero (Wire w) = inr (λ e. cc)
-signals_decided One One = inl refl
-signals_decided (Wire v) Zero = inr (λ e. cc)
-signals_decided (Wire v) (Wire w) = decided_by (λ e. ap (λ n. Wire n) e) (λ e. cc) (numbers_decided v w)
-signals_decided _ One = inr (λ e. cc)
-signals_decided One _ = inr (λ e. cc)
-
 module _ (g : Setting) (ms : List ModuleLines) (i : ℕ) where
   abbrev IsOtherwise : ModuleLines → BorderFault → ModuleLines → Type 0
   IsOtherwise m f o = IsTrue (in_box o.area f.cell.x f.cell.y)
       × (halo_signal g.circuit m f.time f.cell.x f.cell.y ≢ edge_signal g.circuit o f.time f.cell.x f.cell.y)
-
-  otherwise_decided : (m : ModuleLines) (f : BorderFault) (o : ModuleLines) → Decided (IsOtherwise m f o)
-  otherwise_decided m f o = both_decided (true_decided (in_box o.area f.cell.x f.cell.y))
-      (λ _. not_decided (signals_decided _ _))
 
   abbrev IsBorderFaultOf : ModuleLines → BorderFault → Type 0
   IsBorderFaultOf m f = (f.time % 2 ≡ 1) × ((f.time < g.size.steps) × (IsTrue (in_box (whole g.size) f.cell.x f.cell.y)
@@ -230,10 +183,8 @@ module _ (g : Setting) (ms : List ModuleLines) (i : ℕ) where
   of_module_decided : (m : ModuleLines) (f : BorderFault) → Decided (IsBorderFaultOf m f)
   of_module_decided m f =
       both_decided (numbers_decided (f.time % 2) 1) (λ _.
-      both_decided (below_decided f.time g.size.steps) (λ _.
-      both_decided (true_decided (in_box (whole g.size) f.cell.x f.cell.y)) (λ _.
-      both_decided (true_decided (in_halo m.area f.cell.x f.cell.y)) (λ _.
-      some_decided (IsOtherwise m f) (otherwise_decided m f) ms))))
+      both_decided (below_decided f.time g.size.steps) (
+      grind (arith, common_steps, both_decided, true_decided, some_decided)))
 
   to_fault : (m : ModuleLines) (f : BorderFault) → slice_get ms i ≡ Some m → IsBorderFaultOf m f →
       IsBorderFault g ms i f

@@ -85,11 +85,7 @@ module _ (n : Netlist) (cuts gates : List ℕ) (ordered : AreOrdered n.given n.g
   all_placed : (before after keys : List ℕ) (done : List Gate) → before ++ after ≡ gates →
       IsPart n cuts gates (length before) keys done → AreDone (done ++ placed_gates keys (gates_at n after))
   unfolding AreDone placed_gates
-  all_placed before [] keys done e part = (
-    keys,
-    subst (IsPart n cuts gates (length gates) keys) (sym (append-nil done))
-        (subst (λ i. IsPart n cuts gates i keys done) (ap length (sym (append-nil before) ∙ e)) part),
-  )
+  all_placed before [] keys done e part = grind (arith, common_steps, append-nil)
   all_placed before (k ∷ after) keys done e part =
       let i : ℕ = length before in
       let within : i < length gates =
@@ -105,9 +101,7 @@ module _ (n : Netlist) (cuts gates : List ℕ) (ordered : AreOrdered n.given n.g
       ∙ ap (λ o. done ++ placed_gates keys (option_to_list o ++ gates_at n after)) (sym is.numbered))
       (all_placed (before ++ k ∷ []) after (keys ++ g.outs) (done ++ placed_gate keys g ∷ [])
       (append_assoc before (k ∷ []) after ∙ e)
-      (subst (λ i. IsPart n cuts gates i (keys ++ g.outs) (done ++ placed_gate keys g ∷ []))
-      (sym (length_push before k))
-      more))
+      (grind (arith, common_steps, length_push)))
 
   record HasLocals (gates' : List Gate) : Type 0 where
     pub are : AreLocalsOf n (record {
@@ -154,10 +148,7 @@ module _ {X : Type 0} (back_by by_number : X → X) (P : X → Type 0) (f : Cell
   cells_back [] h = record { back = refl; below = All-nil P }
   cells_back (d ∷ cells) h =
       let more = cells_back cells h.1 in
-      record {
-        back = ap₂ (λ s l. s ∷ l) h.0.0 more.back;
-        below = All-cons P (by_number (f d)) (map (λ d. by_number (f d)) cells) h.0.1 more.below;
-      }
+      grind (arith, common_steps)
 
 module _ (ws : List ℕ) where
   record IsDemanded (d : Demand) : Type 0 where
@@ -166,8 +157,7 @@ module _ (ws : List ℕ) where
 
   demand_numbered : (o : Option ℕ) → is_local_wire ws o ≡ true → IsDemanded (wire_or_dead o)
   unfolding demanded
-  demand_numbered None h = absurd cc
-  demand_numbered (Some w) h = grind (arith, common_steps, is_place)
+  demand_numbered o h1 = grind (arith, common_steps, is_place)
 
   -- ---- its stops
 

@@ -20,21 +20,17 @@ both_decided (inr not_so) second = inr (λ h. not_so h.0)
 both_decided (inl so) second = with_first so (second so)
   where
     with_first : {P Q : Type 0} → P → Decided Q → Decided (P × Q)
-    with_first p (inl q) = inl (p, q)
-    with_first p (inr not_so) = inr (λ h. not_so h.1)
+    with_first h1 h2 = grind (arith, common_steps)
 
 pub not_decided : {P : Type 0} → Decided P → Decided (¬ P)
 not_decided (inl so) = inr (λ not_so. not_so so)
 not_decided (inr not_so) = inl not_so
 
 pub true_decided : (b : Bool) → Decided (b ≡ true)
-true_decided true = inl refl
-true_decided false = inr false≢true
+true_decided b = grind (arith, common_steps, false≢true)
 
 pub bools_decided : (a b : Bool) → Decided (a ≡ b)
-bools_decided a true = true_decided a
-bools_decided true false = inr (λ e. false≢true (sym e))
-bools_decided false false = inl refl
+bools_decided a b = grind (arith, common_steps, true_decided, false≢true)
 
 pub numbers_decided : (a b : ℕ) → Decided (a ≡ b)
 numbers_decided zero zero = inl refl
@@ -66,8 +62,7 @@ some_decided {A = A} P decide (x ∷ xs) = elim (decide x) [
 ]
   where
     neither : (k : ℕ) (a : A) → slice_get (x ∷ xs) k ≡ Some a → P a → ¬ P x → ¬ HasOne P xs → ⊥
-    neither zero a at holds not_so none = let same : x ≡ a = cc in not_so (subst P (sym same) holds)
-    neither (suc k) a at holds not_so none = none (record { number = k; one = a; at = at; holds = holds })
+    neither k a h1 h2 h3 h4 = grind (arith, common_steps)
 
 -- ---- the elements of lists
 
@@ -92,8 +87,7 @@ in_range n k lt = subst (λ m. In m (range_with_len 0 n)) (from_zero k) (in_rang
 among_by : (v w : ℕ) (ws : List ℕ) (b : Bool) → eqb v w ≡ b → (b || is_among ws w) ≡ true →
     (is_among ws w ≡ true → In w ws) → In w (v ∷ ws)
 unfolding In
-among_by v w ws true same e later = inl (eqb-true v w same)
-among_by v w ws false other e later = inr (later e)
+among_by v w ws b h1 h2 h3 = grind (arith, common_steps, eqb-true)
 
 pub among_in : (ws : List ℕ) (w : ℕ) → is_among ws w ≡ true → In w ws
 unfolding In
@@ -113,8 +107,7 @@ module _ {A : Type 0} (cmp : A → A → Ordering) (total : IsTotalOrder cmp) (P
   NotAfter a b = cmp a b ≢ Greater
 
   below : (o : Ordering) → o ≢ Greater → is_gt o ≡ false
-  below Greater h = absurd (h refl)
-  below _ h = refl
+  below o h1 = grind (arith, common_steps)
 
   not_above : (o : Ordering) → is_gt o ≡ false → o ≢ Greater
   not_above o e h = true≢false (sym (ap is_gt h) ∙ e)

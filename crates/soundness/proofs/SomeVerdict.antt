@@ -1,24 +1,22 @@
 -- The modules of a certificate have jobs and a verdict
 use Rattle.soundness.proofs.Imports.{AreJobsOf, AreLeastFaultsOfJob, AreModules, AreOrdered, Bool, BorderFault, Box2}
-use Rattle.soundness.proofs.Imports.{CircuitLine, Gate, GateKind, IsEven, IsJob}
-use Rattle.soundness.proofs.Imports.{IsJobOf, IsLeastBorderFault, IsModule, IsVerdict, JobView, LeastFaults, List}
-use Rattle.soundness.proofs.Imports.{ModuleLines, None, Option, Pattern, ReportLine, Setting, Some, Source}
-use Rattle.soundness.proofs.Imports.{StopGap, TimeLine, Unkept, Yes, [], all_stops, ap}
-use Rattle.soundness.proofs.Imports.{append-nil, append_assoc, are_all_obeyed, arith, circuit_of, common_steps}
-use Rattle.soundness.proofs.Imports.{cond, defined, delay_and_meet_lines, false, first_seen, get_or, in_box, inl, inr}
-use Rattle.soundness.proofs.Imports.{is_inverse, is_kept, last_seen, length, length-append, length-map, map, nat_lt}
-use Rattle.soundness.proofs.Imports.{nat_tests, netlist_of, not, option_map, option_to_list, refl, renumber_keep}
-use Rattle.soundness.proofs.Imports.{report_lines_from, setting_of, size_fault, slice_get, slice_get_within, stops}
-use Rattle.soundness.proofs.Imports.{stops_stand, subst, suc, sym, time_lines_of_gates, timing_report_line, true}
-use Rattle.soundness.proofs.Imports.{unkept_from, unkept_lines, zero, ℕ, ◌&&◌, ◌*◌, ◌++◌, ◌+◌, ◌<◌, ◌||◌, ◌∙◌, ◌∷◌, ◌≡◌}
-use Rattle.soundness.proofs.Imports.{◌≤◌}
+use Rattle.soundness.proofs.Imports.{CircuitLine, Gate, IsEven, IsJob, IsJobOf, IsLeastBorderFault, IsModule, IsVerdict}
+use Rattle.soundness.proofs.Imports.{JobView, LeastFaults, List, ModuleLines, None, Option, Pattern, ReportLine}
+use Rattle.soundness.proofs.Imports.{Setting, Some, TimeLine, Yes, [], ap, append-nil, append_assoc, are_all_obeyed}
+use Rattle.soundness.proofs.Imports.{arith, circuit_of, common_steps, cond, defined, delay_and_meet_lines, false}
+use Rattle.soundness.proofs.Imports.{get_or, in_box, inl, inr, is_inverse, is_kept, length, length-append, length-map}
+use Rattle.soundness.proofs.Imports.{map, nat_lt, nat_tests, netlist_of, not, option_map, option_to_list, refl}
+use Rattle.soundness.proofs.Imports.{renumber_keep, report_lines_from, setting_of, size_fault, slice_get}
+use Rattle.soundness.proofs.Imports.{slice_get_within, stops, stops_stand, subst, suc, sym, time_lines_of_gates}
+use Rattle.soundness.proofs.Imports.{timing_report_line, true, unkept_from, unkept_lines, zero, ℕ, ◌&&◌, ◌*◌, ◌++◌, ◌+◌}
+use Rattle.soundness.proofs.Imports.{◌<◌, ◌||◌, ◌∙◌, ◌∷◌, ◌≡◌, ◌≤◌}
 use Rattle.lemmas.proofs.Common.{◌^◌, Global, Vec, nat_le}
 use Rattle.circuit.specs.Bridge.{AreGoodCircuitLines, AreGoodAfter}
 use Rattle.circuit.specs.Rules.{added_line_code, gate_count, is_gate, is_wrong_delay, exceeds_limit}
 use Rattle.circuit.proofs.Bridging.{count_append, gates_are_ordered}
 use Rattle.circuit.proofs.Naming.{gates_counted}
 use Rattle.certificate.specs.StopLists.{AreStops}
-use Rattle.certificate.specs.Times.{delay_line_of_kind, meet_line_of_times, lines_by_number}
+use Rattle.certificate.specs.Times.{lines_by_number}
 use Rattle.certificate.proofs.JobLemmas.{within_512}
 use Rattle.certificate.proofs.StopLemmas.{stops_rise}
 use Rattle.border_match.specs.BorderFaults.{AreBorderFaultsOf}
@@ -60,8 +58,7 @@ one_each ms n (g ∷ gs) =
     omega (arith, more, sum, few)
   where
     at_most : (n : ℕ) (b : Bool) → length (cond b (n ∷ []) []) ≤ 1
-    at_most n true = omega arith
-    at_most n false = omega arith
+    at_most n b = grind (arith, common_steps)
 
 line_each : (f : ℕ → Gate → List TimeLine) → ((k : ℕ) (g : Gate) → length (f k g) ≤ 1) → (k : ℕ) (gs : List Gate) →
     length (lines_by_number f k gs) ≤ length gs
@@ -69,15 +66,8 @@ unfolding lines_by_number
 line_each f few k [] = omega arith
 line_each f few k (g ∷ gs) = grind (arith, common_steps, length-append, (line_each f few (k + 1) gs))
 
-few_delays : (k : ℕ) (kind : GateKind) (gap : StopGap) → length (delay_line_of_kind k kind gap) ≤ 1
-few_delays k (Source b) gap = omega arith
-few_delays k _ gap = omega arith
-
-few_meetings : (k : ℕ) (ts : List ℕ) → length (meet_line_of_times k ts) ≤ 1
-few_meetings k ts = grind (arith, common_steps)
-
 two_each : (first last : ℕ → Option ℕ) (gs : List Gate) → length (time_lines_of_gates first last gs) ≤ 2 * length gs
-two_each first last gs = grind (arith, common_steps, line_each, few_delays, few_meetings, length-append)
+two_each first last gs = grind (arith, common_steps, line_each, length-append)
 
 -- ---- a circuit has at most 16,384 gates
 
@@ -280,20 +270,18 @@ module _ (lines : List CircuitLine) (p : Pattern) (ms : List ModuleLines) (good 
       ++ map timing_report_line (delay_and_meet_lines g.circuit ms)
 
   few_lines : length all_lines < 2 ^ 63
-  few_lines =
-      let gates = (netlist_of lines).gates in
-      let faults = three_each 0 fs bs in
-      let unkept = one_each ms 0 gates in
-      let times = two_each (first_seen g.circuit (all_stops ms)) (last_seen g.circuit (all_stops ms)) gates in
-      let few_modules = are.few in
-      let count = reasons.1.count ∙ own_jobs.count in
-      let few = few_gates lines good in
-      let outer = length-append (report_lines_from 0 fs bs ++ unkept_lines g ms)
-      (map timing_report_line (delay_and_meet_lines g.circuit ms)) in
-      let inner = length-append (report_lines_from 0 fs bs) (unkept_lines g ms) in
-      let said = length-map (delay_and_meet_lines g.circuit ms) timing_report_line in
-      let named = length-map (unkept_from ms 0 gates) (λ n. Unkept n) in
-      omega (arith, faults, unkept, times, few_modules, count, few, outer, inner, said, named)
+  few_lines = grind (
+    arith,
+    common_steps,
+    three_each,
+    one_each,
+    two_each,
+    reasons,
+    own_jobs,
+    few_gates,
+    length-append,
+    length-map,
+  )
 
   verdict : (v : Verdict) × IsVerdict g ms js v
   unfolding IsVerdict

@@ -1,7 +1,7 @@
 -- If all stops of the jobs have a property, all stop lines have it.
 use Rattle.soundness.proofs.Imports.{All, All-append, All-cons, All-head, All-nil, All-tail, List, None, Option, Some}
-use Rattle.soundness.proofs.Imports.{StopLine, [], flat_map, is_local_wire, map, refl, same_Some, slice_get}
-use Rattle.soundness.proofs.Imports.{stop_with_wire_number, subst, suc, true, zero, ℕ, ◌∷◌, ◌≡◌}
+use Rattle.soundness.proofs.Imports.{StopLine, [], arith, common_steps, flat_map, is_local_wire, map, refl, same_Some}
+use Rattle.soundness.proofs.Imports.{slice_get, stop_with_wire_number, subst, suc, true, zero, ℕ, ◌∷◌, ◌≡◌}
 use Rattle.module_job.specs.declared.job.Stop as listed
 
 pub all_map : {X Y : Type 0} (P : Y → Type 0) (f : X → Y) (xs : List X) → All (λ x. P (f x)) xs → All P (map f xs)
@@ -16,8 +16,7 @@ all_flat P f (x ∷ xs) h = All-append P (f x) (flat_map f xs) (h zero x refl) (
 
 -- a name that is local is that of a wire
 pub local_wire_is : (local : List ℕ) (o : Option ℕ) → is_local_wire local o ≡ true → (w : ℕ) × (o ≡ Some w)
-local_wire_is local None e = absurd cc
-local_wire_is local (Some w) e = (w, refl)
+local_wire_is local o h1 = grind (arith, common_steps)
 
 pub one_said : (P : listed.Stop → Type 0) (s : StopLine) (w : ℕ) (o : Option ℕ) → o ≡ Some w →
     All P (stop_with_wire_number s o) → P (record { at = record { time = s.time; cell = s.cell }; wire = w })

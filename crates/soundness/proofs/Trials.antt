@@ -6,21 +6,21 @@ use Rattle.soundness.proofs.Imports.{CircuitLine, Demand, Edge, End, Fault, Gate
 use Rattle.soundness.proofs.Imports.{IsJob, IsKeepFault, IsTrue, JobView, KeepFault, Kind, List, MeetsDemand}
 use Rattle.soundness.proofs.Imports.{ModuleLines, None, Option, Pattern, Setting, Some, Stop, Valuation, [], and_parts}
 use Rattle.soundness.proofs.Imports.{ap, are_all_obeyed, arith, as_values, assignments, bit, box_place, circuit_of}
-use Rattle.soundness.proofs.Imports.{decided, delay_and_meet_lines, edge_signal, evaluate, evaluated, false, false≢true}
-use Rattle.soundness.proofs.Imports.{get_or-map-range_with_len, halo_signal, in_box, in_halo, in_ring, is_inverse}
-use Rattle.soundness.proofs.Imports.{is_kept, is_live, job_demand, length, length-map, length-range_with_len, list_all}
-use Rattle.soundness.proofs.Imports.{local_run, map, not, place_in, range_with_len, rectangle_cells, refl, setting_of}
-use Rattle.soundness.proofs.Imports.{signal_at, size_fault, slice_get, slice_get-get_or, slice_get_within, subst, suc}
-use Rattle.soundness.proofs.Imports.{sym, true, undefined_has_none, whole, zero, ℕ, ℤ, ∥∥₁_elim, ◌%◌, ◌&&◌, ◌*◌, ◌+◌}
-use Rattle.soundness.proofs.Imports.{◌/◌, ◌<◌, ◌||◌, ◌∙◌, ◌∷◌, ◌≡◌}
+use Rattle.soundness.proofs.Imports.{common_steps, decided, delay_and_meet_lines, edge_signal, evaluate, evaluated}
+use Rattle.soundness.proofs.Imports.{false, false≢true, get_or-map-range_with_len, halo_signal, in_box, in_halo}
+use Rattle.soundness.proofs.Imports.{in_ring, is_inverse, is_kept, is_live, job_demand, length, length-map}
+use Rattle.soundness.proofs.Imports.{length-range_with_len, list_all, local_run, map, not, place_in, range_with_len}
+use Rattle.soundness.proofs.Imports.{rectangle_cells, refl, setting_of, signal_at, size_fault, slice_get}
+use Rattle.soundness.proofs.Imports.{slice_get-get_or, slice_get_within, subst, suc, sym, true, undefined_has_none}
+use Rattle.soundness.proofs.Imports.{whole, zero, ℕ, ℤ, ∥∥₁_elim, ◌%◌, ◌&&◌, ◌*◌, ◌+◌, ◌/◌, ◌<◌, ◌||◌, ◌∙◌, ◌∷◌, ◌≡◌}
 use Rattle.lemmas.proofs.Common.{beq, booleans_Decides, get_or-range_with_len}
 use Rattle.module_box.specs.Equality.{same_signal}
 use Rattle.module_box.specs.LocalValues.{IsLocalValuation}
 use Rattle.certificate_lines.specs.Rules.{is_inverse_gate}
 use Rattle.module_box.proofs.EqualTests.{signal_decides}
 use Rattle.soundness.proofs.SomeVerdict.{jobs_good}
-use Rattle.module_job.specs.declared.job.Demand.TheVariants as Demanded
 use Rattle.bbm_rule.proofs.RingTests.{ring_in_box}
+use Rattle.module_job.specs.declared.job.Demand.TheVariants as Demanded
 
 -- ---- what is demanded, as a test
 
@@ -31,22 +31,16 @@ meets v (Demanded.Wire w) live = beq live (v w)
 meets v Demanded.Any live = true
 
 pub meets_is : (v : Valuation) (d : Demand) (live : Bool) → meets v d live ≡ true → MeetsDemand v d live
-meets_is v Demanded.Dead true e = absurd (false≢true e)
-meets_is v Demanded.Dead false e = refl
-meets_is v Demanded.Live live e = e
-meets_is v (Demanded.Wire w) live e = (booleans_Decides live (v w)).0 e
-meets_is v Demanded.Any live e = tt
+meets_is v d live h1 = grind (arith, common_steps, false≢true)
 
 -- the second holds, if the first does and implies it
 pub implied : (a b : Bool) → (not a || b) ≡ true → a ≡ true → b ≡ true
-implied true b e h = e
-implied false b e h = absurd (false≢true h)
+implied a b h1 h2 = grind (arith, common_steps, false≢true)
 
 pub all_at : {A : Type 0} (test : A → Bool) (xs : List A) (i : ℕ) (a : A) → list_all test xs ≡ true →
     slice_get xs i ≡ Some a → test a ≡ true
 all_at test [] i a all e = absurd cc
-all_at test (x ∷ xs) zero a all e = let own : x ≡ a = cc in
-    subst (λ x. test x ≡ true) own (and_parts (test x) (list_all test xs) all).0
+all_at test (x ∷ xs) zero a all e = grind (arith, common_steps, and_parts)
 all_at test (x ∷ xs) (suc i) a all e = all_at test xs i a (and_parts (test x) (list_all test xs) all).1 e
 
 -- the number at a place of a range
@@ -139,11 +133,7 @@ tried j ordered all a small =
           local = (evaluated j.locals.netlist (bit a) (given_of j a) vs ordered
               (length-map (range_with_len 0 n) (bit a) ∙ length-range_with_len 0 n)
               (λ i lt. get_or-map-range_with_len (bit a) 0 n i i false lt (omega arith)) e).satisfies;
-          passes = record {
-            edges = at_odd j.steps (edge_test j (as_values vs)) both.0;
-            stops = ends.0;
-            end = ends.1;
-          };
+          passes = grind (arith, common_steps, at_odd);
         }
 
 no_fault_under : (j : JobView) (u : Valuation) (t : ℕ) (kind : Kind) (x y : ℤ) → IsJob j → Passes j u →
@@ -152,11 +142,7 @@ no_fault_under j u t Edge x y is p f =
     f.differs ((booleans_Decides _ _).0 (implied (in_ring j.area x y) _
     (at_every j.area _ (p.edges t f.odd f.early) x y (ring_in_box j.area x y f.ring)) f.ring))
 no_fault_under j u t Stop x y is p f =
-    let listed = slice_get-get_or j.stops f.is_listed.0 f.stop f.is_listed.1 ∙ ap Some f.is_listed.2 in
-    let own = (booleans_Decides _ _).0 (all_at
-    (λ s. beq (local_run j u s.at.time s.at.cell.x s.at.cell.y) (u s.wire)) j.stops f.is_listed.0 f.stop p.stops
-    listed) in
-    f.differs (sym (λ i. local_run j u (f.time i) (f.column i) (f.row i)) ∙ own)
+    grind (arith, common_steps, slice_get-get_or, all_at)
 no_fault_under j u t End x y is p f =
     f.differs (subst (λ n. MeetsDemand u (job_demand j x y) (local_run j u n x y)) (sym f.last)
     (meets_is u _ _ (at_every j.area _ p.end x y f.inside)))
@@ -184,18 +170,7 @@ border_test g ms t = list_all (λ (m : ModuleLines). every_cell (whole g.size) (
 
 no_border_fault : (g : Setting) (ms : List ModuleLines) → at_odd_times g.size.steps (border_test g ms) ≡ true →
     (i : ℕ) (f : BorderFault) → ¬ IsBorderFault g ms i f
-no_border_fault g ms passes i f is =
-    let own = all_at (λ (m : ModuleLines). every_cell (whole g.size) (λ x y. not (in_halo m.area x y)
-    || list_all (λ (o : ModuleLines).
-    not (in_box o.area x y) || same_signal (halo_signal g.circuit m f.time x y) (edge_signal g.circuit o f.time x y))
-    ms)) ms i is.lines (at_odd g.size.steps (border_test g ms) passes f.time is.odd is.early) is.numbered in
-    let here = implied (in_halo is.lines.area f.cell.x f.cell.y) _
-    (at_every (whole g.size) _ own f.cell.x f.cell.y is.inside) is.halo in
-    let there = all_at (λ (o : ModuleLines).
-    not (in_box o.area f.cell.x f.cell.y)
-    || same_signal (halo_signal g.circuit is.lines f.time f.cell.x f.cell.y)
-    (edge_signal g.circuit o f.time f.cell.x f.cell.y)) ms is.owner_number is.owner here is.owner_numbered in
-    is.differ ((signal_decides _ _).0 (implied (in_box is.owner.area f.cell.x f.cell.y) _ there is.owned))
+no_border_fault g ms passes i f is = grind (arith, common_steps, all_at, at_odd, implied, at_every, signal_decides)
 
 -- ---- all of it
 

@@ -3,14 +3,14 @@ use Rattle.soundness.proofs.Imports.{All, BelongTogether, Bool, CircuitLine, Con
 use Rattle.soundness.proofs.Imports.{HasInputNames, IsAcceptedBundle, IsAssignmentOf, IsFault, IsFaultUnder, IsJobOf}
 use Rattle.soundness.proofs.Imports.{IsRunOfJobs, IsStop, JobView, Kind, List, LooksAsAsked, MeetsDemand, ModuleLines}
 use Rattle.soundness.proofs.Imports.{Pattern, Satisfies, Some, State, StopHolds, StopLine, Valuation, and_parts, ap}
-use Rattle.soundness.proofs.Imports.{arith, cases_Bool, choices_are_assignments, circuit_of, circuit_wire}
-use Rattle.soundness.proofs.Imports.{common_steps, end_demand, false, false≢true, halo_parts, in_box, in_halo, in_ring}
-use Rattle.soundness.proofs.Imports.{inl, inr, is_live, job_demand, job_start, known, local_run, local_values_agree}
-use Rattle.soundness.proofs.Imports.{netlist_of, not, option_map_or, refl, renumber_stop, run, run_under}
-use Rattle.soundness.proofs.Imports.{setting_of, signal_at, slice_get, slice_get-get_or, slice_get_within, some_at}
-use Rattle.soundness.proofs.Imports.{some_neighbour, step, stop_with_wire_number, stops, subst, suc, sym, true}
-use Rattle.soundness.proofs.Imports.{true≢false, values_by_local_number, values_by_name, whole, wire_of, with_halo}
-use Rattle.soundness.proofs.Imports.{zero, ℕ, ℤ, ◌%◌, ◌&&◌, ◌<◌, ◌∙◌, ◌≡◌, ◌≢◌, ◌≤◌}
+use Rattle.soundness.proofs.Imports.{arith, cases_Bool, choices_are_assignments, circuit_of, circuit_wire, common_steps}
+use Rattle.soundness.proofs.Imports.{end_demand, false, false≢true, halo_parts, in_box, in_halo, in_ring, inl, inr}
+use Rattle.soundness.proofs.Imports.{is_live, job_demand, known, local_run, local_values_agree, netlist_of, not}
+use Rattle.soundness.proofs.Imports.{option_map_or, refl, renumber_stop, run, run_under, setting_of, signal_at}
+use Rattle.soundness.proofs.Imports.{slice_get, slice_get-get_or, slice_get_within, some_at, some_neighbour, step}
+use Rattle.soundness.proofs.Imports.{stop_with_wire_number, stops, subst, suc, sym, true, true≢false}
+use Rattle.soundness.proofs.Imports.{values_by_local_number, values_by_name, whole, wire_of, with_halo, zero, ℕ, ℤ, ◌%◌}
+use Rattle.soundness.proofs.Imports.{◌&&◌, ◌<◌, ◌∙◌, ◌≡◌, ◌≢◌, ◌≤◌}
 use Rattle.lemmas.proofs.Common.{All-contains_itself, not-true, not_from_false}
 use Rattle.bbm_rule.proofs.Steps.{step_dead}
 use Rattle.module_box.specs.Laws.{LiesInBox, SameInBox}
@@ -31,27 +31,19 @@ use Rattle.soundness.specs.HeadlineLaws.{PlaneEndsAsAsked, AcceptedIsCorrect, Ac
 use Rattle.soundness.proofs.InputRuns.{inputs_decide}
 use Rattle.soundness.proofs.StopParts.{all_flat, all_map, local_wire_is, one_said}
 use Rattle.soundness.proofs.KeptGates.{accepted_has_valuation}
-use Rattle.soundness.proofs.JobSignals.{Known, Owner, known_job, job_even, owner_of, meets_for_circuit_wires}
-use Rattle.soundness.proofs.JobSignals.{live_renumbered, rim_edge_dead, outer_halo_dead, edge_by_circuit}
-use Rattle.soundness.proofs.JobSignals.{halo_by_circuit}
+use Rattle.soundness.proofs.JobSignals.{Known, Owner, known_job, owner_of, meets_for_circuit_wires, live_renumbered}
+use Rattle.soundness.proofs.JobSignals.{rim_edge_dead, outer_halo_dead, edge_by_circuit, halo_by_circuit}
 use Rattle.soundness.proofs.LayoutCells.{live_start, start_outside, whole_inside, whole_even, mirror_inside, IsOutput}
 use Rattle.soundness.proofs.LayoutCells.{is_output, met_mirror, met_output, met_other}
-use Rattle.module_job.specs.declared.job.Stop as listed
-use Rattle.module_job.specs.declared.job.Demand.TheVariants as Demanded
 use Rattle.local_run.specs.declared.fault.Kind.TheVariants.{Edge, End, Stop as AtStop}
+use Rattle.module_job.specs.declared.job.Stop as listed
 use Rattle.local_run.proofs.OwnWires as own
 
 stable : (a b : Bool) → ¬ (a ≢ b) → a ≡ b
-stable true true n = refl
-stable true false n = absurd (n true≢false)
-stable false true n = absurd (n false≢true)
-stable false false n = refl
+stable a b h1 = grind (arith, common_steps, false≢true)
 
 stable_meets : (v : Valuation) (d : Demand) (b : Bool) → ¬ (¬ MeetsDemand v d b) → MeetsDemand v d b
-stable_meets v Demanded.Dead b n = stable b false n
-stable_meets v Demanded.Live b n = stable b true n
-stable_meets v (Demanded.Wire w) b n = stable b (v w) n
-stable_meets v Demanded.Any b n = tt
+stable_meets v d b h1 = grind (arith, common_steps, stable)
 
 -- what the laws on a step share
 record Setting (lines : List CircuitLine) (p : Pattern) (ms : List ModuleLines) (jobs : List JobView)
@@ -74,9 +66,7 @@ starts lines p ms jobs v b = record {
   outside = λ x y out. start_outside p (values_by_name (circuit_of lines) v) x y b.laid_out out;
   inside = λ i j e x y h.
       let k = known_job lines p ms jobs i j b e in
-      sym (live_renumbered j.locals v (job_start j x y) _
-      (k.is_job.start x y (ap (λ a. in_box a x y) (sym k.is_job.area) ∙ h))
-      ∙ live_start (circuit_of lines) p v x y b.laid_out);
+      sym (grind (arith, common_steps, live_renumbered, live_start));
 }
 
 -- ---- no fault
@@ -98,10 +88,7 @@ own_fault : (lines : List CircuitLine) (p : Pattern) (ms : List ModuleLines) (in
     IsFault j (fault_at t kind x y a)
 own_fault lines p ms inputs v i t a j kind x y k s is differs =
     let agree = local_values_agree (netlist_of lines) j.locals inputs v a k.is_job.locals s is.bits in
-    record {
-      in_range = is.in_range;
-      shown = ∣ record { values = values_by_local_number j.locals v; local = agree.is_local; differs = differs } ∣₁;
-    }
+    grind (arith, common_steps)
 
 -- ---- local runs stay in their boxes
 
@@ -110,16 +97,7 @@ local_stays : (lines : List CircuitLine) (p : Pattern) (ms : List ModuleLines) (
 unfolding local_run
 local_stays lines p ms i j u zero k x y out = ap (is_live u) (own.start_outside j x y out)
 local_stays lines p ms i j u (suc t) k x y out =
-    grind (
-      arith,
-      common_steps,
-      even_or_odd,
-      local_even,
-      even_stays,
-      job_even,
-      local_odd,
-      (local_stays lines p ms i j u t k),
-    )
+    grind (arith, common_steps, even_or_odd, local_even, even_stays, local_odd, (local_stays lines p ms i j u t k))
 
 -- what is outside the rectangle is outside every box
 outer : (lines : List CircuitLine) (p : Pattern) (ms : List ModuleLines) (jobs : List JobView) (x y : ℤ)
@@ -172,9 +150,7 @@ module _ (lines : List CircuitLine) (p : Pattern) (ms : List ModuleLines) (jobs 
   unfolding run local_run
   even_inside t i j set e now at x y h =
       let k = known_job lines p ms jobs i j set.bundle at in
-      even_local j.area t (run_under (circuit_of lines) p v t) (local_run j (values_by_local_number j.locals v) t)
-      (job_even lines p ms i j k) e (now.inside i j at) x y h
-      ∙ sym (local_even j (values_by_local_number j.locals v) t _ x y e)
+      grind (arith, common_steps, even_local, local_even)
 
   -- ---- an odd step
 
@@ -198,12 +174,7 @@ module _ (lines : List CircuitLine) (p : Pattern) (ms : List ModuleLines) (jobs 
       IsRunOfJobs lines p jobs v t → LiesInBox (whole p.size) (run_under (circuit_of lines) p v (suc t))
   unfolding run
   odd_outside t set odd early now x y out =
-      let q : State = λ x' y'. not (in_box (whole p.size) x' y') in
-      let h : q x y ≡ true = not_from_false _ out in
-      step_dead t (run_under (circuit_of lines) p v t) x y (now.outside x y out)
-      (rim_dead t _ _ set odd early now (block_both q t x y h))
-      (rim_dead t _ _ set odd early now (block_x q t x y h))
-      (rim_dead t _ _ set odd early now (block_y q t x y h))
+      grind (arith, common_steps, not_from_false, step_dead, rim_dead, block_both, block_x, block_y)
 
   -- a cell of the halo is what the halo lines say
   halo_agrees : (t i : ℕ) (j : JobView) (x y : ℤ) → Setting lines p ms jobs inputs v t → t % 2 ≡ 1 → t < p.size.steps →
@@ -298,10 +269,7 @@ ends lines p ms jobs inputs v b right s now =
           let is : IsOutput p q = is_output p good i q e in
           met_output c p v q.cell.x q.cell.y q.name _ is.no_mirror is.port
           (met lines p ms jobs inputs v q.cell.x q.cell.y b right s now is.inside);
-      elsewhere = λ x y mirror port waste. elim (cases_Bool (in_box (whole p.size) x y)) [
-        | inl h ↦ met_other c p v x y _ mirror port waste (met lines p ms jobs inputs v x y b right s now h)
-        | inr out ↦ now.outside x y out
-      ];
+      elsewhere = grind (arith, common_steps, cases_Bool, met_other, met);
     }
 
 -- ---- all times
@@ -352,11 +320,7 @@ off_rim lines p ms jobs named b accepted t =
     let found = accepted_has_valuation lines p ms jobs t.inputs all in
     let early = t.touch.early in
     let now = all_times lines p ms jobs t.inputs found.0 t.time all found.1 (omega (arith, early)) in
-    let set : Setting lines p ms jobs t.inputs found.0 t.time = record {
-      bundle = b;
-      right = good_borders lines p ms jobs found.0 t.time (right_of lines p ms jobs all);
-      satisfied = found.1;
-    } in
+    let set : Setting lines p ms jobs t.inputs found.0 t.time = grind (arith, common_steps, good_borders, right_of) in
     true≢false (sym t.touch.live ∙ sym (inputs_decide lines p t.inputs found.0 t.time t.x t.y named found.1)
     ∙ rim_dead lines p ms jobs t.inputs found.0 t.time t.x t.y set t.touch.odd t.touch.early now
     (and_parts (in_box (whole p.size) t.x t.y) _ t.touch.rim).1)
