@@ -176,15 +176,11 @@ class Runs(unittest.TestCase):
     def test_last_state_is_the_programs(self) -> None:
         """The last state is what `run` prints, or it is outside at the step that `run` names."""
         count = 0
-        for case in support.worked_cases():
-            if case.words[0] != "run" or case.status not in (0, 1):
-                continue
+        for case in support.worked_runs():
             bundle = bbmlab.read(case.input.decode("latin-1"))
             assert bundle.layout and bundle.on is not None
             *_, last = bbmlab.simulate(bundle.layout, bundle.on)
-            cells = sorted(last.cells, key=lambda cell: (cell[1], cell[0]))
-            told = f"cells {len(cells)}\n" + "".join(f"{x} {y}\n" for x,
-                                                     y in cells) if last.is_inside else f"left {last.time}\n"
+            told = support.run_words(support.sorted_cells(last.cells), None if last.is_inside else last.time)
             with self.subTest(case.name):
                 self.assertEqual(told, case.output.decode())
             count += 1

@@ -2,36 +2,28 @@
 they take.
 """
 
-import json
 import random
-import shutil
-import subprocess
 import time
 import unittest
+from typing import Any
 
 import support
 from bbmlab_core.host.program import ask
 from bbmlab_core.physics import tracing
-from bbmlab_core.texts import json_form
 from bbmlab_core.texts.documents import Document
 
-STATES = support.LAB / "tests" / "run_states.js"
 # With room for a busy machine. A step that looks at each cell takes longer.
 MAX_SECONDS = 200
 
 
-def node(jobs: list[dict]) -> list[dict]:
+def node(jobs: list[dict[str, Any]]) -> Any:
     """Returns what the page's automaton makes of some jobs."""
-    if shutil.which("node") is None:
-        raise unittest.SkipTest("node is not installed (apt-get install nodejs)")
-    ended = subprocess.run(["node", str(STATES)], input=json.dumps(jobs), text=True,
-                           capture_output=True, check=True)
-    return json.loads(ended.stdout)
+    return support.node("run_states.js", jobs)
 
 
-def job(document: Document, on: list[str], times: list[int]) -> dict:
+def job(document: Document, on: list[str], times: list[int]) -> dict[str, Any]:
     """Returns the data of a text, the inputs that are on, and the times to go to."""
-    return {"data": json.loads(json_form.document_json(document, None)), "on": on, "times": times}
+    return {"data": support.data_of(document), "on": on, "times": times}
 
 
 def layouts() -> list[tuple[str, Document]]:
@@ -44,12 +36,9 @@ def layouts() -> list[tuple[str, Document]]:
     return found
 
 
-def run_words(told: dict) -> str:
+def run_words(told: dict[str, Any]) -> str:
     """Writes the last state of a job as the program's `run` does."""
-    if told["left"] is not None:
-        return f"left {told['left']}\n"
-    cells = told["states"][-1][1]
-    return f"cells {len(cells)}\n" + "".join(f"{x} {y}\n" for x, y in cells)
+    return support.run_words(told["states"][-1][1], told["left"])
 
 
 def large_layout() -> Document:
