@@ -12,17 +12,10 @@ import support
 from bbmlab_core.circuits import circuit_forms, truth
 from bbmlab_core.circuits.netlists import Reading, map_netlist
 from bbmlab_core.texts.circuits import Circuit, values_under
-from bbmlab_core.texts.documents import read_document
 from bbmlab_core.texts.gates import GATE_SIZES
+from support import circuit_of
 
 CIRCUITS = support.EXAMPLES / "circuits"
-
-
-def circuit_of(text: str) -> Circuit:
-    """Returns the circuit of a text."""
-    document = read_document(text, "circuit")
-    assert document.refusal is None and document.circuit is not None, document.refusal
-    return document.circuit
 
 
 def random_circuit(chance: random.Random, count: int, words: list[str]) -> Circuit:
@@ -112,10 +105,8 @@ class Commands(unittest.TestCase):
 
     def test_rows_without_values_name_the_gate(self) -> None:
         """An inverse gate outside of its rows."""
-        with tempfile.TemporaryDirectory() as room:
-            path = Path(room) / "c.txt"
-            path.write_text("circuit\ninput c\ninput y\ninput z\nunswitch c y z -> d x\noutput d\noutput x\nend\n")
-            lines = support.lab("table", str(path)).stdout.splitlines()
+        text = "circuit\ninput c\ninput y\ninput z\nunswitch c y z -> d x\noutput d\noutput x\nend\n"
+        lines = support.lab("table", "-", text=text).stdout.splitlines()
         self.assertEqual(lines[3], "0 1 0 | gate 0 (unswitch) has no row")
         self.assertEqual(lines[7], "1 1 0 | 1 1")
 
@@ -146,21 +137,15 @@ class Commands(unittest.TestCase):
 
     def test_equal(self) -> None:
         """Equal circuits, circuits that differ at one row, and other ports."""
-        with tempfile.TemporaryDirectory() as room:
-            own = Path(room) / "own.txt"
-            own.write_text(Path(support.example("half_adder")).read_text().replace("output sum\noutput carry\n",
-                                                                                   "output carry\noutput sum\n"))
-            done = support.lab("equal", support.example("half_adder"), str(own))
-            self.assertEqual((done.returncode, done.stdout), (0, "equal in all 4 choices of the inputs\n"))
-            own.write_text("circuit\ninput a\ninput b\nfredkin a b k -> x carry y\n".replace(" k ", " z ")
-                           .replace("input b\n", "input b\nsource 0 -> z\n")
-                           + "output carry\noutput x\nspill y\nend\n")
-            done = support.lab("equal", support.example("half_adder"), str(own))
-            self.assertEqual((done.returncode, done.stdout), (1, "not equal: only one of them has the output sum\n"))
-            own.write_text("circuit\ninput a\ninput b\ndelay 1 a -> sum\ndelay 1 b -> carry\noutput sum\noutput "
-                           "carry\nend\n")
-            done = support.lab("equal", support.example("half_adder"), str(own))
-            self.assertEqual((done.returncode, done.stdout), (1, "not equal: with b on, sum differs\n"))
+        turned = support.text_of("half_adder").replace("output sum\noutput carry\n", "output carry\noutput sum\n")
+        other = ("circuit\ninput a\ninput b\nsource 0 -> z\nfredkin a b z -> x carry y\noutput carry\noutput x\n"
+                 "spill y\nend\n")
+        wrong = "circuit\ninput a\ninput b\ndelay 1 a -> sum\ndelay 1 b -> carry\noutput sum\noutput carry\nend\n"
+        for text, status, said in ((turned, 0, "equal in all 4 choices of the inputs\n"),
+                                   (other, 1, "not equal: only one of them has the output sum\n"),
+                                   (wrong, 1, "not equal: with b on, sum differs\n")):
+            done = support.lab("equal", support.example("half_adder"), "-", text=text)
+            self.assertEqual((done.returncode, done.stdout), (status, said))
 
     def test_depth_and_width(self) -> None:
         """Figures of small circuits."""

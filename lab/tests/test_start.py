@@ -28,8 +28,8 @@ class Start(unittest.TestCase):
     def test_list_has_all_commands(self) -> None:
         """`--help` lists each command, and each of them has a help of its own that names its arguments."""
         listed = support.lab("--help").stdout
-        for name in ("check", "explain", "trace", "draw", "view", "certify", "route", "cells", "fmt", "json", "golly",
-                     "from-golly"):
+        for name in ("check", "explain", "trace", "draw", "view", "studio", "certify", "route", "cells", "fmt", "json",
+                     "golly", "from-golly"):
             with self.subTest(name=name):
                 self.assertRegex(listed, rf"(?m)^    {name}\s+\w")
                 own = support.lab(name, "--help")
