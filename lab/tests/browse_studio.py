@@ -12,7 +12,7 @@ import sys
 import time
 from pathlib import Path
 
-from browse_page import open_browser, shown, wait
+from browse_page import Driven
 from selenium.webdriver.common.by import By
 from selenium.webdriver.common.keys import Keys
 from studio_driver import Studio
@@ -91,7 +91,7 @@ def draw_collision(studio: Studio) -> None:
     studio.put("height", "16")
     studio.put("steps", "6")
     studio.type_circuit(COLLISION)
-    assert studio.browser.find_element(By.ID, "hint").is_displayed()
+    assert studio.is_shown("hint")
     studio.click("#tool-in")
     studio.press(4, 4)
     studio.press(4, 11)
@@ -279,7 +279,7 @@ def insert_cell(studio: Studio) -> None:
     studio.shoot("cell")
     studio.press(24, 24)
     studio.verdict("yes")
-    assert not studio.browser.find_element(By.ID, "hint").is_displayed()
+    assert not studio.is_shown("hint")
 
 
 def draw_not_gate(studio: Studio) -> None:
@@ -410,8 +410,7 @@ def do_many_commands(studio: Studio) -> None:
 def use_dialogs(studio: Studio) -> None:
     """Opens a file, begins from a template and from an example, and exports in each form; the exported page works
     without a network."""
-    studio.browser.execute_cdp_cmd("Browser.setDownloadBehavior",
-                                   {"behavior": "allow", "downloadPath": str(studio.folder)})
+    studio.keep_downloads()
     (studio.folder / "other.txt").write_text(example("head_on"))
     for old in studio.folder.glob("made_*"):
         old.unlink()
@@ -501,7 +500,7 @@ def offer_draft_again(studio: Studio) -> None:
         studio.rest()
     studio.open("other.txt")
     studio.rest()
-    assert not studio.browser.find_element(By.ID, "notice").is_displayed(), studio.text("notice")
+    assert not studio.is_shown("notice"), studio.text("notice")
     studio.open("draft.txt")
     studio.await_text("notice", "There is a draft of draft.txt")
     studio.click("#notice button")
@@ -531,11 +530,11 @@ def forget_old_draft(studio: Studio) -> None:
     studio.click("#save")
     studio.await_text("status", "Saved old.txt.")
     studio.rest()
-    assert not studio.browser.find_element(By.ID, "notice").is_displayed(), studio.text("notice")
+    assert not studio.is_shown("notice"), studio.text("notice")
     studio.browser.refresh()
     studio.wait(lambda: studio.text("name") == "old.txt", "the file is opened again")
     studio.rest()
-    assert not studio.browser.find_element(By.ID, "notice").is_displayed(), studio.text("notice")
+    assert not studio.is_shown("notice"), studio.text("notice")
     assert studio.script("return Object.keys(localStorage).filter((key) => key.startsWith('bbmlab draft')).length") == 0
     assert "mirror 1 8" in (studio.folder / "old.txt").read_text()
 
@@ -569,7 +568,7 @@ def duplicate_tab(studio: Studio) -> None:
     studio.browser.switch_to.window(next(handle for handle in studio.browser.window_handles if handle != first))
     studio.wait(lambda: studio.text("name") == "twice.txt", "the second tab is open")
     assert studio.script("return bbmlab.server.tab") != number
-    assert not studio.browser.find_element(By.ID, "notice").is_displayed(), "the draft of an open tab is not offered"
+    assert not studio.is_shown("notice"), "the draft of an open tab is not offered"
     assert studio.layout_text() == example("not_gate")
     studio.script("bbmlab.studio.desk.model.setText(arguments[0])", example("not_gate") + "# two\n")
     studio.wait(lambda: studio.script("return Object.keys(localStorage).filter((key) => key.startsWith('bbmlab "
@@ -661,7 +660,7 @@ def use_two_tabs(studio: Studio) -> None:
     studio.browser.get(address)
     studio.wait(lambda: studio.text("name") == "tabs.txt", "the second tab is open")
     studio.rest()
-    assert not studio.browser.find_element(By.ID, "notice").is_displayed(), "the draft of an open tab is not offered"
+    assert not studio.is_shown("notice"), "the draft of an open tab is not offered"
     studio.click("#tool-mirror")
     studio.drag((1, 8), (2, 9))
     studio.click("#save")
@@ -691,14 +690,14 @@ def let_in_once(studio: Studio) -> None:
     assert studio.browser.current_url == address.split("#")[0], studio.browser.current_url
     studio.browser.refresh()
     studio.wait(lambda: studio.text("name") == "once.txt", "the page is loaded again")
-    other = open_browser("--window-size=1400,850")
+    other = Driven(studio.folder, "--window-size=1400,850")
     try:
-        other.get(address)
-        wait(lambda: "does not let this page in" in shown(other, "notice"), "the other browser is not let in")
-        assert shown(other, "name") == "…", shown(other, "name")
-        other.save_screenshot(str(studio.folder / "not_let_in.png"))
+        other.browser.get(address)
+        other.wait(lambda: "does not let this page in" in other.text("notice"), "the other browser is not let in")
+        assert other.text("name") == "…", other.text("name")
+        other.browser.save_screenshot(str(studio.folder / "not_let_in.png"))
     finally:
-        other.quit()
+        other.browser.quit()
 
 
 # The server says yes to the text of another file.
@@ -924,7 +923,7 @@ def route_circuit(studio: Studio) -> None:
     studio.wait(lambda: "Routing since" in studio.text("routing") or "Begins" in studio.text("routing"),
                 "the search is shown")
     studio.script("bbmlab.server.request('unroute')")
-    studio.wait(lambda: not studio.browser.find_element(By.ID, "routing").is_displayed(), "the search has ended", 120)
+    studio.wait(lambda: not studio.is_shown("routing"), "the search has ended", 120)
     if "cancelled" in studio.text("status"):
         assert studio.layout_text() == text, "nothing was taken"
     else:
@@ -980,11 +979,11 @@ def see_large(studio: Studio) -> None:
              "Uint32Array(document.getElementById('whole').getContext('2d').getImageData(40, 30, width - 50, height - "
              "40).data.buffer)).size")
     assert studio.script(count) > 50, "the ways are there"
-    assert not studio.browser.find_element(By.ID, "map").is_displayed(), "everything is shown"
+    assert not studio.is_shown("map"), "everything is shown"
     for _ in range(12):
         studio.click("#in")
     studio.rest()
-    assert studio.browser.find_element(By.ID, "map").is_displayed(), "the small picture shows where one is"
+    assert studio.is_shown("map"), "the small picture shows where one is"
     before = studio.script("return bbmlab.studio.sketch.seen()")
     studio.browser.find_element(By.ID, "map").click()
     studio.script("bbmlab.studio.sketch.tiles.made.clear(); bbmlab.studio.sketch.centre(100, 100, "
@@ -1030,8 +1029,7 @@ def run_uses(studio: Studio, wanted: list[str]) -> list[str]:
         begun = time.monotonic()
         use(studio)
         print(f"{use.__name__}: done in {time.monotonic() - begun:.1f} s", file=sys.stderr, flush=True)
-        logged = [entry["message"] for entry in studio.browser.get_log("browser") if entry["level"] == "SEVERE"]
-        errors += [message for message in logged if not is_expected(message)]
+        errors += [message for message in studio.errors("SEVERE") if not is_expected(message)]
     return errors
 
 

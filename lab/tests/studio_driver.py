@@ -4,25 +4,25 @@ import subprocess
 import sys
 import time
 from pathlib import Path
-from typing import Any, Callable
 
-from browse_page import await_frames, is_of_size, is_still, open_browser, watch
+from browse_page import Driven, await_frames, watch
 from selenium.webdriver.common.action_chains import ActionChains
 from selenium.webdriver.common.by import By
 from selenium.webdriver.common.keys import Keys
 
-SIZES = {"wide": (1400, 850), "phone": (390, 844)}
 # What the page says, for the message of a wait that is too long.
 WORDS = "return ['name', 'badge', 'status', 'report', 'dialog'].map((id) => document.getElementById(id)?.innerText)"
 
 
-class Studio:
+class Studio(Driven):
     """A server of a file, and a browser."""
 
+    sizes = {"wide": (1400, 850), "phone": (390, 844)}
+
     def __init__(self, folder: Path, program: str, lab: str) -> None:
-        self.folder, self.program, self.lab = folder, program, lab
+        super().__init__(folder, "--window-size=1400,850", unhandledPromptBehavior="accept")
+        self.program, self.lab = program, lab
         self.server: subprocess.Popen[str] | None = None
-        self.browser = open_browser("--window-size=1400,850", unhandledPromptBehavior="accept")
 
     def serve(self, name: str) -> str:
         """Starts a server of a file, and returns its address."""
@@ -68,32 +68,13 @@ class Studio:
         (self.folder / name).write_text(text)
         self.open(name)
 
-    def script(self, text: str, *words: Any) -> Any:
-        """Runs a script in the page."""
-        return self.browser.execute_script(text, *words)
-
     def layout_text(self) -> str:
         """Returns the text that is drawn."""
         return str(self.script("return bbmlab.studio.desk.model.text"))
 
-    def text(self, name: str) -> str:
-        """Returns the text of an element."""
-        return self.browser.find_element(By.ID, name).text
-
-    def click(self, selector: str) -> None:
-        """Clicks an element."""
-        self.browser.find_element(By.CSS_SELECTOR, selector).click()
-
-    def keys(self, *keys: str) -> None:
-        """Presses keys on the picture."""
-        self.browser.find_element(By.ID, "whole").send_keys(*keys)
-
-    def wait(self, test: Callable[[], Any], what: str, seconds: float = 60) -> None:
-        """Waits until something holds."""
-        until = time.monotonic() + seconds
-        while not test():
-            assert time.monotonic() < until, f"{what}: {self.script(WORDS)!r}"
-            time.sleep(0.05)
+    def state(self) -> str:
+        """Returns what the page says."""
+        return f": {self.script(WORDS)!r}"
 
     def is_verdict(self, wanted: str) -> bool:
         """Returns whether the page shows a verdict that is not outdated."""
@@ -112,7 +93,7 @@ class Studio:
 
     def rest(self) -> None:
         """Waits until the page waits for no timer and no frame, and knows which tabs are open."""
-        self.wait(lambda: is_still(self.browser), "the page comes to rest")
+        self.await_rest()
         # The browser answers such questions in their order, so that an earlier one of the page is answered then.
         self.browser.execute_async_script("const done = arguments[0]; navigator.locks.query().then(() => "
                                           "setTimeout(done));")
@@ -231,24 +212,3 @@ class Studio:
     def type_circuit(self, text: str) -> None:
         """Types a circuit."""
         self.put("circuit", text)
-
-    def shoot(self, name: str) -> None:
-        """Writes a screenshot at each size, with nothing wider than the window."""
-        for size, (width, height) in SIZES.items():
-            self.set_size(width, height)
-            is_wide = self.script("return document.documentElement.scrollWidth > innerWidth")
-            assert not is_wide, f"{name} is wider than the window at {size}"
-            self.browser.save_screenshot(str(self.folder / f"{name}_{size}.png"))
-        self.set_size(*SIZES["wide"])
-
-    def set_size(self, width: int, height: int) -> None:
-        """Sets the size of the window, and waits until the page is drawn at it."""
-        self.browser.execute_cdp_cmd("Emulation.setDeviceMetricsOverride",
-                                     {"width": width, "height": height, "deviceScaleFactor": 1, "mobile": False})
-        self.wait(lambda: is_of_size(self.browser, width, height) and is_still(self.browser),
-                  f"the page is drawn at {width} by {height}")
-
-    def scheme(self, name: str) -> None:
-        """Sets light or dark."""
-        self.browser.execute_cdp_cmd("Emulation.setEmulatedMedia",
-                                     {"features": [{"name": "prefers-color-scheme", "value": name}]})
