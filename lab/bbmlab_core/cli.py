@@ -379,7 +379,8 @@ COMMANDS: dict[str, tuple[str, str, str, list[Any]]] = {
         arg("--report", "add this report to the document", metavar="FILE")]),
     "golly": ("golly", "Write the start of a layout as an RLE file for Golly.",
               "golly examples/head_on.txt --on p,q -o head_on.rle", [file("a text with a layout"), OUTPUT, ON]),
-    "from-golly": ("golly.run_back", "Write the layout of an RLE file: that of its comments, or its live cells as balls.",
+    "from-golly": ("golly.run_back",
+                   "Write the layout of an RLE file: that of its comments, or its live cells as balls.",
                    "from-golly pattern.rle", [file("an RLE file for Golly's rule BBM-Margolus-emulated"), OUTPUT]),
 }
 

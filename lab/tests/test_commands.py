@@ -147,7 +147,8 @@ class Others(unittest.TestCase):
         """The lab runs with /usr/bin/python3, where there is one."""
         if not os.path.exists(support.DEBIAN_PYTHON):
             self.skipTest(f"there is no {support.DEBIAN_PYTHON}")
-        ended = subprocess.run([support.DEBIAN_PYTHON, support.BBMLAB[1], "--version"], capture_output=True, check=False)
+        ended = subprocess.run([support.DEBIAN_PYTHON, support.BBMLAB[1], "--version"], capture_output=True,
+                               check=False)
         self.assertEqual(ended.returncode, 0)
 
 
