@@ -204,8 +204,7 @@ def refuse_circuit(studio: Studio) -> None:
 def place_mirrors(studio: Studio) -> None:
     """Mirrors snap, and say why; what is taken cannot be drawn over; a mirror is dragged to a place where it stays."""
     studio.begin("mirrors.txt", EMPTY)
-    studio.click("#tool-mirror")
-    studio.drag((4, 4), (6, 4))
+    studio.draw_mirror((4, 4), (6, 4))
     found = studio.script("return bbmlab.studio.desk.model.parts.map(({ box }) => box)")
     assert found == [[5, 4, 4, 2]], found
     studio.hold(12, 4)
@@ -232,8 +231,7 @@ def change_selection(studio: Studio) -> None:
     """Selects by a frame, copies, pastes, rotates, reflects, moves and removes, and undoes all of it."""
     studio.begin("selection.txt", EMPTY + "")
     first = studio.layout_text()
-    studio.click("#tool-mirror")
-    studio.drag((3, 2), (6, 3))
+    studio.draw_mirror((3, 2), (6, 3))
     studio.click("#tool-ball")
     studio.press(4, 6)
     studio.click("#pair")
@@ -267,8 +265,7 @@ def insert_cell(studio: Studio) -> None:
     """Sees the ports of a standard cell and their times while placing it, and gets a yes."""
     studio.begin("cell.txt", "circuit\nend\nlayout 48 48 0\nend\n")
     studio.click("#hint-cell")
-    studio.script("const list = document.getElementById('cell-name'); list.value = 'not'; list.dispatchEvent(new "
-                  "Event('change'))")
+    studio.choose("cell-name", "not")
     studio.aim(24, 24)
     studio.wait(lambda: studio.text("status").startswith("not ") and studio.text("status").endswith("; 37 steps."),
                 "the cell and its steps are named")
@@ -350,14 +347,12 @@ def see_ways(studio: Studio) -> None:
     assert {"bounce", "meet"} == set(marks), set(marks)
     names = studio.script("return bbmlab.studio.desk.player.names")
     assert [name for name in names if name not in studio.text("legend").split()] == [], studio.text("legend")
-    studio.script("const list = document.getElementById('ways'); list.value = 'on'; list.dispatchEvent(new "
-                  "Event('change'))")
+    studio.choose("ways", "on")
     for name in names:
         studio.click(f"#inputs input[value={name}]")
     studio.still()
     assert studio.script(ways) < every
-    studio.script("const list = document.getElementById('ways'); list.value = 'all'; list.dispatchEvent(new "
-                  "Event('change'))")
+    studio.choose("ways", "all")
     studio.script("const field = document.getElementById('slider'); field.value = 20; field.dispatchEvent(new "
                   "Event('input'))")
     studio.wait(lambda: studio.text("time").startswith("20 of "), "the slider's time is shown")
@@ -434,8 +429,7 @@ def use_dialogs(studio: Studio) -> None:
         path = studio.folder / f"made_1.{ending}"
         studio.wait(lambda: path.exists() and word in path.read_text() and path.read_text().rstrip().endswith(last),
                     f"the whole file {path.name}")
-    studio.click("#save")
-    studio.await_text("status", "Saved made_1.txt.")
+    studio.save("made_1.txt")
     assert (studio.folder / "made_1.txt").exists(), "the new file is written"
     studio.browser.get((studio.folder / "made_1.html").as_uri())
     studio.click("#last")
@@ -454,11 +448,9 @@ def choose(studio: Studio, value: str) -> None:
 def keep_draft(studio: Studio) -> None:
     """The server is killed while the text is not saved; a new server's page offers the draft, and the text is as it
     was."""
-    (studio.folder / "draft.txt").write_text(example("not_gate"))
-    studio.start("draft.txt")
+    studio.start("draft.txt", example("not_gate"))
     studio.verdict("yes")
-    studio.click("#tool-mirror")
-    studio.drag((9, 2), (10, 3))
+    studio.draw_mirror((9, 2), (10, 3))
     text = studio.layout_text()
     assert "mirror 9 2" in text, text
     await_draft(studio)
@@ -490,8 +482,7 @@ def offer_draft_again(studio: Studio) -> None:
     studio.start("draft.txt")
     studio.script("for (const key of Object.keys(localStorage)) if (key.startsWith('bbmlab draft')) "
                   "localStorage.removeItem(key)")
-    studio.click("#tool-mirror")
-    studio.drag((9, 2), (10, 3))
+    studio.draw_mirror((9, 2), (10, 3))
     await_draft(studio)
     for _ in range(2):
         studio.browser.refresh()
@@ -505,16 +496,14 @@ def offer_draft_again(studio: Studio) -> None:
     studio.await_text("notice", "There is a draft of draft.txt")
     studio.click("#notice button")
     assert "mirror 9 2" in studio.layout_text()
-    studio.click("#save")
-    studio.wait(lambda: studio.text("status") == "Saved draft.txt.", "saved")
-    assert studio.script("return Object.keys(localStorage).filter((key) => key.startsWith('bbmlab draft')).length") == 0
+    studio.save("draft.txt")
+    assert studio.draft_count() == 0
 
 
 def draft_mirror(studio: Studio, name: str) -> None:
     """Opens a file, draws a mirror until the browser keeps a draft with it, and leaves the page."""
     studio.start(name)
-    studio.click("#tool-mirror")
-    studio.drag((9, 2), (10, 3))
+    studio.draw_mirror((9, 2), (10, 3))
     await_draft(studio)
     studio.browser.get("about:blank")
 
@@ -525,17 +514,15 @@ def forget_old_draft(studio: Studio) -> None:
     draft_mirror(studio, "old.txt")
     studio.start("old.txt")
     studio.await_text("notice", "There is a draft of old.txt")
-    studio.click("#tool-mirror")
-    studio.drag((1, 8), (2, 9))
-    studio.click("#save")
-    studio.await_text("status", "Saved old.txt.")
+    studio.draw_mirror((1, 8), (2, 9))
+    studio.save("old.txt")
     studio.rest()
     assert not studio.is_shown("notice"), studio.text("notice")
     studio.browser.refresh()
     studio.wait(lambda: studio.text("name") == "old.txt", "the file is opened again")
     studio.rest()
     assert not studio.is_shown("notice"), studio.text("notice")
-    assert studio.script("return Object.keys(localStorage).filter((key) => key.startsWith('bbmlab draft')).length") == 0
+    assert studio.draft_count() == 0
     assert "mirror 1 8" in (studio.folder / "old.txt").read_text()
 
 
@@ -545,8 +532,7 @@ def ask_about_draft(studio: Studio) -> None:
     newer = example("not_gate").replace("ball", "mirror 1 8 2 2\nball", 1)
     (studio.folder / "versions.txt").write_text(example("not_gate"))
     draft_mirror(studio, "versions.txt")
-    (studio.folder / "versions.txt").write_text(newer)
-    studio.start("versions.txt")
+    studio.start("versions.txt", newer)
     studio.await_text("notice", "that began from another version of the file")
     studio.click("#notice button")
     assert "mirror 9 2" in studio.layout_text() and "mirror 1 8" not in studio.layout_text()
@@ -557,10 +543,8 @@ def ask_about_draft(studio: Studio) -> None:
 
 def duplicate_tab(studio: Studio) -> None:
     """A tab that is duplicated begins with the number of the other one, and takes a number and drafts of its own."""
-    (studio.folder / "twice.txt").write_text(example("not_gate"))
-    studio.start("twice.txt")
-    studio.click("#tool-mirror")
-    studio.drag((9, 2), (10, 3))
+    studio.start("twice.txt", example("not_gate"))
+    studio.draw_mirror((9, 2), (10, 3))
     await_draft(studio)
     first, number = studio.browser.current_window_handle, studio.script("return bbmlab.server.tab")
     studio.script("window.open(location.href)")
@@ -571,28 +555,23 @@ def duplicate_tab(studio: Studio) -> None:
     assert not studio.is_shown("notice"), "the draft of an open tab is not offered"
     assert studio.layout_text() == example("not_gate")
     studio.script("bbmlab.studio.desk.model.setText(arguments[0])", example("not_gate") + "# two\n")
-    studio.wait(lambda: studio.script("return Object.keys(localStorage).filter((key) => key.startsWith('bbmlab "
-                                      "draft')).length") == 2, "each tab has a draft")
+    studio.wait(lambda: studio.draft_count() == 2, "each tab has a draft")
     studio.script("bbmlab.studio.desk.model.undo()")
-    studio.wait(lambda: studio.script("return Object.keys(localStorage).filter((key) => key.startsWith('bbmlab "
-                                      "draft')).length") == 1, "the other draft stays")
+    studio.wait(lambda: studio.draft_count() == 1, "the other draft stays")
     studio.browser.close()
     studio.browser.switch_to.window(first)
-    studio.click("#save")
-    studio.await_text("status", "Saved twice.txt.")
+    studio.save("twice.txt")
 
 
 def say_what_is_kept(studio: Studio) -> None:
     """Without a server the page says that the draft is kept only if it is, and nothing if there is none."""
-    (studio.folder / "kept.txt").write_text(example("not_gate"))
-    studio.start("kept.txt")
+    studio.start("kept.txt", example("not_gate"))
     studio.verdict("yes")
     studio.kill()
     ask = "const done = arguments[0]; bbmlab.server.request('files').then(({ error }) => done(error))"
     error = str(studio.browser.execute_async_script(ask))
     assert "kept" not in error and "does not answer" in error, error
-    studio.click("#tool-mirror")
-    studio.drag((9, 2), (10, 3))
+    studio.draw_mirror((9, 2), (10, 3))
     assert "is kept in this browser" in studio.browser.execute_async_script(ask)
     studio.script("Storage.prototype.setItem = () => { throw new DOMException('full', 'QuotaExceededError'); }")
     studio.drag((1, 8), (2, 9))
@@ -652,8 +631,7 @@ def use_two_tabs(studio: Studio) -> None:
     (studio.folder / "tabs.txt").write_text(example("not_gate"))
     (studio.folder / "tabs_2.txt").unlink(missing_ok=True)
     address = studio.start("tabs.txt")
-    studio.click("#tool-mirror")
-    studio.drag((9, 2), (10, 3))
+    studio.draw_mirror((9, 2), (10, 3))
     await_draft(studio)
     first = studio.browser.current_window_handle
     studio.new_tab()
@@ -661,10 +639,8 @@ def use_two_tabs(studio: Studio) -> None:
     studio.wait(lambda: studio.text("name") == "tabs.txt", "the second tab is open")
     studio.rest()
     assert not studio.is_shown("notice"), "the draft of an open tab is not offered"
-    studio.click("#tool-mirror")
-    studio.drag((1, 8), (2, 9))
-    studio.click("#save")
-    studio.await_text("status", "Saved tabs.txt.")
+    studio.draw_mirror((1, 8), (2, 9))
+    studio.save("tabs.txt")
     assert "mirror 1 8" in (studio.folder / "tabs.txt").read_text(), "the second tab saved"
     studio.browser.close()
     studio.browser.switch_to.window(first)
@@ -711,13 +687,11 @@ def see_other_picture(studio: Studio) -> None:
     studio.begin("drawn.txt", example("not_gate"))
     studio.verdict("yes")
     studio.script(OTHER_YES, example("not_gate"))
-    studio.click("#tool-mirror")
-    studio.drag((9, 2), (10, 3))
+    studio.draw_mirror((9, 2), (10, 3))
     studio.verdict("no answer")
     assert "is not the one of this picture" in studio.text("report"), studio.text("report")
     studio.script("askTruly()")
-    studio.click("#tool-mirror")
-    studio.drag((1, 8), (2, 9))
+    studio.draw_mirror((1, 8), (2, 9))
     studio.verdict("yes")
     studio.begin("joined.txt", example("not_gate").replace("\nin ", "\rin ").replace("\nout ", "\rout "))
     studio.verdict("refused")
@@ -729,8 +703,7 @@ def see_nothing_yet(studio: Studio) -> None:
     studio.verdict("nothing yet")
     assert studio.script("return document.getElementById('badge').className") == "waiting"
     studio.shoot("nothing")
-    studio.click("#tool-mirror")
-    studio.drag((9, 2), (10, 3))
+    studio.draw_mirror((9, 2), (10, 3))
     studio.verdict("yes")
 
 
@@ -741,8 +714,7 @@ def undo_numbers(studio: Studio) -> None:
     field = studio.browser.find_element(By.ID, "width")
     studio.click("#follow")
     for number in ("14", "16"):
-        studio.script("arguments[0].focus(); arguments[0].select()", field)
-        field.send_keys(number, Keys.ENTER)
+        studio.type_number(field, number)
     assert "layout 16 12 3" in studio.layout_text()
     field.send_keys("9")
     field.send_keys(Keys.CONTROL, "z")
@@ -765,8 +737,7 @@ def follow_turns(studio: Studio) -> None:
     before, field = studio.layout_text(), studio.browser.find_element(By.ID, "steps")
     steps = int(str(field.get_property("value")))
     for number in (2, steps):
-        studio.script("arguments[0].focus(); arguments[0].select()", field)
-        field.send_keys(str(number), Keys.ENTER)
+        studio.type_number(field, str(number))
         assert f"layout 22 18 {number}\n" in studio.layout_text(), studio.text("status")
         studio.verdict("yes")
     assert sorted(studio.layout_text().split("\n")) == sorted(before.split("\n")), studio.layout_text()
@@ -801,8 +772,7 @@ def see_kind_of_no(studio: Studio) -> None:
 def enlarge_for_cell(studio: Studio) -> None:
     """A cell that is larger than the layout is put after the user agrees to make the layout larger."""
     studio.begin("enlarge.txt", EMPTY)
-    studio.script("const list = document.getElementById('cell-name'); list.value = 'not'; list.dispatchEvent(new "
-                  "Event('change'))")
+    studio.choose("cell-name", "not")
     studio.click("#tool-cell")
     studio.press(9, 9)
     studio.answer("The cell is larger than the layout", "cancel")
@@ -818,8 +788,7 @@ def choose_spelling(studio: Studio) -> None:
     text = "# by hand\n" + example("not_gate")
     studio.begin("free.txt", text)
     studio.verdict("yes")
-    studio.click("#tool-mirror")
-    studio.drag((9, 2), (10, 3))
+    studio.draw_mirror((9, 2), (10, 3))
     studio.click("#save")
     studio.answer("How to write the text", "write it as it is")
     studio.wait(lambda: "mirror 9 2 2 2" in (studio.folder / "free.txt").read_text(), "saved as it is")

@@ -9,6 +9,7 @@ from browse_page import Driven, await_frames, watch
 from selenium.webdriver.common.action_chains import ActionChains
 from selenium.webdriver.common.by import By
 from selenium.webdriver.common.keys import Keys
+from selenium.webdriver.remote.webelement import WebElement
 
 # What the page says, for the message of a wait that is too long.
 WORDS = "return ['name', 'badge', 'status', 'report', 'dialog'].map((id) => document.getElementById(id)?.innerText)"
@@ -39,8 +40,10 @@ class Studio(Driven):
             self.server.wait()
             self.server = None
 
-    def start(self, name: str) -> str:
-        """Starts a server of a file, opens its page, and returns the address."""
+    def start(self, name: str, text: str | None = None) -> str:
+        """Starts a server of a file, which has a text or is as it was, opens its page, and returns the address."""
+        if text is not None:
+            (self.folder / name).write_text(text)
         address = self.serve(name)
         # A page of the same address is not loaded by a new part behind `#`: it loads itself again, which takes a
         # moment.
@@ -157,6 +160,31 @@ class Studio(Driven):
         self.hold(*start)
         self.aim(*end)
         self.lift()
+
+    def draw_mirror(self, start: tuple[int, int], end: tuple[int, int]) -> None:
+        """Draws a mirror from a cell to another one."""
+        self.click("#tool-mirror")
+        self.drag(start, end)
+
+    def save(self, name: str) -> None:
+        """Saves the text, and waits until the page says so."""
+        self.click("#save")
+        self.await_text("status", f"Saved {name}.")
+
+    def draft_count(self) -> int:
+        """Returns how many drafts the browser keeps."""
+        return int(self.script("return Object.keys(localStorage).filter((key) => key.startsWith('bbmlab draft'))"
+                               ".length"))
+
+    def choose(self, name: str, value: str) -> None:
+        """Chooses a value of a list."""
+        self.script("const list = document.getElementById(arguments[0]); list.value = arguments[1]; "
+                    "list.dispatchEvent(new Event('change'))", name, value)
+
+    def type_number(self, field: WebElement, number: str) -> None:
+        """Types another number in a field."""
+        self.script("arguments[0].focus(); arguments[0].select()", field)
+        field.send_keys(number, Keys.ENTER)
 
     def touch(self, kind: str, *cells: tuple[float, float]) -> None:
         """Sends an event of fingers at cells: `Start`, `Move` or `End`."""

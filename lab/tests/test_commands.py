@@ -106,7 +106,7 @@ class Others(unittest.TestCase):
 
     def test_standard_input(self) -> None:
         """`-` is standard input."""
-        text = (support.EXAMPLES / "not_known.txt").read_text()
+        text = support.text_of("not_known")
         ended = support.lab("explain", "-", text=text, BBMCHECK=support.program())
         self.assertIn("does not know the wire `c`", ended.stdout.replace("\n  ", " "))
 

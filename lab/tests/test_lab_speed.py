@@ -276,7 +276,7 @@ class Once(unittest.TestCase):
 
     def test_one_reading_of_a_page(self) -> None:
         """`view` reads the text once, and `explain` compares the borders of its text once."""
-        text = Path(support.example("wrong_edge")).read_text()
+        text = support.text_of("wrong_edge")
         with tempfile.TemporaryDirectory() as room, mock.patch("bbmlab_core.texts.certificates.CertificateReader.read",
                                                                autospec=True,
                                                                side_effect=CertificateReader.read) as reader:
@@ -294,7 +294,7 @@ class Once(unittest.TestCase):
 
     def test_effort_is_the_end(self) -> None:
         """When the effort is used up nothing more is tried, for no line of the report."""
-        text = Path(support.example("wrong_edge")).read_text()
+        text = support.text_of("wrong_edge")
         trial = Trial(support.program(), Budget(seconds=30))
         report = trial.report(text)
         assert report
@@ -309,7 +309,7 @@ class Once(unittest.TestCase):
     def test_the_effort_is_that_of_the_search(self) -> None:
         """What `explain` did before the search does not count, so that a large text gets its search too; in the studio
         it counts."""
-        text = Path(support.example("wrong_edge")).read_text()
+        text = support.text_of("wrong_edge")
         output = ask(support.program(), "check", text.encode()).output
         for is_of_search in (True, False):
             trial = Trial(support.program(), Budget(is_of_search=is_of_search))
@@ -319,7 +319,7 @@ class Once(unittest.TestCase):
     def test_no_run_goes_on_after_the_effort(self) -> None:
         """No run of the search goes on when the time is over: the one that compares borders, and the one for another
         certificate, end at their first step."""
-        text = Path(support.example("wrong_edge")).read_text()
+        text = support.text_of("wrong_edge")
         document = read(text)
         diagnosis = Diagnosis(document)
         self.assertTrue(diagnosis.can_run_whole())

@@ -104,10 +104,7 @@ class Ways(unittest.TestCase):
 
     def test_examples(self) -> None:
         """The ways of each example and standard cell."""
-        files = [*sorted(support.EXAMPLES.glob("*.txt")), *sorted((support.LAB / "cells").glob("*.txt"))]
-        documents = [read_document(path.read_text(encoding="latin-1")) for path in files]
-        self.assertGreater(sum(self.assert_same(own) for own in documents if own.layout and own.layout.width
-                               and not own.refusal), 10_000)
+        self.assertGreater(sum(self.assert_same(own) for _, own in support.drawn_documents()), 10_000)
 
     def test_random_layouts(self) -> None:
         """The ways of layouts in which balls collide, and mirrors fall apart."""
