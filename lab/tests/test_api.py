@@ -328,7 +328,3 @@ class Making(unittest.TestCase):
                 bbmlab.route(circuit, **wrong)  # type: ignore[arg-type]
         with self.assertRaises(bbmlab.NotFoundError):
             bbmlab.route(circuit, size=48, effort=0.1)
-
-
-if __name__ == "__main__":
-    unittest.main()

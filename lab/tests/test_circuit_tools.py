@@ -226,7 +226,3 @@ class Examples(unittest.TestCase):
                 *_, c, d = states[-1]
                 states.append([c ^ d, *states[-1][:3]])
             self.assertEqual([outs[4 * at:4 * at + 4][::-1] for at in range(3)] + [outs[12:]], states)
-
-
-if __name__ == "__main__":
-    unittest.main()

@@ -158,7 +158,3 @@ class Alone(support.InRoom):
                             PYTHONPATH=str(self.room))
         self.assertEqual(ended.returncode, 4)
         self.assertIn("python3-distributed", ended.stderr)
-
-
-if __name__ == "__main__":
-    unittest.main()

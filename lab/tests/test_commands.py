@@ -150,7 +150,3 @@ class Others(unittest.TestCase):
         ended = subprocess.run([support.DEBIAN_PYTHON, support.BBMLAB[1], "--version"], capture_output=True,
                                check=False)
         self.assertEqual(ended.returncode, 0)
-
-
-if __name__ == "__main__":
-    unittest.main()

@@ -103,7 +103,3 @@ class Contrast(unittest.TestCase):
                                ("fault", "stroke"), ("number", "fill"), ("text", "fill")):
                 with self.subTest(scheme, name=name):
                     self.assertGreaterEqual(contrast(classes[name][kind], plane), SHAPES)
-
-
-if __name__ == "__main__":
-    unittest.main()

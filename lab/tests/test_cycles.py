@@ -182,7 +182,3 @@ class Others(unittest.TestCase):
                     state = (not none, not high)
                 wanted.update(low_end=state[0], high_end=state[1])
                 self.assertEqual(outputs_of(circuit_of(text, cycles, INITIAL), set()), wanted)
-
-
-if __name__ == "__main__":
-    unittest.main()

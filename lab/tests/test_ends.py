@@ -236,7 +236,3 @@ class Hostile(unittest.TestCase):
                 below = max(depth.get(word, 0) for word in words[1:arrow])
                 depth.update(dict.fromkeys(words[arrow + 1:], below + 1))
         return max(depth.values())
-
-
-if __name__ == "__main__":
-    unittest.main()

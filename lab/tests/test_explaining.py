@@ -205,7 +205,3 @@ def explained_example(name: str):
     data = (support.EXAMPLES / f"{name}.txt").read_bytes()
     return explain_answer(data.decode(), "check", reference_reports.answer(data)[1].decode(), name,
                           Trial(support.program()))
-
-
-if __name__ == "__main__":
-    unittest.main()

@@ -121,7 +121,3 @@ class Search(unittest.TestCase):
             bbmlab.route(free, size=17)
         with self.assertRaisesRegex(ValueError, "the netlist cannot be mapped"):
             bbmlab.route(".model m\n.latch a b\n.end\n")
-
-
-if __name__ == "__main__":
-    unittest.main()

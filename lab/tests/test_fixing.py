@@ -411,7 +411,3 @@ class Measure(unittest.TestCase):
                     self.assertNotIn("refused", after)
                     self.assertNotIn(finding.text, after.split("\n"))
         self.assertGreater(tried, 6)
-
-
-if __name__ == "__main__":
-    unittest.main()

@@ -138,7 +138,3 @@ class Refused(unittest.TestCase):
                                       preexec_fn=lambda: resource.setrlimit(resource.RLIMIT_AS, (1_500_000_000,) * 2))
                 self.assertEqual((done.returncode, done.stdout), (1, ""), (head, done.stderr[-300:]))
                 self.assertRegex(done.stderr, r"\Abbmlab: [^\n]+\n\Z")
-
-
-if __name__ == "__main__":
-    unittest.main()

@@ -101,7 +101,3 @@ class Comments(unittest.TestCase):
                 self.assertEqual((ended.returncode, len(ended.stderr.splitlines())), (1, 1), ended.stderr)
                 self.assertIn("line 4 is refused with code", ended.stderr)
                 self.assertIn(hint, ended.stderr, command)
-
-
-if __name__ == "__main__":
-    unittest.main()

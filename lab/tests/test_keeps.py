@@ -95,7 +95,3 @@ class Keeps(unittest.TestCase):
         circuit = read_circuit(text)
         self.assertIsNone(kept_cone(circuit, 71))
         self.assertIn(f"at least {MAX_USES} gates before it", why_not_kept(circuit, 71))
-
-
-if __name__ == "__main__":
-    unittest.main()

@@ -352,7 +352,3 @@ class Memory(unittest.TestCase):
                 self.assertIn(ended.returncode, (0, 1), ended.stderr)
                 self.assertNotIn("dead mirror cells", ended.stdout)
                 self.assertEqual(ended.stderr[:42], "bbmlab: the last state was not compared: t")
-
-
-if __name__ == "__main__":
-    unittest.main()

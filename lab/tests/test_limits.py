@@ -319,7 +319,3 @@ class Program(unittest.TestCase):
                 self.assertEqual(ended.returncode, 0, ended.stderr)
                 self.assertIn("verdict yes", ended.stderr)
                 self.assertEqual(made.read_text().startswith(LINE), side == "528")
-
-
-if __name__ == "__main__":
-    unittest.main()

@@ -259,7 +259,3 @@ def renamed_blif(text: str, starts: list[str], ends: list[str]) -> str:
     joins += [row for outer, inner in zip(outputs, outs) for row in (f".names c_{inner} {outer}", "1 1")]
     return "\n".join([".model m", f".inputs {' '.join(inputs)}", f".outputs {' '.join(outputs)}", *tables, *joins,
                       ".end", ""])
-
-
-if __name__ == "__main__":
-    unittest.main()

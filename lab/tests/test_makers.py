@@ -320,7 +320,3 @@ class Pictures(unittest.TestCase):
     def test_ring_and_halo(self) -> None:
         """The ring of a box of four by two cells has all of them, and its halo has sixteen."""
         self.assertEqual((len(Box(2, 2, 4, 2).ring()), len(Box(2, 2, 4, 2).halo())), (8, 16))
-
-
-if __name__ == "__main__":
-    unittest.main()

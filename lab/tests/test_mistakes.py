@@ -244,7 +244,3 @@ class Programs(InRoom):
         file = support.example("full_adder")
         self.ends(1, "the lab says yes already", "explain", "--fix", file, BBMCHECK="/no/such")
         self.ends(4, "there is no program at /no/such", "check", file, BBMCHECK="/no/such")
-
-
-if __name__ == "__main__":
-    unittest.main()

@@ -383,7 +383,3 @@ class Sentences(unittest.TestCase):
     def test_same_text_each_time(self) -> None:
         """The same netlist gets the same circuit."""
         self.assertEqual(circuit_from_netlist(full_adder_blif()), circuit_from_netlist(full_adder_blif()))
-
-
-if __name__ == "__main__":
-    unittest.main()

@@ -121,7 +121,3 @@ class Copies(unittest.TestCase):
         with mock.patch("bbmlab_core.host.sealed.memory_file", side_effect=OSError):
             program = opened(support.program())
         self.assertEqual(ask(program, "check", Path(support.example("wrong_edge")).read_bytes()).status, 1)
-
-
-if __name__ == "__main__":
-    unittest.main()

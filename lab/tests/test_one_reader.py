@@ -65,7 +65,3 @@ class OneReader(unittest.TestCase):
                      good.replace("\nmirror ", "\x1emirror ").replace(" ", "\x1f")):
             self.assertNotEqual(text, good)
             self.assertIsNotNone(read_document(spelled(text).text, "check").refusal)
-
-
-if __name__ == "__main__":
-    unittest.main()

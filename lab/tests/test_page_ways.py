@@ -87,7 +87,3 @@ class Ways(unittest.TestCase):
         assert circuit
         self.assertEqual(page_ways.levels_of(circuit),
                          {"p": 0, "k": 0, "a": 1, "b": 1, "c": 1, "d": 1, "e": 2, "f": 2, "g": 2})
-
-
-if __name__ == "__main__":
-    unittest.main()

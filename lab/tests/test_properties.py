@@ -187,7 +187,3 @@ class NeverATraceback(unittest.TestCase):
     def test_damaged_texts(self) -> None:
         """Each command takes damaged texts of examples/."""
         self.try_all(pr.damaged_texts(), 8 * TIMES)
-
-
-if __name__ == "__main__":
-    unittest.main()

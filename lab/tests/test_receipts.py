@@ -5,7 +5,6 @@ import json
 import os
 import signal
 import subprocess
-import unittest
 from pathlib import Path
 
 import support
@@ -324,7 +323,3 @@ class Shards(InRoom):
         for word in ("0/3", "4/3", "3", "1/", "/2", "a/b", "1/0", "-1/2"):
             ended = support.lab("check", f"--shard={word}", str(self.designs))
             self.assertEqual(ended.returncode, 2, word)
-
-
-if __name__ == "__main__":
-    unittest.main()

@@ -4,7 +4,6 @@ links.
 
 import os
 import stat
-import unittest
 from pathlib import Path
 from unittest import mock
 
@@ -184,7 +183,3 @@ class Kept(Room):
                                                                output="refused 1 1\n"), 0.0)
         self.assertEqual(done, ["fsync", "rename"] * 2)
         self.assertEqual([path.name for path in (self.room / "receipts").iterdir()][0][-10:], "x.txt.json")
-
-
-if __name__ == "__main__":
-    unittest.main()

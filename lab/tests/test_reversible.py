@@ -246,7 +246,3 @@ class Refused(unittest.TestCase):
                      ".numvars 1\n.variables a\n.begin\n" + "t1 a\n" * 70_000 + ".end\n"):
             with self.assertRaises(NetlistError):
                 read_netlist(text)
-
-
-if __name__ == "__main__":
-    unittest.main()

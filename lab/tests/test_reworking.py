@@ -304,7 +304,3 @@ class Simplify(unittest.TestCase):
         """A circuit without values at some inputs has nothing to keep."""
         with self.assertRaisesRegex(LabError, "no values at some inputs"):
             simplify(circuit_of("circuit\ninput c\ninput y\ninput z\nunswitch c y z -> d x\noutput d\noutput x\nend\n"))
-
-
-if __name__ == "__main__":
-    unittest.main()

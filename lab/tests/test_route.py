@@ -10,7 +10,6 @@ import signal
 import subprocess
 import sys
 import time
-import unittest
 from dataclasses import replace
 from unittest import mock
 
@@ -426,7 +425,3 @@ class Refusals(Routing):
         status, _, said = self.route(gate_circuit("fredkin"), "--size", "48", "--effort", "1")
         self.assertEqual(status, 1)
         self.assertIn("found no place: no room", said)
-
-
-if __name__ == "__main__":
-    unittest.main()

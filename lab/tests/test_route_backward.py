@@ -160,7 +160,3 @@ class RipUp(unittest.TestCase):
         world = World(1200)
         world.add(path.item)
         self.assertEqual((world.claims, world.counts), (attempt.board.world.claims, attempt.board.world.counts))
-
-
-if __name__ == "__main__":
-    unittest.main()

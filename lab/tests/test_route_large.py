@@ -262,7 +262,3 @@ class Words(Routing):
         """What ended an attempt in a process of its own is known to the others."""
         again = pickle.loads(pickle.dumps(NoRouteError("no room at all", Bound.ROOM)))
         self.assertEqual((str(again), again.bound), ("no room at all", Bound.ROOM))
-
-
-if __name__ == "__main__":
-    unittest.main()

@@ -64,7 +64,3 @@ def changed(form: Any, old: str, new: str) -> Any:
     if isinstance(form, list):
         return [changed(part, old, new) for part in form]
     return {name: changed(part, old, new) for name, part in form.items()} if isinstance(form, dict) else form
-
-
-if __name__ == "__main__":
-    unittest.main()

@@ -73,7 +73,3 @@ def local_lines(document: support.Document) -> list[str]:
         if fault:
             lines.append(f"local {module.number} {fault.report_words()}")
     return lines
-
-
-if __name__ == "__main__":
-    unittest.main()

@@ -60,7 +60,3 @@ class Start(unittest.TestCase):
         self.assertEqual(ended.returncode, 2)
         self.assertIn("invalid choice: 'shake'", ended.stderr)
         self.assertIn("'from-golly'", ended.stderr)
-
-
-if __name__ == "__main__":
-    unittest.main()

@@ -22,7 +22,3 @@ class Browser(unittest.TestCase):
             folder = Path(os.environ.get("BBMLAB_SHOTS") or room)
             (folder / "collision.txt").unlink(missing_ok=True)
             support.browse("browse_studio.py", str(folder), support.program(), support.BBMLAB[1])
-
-
-if __name__ == "__main__":
-    unittest.main()

@@ -397,7 +397,3 @@ class Sources(unittest.TestCase):
                 self.assertNotIn(word, path.read_text(), path.name)
         page = (STUDIO / "studio.html").read_text()
         self.assertIsNone(re.search(r"<script(?! type=.module. src=)|<style|<[^>]* (?:style|on\w+)=", page))
-
-
-if __name__ == "__main__":
-    unittest.main()

@@ -11,7 +11,6 @@ import subprocess
 import sys
 import threading
 import time
-import unittest
 from pathlib import Path
 from typing import Any
 
@@ -586,7 +585,3 @@ class Command(support.InRoom):
         self.assertRegex(address, r"^http://127\.0\.0\.1:\d+/#[\w-]{32}$")
         process.terminate()
         self.assertEqual(process.wait(30), 143)
-
-
-if __name__ == "__main__":
-    unittest.main()

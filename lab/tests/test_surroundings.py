@@ -9,7 +9,6 @@ import signal
 import subprocess
 import sys
 import time
-import unittest
 from pathlib import Path
 
 import support
@@ -308,7 +307,3 @@ class Words(Room):
             self.assertEqual(ended.returncode, 0 if is_good else 1, (width, table, ended.stderr))
             if not is_good:
                 self.assertIn("cell_7", ended.stderr)
-
-
-if __name__ == "__main__":
-    unittest.main()

@@ -102,7 +102,3 @@ class Page(unittest.TestCase):
             page = f"{room}/page.html"
             support.lab("view", support.example("wrong_edge"), "-o", page, "--program", support.program())
             support.browse("browse_page.py", page, room, seconds=300)
-
-
-if __name__ == "__main__":
-    unittest.main()

@@ -46,7 +46,3 @@ class Browser(unittest.TestCase):
         machine = lzma.decompress((support.EXAMPLES / "machines" / "adder_4.txt.xz").read_bytes()).decode("ascii")
         support.browse_pages("browse_view.py", {"fault": support.text_of("wrong_border"), "wrong": WRONG,
                                                 "large": large_layout().text, "machine": machine})
-
-
-if __name__ == "__main__":
-    unittest.main()

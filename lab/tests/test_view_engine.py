@@ -95,7 +95,3 @@ class Engine(unittest.TestCase):
         self.assertLess(time.monotonic() - began, MAX_SECONDS)
         self.assertEqual([at for at, _ in told["states"]], [last, last // 2, 3, last])
         self.assertEqual(run_words(told), output)
-
-
-if __name__ == "__main__":
-    unittest.main()

@@ -19,7 +19,3 @@ class Browser(unittest.TestCase):
         support.browse_pages("browse_features.py", {
             "adder": support.text_of("full_adder"), "faults": support.text_of("wrong_edge"),
             "outputs": many_outputs(48, [5, 17, 40]).text, "crowd": many_outputs(600, [3]).text})
-
-
-if __name__ == "__main__":
-    unittest.main()

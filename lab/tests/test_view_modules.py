@@ -343,7 +343,3 @@ class Sources(unittest.TestCase):
         for path in viewing.TEMPLATE.glob("*.js"):
             self.assertIsNone(re.search(r"innerHTML|outerHTML|insertAdjacentHTML|document\.write|\beval\(|new "
                                         r"Function|DOMParser|srcdoc", path.read_text()))
-
-
-if __name__ == "__main__":
-    unittest.main()

@@ -352,7 +352,3 @@ class Chosen(unittest.TestCase):
         with_arrows, without = (picture_of(read_design(support.example("fredkin_gate")), None, None, None,
                                            Look(has_arrows=has)) for has in (True, False))
         self.assertGreater(with_arrows.count('class="way'), without.count('class="way'))
-
-
-if __name__ == "__main__":
-    unittest.main()

@@ -2,7 +2,6 @@
 import shutil
 import subprocess
 import sys
-import unittest
 
 from planted import TOP, InRoom
 
@@ -62,7 +61,3 @@ class CheckPackages(InRoom):
         (self.lab / "packages.txt").write_text(text.replace("texts: host", "texts: host physics"))
         self.add(LIMITS, "from ..physics import simulation")
         self.assertEqual(self.said(), ["packages.txt: texts is above physics in the list"])
-
-
-if __name__ == "__main__":
-    unittest.main()

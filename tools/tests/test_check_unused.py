@@ -1,7 +1,6 @@
 """Tests of tools/sources/check_unused: it notices what nothing uses, and what is proved twice, in a small tree."""
 import subprocess
 import sys
-import unittest
 
 from planted import TOP, InRoom
 
@@ -107,7 +106,3 @@ class CheckUnused(InRoom):
         self.plant(BELOW, "Common.{ℕ, ◌≡◌, refl}", "Common.{◌≡◌, refl}\nuse Rattle.one.specs.Other.{ℕ, ◌+◌}")
         self.plant(BELOW, "same n = refl", f"same n = (next' n).0\n\n{NEXT}")
         self.assertEqual(self.said(), [])
-
-
-if __name__ == "__main__":
-    unittest.main()
