@@ -95,8 +95,8 @@ def corners(x: int, y: int, width: int, height: int) -> str:
 class Sentences(NamedTuple):
     """What is wrong, and a hint, as format strings over the facts of a cause.
 
-    `names` and `lines` say where the facts have the names and lines that are meant. The hint goes on with how the line is
-    called for which `limits 2` is needed, if that is given.
+    `names` and `lines` say where the facts have the names and lines that are meant. The hint goes on with how the line
+    is called for which `limits 2` is needed, if that is given.
     """
 
     what: str
