@@ -4,6 +4,7 @@ import itertools
 import json
 import os
 import re
+import resource
 import shutil
 import subprocess
 import sys
@@ -151,12 +152,13 @@ def require_limits_of(text: str, path: str) -> None:
             raise unittest.SkipTest(f"the program refuses `limits 2`: {path}")
 
 
-def lab(*words: str, text: str | bytes = b"", seconds: float | None = None,
+def lab(*words: str, text: str | bytes = b"", seconds: float | None = None, memory: int | None = None,
         **environment: str) -> subprocess.CompletedProcess[str]:
-    """Runs the lab's executable, for at most some seconds."""
+    """Runs the lab's executable, for at most some seconds, in at most some bytes of memory."""
     data = text.encode("latin-1") if isinstance(text, str) else text
     ended = subprocess.run([*BBMLAB, *words], input=data, capture_output=True, check=False, timeout=seconds,
-                           env={**os.environ, **environment})
+                           env={**os.environ, **environment},
+                           preexec_fn=memory and (lambda: resource.setrlimit(resource.RLIMIT_AS, (memory, memory))))
     return subprocess.CompletedProcess(ended.args, ended.returncode, ended.stdout.decode("utf-8"),
                                        ended.stderr.decode("utf-8"))
 

@@ -221,24 +221,20 @@ class Program(unittest.TestCase):
 
     def test_report(self) -> None:
         """The report is the program's, with each line of it as an object."""
-        program = support.program()
         for name, verdict, status in (("fredkin_gate", "yes", 0), ("wrong_times", "no", 1), ("wrong_border", "no", 1),
                                       ("not_kept", "no", 1)):
             text = support.text_of(name)
-            printed = subprocess.run([program, "check"], input=text, capture_output=True, text=True, check=False)
-            report = bbmlab.check(text)
+            printed, report = support.checked(text), bbmlab.check(text)
             with self.subTest(name):
                 self.assertEqual((report.verdict, report.status, report.is_yes), (verdict, status, verdict == "yes"))
-                self.assertEqual((report.text, str(report)), (printed.stdout, printed.stdout))
-                self.assertEqual([str(finding) for finding in report.findings], printed.stdout.splitlines()[4:])
+                self.assertEqual((report.text, str(report)), (printed, printed))
+                self.assertEqual([str(finding) for finding in report.findings], printed.splitlines()[4:])
                 self.assertEqual(any(finding.is_against for finding in report.findings), verdict == "no")
 
     def test_refusals(self) -> None:
         """Each way to hand in a refused text raises RefusedError with the program's line and code."""
-        support.program()
         text = support.text_of("not_local")
-        program = subprocess.run([support.program(), "check"], input=text, capture_output=True, text=True,
-                                 check=False).stdout.split()
+        program = support.checked(text).split()
         for call in (bbmlab.read, bbmlab.check):
             with self.assertRaises(bbmlab.RefusedError) as raised:
                 call(text)

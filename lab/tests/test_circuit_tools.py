@@ -11,32 +11,11 @@ from pathlib import Path
 import support
 from bbmlab_core.circuits import circuit_forms, truth
 from bbmlab_core.circuits.netlists import Reading, map_netlist
-from bbmlab_core.texts.circuits import Circuit, values_under
-from bbmlab_core.texts.gates import GATE_SIZES
+from bbmlab_core.texts.circuits import values_under
 from support import circuit_of
+from test_reworking import random_text
 
 CIRCUITS = support.EXAMPLES / "circuits"
-
-
-def random_circuit(chance: random.Random, count: int, words: list[str]) -> Circuit:
-    """Returns a circuit of random gates."""
-    wires = [f"i{number}" for number in range(chance.randint(2, 5))]
-    lines, made = ["circuit", *(f"input {name}" for name in wires)], 0
-    for _ in range(count):
-        word = chance.choice(words)
-        uses, makes = GATE_SIZES[word]
-        if uses > len(wires):
-            continue
-        ins = chance.sample(wires, uses)
-        outs = [f"w{made + at}" for at in range(makes)]
-        made += makes
-        wires = [name for name in wires if name not in ins] + outs
-        number = f" {chance.choice((0, 1))}" if word == "source" else " 4" if word == "delay" else ""
-        lines.append(" ".join([f"{word}{number}", *ins, "->", *outs]))
-    outs = [name for name in wires if chance.random() < 0.6] or wires[:1]
-    spills = [name for name in wires if name not in outs]
-    return circuit_of("\n".join([*lines, *(f"output {name}" for name in outs), *(f"spill {name}" for name in spills),
-                                 "end", ""]))
 
 
 def number(bits: list[int]) -> int:
@@ -47,13 +26,11 @@ def number(bits: list[int]) -> int:
 class Forms(unittest.TestCase):
     """A circuit in BLIF and Verilog is the same circuit, judged by others."""
 
-    FORWARD = ["source", "fredkin", "cswap", "interact", "switch", "delay"]
-
     def test_blif_is_read_back(self) -> None:
         """The BLIF of a random circuit, mapped back, has the same table."""
         chance = random.Random(82)
         for _ in range(20):
-            circuit = random_circuit(chance, 4, self.FORWARD)
+            circuit = circuit_of(random_text(chance, 4))
             if set(circuit.inputs) & set(circuit.outputs):
                 continue
             back = circuit_of(map_netlist(circuit_forms.blif_text(circuit)).text)
@@ -71,7 +48,7 @@ class Forms(unittest.TestCase):
         with tempfile.TemporaryDirectory() as name:
             room = Path(name)
             for number in range(40):
-                circuit = random_circuit(chance, 6, self.FORWARD)
+                circuit = circuit_of(random_text(chance, 6))
                 if set(circuit.inputs) & set(circuit.outputs):
                     continue
                 (room / "a.blif").write_text(circuit_forms.blif_text(circuit))
@@ -84,7 +61,7 @@ class Forms(unittest.TestCase):
 
     def test_dot_has_each_wire(self) -> None:
         """The graph has an arrow for each wire, and is read by dot where it is there."""
-        circuit = random_circuit(random.Random(3), 6, self.FORWARD)
+        circuit = circuit_of(random_text(random.Random(3), 6))
         text = circuit_forms.dot_text(circuit)
         self.assertEqual(text.count(" -> "), len(circuit.wires))
         if shutil.which("dot"):

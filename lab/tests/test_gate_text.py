@@ -2,9 +2,6 @@
 
 import itertools
 import random
-import resource
-import subprocess
-import sys
 import tempfile
 import unittest
 from pathlib import Path
@@ -132,9 +129,6 @@ class Refused(unittest.TestCase):
                                (".i 1\n.o 1\n", "1 1\n"), (" ", " "),
                                ("/*", "*"), ("//\n", "//\n")):
                 path.write_text(head + line * (50_000_000 // len(line)))
-                done = subprocess.run([sys.executable, str(support.LAB / "bbmlab"), "circuit", str(path)],
-                                      capture_output=True, text=True, timeout=200,
-                                      check=False,
-                                      preexec_fn=lambda: resource.setrlimit(resource.RLIMIT_AS, (1_500_000_000,) * 2))
+                done = support.lab("circuit", str(path), seconds=200, memory=1_500_000_000)
                 self.assertEqual((done.returncode, done.stdout), (1, ""), (head, done.stderr[-300:]))
                 self.assertRegex(done.stderr, r"\Abbmlab: [^\n]+\n\Z")

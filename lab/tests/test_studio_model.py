@@ -57,8 +57,9 @@ def part(kind: str, *box: int, name: str | None = None) -> dict[str, Any]:
     return {"kind": kind, "name": name, "box": [*box, 1, 1][:4], "line": -1}
 
 
-def random_layout(chooser: random.Random) -> Layout:
-    """Returns a layout of random mirrors, most of which fall apart, and of balls of one cell."""
+def random_layout(chooser: random.Random, margin: int = 6, most: int = 16) -> Layout:
+    """Returns a layout of random mirrors, most of which fall apart, and of balls of one cell, for less than `most`
+    steps."""
     free, parts = {(x, y) for x in range(20) for y in range(20)}, []
     for _ in range(chooser.randrange(6)):
         box = (chooser.randrange(2, 14), chooser.randrange(2, 14), chooser.randrange(1, 5), chooser.randrange(1, 5))
@@ -66,10 +67,11 @@ def random_layout(chooser: random.Random) -> Layout:
         if cells <= free:
             free -= cells
             parts.append(Part("mirror", None, *box))
-    chosen = chooser.sample(sorted((x, y) for x, y in free if 6 <= x < 14 and 6 <= y < 14), chooser.randrange(1, 12))
+    middle = range(margin, 20 - margin)
+    chosen = chooser.sample(sorted((x, y) for x, y in free if x in middle and y in middle), chooser.randrange(1, 12))
     parts += [Part("ball", None, *cell) for cell in chosen[::2]]
     parts += [Part("in", "pq"[x % 2], x, y) for x, y in chosen[1::2]]
-    return Layout(20, 20, chooser.randrange(1, 16)).with_parts(parts)
+    return Layout(20, 20, chooser.randrange(1, most)).with_parts(parts)
 
 
 def text_of(layout: Layout) -> str:
