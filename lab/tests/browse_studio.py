@@ -109,15 +109,19 @@ def draw_collision(studio: Studio) -> None:
     studio.shoot("collision")
     studio.click("#save")
     studio.wait(lambda: (studio.folder / "collision.txt").exists(), "the file is written")
-    checked = subprocess.run([studio.program, "check"], input=(studio.folder / "collision.txt").read_bytes(),
-                             capture_output=True, check=False)
+    assert_saved_yes(studio, "collision.txt")
+
+
+def assert_saved_yes(studio: Studio, name: str) -> None:
+    """Asserts that the program says yes to a file that was written."""
+    with (studio.folder / name).open("rb") as text:
+        checked = subprocess.run([studio.program, "check"], stdin=text, capture_output=True, check=False)
     assert checked.returncode == 0 and checked.stdout.endswith(b"verdict yes\n"), checked.stdout
 
 
 def drag_mirror(studio: Studio) -> None:
     """Drags a mirror of the Fredkin gate and sees no, undoes it and sees yes."""
-    studio.begin("fredkin.txt", example("machine_fredkin"))
-    studio.verdict("yes")
+    studio.begin("fredkin.txt", example("machine_fredkin"), "yes")
     first = studio.layout_text()
     mirror = studio.script("return bbmlab.studio.desk.model.parts.find(({ kind }) => kind === 'mirror').box")
     studio.click("#tool-select")
@@ -181,8 +185,7 @@ def draw_by_keyboard(studio: Studio) -> None:
 
 def refuse_circuit(studio: Studio) -> None:
     """Types a wrong circuit and sees the refusal at its line, as text; then the size's limits."""
-    studio.begin("wrong.txt", example("not_gate"))
-    studio.verdict("yes")
+    studio.begin("wrong.txt", example("not_gate"), "yes")
     good = studio.script("return document.getElementById('circuit').value")
     studio.type_circuit(good.replace("spill a", "spill <img src=x onerror=alert(1)>"))
     # While it is typed other lines are refused.
@@ -323,8 +326,7 @@ def type_cell(studio: Studio, name: str) -> None:
 def take_fix(studio: Studio) -> None:
     """Takes a fix that was tried, by its button, and gets a yes; a line of the report shows its time, its inputs and
     its cell."""
-    studio.begin("fix.txt", example("not_gate").replace("out b 4 4\nwaste 7 4\n", "out b 7 4\nwaste 4 4\n"))
-    studio.verdict("no")
+    studio.begin("fix.txt", example("not_gate").replace("out b 4 4\nwaste 7 4\n", "out b 7 4\nwaste 4 4\n"), "no")
     studio.wait(lambda: studio.browser.find_elements(By.CSS_SELECTOR, "#report .fix"), "a fix is found")
     # The table is above the report, and moves it when it comes.
     studio.await_text("truth", "rows differ")
@@ -353,8 +355,8 @@ def see_ways(studio: Studio) -> None:
     studio.still()
     assert studio.script(ways) < every
     studio.choose("ways", "all")
-    studio.script("const field = document.getElementById('slider'); field.value = 20; field.dispatchEvent(new "
-                  "Event('input'))")
+    studio.script("const field = document.getElementById('slider'); field.value = 20; "
+                  "field.dispatchEvent(new Event('input'))")
     studio.wait(lambda: studio.text("time").startswith("20 of "), "the slider's time is shown")
     studio.script("document.getElementById('wave-part').open = true")
     studio.wait(lambda: studio.script(HAS_WAVE), "the waveform is drawn")
@@ -585,8 +587,7 @@ def keep_selection(studio: Studio) -> None:
 
     Words of the page can be copied.
     """
-    studio.begin("chosen.txt", example("not_gate"))
-    studio.verdict("yes")
+    studio.begin("chosen.txt", example("not_gate"), "yes")
     studio.click("#tool-select")
     studio.press(4, 4)
     chosen = "return bbmlab.studio.sketch.selected.map(({ kind, box }) => `${kind} ${box[0]} ${box[1]}`)"
@@ -684,8 +685,7 @@ server.request = (name, body) => request(name, name === "verdict" ? { ...body, t
 
 def see_other_picture(studio: Studio) -> None:
     """A yes to a text that is not the one that is drawn is none, and the page says so."""
-    studio.begin("drawn.txt", example("not_gate"))
-    studio.verdict("yes")
+    studio.begin("drawn.txt", example("not_gate"), "yes")
     studio.script(OTHER_YES, example("not_gate"))
     studio.draw_mirror((9, 2), (10, 3))
     studio.verdict("no answer")
@@ -693,14 +693,12 @@ def see_other_picture(studio: Studio) -> None:
     studio.script("askTruly()")
     studio.draw_mirror((1, 8), (2, 9))
     studio.verdict("yes")
-    studio.begin("joined.txt", example("not_gate").replace("\nin ", "\rin ").replace("\nout ", "\rout "))
-    studio.verdict("refused")
+    studio.begin("joined.txt", example("not_gate").replace("\nin ", "\rin ").replace("\nout ", "\rout "), "refused")
 
 
 def see_nothing_yet(studio: Studio) -> None:
     """An empty layout with an empty circuit is no green yes."""
-    studio.begin("nothing.txt", EMPTY)
-    studio.verdict("nothing yet")
+    studio.begin("nothing.txt", EMPTY, "nothing yet")
     assert studio.script("return document.getElementById('badge').className") == "waiting"
     studio.shoot("nothing")
     studio.draw_mirror((9, 2), (10, 3))
@@ -718,22 +716,19 @@ def undo_numbers(studio: Studio) -> None:
     assert "layout 16 12 3" in studio.layout_text()
     field.send_keys("9")
     field.send_keys(Keys.CONTROL, "z")
-    assert (field.get_property("value"),
-            "layout 16 12 3" in studio.layout_text()) == ("16", True), field.get_property("value")
+    value = field.get_property("value")
+    assert value == "16" and "layout 16 12 3" in studio.layout_text(), value
     for number, word in (("14", "z"), ("12", "z"), ("14", "y")):
         field.send_keys(Keys.CONTROL, word)
-        assert (field.get_property("value"),
-                f"layout {number} 12 3" in studio.layout_text()) == (number,
-                                                                     True), (field.get_property("value"),
-                                                                             studio.layout_text())
+        value, text = field.get_property("value"), studio.layout_text()
+        assert value == number and f"layout {number} 12 3" in text, (value, text)
     studio.click("#follow")
 
 
 def follow_turns(studio: Studio) -> None:
     """Outputs that are where the balls end follow them around a mirror, to another number of steps and back, by one
     command each."""
-    studio.begin("turns.txt", cell_text("turn_left"))
-    studio.verdict("yes")
+    studio.begin("turns.txt", cell_text("turn_left"), "yes")
     before, field = studio.layout_text(), studio.browser.find_element(By.ID, "steps")
     steps = int(str(field.get_property("value")))
     for number in (2, steps):
@@ -751,11 +746,9 @@ def see_kind_of_no(studio: Studio) -> None:
     """The line of the badge says what kind of no it is, the explanation comes before the report's lines, and a fix has
     a button."""
     for name, words in (("plain_rim", "the rim is live at ("), ("plain_no", "the end is wrong at (")):
-        studio.begin(f"{name}.txt", example(name))
-        studio.verdict("no")
+        studio.begin(f"{name}.txt", example(name), "no")
         studio.await_text("who", words)
-    studio.begin("kind.txt", example("not_gate").replace("out b 4 4\nwaste 7 4\n", "out b 7 4\nwaste 4 4\n"))
-    studio.verdict("no")
+    studio.begin("kind.txt", example("not_gate").replace("out b 4 4\nwaste 7 4\n", "out b 7 4\nwaste 4 4\n"), "no")
     studio.wait(lambda: studio.browser.find_elements(By.CSS_SELECTOR, "#report .fix"), "a fix is found")
     assert studio.script("return document.querySelector('#report .fix').textContent") == "apply this fix"
     assert studio.script("const [fix, fault] = ['.fix-box', '.fault'].map((name) => document.querySelector(`#report "
@@ -786,21 +779,17 @@ def enlarge_for_cell(studio: Studio) -> None:
 def choose_spelling(studio: Studio) -> None:
     """A text with comments is saved with them, or in the one spelling, as the user says."""
     text = "# by hand\n" + example("not_gate")
-    studio.begin("free.txt", text)
-    studio.verdict("yes")
+    studio.begin("free.txt", text, "yes")
     studio.draw_mirror((9, 2), (10, 3))
     studio.click("#save")
     studio.answer("How to write the text", "write it as it is")
     studio.wait(lambda: "mirror 9 2 2 2" in (studio.folder / "free.txt").read_text(), "saved as it is")
     assert (studio.folder / "free.txt").read_text().startswith("# by hand\n")
-    studio.begin("free_2.txt", text)
-    studio.verdict("yes")
+    studio.begin("free_2.txt", text, "yes")
     studio.click("#save")
     studio.answer("How to write the text", "write the one spelling, without comments")
     studio.wait(lambda: studio.text("status") == "Saved free_2.txt.", "saved in the one spelling")
-    checked = subprocess.run([studio.program, "check"], input=(studio.folder / "free_2.txt").read_bytes(),
-                             capture_output=True, check=False)
-    assert checked.returncode == 0, checked.stdout
+    assert_saved_yes(studio, "free_2.txt")
 
 
 # Each answer of the server waits until `answerNow` is called with its name, or `answerAll`.
@@ -828,8 +817,7 @@ def answer_late(studio: Studio) -> None:
         studio.wait(lambda: studio.script("return window.held.some(({ name }) => name === arguments[0])", name),
                     f"the server answers {name}")
 
-    studio.begin("late.txt", example("not_gate"))
-    studio.verdict("yes")
+    studio.begin("late.txt", example("not_gate"), "yes")
     studio.script(HOLD)
     studio.click("#tool-erase")
     studio.press(7, 7)
@@ -868,8 +856,7 @@ def see_dark(studio: Studio) -> None:
 
 def enlarge_at_sides(studio: Studio) -> None:
     """Adds columns and rows at the sides by the dialog: the parts move by them, and the verdict is asked again."""
-    studio.begin("wider.txt", example("fredkin_gate"))
-    studio.verdict("yes")
+    studio.begin("wider.txt", example("fredkin_gate"), "yes")
     width, height = (int(studio.script(f"return document.getElementById('{name}').value"))
                      for name in ("width", "height"))
     studio.click("#enlarge")

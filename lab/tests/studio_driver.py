@@ -66,10 +66,12 @@ class Studio(Driven):
         self.wait(lambda: self.text("name") == name, f"{name} is opened")
         self.click("#fit")
 
-    def begin(self, name: str, text: str) -> None:
-        """Writes a file, and opens it."""
+    def begin(self, name: str, text: str, verdict: str = "") -> None:
+        """Writes a file, opens it, and waits for a verdict if one is given."""
         (self.folder / name).write_text(text)
         self.open(name)
+        if verdict:
+            self.verdict(verdict)
 
     def layout_text(self) -> str:
         """Returns the text that is drawn."""

@@ -279,7 +279,7 @@ class Runs(unittest.TestCase):
         document = read_document(self.TEXT)
         assert document.layout
         data = {**support.data_of(document), "circuit": None, "certificate": None}
-        told = support.node("run_states.js", [{"data": data, "on": [], "times": [0, 7, 40, 11]}])[0]
+        told = support.node("run_modules.js", [["states", {"data": data, "on": [], "times": [0, 7, 40, 11]}]])[0]
         wanted = tracing.trace_layout(document.layout, [], 0, 40).states
         for moment, cells in told["states"]:
             self.assertEqual({tuple(cell) for cell in cells}, wanted[moment], moment)

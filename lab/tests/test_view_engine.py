@@ -18,22 +18,12 @@ MAX_SECONDS = 200
 
 def node(jobs: list[dict[str, Any]]) -> Any:
     """Returns what the page's automaton makes of some jobs."""
-    return support.node("run_states.js", jobs)
+    return support.node("run_modules.js", [["states", it] for it in jobs])
 
 
 def job(document: Document, on: list[str], times: list[int]) -> dict[str, Any]:
     """Returns the data of a text, the inputs that are on, and the times to go to."""
     return {"data": support.data_of(document), "on": on, "times": times}
-
-
-def layouts() -> list[tuple[str, Document]]:
-    """Returns the examples that have a layout and are read without a refusal, with their names."""
-    found = []
-    for path in sorted(support.EXAMPLES.glob("*.txt")):
-        document = support.read_document(path.read_text(encoding="latin-1"))
-        if document.layout and not document.refusal:
-            found.append((path.name, document))
-    return found
 
 
 def run_words(told: dict[str, Any]) -> str:
@@ -57,7 +47,7 @@ class Engine(unittest.TestCase):
     def test_last_states_by_the_program(self) -> None:
         """Each example ends as the program's `run` says, under three choices of inputs, also by way of other times."""
         program, chooser, asked, jobs = support.program(), random.Random(43), [], []
-        for name, document in layouts():
+        for name, document in support.drawn_documents():
             names, steps = tracing.port_names(document.layout), document.layout.steps
             for share in (0.0, 0.5, 1.0):
                 on = [wire for wire in names if chooser.random() < share]
@@ -73,7 +63,7 @@ class Engine(unittest.TestCase):
     def test_every_time_there_and_back(self) -> None:
         """Each time of each example is as in the lab's trace, on the way there and on the way back."""
         jobs, wanted = [], []
-        for name, document in layouts():
+        for name, document in support.drawn_documents():
             on = tracing.port_names(document.layout)
             trace = tracing.trace_layout(document.layout, on, 0, 200)
             states = [[at, tracing.cells_text(state)] for at, state in enumerate(trace.states)]
