@@ -81,9 +81,7 @@ class Ways(unittest.TestCase):
 
     def test_levels(self) -> None:
         """The level of a wire counts the gates before it, but for sources and delays."""
-        circuit = read_document("circuit\ninput p\nsource 1 -> k\nswitch p k -> a b c\ndelay 3 a -> d\nswitch d b -> e "
-                                "f g\noutput e\nspill f\nspill g\n"
-                                "spill c\nend\n", "circuit").circuit
-        assert circuit
+        circuit = support.circuit_of("circuit\ninput p\nsource 1 -> k\nswitch p k -> a b c\ndelay 3 a -> d\n"
+                                     "switch d b -> e f g\noutput e\nspill f\nspill g\nspill c\nend\n")
         self.assertEqual(page_ways.levels_of(circuit),
                          {"p": 0, "k": 0, "a": 1, "b": 1, "c": 1, "d": 1, "e": 2, "f": 2, "g": 2})

@@ -251,8 +251,7 @@ class Large(unittest.TestCase):
         """In a large layout the modules that use gates are outlined, but for the smallest ones, and borders of modules
         are left out."""
         text = self.text(2)
-        circuit = read_document(text.split("certificate")[0], "design").circuit
-        assert circuit
+        circuit = support.circuit_of(text.split("layout")[0])
         self.assertEqual(gate_boxes(text, circuit), [(Box(16, 0, 32, 32), ["switch 1"])])
         self.assertEqual(gate_boxes("circuit\nend\n", circuit), [])
 
@@ -326,10 +325,8 @@ class Chosen(unittest.TestCase):
 
     def test_cone(self) -> None:
         """A cone is a wire with all on which it depends."""
-        circuit = read_document("circuit\ninput p\ninput q\ninput r\nswitch p q -> a b c\nswitch a r -> d e f\noutput "
-                                "d\nspill b\nspill c\nspill e\nspill f\nend\n",
-                                "circuit").circuit
-        assert circuit
+        circuit = support.circuit_of("circuit\ninput p\ninput q\ninput r\nswitch p q -> a b c\nswitch a r -> d e f\n"
+                                     "output d\nspill b\nspill c\nspill e\nspill f\nend\n")
         self.assertEqual(set(cone_of(circuit, "e")), {"e", "a", "r", "p", "q"})
         self.assertEqual(set(cone_of(circuit, "b")), {"b", "p", "q"})
 
