@@ -167,22 +167,24 @@ class ListedOnly(argparse.ArgumentParser):
         """Makes nothing."""
 
 
-class Commands:
-    """The parser of one command if it is named, else the list of all commands."""
-
-    def __init__(self, wanted: str | None) -> None:
-        self.parser = Parser(prog="bbmlab", description="See, explain, trace and check billiard-ball layouts.",
-                             epilog=EPILOG, formatter_class=HelpForm)
-        self.parser.add_argument("--version", action="version", version=f"bbmlab {VERSION}")
-        self.commands: argparse._SubParsersAction[argparse.ArgumentParser] = self.parser.add_subparsers(
-            dest="name", metavar="COMMAND", required=True, parser_class=Parser if wanted else ListedOnly)
-        for name in [name for name in COMMANDS if wanted in (None, name)]:
-            run, about, example, arguments = COMMANDS[name]
-            parser = self.commands.add_parser(name, help=about, description=about, formatter_class=HelpForm,
-                                              epilog=f"Example: bbmlab {example}")
-            if wanted:
-                parser.set_defaults(run=late(*run.split(".")))
-                add_arguments(parser, arguments)
+def commands_for(words: list[str]) -> tuple[Parser, dict[str, argparse.ArgumentParser]]:
+    """Returns the parser of the command that the words name, or of the list of all commands, and that of each command.
+    """
+    named = next((word for word in words if not word.startswith("-")), None)
+    wanted = named if named in COMMANDS else None
+    whole = Parser(prog="bbmlab", description="See, explain, trace and check billiard-ball layouts.",
+                   epilog=EPILOG, formatter_class=HelpForm)
+    whole.add_argument("--version", action="version", version=f"bbmlab {VERSION}")
+    commands: argparse._SubParsersAction[argparse.ArgumentParser] = whole.add_subparsers(
+        dest="name", metavar="COMMAND", required=True, parser_class=Parser if wanted else ListedOnly)
+    for name in [wanted] if wanted else COMMANDS:
+        run, about, example, arguments = COMMANDS[name]
+        parser = commands.add_parser(name, help=about, description=about, formatter_class=HelpForm,
+                                     epilog=f"Example: bbmlab {example}")
+        if wanted:
+            parser.set_defaults(run=late(*run.split(".")))
+            add_arguments(parser, arguments)
+    return whole, commands.choices
 
 
 def add_arguments(parser: argparse._ActionsContainer, arguments: list[Any]) -> None:
@@ -193,12 +195,6 @@ def add_arguments(parser: argparse._ActionsContainer, arguments: list[Any]) -> N
         else:
             names, options = argument
             parser.add_argument(*names, **options)
-
-
-def commands_for(words: list[str]) -> Commands:
-    """Returns the parser of the command that the words name, or of the list of commands."""
-    commands = Commands(next((word for word in words if not word.startswith("-")), None))
-    return commands if commands.commands.choices else Commands(None)
 
 
 OUTPUT = arg("-o --output", "write to this file (default: standard output)", metavar="FILE")
@@ -438,10 +434,10 @@ def main(words: list[str] | None = None) -> int:
     """Runs a command and returns the exit status."""
     open_standard_error()
     words = sys.argv[1:] if words is None else words
-    commands = commands_for(words)
-    options, unknown = commands.parser.parse_known_args(words)
+    parser, commands = commands_for(words)
+    options, unknown = parser.parse_known_args(words)
     if unknown:
-        commands.commands.choices[options.name].error(f"unrecognized arguments: {' '.join(unknown)}")
+        commands[options.name].error(f"unrecognized arguments: {' '.join(unknown)}")
     if sys.stdout is None:
         print("bbmlab: standard output is closed", file=sys.stderr)
         return 4
