@@ -1,7 +1,6 @@
 """Runs `bbmlab check`."""
 
 import argparse
-import sys
 
 from ..farm.checking import Checker, exit_status, text_files
 from ..farm.progress import Progress
@@ -11,7 +10,7 @@ from ..farm.sharding import in_shard
 from ..host.program import find_program
 from ..host.releases import program_of
 from ..host.signals import Stopped
-from ..host.terminal import LabError, escape_controls
+from ..host.terminal import LabError, tell
 
 
 def source(options: argparse.Namespace) -> Checker:
@@ -30,7 +29,7 @@ def source(options: argparse.Namespace) -> Checker:
 
 def run(options: argparse.Namespace) -> int:
     """Checks all files. A signal ends all programs that run, and the results so far are written."""
-    files = [file for file in text_files(options.files, tell_of_left) if in_shard(file, options.shard)]
+    files = [file for file in text_files(options.files, tell) if in_shard(file, options.shard)]
     checker = source(options)
     if options.only and options.format in ("tap", "junit"):
         raise LabError("--only is for the formats text, json and jsonl: TAP and JUnit count all files", 2)
@@ -44,11 +43,6 @@ def run(options: argparse.Namespace) -> int:
         return signal.status
     writer.end("a contradiction" if is_contradicted else None)
     return exit_status(counts)
-
-
-def tell_of_left(words: str) -> None:
-    """Says on standard error what is left out of a folder."""
-    print(f"bbmlab: {escape_controls(words)}", file=sys.stderr)
 
 
 def write_results(checker: Checker, files: list[str], writer: ResultWriter, counts: dict[str, int]) -> bool:

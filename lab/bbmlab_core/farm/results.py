@@ -53,8 +53,7 @@ class TextWriter(ResultWriter):
 
     def add(self, result: Result) -> None:
         """Writes a line, unless the result is a yes that a receipt holds."""
-        self.results[result.result] = self.results.get(result.result, 0) + 1
-        self.held += result.held
+        self.leave(result)
         if result.held and result.result == "yes":
             return
         word = painted(WORDS[result.result].ljust(8), COLOURS.get(result.result, "yellow"))
