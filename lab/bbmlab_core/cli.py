@@ -102,11 +102,18 @@ def shard(word: str) -> Any:
     return read_shard(word)
 
 
-def add_program(parser: argparse.ArgumentParser) -> None:
-    """Adds the options on the program."""
-    parser.add_argument("--program", metavar="PATH",
-                        help="the program (else $BBMCHECK, the repository's, or bbmcheck on PATH)")
-    parser.add_argument("--timeout", type=seconds, metavar="SECONDS", help="how long the program may take on a file")
+def arg(names: str, about: str, **options: Any) -> tuple[list[str], dict[str, Any]]:
+    """Returns an argument as argparse takes it, from its names with spaces between, and what `--help` says of it."""
+    return names.split(), {"help": about, **options}
+
+
+def flag(names: str, about: str) -> tuple[list[str], dict[str, Any]]:
+    """Returns an option without a value."""
+    return arg(names, about, action="store_true")
+
+
+class OneOf(list["Any"]):
+    """Arguments of which at most one can be given."""
 
 
 def columns() -> int:
@@ -154,344 +161,224 @@ class Parser(argparse.ArgumentParser):
 
 
 class ListedOnly(argparse.ArgumentParser):
-    """A command that does not run: it needs no arguments, whose parsers would take most of the time of a start."""
+    """A command that does not run: it needs no parser, which would take most of the time of a start."""
 
     def __init__(self, **_options: Any) -> None:
         """Makes nothing."""
 
-    def add_argument(self, *_names: Any, **_options: Any) -> Any:
-        """Adds nothing."""
 
-    def add_mutually_exclusive_group(self, **_options: Any) -> Any:
-        """Returns what adds nothing."""
-        return self
-
-    def set_defaults(self, **_values: Any) -> None:
-        """Sets nothing."""
-
-
-class Commands:
-    """The parser of one command if it is named, else the list of all commands."""
-
-    def __init__(self, wanted: str | None) -> None:
-        self.wanted = wanted
-        self.parser = Parser(prog="bbmlab", description="See, explain, trace and check billiard-ball layouts.",
-                             epilog=EPILOG, formatter_class=HelpForm)
-        self.parser.add_argument("--version", action="version", version=f"bbmlab {VERSION}")
-        self.commands: argparse._SubParsersAction[argparse.ArgumentParser] = self.parser.add_subparsers(
-            dest="name", metavar="COMMAND", required=True, parser_class=Parser if wanted else ListedOnly)
-        for adder in ADDERS:
-            adder(self)
-
-    def add(self, name: str, run: Callable[[argparse.Namespace], int], about: str,
-            more: str = "") -> argparse.ArgumentParser:
-        """Adds a command with a line on what it does and an example."""
-        if self.wanted not in (None, name):
-            return ListedOnly()
-        parser = self.commands.add_parser(name, help=about, description=about, epilog=more, formatter_class=HelpForm)
-        parser.set_defaults(run=run)
-        return parser
+def commands_for(words: list[str]) -> tuple[Parser, dict[str, argparse.ArgumentParser]]:
+    """Returns the parser of the command that the words name, or of the list of all commands, and that of each command.
+    """
+    named = next((word for word in words if not word.startswith("-")), None)
+    wanted = named if named in COMMANDS else None
+    whole = Parser(prog="bbmlab", description="See, explain, trace and check billiard-ball layouts.",
+                   epilog=EPILOG, formatter_class=HelpForm)
+    whole.add_argument("--version", action="version", version=f"bbmlab {VERSION}")
+    commands: argparse._SubParsersAction[argparse.ArgumentParser] = whole.add_subparsers(
+        dest="name", metavar="COMMAND", required=True, parser_class=Parser if wanted else ListedOnly)
+    for name in [wanted] if wanted else COMMANDS:
+        run, about, example, arguments = COMMANDS[name]
+        parser = commands.add_parser(name, help=about, description=about, formatter_class=HelpForm,
+                                     epilog=f"Example: bbmlab {example}")
+        if wanted:
+            parser.set_defaults(run=late(*run.split(".")))
+            add_arguments(parser, arguments)
+    return whole, commands.choices
 
 
-def commands_for(words: list[str]) -> Commands:
-    """Returns the parser of the command that the words name, or of the list of commands."""
-    commands = Commands(next((word for word in words if not word.startswith("-")), None))
-    return commands if commands.commands.choices else Commands(None)
+def add_arguments(parser: argparse._ActionsContainer, arguments: list[Any]) -> None:
+    """Adds arguments to a command."""
+    for argument in arguments:
+        if isinstance(argument, OneOf):
+            add_arguments(parser.add_mutually_exclusive_group(), argument)
+        else:
+            names, options = argument
+            parser.add_argument(*names, **options)
 
 
-def add_check(commands: Commands) -> None:
-    """Adds `check`."""
-    parser = commands.add("check", late("check"), "Put each file through the program; exit 0 only if all said yes.",
-                          "Example: bbmlab check --jobs 4 designs/ more.txt")
-    parser.add_argument("files", nargs="+", metavar="FILE",
-                        help="a bundle, - for standard input, or a folder: all its .txt files")
-    parser.add_argument("--jobs", type=positive, default=min(4, os.cpu_count() or 1), metavar="N",
-                        help="files at a time (default: %(default)s)")
-    parser.add_argument("--format", choices=FORMATS, default="text", help="how results are written (default: text)")
-    parser.add_argument("--only", type=result_words, metavar="RESULTS",
-                        help="list only files with these results, such as no,refused; all are checked")
-    parser.add_argument("--receipts", metavar="DIR",
-                        help="write a receipt of each answer here, and skip texts whose receipt holds")
-    parser.add_argument("--again", action="store_true", help="with --receipts: check all texts")
-    parser.add_argument("--shard", type=shard, metavar="K/N",
-                        help="check only part K of N, by the digests of the names")
-    parser.add_argument("--dask", nargs="?", const="", metavar="ADDRESS",
-                        help="check by the workers of this Dask scheduler, or of a cluster here")
-    parser.add_argument("--send-program", action="store_true",
-                        help="with --dask: send the program to workers that have another")
-    add_program(parser)
+OUTPUT = arg("-o --output", "write to this file (default: standard output)", metavar="FILE")
+PROGRAM = [arg("--program", "the program (else $BBMCHECK, the repository's, or bbmcheck on PATH)", metavar="PATH"),
+           arg("--timeout", "how long the program may take on a file", type=seconds, metavar="SECONDS")]
+ON = arg("--on", "the inputs that are on, with commas between", metavar="NAMES")
+READING = [
+    arg("--from", "the form of the netlist (default: told by its content)", dest="given", choices=FORMS),
+    arg("--cycles", "unroll flip-flops and latches for K cycles", type=positive, metavar="K"),
+    arg("--state", "ports: the state comes in by inputs. initial: it begins with its first values (default: ports)",
+        choices=["ports", "initial"], default="ports")]
+CIRCUIT = f"a text that begins with a circuit, or a netlist ({NETLISTS})"
 
 
-def add_receipts(commands: Commands) -> None:
-    """Adds `verify` and `summary`."""
-    parser = commands.add("verify", late("verify"),
-                          "Say whether a receipt is of a text, and of a released program; exit 0 only if it is.",
-                          "Example: bbmlab verify receipts/design.txt.json design.txt --again")
-    parser.add_argument("receipt", metavar="RECEIPT", help="a receipt that `bbmlab check --receipts` wrote")
-    parser.add_argument("file", metavar="FILE", help="the text, or - for standard input")
-    parser.add_argument("--again", action="store_true",
-                        help="run the program again, and compare the report byte for byte")
-    parser.add_argument("--release", action="append", default=[], metavar="MANIFEST",
-                        help="the MANIFEST of another release that counts")
-    add_program(parser)
-    parser = commands.add("summary", late("verify", "run_summary"),
-                          "Count the receipts of a folder; exit 0 only if all are of a yes.",
-                          "Example: bbmlab summary receipts/")
-    parser.add_argument("folder", metavar="DIR", help="a folder of receipts")
+def file(about: str) -> tuple[list[str], dict[str, Any]]:
+    """Returns the file that a command reads."""
+    return arg("file", f"{about}, or - for standard input", metavar="FILE")
 
 
-def add_explain(commands: Commands) -> None:
-    """Adds `explain`."""
-    parser = commands.add("explain", late("explain"),
-                          "Explain each line of the report, or the refusal, in plain English.",
-                          "Example: bbmlab explain examples/wrong_edge.txt")
-    parser.add_argument("file", metavar="FILE", help="the text that the program answers, or - for standard input")
-    parser.add_argument("--report", metavar="FILE",
-                        help="explain this answer of the program, which must be of this text")
-    parser.add_argument("--fix", action="store_true",
-                        help="write the text with the edits that were found, after trying them")
-    parser.add_argument("-o", "--output", metavar="FILE",
-                        help="with --fix: write to this file (default: standard output)")
-    parser.add_argument("-i", "--in-place", action="store_true", help="with --fix: write the file again")
-    parser.add_argument("--effort", type=seconds, default=30.0, metavar="SECONDS",
-                        help="how much processor time the search for fixes takes (default: 30)")
-    parser.add_argument("--command", dest="command_of_program", choices=["check", "run", "value", "modules", "migrate"],
-                        help="the command of the program (default: by the sections of the text)")
-    form = parser.add_mutually_exclusive_group()
-    form.add_argument("--json", action="store_true", help="write one JSON document")
-    form.add_argument("--gcc", action="store_true", help="write file:line: error: text, for editors")
-    add_program(parser)
-
-
-def add_fmt(commands: Commands) -> None:
-    """Adds `fmt`."""
-    parser = commands.add("fmt", late("fmt"),
-                          "Write a text in its one spelling: no comments, no empty lines, sorted lists.",
-                          "Example: bbmlab fmt -i mine.txt")
-    parser.add_argument("files", nargs="+", metavar="FILE", help="a text, or - for standard input")
-    parser.add_argument("-o", "--output", metavar="FILE", help="write to this file (default: standard output)")
-    parser.add_argument("-i", "--in-place", action="store_true",
-                        help="write each file again if it changes; refused if it has comments")
-    parser.add_argument("--strip-comments", action="store_true", help="with -i: leave out the comments of a file")
-    parser.add_argument("--check", action="store_true", help="write nothing; exit 1 if a file would change")
-
-
-def add_file(parser: argparse.ArgumentParser, about: str) -> None:
-    """Adds the file that a command reads, and the one that it writes."""
-    parser.add_argument("file", metavar="FILE", help=f"{about}, or - for standard input")
-    parser.add_argument("-o", "--output", metavar="FILE", help="write to this file (default: standard output)")
-
-
-def add_certify(commands: Commands) -> None:
-    """Adds `certify`."""
-    parser = commands.add("certify", late("certify"), "Make a certificate for a circuit and a layout; exit 0 only if "
-                          "the program says yes to it.",
-                          "Example: bbmlab certify design.txt -o bundle.txt")
-    add_file(parser, "a text that begins with a circuit and a layout")
-    boxes = parser.add_mutually_exclusive_group()
-    boxes.add_argument("--grid", type=grid_sides, metavar="W,H",
-                       help="take boxes of W by H cells, even and at most 64 (default: the lab chooses)")
-    boxes.add_argument("--boxes", metavar="FILE", help="take the boxes of the lines `module X Y W H` of this text")
-    boxes.add_argument("--plain", action="store_true", help="one module for the whole layout, without edge lines")
-    parser.add_argument("--version", dest="version_of_text", type=int, choices=[1, 2], default=2,
-                        help="certificate version (default: 2)")
-    parser.add_argument("--cuts", choices=["auto", "safe"], default="auto",
-                        help="auto: cut wires where they come in, if that holds. safe: use all gates back to the "
-                        "inputs (default: auto)")
-    add_program(parser)
-
-
-def add_trace(commands: Commands) -> None:
-    """Adds `trace`."""
-    parser = commands.add("trace", late("trace"),
-                          "Write the live cells at each time; the last state is compared with the program's run.",
-                          "Example: bbmlab trace examples/head_on.txt --on p,q")
-    add_file(parser, "a bundle, a circuit and a layout, or a layout with or without an assign section")
-    parser.add_argument("--on", metavar="NAMES",
-                        help="the inputs that are on, with commas between (default: those of the assign section)")
-    parser.add_argument("--from", dest="start", type=from_zero, default=0, metavar="T",
-                        help="the first time (default: 0)")
-    parser.add_argument("--to", type=from_zero, metavar="T", help="the last time (default: the layout's steps)")
-    parser.add_argument("--module", type=from_zero, metavar="M", help="run this module of the certificate by itself")
-    parser.add_argument("--assignment", type=from_zero, default=0, metavar="A",
-                        help="bit i of A is the value of the module's cut i (default: 0)")
-    parser.add_argument("--pictures", action="store_true", help="add a small picture at each time")
-    parser.add_argument("--json", action="store_true", help="write one JSON document")
-    add_program(parser)
-
-
-def add_draw(commands: Commands) -> None:
-    """Adds `draw`."""
-    parser = commands.add("draw", late("draw"),
-                          "Draw a layout as SVG: mirrors, ports, modules, balls at a time or their ways.",
-                          "Example: bbmlab draw examples/fredkin_gate.txt --ways -o ways.svg")
-    add_file(parser, "a text with a layout")
-    parser.add_argument("--on", metavar="NAMES", help="the inputs that are on, with commas between")
-    which = parser.add_mutually_exclusive_group()
-    which.add_argument("--time", type=from_zero, default=0, metavar="T", help="the time that is shown (default: 0)")
-    which.add_argument("--ways", action="store_true", help="the ways of the balls over all times, coloured by wire")
-    parser.add_argument("--report", metavar="FILE", help="mark the cells of the faults of this report")
-    parser.add_argument("--crop", type=from_zero, nargs=4, metavar=("X", "Y", "W", "H"),
-                        help="draw this part of the layout only")
-    parser.add_argument("--wires", metavar="NAMES", help="bring out the ways of these wires, with commas between")
-    parser.add_argument("--cone", metavar="NAME",
-                        help="bring out the ways of this wire and of all wires on which it depends")
-    parser.add_argument("--arrows", action="store_true", help="show where the balls go, on ways that are long enough")
-    parser.add_argument("--ball", type=ball_size, default=0.0, metavar="CELLS",
-                        help="the least size of a ball (default: by the layout)")
-
-
-def add_view(commands: Commands) -> None:
-    """Adds `view`."""
-    parser = commands.add("view", late("view"),
-                          "Write one HTML file that shows a layout in a browser, without a network.",
-                          "Example: bbmlab view examples/wrong_edge.txt -o wrong_edge.html")
-    add_file(parser, "a text with a layout")
-    parser.add_argument("--report", metavar="FILE", help="show this report in place of running the program")
-    add_program(parser)
-
-
-def add_studio(commands: Commands) -> None:
-    """Adds `studio`."""
-    parser = commands.add("studio", late("studio"),
-                          "Draw a layout in the browser, and see the program's verdict while you draw.",
-                          "Example: bbmlab studio my_gate.txt")
-    parser.add_argument("file", nargs="?", metavar="FILE",
-                        help="the text to open (default: a new layout in this folder)")
-    parser.add_argument("--no-open", dest="open", action="store_false", help="print the address, and open no browser")
-    parser.add_argument("--port", type=port, metavar="N", help="listen at this port of 127.0.0.1 (default: a free one)")
-    parser.add_argument("--memory", type=positive, default=4096, metavar="MIB",
-                        help="the memory limit of the program and of the lab (default: 4096)")
-    add_program(parser)
-
-
-def add_cells(commands: Commands) -> None:
-    """Adds `cells`."""
-    parser = commands.add("cells", late("cells"), "List the standard cells with their ports, or show one of them.",
-                          "Example: bbmlab cells fredkin --svg -o fredkin.svg")
-    parser.add_argument("cell", nargs="?", metavar="NAME", help="the name of a cell (default: list all)")
-    form = parser.add_mutually_exclusive_group()
-    form.add_argument("--svg", action="store_true", help="draw the ways of its balls")
-    form.add_argument("--bundle", action="store_true", help="write its bundle, which the program checks")
-    parser.add_argument("-o", "--output", metavar="FILE", help="write to this file (default: standard output)")
-
-
-def add_others(commands: Commands) -> None:
-    """Adds `json`, `golly` and `from-golly`."""
-    parser = commands.add("json", late("json_document"),
-                          "Write a text and its report as one JSON document, or the text of such a document.",
-                          "Example: bbmlab json bundle.txt | bbmlab json --back -")
-    add_file(parser, "a text, or a JSON document with --back")
-    parser.add_argument("--back", action="store_true", help="read a JSON document and write its text")
-    parser.add_argument("--report", metavar="FILE", help="add this report to the document")
-    parser = commands.add("golly", late("golly"), "Write the start of a layout as an RLE file for Golly.",
-                          "Example: bbmlab golly examples/head_on.txt --on p,q -o head_on.rle")
-    add_file(parser, "a text with a layout")
-    parser.add_argument("--on", metavar="NAMES", help="the inputs that are on, with commas between")
-    parser = commands.add("from-golly", late("golly", "run_back"),
-                          "Write the layout of an RLE file: that of its comments, or its live cells as balls.",
-                          "Example: bbmlab from-golly pattern.rle")
-    add_file(parser, "an RLE file for Golly's rule BBM-Margolus-emulated")
-
-
-def add_reading(parser: argparse.ArgumentParser) -> None:
-    """Adds the options on how a netlist is read."""
-    parser.add_argument("--from", dest="given", choices=FORMS,
-                        help="the form of the netlist (default: told by its content)")
-    parser.add_argument("--cycles", type=positive, metavar="K", help="unroll flip-flops and latches for K cycles")
-    parser.add_argument("--state", choices=["ports", "initial"], default="ports",
-                        help="ports: the state comes in by inputs. initial: it begins with its first values (default: "
-                        "ports)")
-
-
-def add_circuits(commands: Commands) -> None:
-    """Adds `circuit`, `table`, `stats` and `equal`."""
-    about = f"a text that begins with a circuit, or a netlist ({NETLISTS})"
-    parser = commands.add("circuit", late("circuits", "run_circuit"),
-                          "Write the circuit of a netlist, its inverse, or a circuit in the form of another tool.",
-                          "Example: bbmlab circuit toffoli.real -o toffoli.txt")
-    add_file(parser, about)
-    add_reading(parser)
-    parser.add_argument("--to", choices=["blif", "verilog", "aiger", "real", "qasm", "dot"],
-                        help="write this form (default: a circuit section)")
-    turned = parser.add_mutually_exclusive_group()
-    turned.add_argument("--inverse", action="store_true",
-                        help="turn the gates round: outputs become inputs, and constants garbage")
-    turned.add_argument("--clean", action="store_true",
-                        help="compute, copy the outputs and undo, so that inputs are the only garbage")
-    parser.add_argument("--simplify", action="store_true",
-                        help="fold constants, and remove what is dead, undone or made twice")
-    parser = commands.add("table", late("circuits", "run_table"),
-                          "Write the values of a circuit's outputs for all inputs.",
-                          "Example: bbmlab table examples/half_adder.txt")
-    add_file(parser, about)
-    add_reading(parser)
-    parser.add_argument("--on", metavar="NAMES", help="one row alone: the inputs that are on, with commas between")
-    parser.add_argument("--csv", action="store_true", help="comma-separated values")
-    parser = commands.add("stats", late("circuits", "run_stats"),
-                          "Count gates, constants, garbage and depth, and the cells of a layout.",
-                          "Example: bbmlab stats examples/machine_fredkin.txt")
-    add_file(parser, f"{about}, or a bundle")
-    add_reading(parser)
-    parser = commands.add("equal", late("circuits", "run_equal"),
-                          "Say whether two circuits have the same outputs, by the names of their ports.",
-                          "Example: bbmlab equal adder.blif adder.txt")
-    parser.add_argument("file", metavar="FILE", help=about)
-    parser.add_argument("other", metavar="OTHER", help="another one")
-    parser.add_argument("--common", action="store_true", help="compare the outputs that both have")
-
-
-def add_route(commands: Commands) -> None:
-    """Adds `route`."""
-    parser = commands.add("route", late("route"),
-                          "Place and route a circuit: a layout of balls and mirrors, with a certificate.",
-                          "Example: bbmlab route circuit.txt -o bundle.txt")
-    add_file(parser, f"a text that begins with a circuit, or a netlist ({NETLISTS})")
-    add_reading(parser)
-    parser.add_argument("--seed", type=positive, default=1, metavar="N",
-                        help="another seed gives another layout (default: 1)")
-    parser.add_argument("--size", type=positive, metavar="N",
-                        help="the side of the layout, a multiple of 16 up to 4096 (default: as needed)")
-    parser.add_argument("--effort", type=seconds, default=60.0, metavar="SECONDS",
-                        help="how long to search (default: 60)")
-    parser.add_argument("--jobs", type=positive, default=1, metavar="N",
-                        help="attempts at a time, each in a process (default: 1)")
-    parser.add_argument("--compact", action="store_true",
-                        help="go on with ever smaller planes, until no attempt on one finds a route")
-    parser.add_argument("--no-certificate", action="store_true", help="write the circuit and the layout alone")
-    parser.add_argument("--open-ends", action="store_true", help="keep room at each start and end for `bbmlab join`")
-    parser.add_argument("--late", nargs="+", default=[], metavar="INPUT",
-                        help="have these inputs meet the other balls as late as they can, for `bbmlab join`")
-    parser.add_argument("--circuit-only", action="store_true",
-                        help="write the circuit section to which a netlist is mapped, and route nothing")
-    parser.add_argument("--keep-partial", action="store_true",
-                        help="if there is no route, write a bundle of the gates that were placed")
-    parser.add_argument("--map", metavar="SVG",
-                        help="also write a picture of how full the plane was when the best attempt ended")
-    add_program(parser)
-
-
-def add_join(commands: Commands) -> None:
-    """Adds `join`."""
-    parser = commands.add("join", late("join"),
-                          "Put bundles on one plane, lead balls between their ports, certify the whole.",
-                          "Example: bbmlab join first.txt second.txt --connect A.sum=B.p -o bundle.txt")
-    parser.add_argument("files", nargs="+", metavar="PART",
-                        help="a bundle with a yes, as FILE or NAME=FILE; without a name the parts are a, b, c ..")
-    parser.add_argument("--connect", action="extend", nargs="+", default=[], metavar="A.OUT=B.IN",
-                        help="lead an output of a part to an input of another")
-    parser.add_argument("-o", "--output", metavar="FILE", help="write to this file (default: standard output)")
-    parser.add_argument("--seed", type=positive, default=1, metavar="N",
-                        help="another seed gives other paths (default: 1)")
-    parser.add_argument("--size", type=positive, metavar="N",
-                        help="the side of the plane, a multiple of 16 up to 4096 (default: as needed)")
-    parser.add_argument("--effort", type=seconds, default=60.0, metavar="SECONDS",
-                        help="how long to search (default: 60)")
-    add_program(parser)
-
-
-ADDERS = [add_check, add_receipts, add_explain, add_trace, add_draw, add_view, add_studio, add_certify, add_circuits,
-          add_route, add_join, add_cells, add_fmt, add_others]
+# For each command the module of `commands` with its function if that is not `run`, what it does, the words of an
+# example, and the arguments.
+COMMANDS: dict[str, tuple[str, str, str, list[Any]]] = {
+    "check": ("check", "Put each file through the program; exit 0 only if all said yes.",
+              "check --jobs 4 designs/ more.txt", [
+        arg("files", "a bundle, - for standard input, or a folder: all its .txt files", nargs="+", metavar="FILE"),
+        arg("--jobs", "files at a time (default: %(default)s)", type=positive, default=min(4, os.cpu_count() or 1),
+            metavar="N"),
+        arg("--format", "how results are written (default: text)", choices=FORMATS, default="text"),
+        arg("--only", "list only files with these results, such as no,refused; all are checked", type=result_words,
+            metavar="RESULTS"),
+        arg("--receipts", "write a receipt of each answer here, and skip texts whose receipt holds", metavar="DIR"),
+        flag("--again", "with --receipts: check all texts"),
+        arg("--shard", "check only part K of N, by the digests of the names", type=shard, metavar="K/N"),
+        arg("--dask", "check by the workers of this Dask scheduler, or of a cluster here", nargs="?", const="",
+            metavar="ADDRESS"),
+        flag("--send-program", "with --dask: send the program to workers that have another"),
+        *PROGRAM]),
+    "verify": ("verify", "Say whether a receipt is of a text, and of a released program; exit 0 only if it is.",
+               "verify receipts/design.txt.json design.txt --again", [
+        arg("receipt", "a receipt that `bbmlab check --receipts` wrote", metavar="RECEIPT"),
+        file("the text"),
+        flag("--again", "run the program again, and compare the report byte for byte"),
+        arg("--release", "the MANIFEST of another release that counts", action="append", default=[],
+            metavar="MANIFEST"),
+        *PROGRAM]),
+    "summary": ("verify.run_summary", "Count the receipts of a folder; exit 0 only if all are of a yes.",
+                "summary receipts/", [arg("folder", "a folder of receipts", metavar="DIR")]),
+    "explain": ("explain", "Explain each line of the report, or the refusal, in plain English.",
+                "explain examples/wrong_edge.txt", [
+        file("the text that the program answers"),
+        arg("--report", "explain this answer of the program, which must be of this text", metavar="FILE"),
+        flag("--fix", "write the text with the edits that were found, after trying them"),
+        arg("-o --output", "with --fix: write to this file (default: standard output)", metavar="FILE"),
+        flag("-i --in-place", "with --fix: write the file again"),
+        arg("--effort", "how much processor time the search for fixes takes (default: 30)", type=seconds, default=30.0,
+            metavar="SECONDS"),
+        arg("--command", "the command of the program (default: by the sections of the text)",
+            dest="command_of_program", choices=["check", "run", "value", "modules", "migrate"]),
+        OneOf([flag("--json", "write one JSON document"),
+               flag("--gcc", "write file:line: error: text, for editors")]),
+        *PROGRAM]),
+    "trace": ("trace", "Write the live cells at each time; the last state is compared with the program's run.",
+              "trace examples/head_on.txt --on p,q", [
+        file("a bundle, a circuit and a layout, or a layout with or without an assign section"), OUTPUT,
+        arg("--on", "the inputs that are on, with commas between (default: those of the assign section)",
+            metavar="NAMES"),
+        arg("--from", "the first time (default: 0)", dest="start", type=from_zero, default=0, metavar="T"),
+        arg("--to", "the last time (default: the layout's steps)", type=from_zero, metavar="T"),
+        arg("--module", "run this module of the certificate by itself", type=from_zero, metavar="M"),
+        arg("--assignment", "bit i of A is the value of the module's cut i (default: 0)", type=from_zero, default=0,
+            metavar="A"),
+        flag("--pictures", "add a small picture at each time"),
+        flag("--json", "write one JSON document"),
+        *PROGRAM]),
+    "draw": ("draw", "Draw a layout as SVG: mirrors, ports, modules, balls at a time or their ways.",
+             "draw examples/fredkin_gate.txt --ways -o ways.svg", [
+        file("a text with a layout"), OUTPUT, ON,
+        OneOf([arg("--time", "the time that is shown (default: 0)", type=from_zero, default=0, metavar="T"),
+               flag("--ways", "the ways of the balls over all times, coloured by wire")]),
+        arg("--report", "mark the cells of the faults of this report", metavar="FILE"),
+        arg("--crop", "draw this part of the layout only", type=from_zero, nargs=4, metavar=("X", "Y", "W", "H")),
+        arg("--wires", "bring out the ways of these wires, with commas between", metavar="NAMES"),
+        arg("--cone", "bring out the ways of this wire and of all wires on which it depends", metavar="NAME"),
+        flag("--arrows", "show where the balls go, on ways that are long enough"),
+        arg("--ball", "the least size of a ball (default: by the layout)", type=ball_size, default=0.0,
+            metavar="CELLS")]),
+    "view": ("view", "Write one HTML file that shows a layout in a browser, without a network.",
+             "view examples/wrong_edge.txt -o wrong_edge.html", [
+        file("a text with a layout"), OUTPUT,
+        arg("--report", "show this report in place of running the program", metavar="FILE"),
+        *PROGRAM]),
+    "studio": ("studio", "Draw a layout in the browser, and see the program's verdict while you draw.",
+               "studio my_gate.txt", [
+        arg("file", "the text to open (default: a new layout in this folder)", nargs="?", metavar="FILE"),
+        arg("--no-open", "print the address, and open no browser", dest="open", action="store_false"),
+        arg("--port", "listen at this port of 127.0.0.1 (default: a free one)", type=port, metavar="N"),
+        arg("--memory", "the memory limit of the program and of the lab (default: 4096)", type=positive, default=4096,
+            metavar="MIB"),
+        *PROGRAM]),
+    "certify": ("certify", "Make a certificate for a circuit and a layout; exit 0 only if the program says yes to it.",
+                "certify design.txt -o bundle.txt", [
+        file("a text that begins with a circuit and a layout"), OUTPUT,
+        OneOf([arg("--grid", "take boxes of W by H cells, even and at most 64 (default: the lab chooses)",
+                   type=grid_sides, metavar="W,H"),
+               arg("--boxes", "take the boxes of the lines `module X Y W H` of this text", metavar="FILE"),
+               flag("--plain", "one module for the whole layout, without edge lines")]),
+        arg("--version", "certificate version (default: 2)", dest="version_of_text", type=int, choices=[1, 2],
+            default=2),
+        arg("--cuts", "auto: cut wires where they come in, if that holds. safe: use all gates back to the inputs "
+            "(default: auto)", choices=["auto", "safe"], default="auto"),
+        *PROGRAM]),
+    "circuit": ("circuits.run_circuit",
+                "Write the circuit of a netlist, its inverse, or a circuit in the form of another tool.",
+                "circuit toffoli.real -o toffoli.txt", [
+        file(CIRCUIT), OUTPUT, *READING,
+        arg("--to", "write this form (default: a circuit section)",
+            choices=["blif", "verilog", "aiger", "real", "qasm", "dot"]),
+        OneOf([flag("--inverse", "turn the gates round: outputs become inputs, and constants garbage"),
+               flag("--clean", "compute, copy the outputs and undo, so that inputs are the only garbage")]),
+        flag("--simplify", "fold constants, and remove what is dead, undone or made twice")]),
+    "table": ("circuits.run_table", "Write the values of a circuit's outputs for all inputs.",
+              "table examples/half_adder.txt", [
+        file(CIRCUIT), OUTPUT, *READING,
+        arg("--on", "one row alone: the inputs that are on, with commas between", metavar="NAMES"),
+        flag("--csv", "comma-separated values")]),
+    "stats": ("circuits.run_stats", "Count gates, constants, garbage and depth, and the cells of a layout.",
+              "stats examples/machine_fredkin.txt", [file(f"{CIRCUIT}, or a bundle"), OUTPUT, *READING]),
+    "equal": ("circuits.run_equal", "Say whether two circuits have the same outputs, by the names of their ports.",
+              "equal adder.blif adder.txt", [
+        arg("file", CIRCUIT, metavar="FILE"),
+        arg("other", "another one", metavar="OTHER"),
+        flag("--common", "compare the outputs that both have")]),
+    "route": ("route", "Place and route a circuit: a layout of balls and mirrors, with a certificate.",
+              "route circuit.txt -o bundle.txt", [
+        file(CIRCUIT), OUTPUT, *READING,
+        arg("--seed", "another seed gives another layout (default: 1)", type=positive, default=1, metavar="N"),
+        arg("--size", "the side of the layout, a multiple of 16 up to 4096 (default: as needed)", type=positive,
+            metavar="N"),
+        arg("--effort", "how long to search (default: 60)", type=seconds, default=60.0, metavar="SECONDS"),
+        arg("--jobs", "attempts at a time, each in a process (default: 1)", type=positive, default=1, metavar="N"),
+        flag("--compact", "go on with ever smaller planes, until no attempt on one finds a route"),
+        flag("--no-certificate", "write the circuit and the layout alone"),
+        flag("--open-ends", "keep room at each start and end for `bbmlab join`"),
+        arg("--late", "have these inputs meet the other balls as late as they can, for `bbmlab join`", nargs="+",
+            default=[], metavar="INPUT"),
+        flag("--circuit-only", "write the circuit section to which a netlist is mapped, and route nothing"),
+        flag("--keep-partial", "if there is no route, write a bundle of the gates that were placed"),
+        arg("--map", "also write a picture of how full the plane was when the best attempt ended", metavar="SVG"),
+        *PROGRAM]),
+    "join": ("join", "Put bundles on one plane, lead balls between their ports, certify the whole.",
+             "join first.txt second.txt --connect A.sum=B.p -o bundle.txt", [
+        arg("files", "a bundle with a yes, as FILE or NAME=FILE; without a name the parts are a, b, c ..", nargs="+",
+            metavar="PART"),
+        arg("--connect", "lead an output of a part to an input of another", action="extend", nargs="+", default=[],
+            metavar="A.OUT=B.IN"),
+        OUTPUT,
+        arg("--seed", "another seed gives other paths (default: 1)", type=positive, default=1, metavar="N"),
+        arg("--size", "the side of the plane, a multiple of 16 up to 4096 (default: as needed)", type=positive,
+            metavar="N"),
+        arg("--effort", "how long to search (default: 60)", type=seconds, default=60.0, metavar="SECONDS"),
+        *PROGRAM]),
+    "cells": ("cells", "List the standard cells with their ports, or show one of them.",
+              "cells fredkin --svg -o fredkin.svg", [
+        arg("cell", "the name of a cell (default: list all)", nargs="?", metavar="NAME"),
+        OneOf([flag("--svg", "draw the ways of its balls"),
+               flag("--bundle", "write its bundle, which the program checks")]),
+        OUTPUT]),
+    "fmt": ("fmt", "Write a text in its one spelling: no comments, no empty lines, sorted lists.", "fmt -i mine.txt", [
+        arg("files", "a text, or - for standard input", nargs="+", metavar="FILE"),
+        OUTPUT,
+        flag("-i --in-place", "write each file again if it changes; refused if it has comments"),
+        flag("--strip-comments", "with -i: leave out the comments of a file"),
+        flag("--check", "write nothing; exit 1 if a file would change")]),
+    "json": ("json_document", "Write a text and its report as one JSON document, or the text of such a document.",
+             "json bundle.txt | bbmlab json --back -", [
+        file("a text, or a JSON document with --back"), OUTPUT,
+        flag("--back", "read a JSON document and write its text"),
+        arg("--report", "add this report to the document", metavar="FILE")]),
+    "golly": ("golly", "Write the start of a layout as an RLE file for Golly.",
+              "golly examples/head_on.txt --on p,q -o head_on.rle", [file("a text with a layout"), OUTPUT, ON]),
+    "from-golly": ("golly.run_back",
+                   "Write the layout of an RLE file: that of its comments, or its live cells as balls.",
+                   "from-golly pattern.rle", [file("an RLE file for Golly's rule BBM-Margolus-emulated"), OUTPUT]),
+}
 
 
 def answered(run: Callable[[argparse.Namespace], int], options: argparse.Namespace) -> int:
@@ -547,10 +434,10 @@ def main(words: list[str] | None = None) -> int:
     """Runs a command and returns the exit status."""
     open_standard_error()
     words = sys.argv[1:] if words is None else words
-    commands = commands_for(words)
-    options, unknown = commands.parser.parse_known_args(words)
+    parser, commands = commands_for(words)
+    options, unknown = parser.parse_known_args(words)
     if unknown:
-        commands.commands.choices[options.name].error(f"unrecognized arguments: {' '.join(unknown)}")
+        commands[options.name].error(f"unrecognized arguments: {' '.join(unknown)}")
     if sys.stdout is None:
         print("bbmlab: standard output is closed", file=sys.stderr)
         return 4

@@ -8,14 +8,11 @@ which one is wrong. It runs with Debian's python3-selenium. Each test opens its 
 import os
 import re
 import sys
-import time
 import unittest
 import xml.etree.ElementTree as ET
 from pathlib import Path
-from typing import Any, Callable
 
-from browse_page import await_frames, is_of_size, is_still, open_browser
-from selenium import webdriver
+from browse_page import Driven, await_frames, is_of_size, open_browser
 from selenium.webdriver.common.by import By
 from selenium.webdriver.common.keys import Keys
 
@@ -31,15 +28,16 @@ for (const part of document.querySelectorAll('[role=status],[role=alert],[aria-l
 }"""
 
 
-class Page(unittest.TestCase):
+class Page(Driven, unittest.TestCase):
     """A page in a browser."""
 
-    browser: webdriver.Chrome
+    folder = FOLDER
+    # A test case is made without arguments of the browser.
+    __init__ = unittest.TestCase.__init__
 
     @classmethod
     def setUpClass(cls) -> None:
         cls.browser = open_browser("--touch-events=enabled")
-        cls.browser.execute_cdp_cmd("Browser.setDownloadBehavior", {"behavior": "allow", "downloadPath": str(FOLDER)})
 
     @classmethod
     def tearDownClass(cls) -> None:
@@ -47,11 +45,9 @@ class Page(unittest.TestCase):
 
     def open(self, name: str, hash_text: str = "", size: tuple[int, int] = WIDE) -> None:
         """Opens a page with an address, as new."""
-        width, height = size
+        self.keep_downloads()
         self.browser.get("about:blank")
-        self.browser.execute_cdp_cmd("Emulation.setDeviceMetricsOverride",
-                                     {"width": width, "height": height, "deviceScaleFactor": 1,
-                                      "mobile": size == PHONE})
+        self.set_size(*size, is_phone=size == PHONE)
         self.browser.execute_cdp_cmd("Emulation.setTouchEmulationEnabled",
                                      {"enabled": size == PHONE, "maxTouchPoints": 2})
         self.browser.get_log("browser")
@@ -62,20 +58,7 @@ class Page(unittest.TestCase):
 
     def tearDown(self) -> None:
         """The console has no error, whatever was done."""
-        self.assertEqual([entry["message"] for entry in self.browser.get_log("browser")
-                          if entry["level"] in ("SEVERE", "WARNING")], [])
-
-    def run_script(self, text: str, *words: Any) -> Any:
-        """Runs a script on the page."""
-        return self.browser.execute_script(text, *words)
-
-    def text(self, name: str) -> str:
-        """Returns the text of an element."""
-        return self.browser.find_element(By.ID, name).text
-
-    def click(self, selector: str, which: int = 0) -> None:
-        """Clicks an element."""
-        self.browser.find_elements(By.CSS_SELECTOR, selector)[which].click()
+        self.assertEqual(self.errors("SEVERE", "WARNING"), [])
 
     def keys(self, *keys: str) -> None:
         """Presses keys where the focus is."""
@@ -83,24 +66,29 @@ class Page(unittest.TestCase):
 
     def hash(self) -> str:
         """Returns the part of the address behind "#"."""
-        return self.run_script("return location.hash")
+        return str(self.script("return location.hash"))
 
-    def wait(self, test: Callable[[], Any], what: str, seconds: float = 60) -> None:
-        """Waits until something holds."""
-        until = time.monotonic() + seconds
-        while not test():
-            self.assertLess(time.monotonic(), until, what)
-            time.sleep(0.05)
+    def box(self, name: str) -> tuple[float, float, float, float]:
+        """Returns where an element begins, its width and its height, in pixels."""
+        left, top, width, height = self.script("const box = document.getElementById(arguments[0])"
+                                               ".getBoundingClientRect(); "
+                                               "return [box.left, box.top, box.width, box.height]", name)
+        return left, top, width, height
 
-    def rest(self) -> None:
-        """Waits until nothing on the page can change by itself: it is drawn, has spoken, and its address says what it
-        shows."""
-        self.wait(lambda: is_still(self.browser), "the page comes to rest")
+    def inner_size(self) -> list[int]:
+        """Returns the width and the height of the picture within its border, in pixels."""
+        sides: list[int] = self.script("const { clientWidth, clientHeight } = document.getElementById('whole'); "
+                                       "return [clientWidth, clientHeight]")
+        return sides
 
-    def point(self, x: float, y: float, kind: str = "mouseMoved", selector: str = "#whole") -> None:
+    def middle(self) -> tuple[float, float]:
+        """Returns the middle of the picture."""
+        left, top, width, height = self.box("whole")
+        return left + width / 2, top + height / 2
+
+    def point(self, x: float, y: float, kind: str = "mouseMoved", name: str = "whole") -> None:
         """Moves the mouse to a place of an element, in pixels from its corner."""
-        left, top = self.run_script("const box = document.querySelector(arguments[0]).getBoundingClientRect(); return "
-                                    "[box.left, box.top]", selector)
+        left, top, *_ = self.box(name)
         button = {} if kind == "mouseMoved" else {"button": "left", "clickCount": 1, "buttons": 1}
         self.browser.execute_cdp_cmd("Input.dispatchMouseEvent", {"type": kind, "x": left + x, "y": top + y, **button})
 
@@ -111,8 +99,7 @@ class Picture(Page):
     def test_cell_under_the_pointer(self) -> None:
         """The cell is shown as messages write it, with what there is."""
         self.open("adder", "#z=20,20,17")
-        width, height = self.run_script("const c = document.getElementById('whole'); return [c.clientWidth, "
-                                        "c.clientHeight]")
+        width, height = self.inner_size()
         # The middle, beside the rulers of 32 and 18 pixels, is the place (20, 17): `in a 15 19` is 4.5 cells to the
         # left and 2.5 below.
         middle = 32 + (width - 32) / 2, 18 + (height - 18) / 2
@@ -134,14 +121,14 @@ class Picture(Page):
         """Trails are drawn, and a key switches them off and on, which the address keeps."""
         self.open("adder", "#t=6")
         self.wait(lambda: self.text("time") == "6 of 8", "the time of the address")
-        self.rest()
-        before = self.run_script(INK)
+        self.await_rest()
+        before = self.script(INK)
         self.keys("t")
-        self.wait(lambda: self.run_script(INK) != before, "the picture is another one without trails")
+        self.wait(lambda: self.script(INK) != before, "the picture is another one without trails")
         self.assertFalse(self.browser.find_element(By.ID, "trails").is_selected())
         self.wait(lambda: self.hash() == "#t=6&trails=0", "the address says that there are no trails")
         self.click("#trails")
-        self.wait(lambda: self.run_script(INK) == before, "the picture is the first one again")
+        self.wait(lambda: self.script(INK) == before, "the picture is the first one again")
 
     def test_play_backwards(self) -> None:
         """From the end the key b plays to the start and stops there, and from the start it begins at the end."""
@@ -150,14 +137,14 @@ class Picture(Page):
         self.wait(lambda: self.text("time") == "0 of 8" and "reverse" in self.text("reverse"), "it comes to the start")
         # A step in four seconds, so that a slow machine stops it on its way, and a list of the times, so that it misses
         # none.
-        self.run_script("const speed = document.getElementById('speed'); speed.min = speed.value = -2; "
+        self.script("const speed = document.getElementById('speed'); speed.min = speed.value = -2; "
                         "speed.dispatchEvent(new Event('input'));"
                         "const time = document.getElementById('time'); window.times = [];"
                         "new MutationObserver(() => window.times.push(time.textContent)).observe(time, {childList: "
                         "true})")
         self.click("#reverse")
-        self.wait(lambda: self.run_script("return window.times.length") >= 2, "it plays")
-        self.assertEqual(self.run_script("return window.times.slice(0, 2)"), ["8 of 8", "7 of 8"],
+        self.wait(lambda: self.script("return window.times.length") >= 2, "it plays")
+        self.assertEqual(self.script("return window.times.slice(0, 2)"), ["8 of 8", "7 of 8"],
                          "it begins at the end")
         self.keys(" ")
         self.wait(lambda: "reverse" in self.text("reverse"), "space stops")
@@ -166,30 +153,27 @@ class Picture(Page):
     def test_waveform(self) -> None:
         """The waveform is drawn under the picture, and a click on it goes to that time."""
         self.open("adder", "#on=a")
-        self.rest()
-        box = self.run_script("const b = document.getElementById('wave').getBoundingClientRect(); return [b.width, "
-                              "b.height, b.top]")
-        self.assertGreater(box[2],
-                           self.run_script("return document.getElementById('whole').getBoundingClientRect().bottom"))
+        self.await_rest()
+        (_, top, width, _), (_, upper, _, height) = self.box("wave"), self.box("whole")
+        self.assertGreater(top, upper + height)
         line = "return parseFloat(document.getElementById('wave-cursor').style.left)"
-        first = self.run_script(line)
-        self.point(box[0] * 0.7, 20, "mousePressed", "#wave")
-        self.point(box[0] * 0.7, 20, "mouseReleased", "#wave")
+        first = self.script(line)
+        self.point(width * 0.7, 20, "mousePressed", "wave")
+        self.point(width * 0.7, 20, "mouseReleased", "wave")
         self.wait(lambda: self.text("time") in ("5 of 8", "6 of 8"), f"the time there: {self.text('time')}")
-        self.assertGreater(self.run_script(line), first + 100)
+        self.assertGreater(self.script(line), first + 100)
 
     def test_files(self) -> None:
         """PNG and SVG have what is seen: the size of the picture, and its texts."""
         self.open("adder", "#t=8")
-        self.rest()
+        self.await_rest()
         for kind, end in (("png", b"IEND\xaeB`\x82"), ("svg", b"</svg>")):
             file = FOLDER / f"adder_8.{kind}"
             file.unlink(missing_ok=True)
             self.click(f"#{kind}")
             self.wait(lambda: file.exists() and file.read_bytes().rstrip().endswith(end),
                       f"the whole {kind} file comes")
-        width, height = self.run_script("const c = document.getElementById('whole'); return [c.clientWidth, "
-                                        "c.clientHeight]")
+        width, height = self.inner_size()
         png, svg = (FOLDER / "adder_8.png").read_bytes(), ET.parse(FOLDER / "adder_8.svg").getroot()
         self.assertEqual((png[:8], int.from_bytes(png[16:20]), int.from_bytes(png[20:24])),
                          (b"\x89PNG\r\n\x1a\n", width, height))
@@ -211,11 +195,11 @@ class Report(Page):
                   self.text("outputs-count"))
         for box, item in (("outputs", "span"), ("inputs", "label")):
             count = f"return document.querySelectorAll('#{box} > {item}').length"
-            self.assertEqual(self.browser.execute_script(count), 500)
-            self.browser.execute_script(f"const box = document.getElementById('{box}'); "
+            self.assertEqual(self.script(count), 500)
+            self.script(f"const box = document.getElementById('{box}'); "
                                         "box.scrollTop = box.scrollHeight")
-            self.wait(lambda: self.browser.execute_script(count) == 600, f"the box {box} shows all")
-        self.assertEqual(self.browser.execute_script("return document.querySelectorAll('#inputs :checked').length"), 0)
+            self.wait(lambda: self.script(count) == 600, f"the box {box} shows all")
+        self.assertEqual(self.script("return document.querySelectorAll('#inputs :checked').length"), 0)
 
     def test_wrong_outputs_first(self) -> None:
         """The count is shown, and the outputs that differ come first."""
@@ -255,10 +239,11 @@ class Report(Page):
         self.open("faults")
         count = len([button for button in self.browser.find_elements(By.CSS_SELECTOR, "#report button")
                      if button.text.startswith("✗")])
-        pressed = lambda: [at for at,
-                           part in enumerate(self.browser.find_elements(By.CSS_SELECTOR,
-                                                                        "#report button"))  # noqa: E731
-                           if part.get_attribute("aria-pressed") == "true"]
+        def pressed() -> list[int]:
+            """Returns which lines are chosen."""
+            return [at for at, part in enumerate(self.browser.find_elements(By.CSS_SELECTOR, "#report button"))
+                    if part.get_attribute("aria-pressed") == "true"]
+
         self.assertEqual((count, pressed()), (2, []))
         for key, wanted in (("n", 0), ("n", 1), ("n", 0), ("p", 1), ("p", 0), ("p", 1)):
             self.keys(key)
@@ -269,22 +254,22 @@ class Report(Page):
         self.open("faults")
         self.keys(Keys.TAB)
         self.assertIn("Skip", self.browser.switch_to.active_element.text)
-        self.assertGreaterEqual(self.run_script("return document.activeElement.getBoundingClientRect().top"), 0)
+        self.assertGreaterEqual(self.script("return document.activeElement.getBoundingClientRect().top"), 0)
         self.keys(Keys.ENTER)
         self.keys(Keys.TAB)
         self.assertTrue(
-            self.run_script("return document.getElementById('report-box').contains(document.activeElement)"))
+            self.script("return document.getElementById('report-box').contains(document.activeElement)"))
 
     def test_speaks_when_it_stops(self) -> None:
         """While it plays no live region changes; when it has stopped one says the time and the outputs, once."""
         self.open("adder")
-        self.rest()
-        self.run_script(LISTEN)
+        self.await_rest()
+        self.script(LISTEN)
         self.keys(" ")
         # What it spoke while it played would be in the list too.
-        self.wait(lambda: self.run_script("return window.spoken.length"), "it speaks")
-        self.rest()
-        self.assertEqual(self.run_script("return window.spoken"),
+        self.wait(lambda: self.script("return window.spoken.length"), "it speaks")
+        self.await_rest()
+        self.assertEqual(self.script("return window.spoken"),
                          ["Time 8 of 8. The last time. All 2 outputs are as the circuit says."])
 
 
@@ -300,25 +285,25 @@ class State(Page):
         look = ("return [document.getElementById('time').textContent, [...document.querySelectorAll('#inputs "
                 "input')].map((box) => box.checked),"
                 "document.getElementById('beside-title').textContent, document.getElementById('cell').textContent]")
-        self.rest()
+        self.await_rest()
         kept = self.hash()
         self.assertTrue("z=" in kept and "fault=1" in kept and "on=" in kept, kept)
         self.point(200, 100)
         self.wait(lambda: re.search(r"\(\d+, \d+\)", self.text("cell")), "the cell under the pointer is shown")
-        before = self.run_script(look)
+        before = self.script(look)
         self.open("faults", kept)
         self.point(201, 101)
-        self.wait(lambda: self.run_script(look) == before, f"all is shown as before: {before}")
-        self.rest()
-        self.assertEqual(self.run_script(look), before)
+        self.wait(lambda: self.script(look) == before, f"all is shown as before: {before}")
+        self.await_rest()
+        self.assertEqual(self.script(look), before)
         self.assertEqual(self.hash(), kept)
 
     def test_follows_the_address(self) -> None:
         """An address that is typed into an open page is followed."""
         self.open("adder")
-        self.run_script("location.hash = '#t=3&on=b'")
+        self.script("location.hash = '#t=3&on=b'")
         self.wait(lambda: self.text("time") == "3 of 8", self.text("time"))
-        on = self.run_script("return [...document.querySelectorAll('#inputs input')].filter((box) => "
+        on = self.script("return [...document.querySelectorAll('#inputs input')].filter((box) => "
                              "box.checked).map((box) => box.value)")
         self.assertEqual(on, ["b"])
 
@@ -331,9 +316,9 @@ class State(Page):
             self.open("adder", text)
             self.wait(lambda: self.text("outputs-count").startswith("All 2 outputs"), f"the page works at {text[:60]}")
             self.assertEqual(self.text("time"), "0 of 8")
-            self.assertEqual(self.run_script("return document.querySelectorAll('img, b, iframe').length"), 0)
+            self.assertEqual(self.script("return document.querySelectorAll('img, b, iframe').length"), 0)
             self.assertNotIn("NaN",
-                             self.run_script("return document.body.textContent.split('Lines of the certificate')[0]"))
+                             self.script("return document.body.textContent.split('Lines of the certificate')[0]"))
 
 
 class Phone(Page):
@@ -342,42 +327,39 @@ class Phone(Page):
     def test_scrolls_from_the_picture(self) -> None:
         """A finger that moves up on the picture scrolls the page."""
         self.open("adder", size=PHONE)
-        self.assertEqual(self.run_script("return [scrollX, scrollY]"), [0, 0])
-        x, y = self.run_script("const box = document.getElementById('whole').getBoundingClientRect();"
-                               "return [box.left + box.width / 2, box.top + box.height / 2]")
+        self.assertEqual(self.script("return [scrollX, scrollY]"), [0, 0])
+        x, y = self.middle()
         self.drag([[(x, y - up)] for up in range(0, 201, 10)])
-        self.wait(lambda: self.run_script("return scrollY") > 100, "the page is scrolled")
+        self.wait(lambda: self.script("return scrollY") > 100, "the page is scrolled")
 
     def test_two_fingers_zoom(self) -> None:
         """Two fingers that part on the picture zoom it, and leave the page where it is."""
         self.open("adder", size=PHONE)
-        x, y = self.run_script("const box = document.getElementById('whole').getBoundingClientRect();"
-                               "return [box.left + box.width / 2, box.top + box.height / 2]")
+        x, y = self.middle()
         self.drag([[(x - 20 - apart, y), (x + 20 + apart, y)] for apart in range(0, 61, 5)])
-        self.rest()
+        self.await_rest()
         self.assertIn("z=", self.hash())
         self.assertGreater(float(self.hash().split("z=")[1].split(",")[0]), 15)
-        self.assertEqual(self.run_script("return scrollY"), 0)
+        self.assertEqual(self.script("return scrollY"), 0)
 
     def test_two_fingers_move(self) -> None:
         """Two fingers that go up together move the picture by as much, and not the page."""
         self.open("adder", "#z=10,20,17", size=PHONE)
-        x, y = self.run_script("const box = document.getElementById('whole').getBoundingClientRect();"
-                               "return [box.left + box.width / 2, box.top + box.height / 2]")
+        x, y = self.middle()
         self.drag([[(x - 30, y - up), (x + 30, y - up)] for up in range(0, 101, 10)])
-        self.rest()
+        self.await_rest()
         self.assertNotEqual(self.hash(), "#z=10,20,17")
         scale, _, row = map(float, self.hash().split("z=")[1].split(","))
         self.assertAlmostEqual(scale, 10, delta=1)
         self.assertAlmostEqual(row, 27, delta=2)
-        self.assertEqual(self.run_script("return scrollY"), 0)
+        self.assertEqual(self.script("return scrollY"), 0)
 
     def drag(self, places: list[list[tuple[float, float]]]) -> None:
         """Puts fingers at the first places, moves them over the others, and lifts them.
 
         Waits until the page knows that they are lifted.
         """
-        lifts = self.run_script("return watched.lifts")
+        lifts = self.script("return watched.lifts")
         for number, fingers in enumerate(places):
             points = [{"x": x, "y": y, "id": at} for at, (x, y) in enumerate(fingers)]
             self.browser.execute_cdp_cmd("Input.dispatchTouchEvent",
@@ -385,15 +367,15 @@ class Phone(Page):
             # The page hears of places between two frames only by the last one of them.
             await_frames(self.browser)
         self.browser.execute_cdp_cmd("Input.dispatchTouchEvent", {"type": "touchEnd", "touchPoints": []})
-        self.wait(lambda: self.run_script("return watched.lifts") >= lifts + len(places[0]),
+        self.wait(lambda: self.script("return watched.lifts") >= lifts + len(places[0]),
                   "the page has heard of the fingers")
 
     def test_fits(self) -> None:
         """Nothing is wider than the window, and the buttons are large enough for a finger."""
         for name in ("adder", "faults", "outputs"):
             self.open(name, size=PHONE)
-            self.assertFalse(self.run_script("return document.documentElement.scrollWidth > innerWidth"), name)
-        small = self.run_script("return [...document.querySelectorAll('#transport button, #tools "
+            self.assertFalse(self.script("return document.documentElement.scrollWidth > innerWidth"), name)
+        small = self.script("return [...document.querySelectorAll('#transport button, #tools "
                                 "button')].filter((part) => part.offsetHeight < 30)"
                                 ".map((part) => part.id)")
         self.assertEqual(small, [])

@@ -12,7 +12,7 @@ import sys
 import time
 from pathlib import Path
 
-from browse_page import open_browser, shown, wait
+from browse_page import Driven
 from selenium.webdriver.common.by import By
 from selenium.webdriver.common.keys import Keys
 from studio_driver import Studio
@@ -91,7 +91,7 @@ def draw_collision(studio: Studio) -> None:
     studio.put("height", "16")
     studio.put("steps", "6")
     studio.type_circuit(COLLISION)
-    assert studio.browser.find_element(By.ID, "hint").is_displayed()
+    assert studio.is_shown("hint")
     studio.click("#tool-in")
     studio.press(4, 4)
     studio.press(4, 11)
@@ -109,15 +109,19 @@ def draw_collision(studio: Studio) -> None:
     studio.shoot("collision")
     studio.click("#save")
     studio.wait(lambda: (studio.folder / "collision.txt").exists(), "the file is written")
-    checked = subprocess.run([studio.program, "check"], input=(studio.folder / "collision.txt").read_bytes(),
-                             capture_output=True, check=False)
+    assert_saved_yes(studio, "collision.txt")
+
+
+def assert_saved_yes(studio: Studio, name: str) -> None:
+    """Asserts that the program says yes to a file that was written."""
+    with (studio.folder / name).open("rb") as text:
+        checked = subprocess.run([studio.program, "check"], stdin=text, capture_output=True, check=False)
     assert checked.returncode == 0 and checked.stdout.endswith(b"verdict yes\n"), checked.stdout
 
 
 def drag_mirror(studio: Studio) -> None:
     """Drags a mirror of the Fredkin gate and sees no, undoes it and sees yes."""
-    studio.begin("fredkin.txt", example("machine_fredkin"))
-    studio.verdict("yes")
+    studio.begin("fredkin.txt", example("machine_fredkin"), "yes")
     first = studio.layout_text()
     mirror = studio.script("return bbmlab.studio.desk.model.parts.find(({ kind }) => kind === 'mirror').box")
     studio.click("#tool-select")
@@ -181,8 +185,7 @@ def draw_by_keyboard(studio: Studio) -> None:
 
 def refuse_circuit(studio: Studio) -> None:
     """Types a wrong circuit and sees the refusal at its line, as text; then the size's limits."""
-    studio.begin("wrong.txt", example("not_gate"))
-    studio.verdict("yes")
+    studio.begin("wrong.txt", example("not_gate"), "yes")
     good = studio.script("return document.getElementById('circuit').value")
     studio.type_circuit(good.replace("spill a", "spill <img src=x onerror=alert(1)>"))
     # While it is typed other lines are refused.
@@ -204,8 +207,7 @@ def refuse_circuit(studio: Studio) -> None:
 def place_mirrors(studio: Studio) -> None:
     """Mirrors snap, and say why; what is taken cannot be drawn over; a mirror is dragged to a place where it stays."""
     studio.begin("mirrors.txt", EMPTY)
-    studio.click("#tool-mirror")
-    studio.drag((4, 4), (6, 4))
+    studio.draw_mirror((4, 4), (6, 4))
     found = studio.script("return bbmlab.studio.desk.model.parts.map(({ box }) => box)")
     assert found == [[5, 4, 4, 2]], found
     studio.hold(12, 4)
@@ -232,8 +234,7 @@ def change_selection(studio: Studio) -> None:
     """Selects by a frame, copies, pastes, rotates, reflects, moves and removes, and undoes all of it."""
     studio.begin("selection.txt", EMPTY + "")
     first = studio.layout_text()
-    studio.click("#tool-mirror")
-    studio.drag((3, 2), (6, 3))
+    studio.draw_mirror((3, 2), (6, 3))
     studio.click("#tool-ball")
     studio.press(4, 6)
     studio.click("#pair")
@@ -267,8 +268,7 @@ def insert_cell(studio: Studio) -> None:
     """Sees the ports of a standard cell and their times while placing it, and gets a yes."""
     studio.begin("cell.txt", "circuit\nend\nlayout 48 48 0\nend\n")
     studio.click("#hint-cell")
-    studio.script("const list = document.getElementById('cell-name'); list.value = 'not'; list.dispatchEvent(new "
-                  "Event('change'))")
+    studio.choose("cell-name", "not")
     studio.aim(24, 24)
     studio.wait(lambda: studio.text("status").startswith("not ") and studio.text("status").endswith("; 37 steps."),
                 "the cell and its steps are named")
@@ -279,7 +279,7 @@ def insert_cell(studio: Studio) -> None:
     studio.shoot("cell")
     studio.press(24, 24)
     studio.verdict("yes")
-    assert not studio.browser.find_element(By.ID, "hint").is_displayed()
+    assert not studio.is_shown("hint")
 
 
 def draw_not_gate(studio: Studio) -> None:
@@ -326,8 +326,7 @@ def type_cell(studio: Studio, name: str) -> None:
 def take_fix(studio: Studio) -> None:
     """Takes a fix that was tried, by its button, and gets a yes; a line of the report shows its time, its inputs and
     its cell."""
-    studio.begin("fix.txt", example("not_gate").replace("out b 4 4\nwaste 7 4\n", "out b 7 4\nwaste 4 4\n"))
-    studio.verdict("no")
+    studio.begin("fix.txt", example("not_gate").replace("out b 4 4\nwaste 7 4\n", "out b 7 4\nwaste 4 4\n"), "no")
     studio.wait(lambda: studio.browser.find_elements(By.CSS_SELECTOR, "#report .fix"), "a fix is found")
     # The table is above the report, and moves it when it comes.
     studio.await_text("truth", "rows differ")
@@ -350,16 +349,14 @@ def see_ways(studio: Studio) -> None:
     assert {"bounce", "meet"} == set(marks), set(marks)
     names = studio.script("return bbmlab.studio.desk.player.names")
     assert [name for name in names if name not in studio.text("legend").split()] == [], studio.text("legend")
-    studio.script("const list = document.getElementById('ways'); list.value = 'on'; list.dispatchEvent(new "
-                  "Event('change'))")
+    studio.choose("ways", "on")
     for name in names:
         studio.click(f"#inputs input[value={name}]")
     studio.still()
     assert studio.script(ways) < every
-    studio.script("const list = document.getElementById('ways'); list.value = 'all'; list.dispatchEvent(new "
-                  "Event('change'))")
-    studio.script("const field = document.getElementById('slider'); field.value = 20; field.dispatchEvent(new "
-                  "Event('input'))")
+    studio.choose("ways", "all")
+    studio.script("const field = document.getElementById('slider'); field.value = 20; "
+                  "field.dispatchEvent(new Event('input'))")
     studio.wait(lambda: studio.text("time").startswith("20 of "), "the slider's time is shown")
     studio.script("document.getElementById('wave-part').open = true")
     studio.wait(lambda: studio.script(HAS_WAVE), "the waveform is drawn")
@@ -410,8 +407,7 @@ def do_many_commands(studio: Studio) -> None:
 def use_dialogs(studio: Studio) -> None:
     """Opens a file, begins from a template and from an example, and exports in each form; the exported page works
     without a network."""
-    studio.browser.execute_cdp_cmd("Browser.setDownloadBehavior",
-                                   {"behavior": "allow", "downloadPath": str(studio.folder)})
+    studio.keep_downloads()
     (studio.folder / "other.txt").write_text(example("head_on"))
     for old in studio.folder.glob("made_*"):
         old.unlink()
@@ -435,8 +431,7 @@ def use_dialogs(studio: Studio) -> None:
         path = studio.folder / f"made_1.{ending}"
         studio.wait(lambda: path.exists() and word in path.read_text() and path.read_text().rstrip().endswith(last),
                     f"the whole file {path.name}")
-    studio.click("#save")
-    studio.await_text("status", "Saved made_1.txt.")
+    studio.save("made_1.txt")
     assert (studio.folder / "made_1.txt").exists(), "the new file is written"
     studio.browser.get((studio.folder / "made_1.html").as_uri())
     studio.click("#last")
@@ -455,11 +450,9 @@ def choose(studio: Studio, value: str) -> None:
 def keep_draft(studio: Studio) -> None:
     """The server is killed while the text is not saved; a new server's page offers the draft, and the text is as it
     was."""
-    (studio.folder / "draft.txt").write_text(example("not_gate"))
-    studio.start("draft.txt")
+    studio.start("draft.txt", example("not_gate"))
     studio.verdict("yes")
-    studio.click("#tool-mirror")
-    studio.drag((9, 2), (10, 3))
+    studio.draw_mirror((9, 2), (10, 3))
     text = studio.layout_text()
     assert "mirror 9 2" in text, text
     await_draft(studio)
@@ -491,8 +484,7 @@ def offer_draft_again(studio: Studio) -> None:
     studio.start("draft.txt")
     studio.script("for (const key of Object.keys(localStorage)) if (key.startsWith('bbmlab draft')) "
                   "localStorage.removeItem(key)")
-    studio.click("#tool-mirror")
-    studio.drag((9, 2), (10, 3))
+    studio.draw_mirror((9, 2), (10, 3))
     await_draft(studio)
     for _ in range(2):
         studio.browser.refresh()
@@ -501,21 +493,19 @@ def offer_draft_again(studio: Studio) -> None:
         studio.rest()
     studio.open("other.txt")
     studio.rest()
-    assert not studio.browser.find_element(By.ID, "notice").is_displayed(), studio.text("notice")
+    assert not studio.is_shown("notice"), studio.text("notice")
     studio.open("draft.txt")
     studio.await_text("notice", "There is a draft of draft.txt")
     studio.click("#notice button")
     assert "mirror 9 2" in studio.layout_text()
-    studio.click("#save")
-    studio.wait(lambda: studio.text("status") == "Saved draft.txt.", "saved")
-    assert studio.script("return Object.keys(localStorage).filter((key) => key.startsWith('bbmlab draft')).length") == 0
+    studio.save("draft.txt")
+    assert studio.draft_count() == 0
 
 
 def draft_mirror(studio: Studio, name: str) -> None:
     """Opens a file, draws a mirror until the browser keeps a draft with it, and leaves the page."""
     studio.start(name)
-    studio.click("#tool-mirror")
-    studio.drag((9, 2), (10, 3))
+    studio.draw_mirror((9, 2), (10, 3))
     await_draft(studio)
     studio.browser.get("about:blank")
 
@@ -526,17 +516,15 @@ def forget_old_draft(studio: Studio) -> None:
     draft_mirror(studio, "old.txt")
     studio.start("old.txt")
     studio.await_text("notice", "There is a draft of old.txt")
-    studio.click("#tool-mirror")
-    studio.drag((1, 8), (2, 9))
-    studio.click("#save")
-    studio.await_text("status", "Saved old.txt.")
+    studio.draw_mirror((1, 8), (2, 9))
+    studio.save("old.txt")
     studio.rest()
-    assert not studio.browser.find_element(By.ID, "notice").is_displayed(), studio.text("notice")
+    assert not studio.is_shown("notice"), studio.text("notice")
     studio.browser.refresh()
     studio.wait(lambda: studio.text("name") == "old.txt", "the file is opened again")
     studio.rest()
-    assert not studio.browser.find_element(By.ID, "notice").is_displayed(), studio.text("notice")
-    assert studio.script("return Object.keys(localStorage).filter((key) => key.startsWith('bbmlab draft')).length") == 0
+    assert not studio.is_shown("notice"), studio.text("notice")
+    assert studio.draft_count() == 0
     assert "mirror 1 8" in (studio.folder / "old.txt").read_text()
 
 
@@ -546,8 +534,7 @@ def ask_about_draft(studio: Studio) -> None:
     newer = example("not_gate").replace("ball", "mirror 1 8 2 2\nball", 1)
     (studio.folder / "versions.txt").write_text(example("not_gate"))
     draft_mirror(studio, "versions.txt")
-    (studio.folder / "versions.txt").write_text(newer)
-    studio.start("versions.txt")
+    studio.start("versions.txt", newer)
     studio.await_text("notice", "that began from another version of the file")
     studio.click("#notice button")
     assert "mirror 9 2" in studio.layout_text() and "mirror 1 8" not in studio.layout_text()
@@ -558,10 +545,8 @@ def ask_about_draft(studio: Studio) -> None:
 
 def duplicate_tab(studio: Studio) -> None:
     """A tab that is duplicated begins with the number of the other one, and takes a number and drafts of its own."""
-    (studio.folder / "twice.txt").write_text(example("not_gate"))
-    studio.start("twice.txt")
-    studio.click("#tool-mirror")
-    studio.drag((9, 2), (10, 3))
+    studio.start("twice.txt", example("not_gate"))
+    studio.draw_mirror((9, 2), (10, 3))
     await_draft(studio)
     first, number = studio.browser.current_window_handle, studio.script("return bbmlab.server.tab")
     studio.script("window.open(location.href)")
@@ -569,31 +554,26 @@ def duplicate_tab(studio: Studio) -> None:
     studio.browser.switch_to.window(next(handle for handle in studio.browser.window_handles if handle != first))
     studio.wait(lambda: studio.text("name") == "twice.txt", "the second tab is open")
     assert studio.script("return bbmlab.server.tab") != number
-    assert not studio.browser.find_element(By.ID, "notice").is_displayed(), "the draft of an open tab is not offered"
+    assert not studio.is_shown("notice"), "the draft of an open tab is not offered"
     assert studio.layout_text() == example("not_gate")
     studio.script("bbmlab.studio.desk.model.setText(arguments[0])", example("not_gate") + "# two\n")
-    studio.wait(lambda: studio.script("return Object.keys(localStorage).filter((key) => key.startsWith('bbmlab "
-                                      "draft')).length") == 2, "each tab has a draft")
+    studio.wait(lambda: studio.draft_count() == 2, "each tab has a draft")
     studio.script("bbmlab.studio.desk.model.undo()")
-    studio.wait(lambda: studio.script("return Object.keys(localStorage).filter((key) => key.startsWith('bbmlab "
-                                      "draft')).length") == 1, "the other draft stays")
+    studio.wait(lambda: studio.draft_count() == 1, "the other draft stays")
     studio.browser.close()
     studio.browser.switch_to.window(first)
-    studio.click("#save")
-    studio.await_text("status", "Saved twice.txt.")
+    studio.save("twice.txt")
 
 
 def say_what_is_kept(studio: Studio) -> None:
     """Without a server the page says that the draft is kept only if it is, and nothing if there is none."""
-    (studio.folder / "kept.txt").write_text(example("not_gate"))
-    studio.start("kept.txt")
+    studio.start("kept.txt", example("not_gate"))
     studio.verdict("yes")
     studio.kill()
     ask = "const done = arguments[0]; bbmlab.server.request('files').then(({ error }) => done(error))"
     error = str(studio.browser.execute_async_script(ask))
     assert "kept" not in error and "does not answer" in error, error
-    studio.click("#tool-mirror")
-    studio.drag((9, 2), (10, 3))
+    studio.draw_mirror((9, 2), (10, 3))
     assert "is kept in this browser" in studio.browser.execute_async_script(ask)
     studio.script("Storage.prototype.setItem = () => { throw new DOMException('full', 'QuotaExceededError'); }")
     studio.drag((1, 8), (2, 9))
@@ -607,8 +587,7 @@ def keep_selection(studio: Studio) -> None:
 
     Words of the page can be copied.
     """
-    studio.begin("chosen.txt", example("not_gate"))
-    studio.verdict("yes")
+    studio.begin("chosen.txt", example("not_gate"), "yes")
     studio.click("#tool-select")
     studio.press(4, 4)
     chosen = "return bbmlab.studio.sketch.selected.map(({ kind, box }) => `${kind} ${box[0]} ${box[1]}`)"
@@ -653,19 +632,16 @@ def use_two_tabs(studio: Studio) -> None:
     (studio.folder / "tabs.txt").write_text(example("not_gate"))
     (studio.folder / "tabs_2.txt").unlink(missing_ok=True)
     address = studio.start("tabs.txt")
-    studio.click("#tool-mirror")
-    studio.drag((9, 2), (10, 3))
+    studio.draw_mirror((9, 2), (10, 3))
     await_draft(studio)
     first = studio.browser.current_window_handle
     studio.new_tab()
     studio.browser.get(address)
     studio.wait(lambda: studio.text("name") == "tabs.txt", "the second tab is open")
     studio.rest()
-    assert not studio.browser.find_element(By.ID, "notice").is_displayed(), "the draft of an open tab is not offered"
-    studio.click("#tool-mirror")
-    studio.drag((1, 8), (2, 9))
-    studio.click("#save")
-    studio.await_text("status", "Saved tabs.txt.")
+    assert not studio.is_shown("notice"), "the draft of an open tab is not offered"
+    studio.draw_mirror((1, 8), (2, 9))
+    studio.save("tabs.txt")
     assert "mirror 1 8" in (studio.folder / "tabs.txt").read_text(), "the second tab saved"
     studio.browser.close()
     studio.browser.switch_to.window(first)
@@ -691,14 +667,14 @@ def let_in_once(studio: Studio) -> None:
     assert studio.browser.current_url == address.split("#")[0], studio.browser.current_url
     studio.browser.refresh()
     studio.wait(lambda: studio.text("name") == "once.txt", "the page is loaded again")
-    other = open_browser("--window-size=1400,850")
+    other = Driven(studio.folder, "--window-size=1400,850")
     try:
-        other.get(address)
-        wait(lambda: "does not let this page in" in shown(other, "notice"), "the other browser is not let in")
-        assert shown(other, "name") == "…", shown(other, "name")
-        other.save_screenshot(str(studio.folder / "not_let_in.png"))
+        other.browser.get(address)
+        other.wait(lambda: "does not let this page in" in other.text("notice"), "the other browser is not let in")
+        assert other.text("name") == "…", other.text("name")
+        other.browser.save_screenshot(str(studio.folder / "not_let_in.png"))
     finally:
-        other.quit()
+        other.browser.quit()
 
 
 # The server says yes to the text of another file.
@@ -709,29 +685,23 @@ server.request = (name, body) => request(name, name === "verdict" ? { ...body, t
 
 def see_other_picture(studio: Studio) -> None:
     """A yes to a text that is not the one that is drawn is none, and the page says so."""
-    studio.begin("drawn.txt", example("not_gate"))
-    studio.verdict("yes")
+    studio.begin("drawn.txt", example("not_gate"), "yes")
     studio.script(OTHER_YES, example("not_gate"))
-    studio.click("#tool-mirror")
-    studio.drag((9, 2), (10, 3))
+    studio.draw_mirror((9, 2), (10, 3))
     studio.verdict("no answer")
     assert "is not the one of this picture" in studio.text("report"), studio.text("report")
     studio.script("askTruly()")
-    studio.click("#tool-mirror")
-    studio.drag((1, 8), (2, 9))
+    studio.draw_mirror((1, 8), (2, 9))
     studio.verdict("yes")
-    studio.begin("joined.txt", example("not_gate").replace("\nin ", "\rin ").replace("\nout ", "\rout "))
-    studio.verdict("refused")
+    studio.begin("joined.txt", example("not_gate").replace("\nin ", "\rin ").replace("\nout ", "\rout "), "refused")
 
 
 def see_nothing_yet(studio: Studio) -> None:
     """An empty layout with an empty circuit is no green yes."""
-    studio.begin("nothing.txt", EMPTY)
-    studio.verdict("nothing yet")
+    studio.begin("nothing.txt", EMPTY, "nothing yet")
     assert studio.script("return document.getElementById('badge').className") == "waiting"
     studio.shoot("nothing")
-    studio.click("#tool-mirror")
-    studio.drag((9, 2), (10, 3))
+    studio.draw_mirror((9, 2), (10, 3))
     studio.verdict("yes")
 
 
@@ -742,32 +712,27 @@ def undo_numbers(studio: Studio) -> None:
     field = studio.browser.find_element(By.ID, "width")
     studio.click("#follow")
     for number in ("14", "16"):
-        studio.script("arguments[0].focus(); arguments[0].select()", field)
-        field.send_keys(number, Keys.ENTER)
+        studio.type_number(field, number)
     assert "layout 16 12 3" in studio.layout_text()
     field.send_keys("9")
     field.send_keys(Keys.CONTROL, "z")
-    assert (field.get_property("value"),
-            "layout 16 12 3" in studio.layout_text()) == ("16", True), field.get_property("value")
+    value = field.get_property("value")
+    assert value == "16" and "layout 16 12 3" in studio.layout_text(), value
     for number, word in (("14", "z"), ("12", "z"), ("14", "y")):
         field.send_keys(Keys.CONTROL, word)
-        assert (field.get_property("value"),
-                f"layout {number} 12 3" in studio.layout_text()) == (number,
-                                                                     True), (field.get_property("value"),
-                                                                             studio.layout_text())
+        value, text = field.get_property("value"), studio.layout_text()
+        assert value == number and f"layout {number} 12 3" in text, (value, text)
     studio.click("#follow")
 
 
 def follow_turns(studio: Studio) -> None:
     """Outputs that are where the balls end follow them around a mirror, to another number of steps and back, by one
     command each."""
-    studio.begin("turns.txt", cell_text("turn_left"))
-    studio.verdict("yes")
+    studio.begin("turns.txt", cell_text("turn_left"), "yes")
     before, field = studio.layout_text(), studio.browser.find_element(By.ID, "steps")
     steps = int(str(field.get_property("value")))
     for number in (2, steps):
-        studio.script("arguments[0].focus(); arguments[0].select()", field)
-        field.send_keys(str(number), Keys.ENTER)
+        studio.type_number(field, str(number))
         assert f"layout 22 18 {number}\n" in studio.layout_text(), studio.text("status")
         studio.verdict("yes")
     assert sorted(studio.layout_text().split("\n")) == sorted(before.split("\n")), studio.layout_text()
@@ -781,11 +746,9 @@ def see_kind_of_no(studio: Studio) -> None:
     """The line of the badge says what kind of no it is, the explanation comes before the report's lines, and a fix has
     a button."""
     for name, words in (("plain_rim", "the rim is live at ("), ("plain_no", "the end is wrong at (")):
-        studio.begin(f"{name}.txt", example(name))
-        studio.verdict("no")
+        studio.begin(f"{name}.txt", example(name), "no")
         studio.await_text("who", words)
-    studio.begin("kind.txt", example("not_gate").replace("out b 4 4\nwaste 7 4\n", "out b 7 4\nwaste 4 4\n"))
-    studio.verdict("no")
+    studio.begin("kind.txt", example("not_gate").replace("out b 4 4\nwaste 7 4\n", "out b 7 4\nwaste 4 4\n"), "no")
     studio.wait(lambda: studio.browser.find_elements(By.CSS_SELECTOR, "#report .fix"), "a fix is found")
     assert studio.script("return document.querySelector('#report .fix').textContent") == "apply this fix"
     assert studio.script("const [fix, fault] = ['.fix-box', '.fault'].map((name) => document.querySelector(`#report "
@@ -802,8 +765,7 @@ def see_kind_of_no(studio: Studio) -> None:
 def enlarge_for_cell(studio: Studio) -> None:
     """A cell that is larger than the layout is put after the user agrees to make the layout larger."""
     studio.begin("enlarge.txt", EMPTY)
-    studio.script("const list = document.getElementById('cell-name'); list.value = 'not'; list.dispatchEvent(new "
-                  "Event('change'))")
+    studio.choose("cell-name", "not")
     studio.click("#tool-cell")
     studio.press(9, 9)
     studio.answer("The cell is larger than the layout", "cancel")
@@ -817,22 +779,17 @@ def enlarge_for_cell(studio: Studio) -> None:
 def choose_spelling(studio: Studio) -> None:
     """A text with comments is saved with them, or in the one spelling, as the user says."""
     text = "# by hand\n" + example("not_gate")
-    studio.begin("free.txt", text)
-    studio.verdict("yes")
-    studio.click("#tool-mirror")
-    studio.drag((9, 2), (10, 3))
+    studio.begin("free.txt", text, "yes")
+    studio.draw_mirror((9, 2), (10, 3))
     studio.click("#save")
     studio.answer("How to write the text", "write it as it is")
     studio.wait(lambda: "mirror 9 2 2 2" in (studio.folder / "free.txt").read_text(), "saved as it is")
     assert (studio.folder / "free.txt").read_text().startswith("# by hand\n")
-    studio.begin("free_2.txt", text)
-    studio.verdict("yes")
+    studio.begin("free_2.txt", text, "yes")
     studio.click("#save")
     studio.answer("How to write the text", "write the one spelling, without comments")
     studio.wait(lambda: studio.text("status") == "Saved free_2.txt.", "saved in the one spelling")
-    checked = subprocess.run([studio.program, "check"], input=(studio.folder / "free_2.txt").read_bytes(),
-                             capture_output=True, check=False)
-    assert checked.returncode == 0, checked.stdout
+    assert_saved_yes(studio, "free_2.txt")
 
 
 # Each answer of the server waits until `answerNow` is called with its name, or `answerAll`.
@@ -860,8 +817,7 @@ def answer_late(studio: Studio) -> None:
         studio.wait(lambda: studio.script("return window.held.some(({ name }) => name === arguments[0])", name),
                     f"the server answers {name}")
 
-    studio.begin("late.txt", example("not_gate"))
-    studio.verdict("yes")
+    studio.begin("late.txt", example("not_gate"), "yes")
     studio.script(HOLD)
     studio.click("#tool-erase")
     studio.press(7, 7)
@@ -900,8 +856,7 @@ def see_dark(studio: Studio) -> None:
 
 def enlarge_at_sides(studio: Studio) -> None:
     """Adds columns and rows at the sides by the dialog: the parts move by them, and the verdict is asked again."""
-    studio.begin("wider.txt", example("fredkin_gate"))
-    studio.verdict("yes")
+    studio.begin("wider.txt", example("fredkin_gate"), "yes")
     width, height = (int(studio.script(f"return document.getElementById('{name}').value"))
                      for name in ("width", "height"))
     studio.click("#enlarge")
@@ -924,7 +879,7 @@ def route_circuit(studio: Studio) -> None:
     studio.wait(lambda: "Routing since" in studio.text("routing") or "Begins" in studio.text("routing"),
                 "the search is shown")
     studio.script("bbmlab.server.request('unroute')")
-    studio.wait(lambda: not studio.browser.find_element(By.ID, "routing").is_displayed(), "the search has ended", 120)
+    studio.wait(lambda: not studio.is_shown("routing"), "the search has ended", 120)
     if "cancelled" in studio.text("status"):
         assert studio.layout_text() == text, "nothing was taken"
     else:
@@ -980,11 +935,11 @@ def see_large(studio: Studio) -> None:
              "Uint32Array(document.getElementById('whole').getContext('2d').getImageData(40, 30, width - 50, height - "
              "40).data.buffer)).size")
     assert studio.script(count) > 50, "the ways are there"
-    assert not studio.browser.find_element(By.ID, "map").is_displayed(), "everything is shown"
+    assert not studio.is_shown("map"), "everything is shown"
     for _ in range(12):
         studio.click("#in")
     studio.rest()
-    assert studio.browser.find_element(By.ID, "map").is_displayed(), "the small picture shows where one is"
+    assert studio.is_shown("map"), "the small picture shows where one is"
     before = studio.script("return bbmlab.studio.sketch.seen()")
     studio.browser.find_element(By.ID, "map").click()
     studio.script("bbmlab.studio.sketch.tiles.made.clear(); bbmlab.studio.sketch.centre(100, 100, "
@@ -1030,8 +985,7 @@ def run_uses(studio: Studio, wanted: list[str]) -> list[str]:
         begun = time.monotonic()
         use(studio)
         print(f"{use.__name__}: done in {time.monotonic() - begun:.1f} s", file=sys.stderr, flush=True)
-        logged = [entry["message"] for entry in studio.browser.get_log("browser") if entry["level"] == "SEVERE"]
-        errors += [message for message in logged if not is_expected(message)]
+        errors += [message for message in studio.errors("SEVERE") if not is_expected(message)]
     return errors
 
 

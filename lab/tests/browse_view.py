@@ -10,69 +10,24 @@ import time
 from pathlib import Path
 from typing import Callable
 
-from browse_page import is_of_size, is_still, open_browser
+from browse_page import Driven, end, is_of_size
 from selenium.webdriver.common.action_chains import ActionChains
 from selenium.webdriver.common.by import By
 from selenium.webdriver.common.keys import Keys
 
-SIZES = {"wide": (1280, 800), "phone": (390, 844)}
 # The run to 65,536 takes 7 s on four processors that are busy with other work (2026-11-29): a machine may be 40 times
 # slower.
 END_SECONDS = 300
 
 
-class Page:
-    """A page in a headless browser."""
-
-    def __init__(self, folder: Path) -> None:
-        self.folder, self.browser = folder, open_browser()
+class Page(Driven):
+    """A page of the folder."""
 
     def open(self, name: str) -> None:
         """Opens a page of the folder at the wide size."""
-        self.size("wide")
+        self.await_size(*self.sizes["wide"])
         self.browser.get((self.folder / f"{name}.html").resolve().as_uri())
-        self.wait(lambda: is_of_size(self.browser, *SIZES["wide"]), f"the page {name} has its size")
-
-    def size(self, name: str) -> None:
-        """Sets the size of the window."""
-        width, height = SIZES[name]
-        self.browser.execute_cdp_cmd("Emulation.setDeviceMetricsOverride",
-                                     {"width": width, "height": height, "deviceScaleFactor": 1, "mobile": False})
-        self.wait(lambda: is_of_size(self.browser, width, height), f"the page has the size {name}")
-
-    def scheme(self, name: str) -> None:
-        """Sets light or dark."""
-        self.browser.execute_cdp_cmd("Emulation.setEmulatedMedia",
-                                     {"features": [{"name": "prefers-color-scheme", "value": name}]})
-
-    def text(self, name: str) -> str:
-        """Returns the text of an element."""
-        return self.browser.find_element(By.ID, name).text
-
-    def click(self, selector: str, which: int = 0) -> None:
-        """Clicks an element."""
-        self.browser.find_elements(By.CSS_SELECTOR, selector)[which].click()
-
-    def keys(self, *keys: str) -> None:
-        """Presses keys on the picture."""
-        self.browser.find_element(By.ID, "whole").send_keys(*keys)
-
-    def wait(self, test: Callable[[], object], what: str, seconds: float = 60) -> None:
-        """Waits until something holds."""
-        until = time.monotonic() + seconds
-        while not test():
-            assert time.monotonic() < until, what
-            time.sleep(0.05)
-
-    def shoot(self, name: str) -> None:
-        """Writes a screenshot at each size, with nothing wider than the window."""
-        for size in SIZES:
-            self.size(size)
-            self.wait(lambda: is_still(self.browser), f"{name} is drawn at {size}")
-            too_wide = self.browser.execute_script("return document.documentElement.scrollWidth > innerWidth")
-            assert not too_wide, f"{name} is wider than the window at {size}"
-            self.browser.save_screenshot(str(self.folder / f"{name}_{size}.png"))
-        self.size("wide")
+        self.wait(lambda: is_of_size(self.browser, *self.sizes["wide"]), f"the page {name} has its size")
 
 
 def use_controls(page: Page) -> None:
@@ -109,7 +64,7 @@ def use_report(page: Page) -> None:
     page.shoot("fault_dark")
     page.scheme("light")
     page.click("#report button", 1)
-    assert page.text("time") == "1 of 3" and not page.browser.find_element(By.ID, "beside").is_displayed()
+    assert page.text("time") == "1 of 3" and not page.is_shown("beside")
     page.shoot("border")
 
 
@@ -137,7 +92,7 @@ return new Set(new Uint32Array(pen.getImageData(40, 30, width - 50, height - 40)
 
 def zoom_of(page: Page) -> list[float] | None:
     """Returns the scale and the middle that the address says, or None."""
-    found = [part for part in page.browser.execute_script("return location.hash").lstrip("#").split("&")
+    found = [part for part in page.script("return location.hash").lstrip("#").split("&")
              if part.startswith("z=")]
     return [float(number) for number in found[0][2:].split(",")] if found else None
 
@@ -146,16 +101,16 @@ def use_machine(page: Page) -> None:
     """Looks for a wire, goes to it by the small picture and by its cell, points at it, and plays at the highest speed.
     """
     page.open("machine")
-    page.wait(lambda: is_still(page.browser), "the machine is drawn")
+    page.await_rest()
     assert page.browser.find_element(By.ID, "ways").is_selected(), "a large layout shows its ways"
-    assert page.browser.execute_script(SEEN) > 100, "the ways are drawn at once"
-    assert not page.browser.find_element(By.ID, "map").is_displayed(), "all is shown, so there is no small picture"
+    assert page.script(SEEN) > 100, "the ways are drawn at once"
+    assert not page.is_shown("map"), "all is shown, so there is no small picture"
     page.browser.find_element(By.ID, "find-wire-name").send_keys("s2", Keys.ENTER)
     page.wait(lambda: "made by" in page.text("wire-words") and "an output" in page.text("wire-words"),
               "the wire's gate is told")
     page.click("#in")
     page.click("#in")
-    page.wait(lambda: page.browser.find_element(By.ID, "map").is_displayed(), "the small picture shows where one is")
+    page.wait(lambda: page.is_shown("map"), "the small picture shows where one is")
     page.shoot("machine")
     page.wait(lambda: (zoom_of(page) or [9.0])[1] > 100, "the address says the place")
     page.click("#map")
@@ -163,7 +118,7 @@ def use_machine(page: Page) -> None:
                                                            -60).click().perform()
     page.wait(lambda: all(part < 200 for part in (zoom_of(page) or [0, 999, 999])[1:]),
               "a press on the small picture goes there")
-    x, y, time = page.browser.execute_script(PIECE, "s2")
+    x, y, time = page.script(PIECE, "s2")
     page.browser.find_element(By.ID, "go-to-cell").send_keys(f"{x}, {y}", Keys.ENTER)
     page.wait(lambda: f"({x}, {y})" in page.text("cell"), "it goes to the cell")
     # The cell is in the middle of the picture beside its rulers.
@@ -174,7 +129,7 @@ def use_machine(page: Page) -> None:
     page.scheme("dark")
     page.shoot("machine_dark")
     page.scheme("light")
-    page.browser.execute_script("const s = document.getElementById('speed'); s.value = s.max; s.dispatchEvent(new "
+    page.script("const s = document.getElementById('speed'); s.value = s.max; s.dispatchEvent(new "
                                 "Event('input'));")
     page.click("#play")
     steps = page.text("time").split(" of ")[1]
@@ -203,10 +158,10 @@ MAX_STEPS = 600
 
 def go_to(page: Page, action: Callable[[], object], time_text: str, most: int, seconds: float = 60) -> None:
     """Goes to a time by a limited number of steps, since how long a step takes depends on the machine."""
-    page.browser.execute_script("window.stepCount = 0")
+    page.script("window.stepCount = 0")
     action()
     page.wait(lambda: page.text("time") == time_text, f"the page comes to {time_text}", seconds)
-    count = page.browser.execute_script("return window.stepCount")
+    count = page.script("return window.stepCount")
     assert 0 < count <= most, f"{count} steps to {time_text}"
 
 
@@ -215,13 +170,13 @@ def use_large(page: Page) -> None:
     and plays smoothly."""
     page.open("large")
     page.wait(lambda: page.text("time") == "0 of 65536", "the page answers while it runs ahead")
-    page.browser.execute_script(COUNT)
+    page.script(COUNT)
     start = time.monotonic()
     go_to(page, lambda: page.keys(Keys.END), "65536 of 65536", 65536, END_SECONDS)
     print(f"the last time after {time.monotonic() - start:.1f} s")
     go_to(page, lambda: page.keys(Keys.ARROW_LEFT), "65535 of 65536", 1)
     slider = "const s = document.getElementById('slider'); s.value = 30001; s.dispatchEvent(new Event('input'));"
-    go_to(page, lambda: page.browser.execute_script(slider), "30001 of 65536", MAX_STEPS)
+    go_to(page, lambda: page.script(slider), "30001 of 65536", MAX_STEPS)
     page.wait(lambda: "Running" not in page.text("outputs-count"), "the run to the end comes to it", END_SECONDS)
     page.keys("b")
     frames = page.browser.execute_async_script(FRAMES)
@@ -234,15 +189,12 @@ def use_large(page: Page) -> None:
 def main() -> int:
     """Uses the pages, and returns the exit status: 1 where the console has an error."""
     page = Page(Path(sys.argv[1]))
-    try:
+
+    def use_all() -> None:
         for use in (use_controls, use_report, use_wrong, use_machine, use_large):
             use(page)
-        logged = [entry for entry in page.browser.get_log("browser") if entry["level"] in ("SEVERE", "WARNING")]
-    finally:
-        page.browser.quit()
-    for entry in logged:
-        print(entry["message"], file=sys.stderr)
-    return 1 if logged else 0
+
+    return end(page, use_all, "SEVERE", "WARNING")
 
 
 if __name__ == "__main__":

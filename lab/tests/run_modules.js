@@ -2,7 +2,8 @@
 // use modules of the page that need no browser.
 import fs from "node:fs";
 import * as address from "../bbmlab_core/view/address.js";
-import { Cells, Grid, mirrorsOf, startKeys, trail as movesBefore, WholeRun } from "../bbmlab_core/view/automaton.js";
+import { Cells, circuitValues, Grid, mirrorsOf, ModuleRun, startKeys, trail as movesBefore,
+  WholeRun } from "../bbmlab_core/view/automaton.js";
 import { placeNames } from "../bbmlab_core/view/labels.js";
 import * as painting from "../bbmlab_core/view/painting.js";
 import { Player } from "../bbmlab_core/view/player.js";
@@ -17,6 +18,18 @@ function runAt(data, on, time) {
   const run = new WholeRun(data.layout, new Set(on));
   run.seek(time);
   return run;
+}
+
+/** Returns the live cells of a run of the layout, or of a module, at these times, sought in this order. */
+function states({ data, on, times, module, assignment }) {
+  const run = module === undefined ? new WholeRun(data.layout, new Set(on)) : new ModuleRun(data, module, assignment);
+  const cells = () => [...run.live].map((key) => run.live.grid.cellOf(key)).sort((a, b) => a[1] - b[1] || a[0] - b[0]);
+  const found = times.map((time) => {
+    run.seek(time);
+    return [run.time, cells()];
+  });
+  return { states: found, left: run.leftAt ?? null, values: data.circuit
+    ? Object.fromEntries(circuitValues(data.circuit, new Set(on))) : null };
 }
 
 /** Returns a player that has come to the end, by small steps of its own. */
@@ -139,7 +152,7 @@ const modulesAt = (modules, cells) => cells.map(([x, y]) => {
   return found;
 });
 
-const functions = { different, filed, linesAt, modulesAt, squares,
+const functions = { different, filed, linesAt, modulesAt, squares, states,
   wireAt, tiles, trail, waves, scene, results, read, write, places };
 const jobs = JSON.parse(fs.readFileSync(0, "utf8"));
 console.log(JSON.stringify(jobs.map(([name, ...words]) => functions[name](...words))));

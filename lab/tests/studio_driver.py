@@ -4,25 +4,26 @@ import subprocess
 import sys
 import time
 from pathlib import Path
-from typing import Any, Callable
 
-from browse_page import await_frames, is_of_size, is_still, open_browser, watch
+from browse_page import Driven, await_frames, watch
 from selenium.webdriver.common.action_chains import ActionChains
 from selenium.webdriver.common.by import By
 from selenium.webdriver.common.keys import Keys
+from selenium.webdriver.remote.webelement import WebElement
 
-SIZES = {"wide": (1400, 850), "phone": (390, 844)}
 # What the page says, for the message of a wait that is too long.
 WORDS = "return ['name', 'badge', 'status', 'report', 'dialog'].map((id) => document.getElementById(id)?.innerText)"
 
 
-class Studio:
+class Studio(Driven):
     """A server of a file, and a browser."""
 
+    sizes = {"wide": (1400, 850), "phone": (390, 844)}
+
     def __init__(self, folder: Path, program: str, lab: str) -> None:
-        self.folder, self.program, self.lab = folder, program, lab
+        super().__init__(folder, "--window-size=1400,850", unhandledPromptBehavior="accept")
+        self.program, self.lab = program, lab
         self.server: subprocess.Popen[str] | None = None
-        self.browser = open_browser("--window-size=1400,850", unhandledPromptBehavior="accept")
 
     def serve(self, name: str) -> str:
         """Starts a server of a file, and returns its address."""
@@ -39,8 +40,10 @@ class Studio:
             self.server.wait()
             self.server = None
 
-    def start(self, name: str) -> str:
-        """Starts a server of a file, opens its page, and returns the address."""
+    def start(self, name: str, text: str | None = None) -> str:
+        """Starts a server of a file, which has a text or is as it was, opens its page, and returns the address."""
+        if text is not None:
+            (self.folder / name).write_text(text)
         address = self.serve(name)
         # A page of the same address is not loaded by a new part behind `#`: it loads itself again, which takes a
         # moment.
@@ -63,37 +66,20 @@ class Studio:
         self.wait(lambda: self.text("name") == name, f"{name} is opened")
         self.click("#fit")
 
-    def begin(self, name: str, text: str) -> None:
-        """Writes a file, and opens it."""
+    def begin(self, name: str, text: str, verdict: str = "") -> None:
+        """Writes a file, opens it, and waits for a verdict if one is given."""
         (self.folder / name).write_text(text)
         self.open(name)
-
-    def script(self, text: str, *words: Any) -> Any:
-        """Runs a script in the page."""
-        return self.browser.execute_script(text, *words)
+        if verdict:
+            self.verdict(verdict)
 
     def layout_text(self) -> str:
         """Returns the text that is drawn."""
         return str(self.script("return bbmlab.studio.desk.model.text"))
 
-    def text(self, name: str) -> str:
-        """Returns the text of an element."""
-        return self.browser.find_element(By.ID, name).text
-
-    def click(self, selector: str) -> None:
-        """Clicks an element."""
-        self.browser.find_element(By.CSS_SELECTOR, selector).click()
-
-    def keys(self, *keys: str) -> None:
-        """Presses keys on the picture."""
-        self.browser.find_element(By.ID, "whole").send_keys(*keys)
-
-    def wait(self, test: Callable[[], Any], what: str, seconds: float = 60) -> None:
-        """Waits until something holds."""
-        until = time.monotonic() + seconds
-        while not test():
-            assert time.monotonic() < until, f"{what}: {self.script(WORDS)!r}"
-            time.sleep(0.05)
+    def state(self) -> str:
+        """Returns what the page says."""
+        return f": {self.script(WORDS)!r}"
 
     def is_verdict(self, wanted: str) -> bool:
         """Returns whether the page shows a verdict that is not outdated."""
@@ -112,7 +98,7 @@ class Studio:
 
     def rest(self) -> None:
         """Waits until the page waits for no timer and no frame, and knows which tabs are open."""
-        self.wait(lambda: is_still(self.browser), "the page comes to rest")
+        self.await_rest()
         # The browser answers such questions in their order, so that an earlier one of the page is answered then.
         self.browser.execute_async_script("const done = arguments[0]; navigator.locks.query().then(() => "
                                           "setTimeout(done));")
@@ -177,6 +163,31 @@ class Studio:
         self.aim(*end)
         self.lift()
 
+    def draw_mirror(self, start: tuple[int, int], end: tuple[int, int]) -> None:
+        """Draws a mirror from a cell to another one."""
+        self.click("#tool-mirror")
+        self.drag(start, end)
+
+    def save(self, name: str) -> None:
+        """Saves the text, and waits until the page says so."""
+        self.click("#save")
+        self.await_text("status", f"Saved {name}.")
+
+    def draft_count(self) -> int:
+        """Returns how many drafts the browser keeps."""
+        return int(self.script("return Object.keys(localStorage).filter((key) => key.startsWith('bbmlab draft'))"
+                               ".length"))
+
+    def choose(self, name: str, value: str) -> None:
+        """Chooses a value of a list."""
+        self.script("const list = document.getElementById(arguments[0]); list.value = arguments[1]; "
+                    "list.dispatchEvent(new Event('change'))", name, value)
+
+    def type_number(self, field: WebElement, number: str) -> None:
+        """Types another number in a field."""
+        self.script("arguments[0].focus(); arguments[0].select()", field)
+        field.send_keys(number, Keys.ENTER)
+
     def touch(self, kind: str, *cells: tuple[float, float]) -> None:
         """Sends an event of fingers at cells: `Start`, `Move` or `End`."""
         await_frames(self.browser)
@@ -231,24 +242,3 @@ class Studio:
     def type_circuit(self, text: str) -> None:
         """Types a circuit."""
         self.put("circuit", text)
-
-    def shoot(self, name: str) -> None:
-        """Writes a screenshot at each size, with nothing wider than the window."""
-        for size, (width, height) in SIZES.items():
-            self.set_size(width, height)
-            is_wide = self.script("return document.documentElement.scrollWidth > innerWidth")
-            assert not is_wide, f"{name} is wider than the window at {size}"
-            self.browser.save_screenshot(str(self.folder / f"{name}_{size}.png"))
-        self.set_size(*SIZES["wide"])
-
-    def set_size(self, width: int, height: int) -> None:
-        """Sets the size of the window, and waits until the page is drawn at it."""
-        self.browser.execute_cdp_cmd("Emulation.setDeviceMetricsOverride",
-                                     {"width": width, "height": height, "deviceScaleFactor": 1, "mobile": False})
-        self.wait(lambda: is_of_size(self.browser, width, height) and is_still(self.browser),
-                  f"the page is drawn at {width} by {height}")
-
-    def scheme(self, name: str) -> None:
-        """Sets light or dark."""
-        self.browser.execute_cdp_cmd("Emulation.setEmulatedMedia",
-                                     {"features": [{"name": "prefers-color-scheme", "value": name}]})

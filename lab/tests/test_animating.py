@@ -51,7 +51,3 @@ class Picture(unittest.TestCase):
         layout = read_design(str(support.LAB / "cells" / "fredkin.txt"))[1]
         found = re.findall(r">(c = \d, x = \d, y = \d)\n", animating.animation(layout, [["c"], ["x", "y"]], ""))
         self.assertEqual(found, ["c = 1, x = 0, y = 0", "c = 0, x = 1, y = 1"])
-
-
-if __name__ == "__main__":
-    unittest.main()

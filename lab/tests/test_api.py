@@ -126,7 +126,7 @@ class Sections(unittest.TestCase):
 
     def test_builders(self) -> None:
         """Sections that builders make, in any order of lines, are those of the text."""
-        text = Path(support.example("four_modules")).read_text()
+        text = support.text_of("four_modules")
         read = bbmlab.read(text)
         assert read.circuit and read.layout and read.certificate
         circuit = bbmlab.Circuit().input(*read.circuit.inputs)
@@ -176,15 +176,11 @@ class Runs(unittest.TestCase):
     def test_last_state_is_the_programs(self) -> None:
         """The last state is what `run` prints, or it is outside at the step that `run` names."""
         count = 0
-        for case in support.worked_cases():
-            if case.words[0] != "run" or case.status not in (0, 1):
-                continue
+        for case in support.worked_runs():
             bundle = bbmlab.read(case.input.decode("latin-1"))
             assert bundle.layout and bundle.on is not None
             *_, last = bbmlab.simulate(bundle.layout, bundle.on)
-            cells = sorted(last.cells, key=lambda cell: (cell[1], cell[0]))
-            told = f"cells {len(cells)}\n" + "".join(f"{x} {y}\n" for x,
-                                                     y in cells) if last.is_inside else f"left {last.time}\n"
+            told = support.run_words(support.sorted_cells(last.cells), None if last.is_inside else last.time)
             with self.subTest(case.name):
                 self.assertEqual(told, case.output.decode())
             count += 1
@@ -195,7 +191,7 @@ class Runs(unittest.TestCase):
         support.program()
         # An `out` cell whose wire is true, a cell of the ring without an `edge` line, an `out` cell whose wire is true.
         for name, index, live in (("wrong_edge", 0, False), ("wrong_edge", 1, True), ("wrong_border", 0, False)):
-            bundle = bbmlab.read(Path(support.example(name)).read_text())
+            bundle = bbmlab.read(support.text_of(name))
             finding = bbmlab.check(bundle).findings[index]
             states = list(bbmlab.local_run(bundle, finding.module or 0, finding.assignment or 0))
             assert bundle.layout
@@ -205,7 +201,7 @@ class Runs(unittest.TestCase):
 
     def test_wrong_arguments(self) -> None:
         """A wrong name, step count, module or assignment is a ValueError, at the call."""
-        bundle = bbmlab.read(Path(support.example("one_wire")).read_text())
+        bundle = bbmlab.read(support.text_of("one_wire"))
         assert bundle.layout
         layout = bundle.layout
         for call in (lambda: bbmlab.simulate(layout, {"q"}), lambda: bbmlab.simulate(layout, steps=-1),
@@ -214,7 +210,7 @@ class Runs(unittest.TestCase):
                      lambda: bbmlab.local_run(bundle, 0, -1)):
             with self.assertRaises(ValueError):
                 call()
-        outside = bbmlab.read(Path(support.example("outside_domain")).read_text())
+        outside = bbmlab.read(support.text_of("outside_domain"))
         with self.assertRaises(ValueError):
             for assignment in range(1 << 12):
                 bbmlab.local_run(outside, 0, assignment)
@@ -225,24 +221,20 @@ class Program(unittest.TestCase):
 
     def test_report(self) -> None:
         """The report is the program's, with each line of it as an object."""
-        program = support.program()
         for name, verdict, status in (("fredkin_gate", "yes", 0), ("wrong_times", "no", 1), ("wrong_border", "no", 1),
                                       ("not_kept", "no", 1)):
-            text = Path(support.example(name)).read_text()
-            printed = subprocess.run([program, "check"], input=text, capture_output=True, text=True, check=False)
-            report = bbmlab.check(text)
+            text = support.text_of(name)
+            printed, report = support.checked(text), bbmlab.check(text)
             with self.subTest(name):
                 self.assertEqual((report.verdict, report.status, report.is_yes), (verdict, status, verdict == "yes"))
-                self.assertEqual((report.text, str(report)), (printed.stdout, printed.stdout))
-                self.assertEqual([str(finding) for finding in report.findings], printed.stdout.splitlines()[4:])
+                self.assertEqual((report.text, str(report)), (printed, printed))
+                self.assertEqual([str(finding) for finding in report.findings], printed.splitlines()[4:])
                 self.assertEqual(any(finding.is_against for finding in report.findings), verdict == "no")
 
     def test_refusals(self) -> None:
         """Each way to hand in a refused text raises RefusedError with the program's line and code."""
-        support.program()
-        text = Path(support.example("not_local")).read_text()
-        program = subprocess.run([support.program(), "check"], input=text, capture_output=True, text=True,
-                                 check=False).stdout.split()
+        text = support.text_of("not_local")
+        program = support.checked(text).split()
         for call in (bbmlab.read, bbmlab.check):
             with self.assertRaises(bbmlab.RefusedError) as raised:
                 call(text)
@@ -262,7 +254,7 @@ class Program(unittest.TestCase):
     def test_missing_program(self) -> None:
         """A program that is not there, or gives no report, is a ProgramError; one that takes too long a TimeoutError.
         """
-        text = Path(support.example("one_wire")).read_text()
+        text = support.text_of("one_wire")
         with tempfile.TemporaryDirectory() as room:
             fakes = {"silent": "exit 0",
                      "liar": "printf 'bbmcheck 1\\ncertificate %064d\\nmodules 1\\nverdict yes\\n' 0; exit 1",
@@ -292,7 +284,7 @@ class Program(unittest.TestCase):
         self.assertNotIn("fixed", explanation.document)
         assert explanation.fixed
         self.assertTrue(bbmlab.check(explanation.fixed).is_yes)
-        self.assertEqual(bbmlab.explain(Path(support.example("not_local")).read_text()).verdict, "refused")
+        self.assertEqual(bbmlab.explain(support.text_of("not_local")).verdict, "refused")
 
 
 class Making(unittest.TestCase):
@@ -301,7 +293,7 @@ class Making(unittest.TestCase):
     def test_certify(self) -> None:
         """A circuit and a layout get a certificate with a yes, by boxes of the lab, a grid, and given boxes."""
         support.program()
-        bundle = bbmlab.read(Path(support.example("fredkin_gate")).read_text())
+        bundle = bbmlab.read(support.text_of("fredkin_gate"))
         bare = bbmlab.Bundle(bundle.circuit, bundle.layout)
         assert bundle.certificate
         for made in (bbmlab.certify(bare), bbmlab.certify(bundle), bbmlab.certify(bare, grid=(64, 64), cuts="safe"),
@@ -321,7 +313,7 @@ class Making(unittest.TestCase):
     def test_route(self) -> None:
         """A circuit gets a layout and a certificate with a yes, the same for the same seed."""
         support.program()
-        circuit = bbmlab.read(Path(support.example("half_adder")).read_text()).circuit
+        circuit = bbmlab.read(support.text_of("half_adder")).circuit
         assert circuit
         bundle = bbmlab.route(circuit)
         self.assertEqual(bundle.circuit, circuit)
@@ -332,7 +324,3 @@ class Making(unittest.TestCase):
                 bbmlab.route(circuit, **wrong)  # type: ignore[arg-type]
         with self.assertRaises(bbmlab.NotFoundError):
             bbmlab.route(circuit, size=48, effort=0.1)
-
-
-if __name__ == "__main__":
-    unittest.main()

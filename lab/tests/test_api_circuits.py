@@ -75,7 +75,3 @@ class Circuits(unittest.TestCase):
         rows = bbmlab.table(bbmlab.Circuit().input("c", "y", "z").gate("unswitch c y z -> d x").output("d", "x"))
         self.assertEqual([row.gate for row in rows], [None, None, 0, 0, None, 0, None, 0])
         self.assertIsNone(rows[2].outputs)
-
-
-if __name__ == "__main__":
-    unittest.main()

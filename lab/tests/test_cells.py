@@ -127,7 +127,3 @@ class Command(unittest.TestCase):
         self.assertEqual(unknown.returncode, 2)
         self.assertIn("there is no cell", unknown.stderr)
         self.assertEqual(support.lab("cells", "--svg").returncode, 2)
-
-
-if __name__ == "__main__":
-    unittest.main()

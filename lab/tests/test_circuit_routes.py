@@ -40,7 +40,3 @@ class Routed(unittest.TestCase):
             done = support.lab("route", *words, str(CIRCUITS / "counter_4.blif"), BBMCHECK=program)
             self.assertEqual(done.returncode, 0, done.stderr)
             self.assertIn("verdict yes", done.stderr)
-
-
-if __name__ == "__main__":
-    unittest.main()

@@ -11,39 +11,11 @@ from pathlib import Path
 import support
 from bbmlab_core.circuits import circuit_forms, truth
 from bbmlab_core.circuits.netlists import Reading, map_netlist
-from bbmlab_core.texts.circuits import Circuit, values_under
-from bbmlab_core.texts.documents import read_document
-from bbmlab_core.texts.gates import GATE_SIZES
+from bbmlab_core.texts.circuits import values_under
+from support import circuit_of
+from test_reworking import random_text
 
 CIRCUITS = support.EXAMPLES / "circuits"
-
-
-def circuit_of(text: str) -> Circuit:
-    """Returns the circuit of a text."""
-    document = read_document(text, "circuit")
-    assert document.refusal is None and document.circuit is not None, document.refusal
-    return document.circuit
-
-
-def random_circuit(chance: random.Random, count: int, words: list[str]) -> Circuit:
-    """Returns a circuit of random gates."""
-    wires = [f"i{number}" for number in range(chance.randint(2, 5))]
-    lines, made = ["circuit", *(f"input {name}" for name in wires)], 0
-    for _ in range(count):
-        word = chance.choice(words)
-        uses, makes = GATE_SIZES[word]
-        if uses > len(wires):
-            continue
-        ins = chance.sample(wires, uses)
-        outs = [f"w{made + at}" for at in range(makes)]
-        made += makes
-        wires = [name for name in wires if name not in ins] + outs
-        number = f" {chance.choice((0, 1))}" if word == "source" else " 4" if word == "delay" else ""
-        lines.append(" ".join([f"{word}{number}", *ins, "->", *outs]))
-    outs = [name for name in wires if chance.random() < 0.6] or wires[:1]
-    spills = [name for name in wires if name not in outs]
-    return circuit_of("\n".join([*lines, *(f"output {name}" for name in outs), *(f"spill {name}" for name in spills),
-                                 "end", ""]))
 
 
 def number(bits: list[int]) -> int:
@@ -54,13 +26,11 @@ def number(bits: list[int]) -> int:
 class Forms(unittest.TestCase):
     """A circuit in BLIF and Verilog is the same circuit, judged by others."""
 
-    FORWARD = ["source", "fredkin", "cswap", "interact", "switch", "delay"]
-
     def test_blif_is_read_back(self) -> None:
         """The BLIF of a random circuit, mapped back, has the same table."""
         chance = random.Random(82)
         for _ in range(20):
-            circuit = random_circuit(chance, 4, self.FORWARD)
+            circuit = circuit_of(random_text(chance, 4))
             if set(circuit.inputs) & set(circuit.outputs):
                 continue
             back = circuit_of(map_netlist(circuit_forms.blif_text(circuit)).text)
@@ -78,7 +48,7 @@ class Forms(unittest.TestCase):
         with tempfile.TemporaryDirectory() as name:
             room = Path(name)
             for number in range(40):
-                circuit = random_circuit(chance, 6, self.FORWARD)
+                circuit = circuit_of(random_text(chance, 6))
                 if set(circuit.inputs) & set(circuit.outputs):
                     continue
                 (room / "a.blif").write_text(circuit_forms.blif_text(circuit))
@@ -91,7 +61,7 @@ class Forms(unittest.TestCase):
 
     def test_dot_has_each_wire(self) -> None:
         """The graph has an arrow for each wire, and is read by dot where it is there."""
-        circuit = random_circuit(random.Random(3), 6, self.FORWARD)
+        circuit = circuit_of(random_text(random.Random(3), 6))
         text = circuit_forms.dot_text(circuit)
         self.assertEqual(text.count(" -> "), len(circuit.wires))
         if shutil.which("dot"):
@@ -112,10 +82,8 @@ class Commands(unittest.TestCase):
 
     def test_rows_without_values_name_the_gate(self) -> None:
         """An inverse gate outside of its rows."""
-        with tempfile.TemporaryDirectory() as room:
-            path = Path(room) / "c.txt"
-            path.write_text("circuit\ninput c\ninput y\ninput z\nunswitch c y z -> d x\noutput d\noutput x\nend\n")
-            lines = support.lab("table", str(path)).stdout.splitlines()
+        text = "circuit\ninput c\ninput y\ninput z\nunswitch c y z -> d x\noutput d\noutput x\nend\n"
+        lines = support.lab("table", "-", text=text).stdout.splitlines()
         self.assertEqual(lines[3], "0 1 0 | gate 0 (unswitch) has no row")
         self.assertEqual(lines[7], "1 1 0 | 1 1")
 
@@ -146,21 +114,15 @@ class Commands(unittest.TestCase):
 
     def test_equal(self) -> None:
         """Equal circuits, circuits that differ at one row, and other ports."""
-        with tempfile.TemporaryDirectory() as room:
-            own = Path(room) / "own.txt"
-            own.write_text(Path(support.example("half_adder")).read_text().replace("output sum\noutput carry\n",
-                                                                                   "output carry\noutput sum\n"))
-            done = support.lab("equal", support.example("half_adder"), str(own))
-            self.assertEqual((done.returncode, done.stdout), (0, "equal in all 4 choices of the inputs\n"))
-            own.write_text("circuit\ninput a\ninput b\nfredkin a b k -> x carry y\n".replace(" k ", " z ")
-                           .replace("input b\n", "input b\nsource 0 -> z\n")
-                           + "output carry\noutput x\nspill y\nend\n")
-            done = support.lab("equal", support.example("half_adder"), str(own))
-            self.assertEqual((done.returncode, done.stdout), (1, "not equal: only one of them has the output sum\n"))
-            own.write_text("circuit\ninput a\ninput b\ndelay 1 a -> sum\ndelay 1 b -> carry\noutput sum\noutput "
-                           "carry\nend\n")
-            done = support.lab("equal", support.example("half_adder"), str(own))
-            self.assertEqual((done.returncode, done.stdout), (1, "not equal: with b on, sum differs\n"))
+        turned = support.text_of("half_adder").replace("output sum\noutput carry\n", "output carry\noutput sum\n")
+        other = ("circuit\ninput a\ninput b\nsource 0 -> z\nfredkin a b z -> x carry y\noutput carry\noutput x\n"
+                 "spill y\nend\n")
+        wrong = "circuit\ninput a\ninput b\ndelay 1 a -> sum\ndelay 1 b -> carry\noutput sum\noutput carry\nend\n"
+        for text, status, said in ((turned, 0, "equal in all 4 choices of the inputs\n"),
+                                   (other, 1, "not equal: only one of them has the output sum\n"),
+                                   (wrong, 1, "not equal: with b on, sum differs\n")):
+            done = support.lab("equal", support.example("half_adder"), "-", text=text)
+            self.assertEqual((done.returncode, done.stdout), (status, said))
 
     def test_depth_and_width(self) -> None:
         """Figures of small circuits."""
@@ -241,7 +203,3 @@ class Examples(unittest.TestCase):
                 *_, c, d = states[-1]
                 states.append([c ^ d, *states[-1][:3]])
             self.assertEqual([outs[4 * at:4 * at + 4][::-1] for at in range(3)] + [outs[12:]], states)
-
-
-if __name__ == "__main__":
-    unittest.main()

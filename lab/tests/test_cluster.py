@@ -1,18 +1,16 @@
 """`check --dask`: a scheduler and workers as processes on the loopback address."""
 
+import json
 import os
 import shutil
 import signal
 import subprocess
 import sys
-import tempfile
-import time
 import unittest
 from pathlib import Path
-from typing import Any
 
 import support
-from test_receipts import counting_program
+from test_receipts import counting_program, stable
 
 SLOW = "[ \"$1\" != check ] || sleep 0.3"
 
@@ -26,22 +24,13 @@ def python_with_dask() -> str:
     raise unittest.SkipTest("Dask is not installed (apt-get install python3-distributed)")
 
 
-def stable(folder: Path) -> dict[str, list[str]]:
-    """Returns the lines of the receipts in a folder, without those of the date and the time."""
-    return {path.name: [line for line in path.read_text().splitlines() if '"date"' not in line
-                        and '"processor_seconds"' not in line]
-            for path in folder.iterdir()}
-
-
-class Cluster(unittest.TestCase):
+class Cluster(support.InRoom):
     """A scheduler with three workers, and a set of twelve designs."""
 
     def setUp(self) -> None:
         self.python, self.started = python_with_dask(), list[subprocess.Popen[bytes]]()
-        room = tempfile.TemporaryDirectory()
-        self.addCleanup(room.cleanup)
+        super().setUp()
         self.addCleanup(self.end_all)
-        self.room = Path(room.name)
         self.designs = self.room / "designs"
         self.designs.mkdir()
         for place, name in enumerate(["gate_and_mirror", "wrong_edge", "full_adder", "not_known"] * 3):
@@ -76,14 +65,10 @@ class Cluster(unittest.TestCase):
 
     def address(self) -> str:
         """Returns the address of the scheduler, once it runs."""
-        import json
-        until = time.monotonic() + 30
-        while time.monotonic() < until:
-            # The scheduler makes the file before it writes it.
-            if os.path.exists(self.scheduler) and Path(self.scheduler).read_text().rstrip().endswith("}"):
-                return str(json.loads(Path(self.scheduler).read_text())["address"])
-            time.sleep(0.1)
-        raise AssertionError("the scheduler did not start")
+        # The scheduler makes the file before it writes it.
+        support.wait_for(lambda: os.path.exists(self.scheduler)
+                         and Path(self.scheduler).read_text().rstrip().endswith("}"))
+        return str(json.loads(Path(self.scheduler).read_text())["address"])
 
     def command(self, *words: str) -> list[str]:
         """Returns the command that checks the designs by the cluster."""
@@ -111,9 +96,7 @@ class Cluster(unittest.TestCase):
         self.assertEqual(stable(self.room / "first"), plain)
         running = subprocess.Popen(self.command("--receipts", str(self.room / "second")), stdout=subprocess.PIPE,
                                    stderr=subprocess.PIPE)
-        until = time.monotonic() + 60
-        while not (self.room / "second").exists() and time.monotonic() < until:
-            time.sleep(0.02)
+        support.wait_for((self.room / "second").exists)
         os.killpg(workers[0].pid, signal.SIGKILL)
         output, errors = running.communicate(timeout=120)
         self.assertEqual(running.returncode, 1, (output + errors).decode())
@@ -137,13 +120,10 @@ class Cluster(unittest.TestCase):
 
     def test_two_answers_end_the_run(self) -> None:
         """A program that gives two answers to one text ends the run with 4, and both are told."""
-        coin = self.room / "coin"
-        coin.write_text(f"#!/bin/sh\n[ \"$1\" = check ] || exec '{support.program()}' \"$@\"\ncat >/dev/null\necho "
-                        f">>'{self.room}/count'\n"
-                        "printf 'bbmcheck 1\\ncertificate %064d\\nmodules 1\\nverdict yes\\n' \"$(wc -l "
-                        f"<'{self.room}/count')\"\n")
-        coin.chmod(0o755)
-        self.program = str(coin)
+        self.program = support.executable(
+            self.room / "coin", f"[ \"$1\" = check ] || exec '{support.program()}' \"$@\"\ncat >/dev/null\n"
+            f"echo >>'{self.room}/count'\nprintf 'bbmcheck 1\\ncertificate %064d\\nmodules 1\\nverdict yes\\n' "
+            f"\"$(wc -l <'{self.room}/count')\"")
         self.worker(self.program)
         ended = self.check()
         self.assertEqual(ended.returncode, 4, ended.stderr)
@@ -151,40 +131,30 @@ class Cluster(unittest.TestCase):
         self.assertIn("stopped by a contradiction", ended.stdout)
 
 
-class Alone(unittest.TestCase):
+class Alone(support.InRoom):
     """What needs no cluster to be there."""
+
+    def check(self, *words: str) -> "subprocess.CompletedProcess[str]":
+        """Runs `check` with Dask."""
+        return subprocess.run([python_with_dask(), support.BBMLAB[1], "check", "--program", support.program(), *words],
+                              capture_output=True, text=True, timeout=120, check=False)
 
     def test_no_scheduler(self) -> None:
         """An address without a scheduler is told in a line, with 4."""
-        python = python_with_dask()
-        ended = subprocess.run([python, str(support.LAB / "bbmlab"), "check", "--program", support.program(), "--dask",
-                                "tcp://127.0.0.1:9",
-                                support.example("full_adder")], capture_output=True, text=True, timeout=60, check=False)
+        ended = self.check("--dask", "tcp://127.0.0.1:9", support.example("full_adder"))
         self.assertEqual((ended.returncode, ended.stdout), (4, ""))
         self.assertIn("no Dask cluster with a worker at tcp://127.0.0.1:9", ended.stderr)
 
     def test_a_cluster_here(self) -> None:
         """Without an address a cluster is started, which ends with the run."""
-        python = python_with_dask()
-        ended = subprocess.run([python, str(support.LAB / "bbmlab"), "check", "--program", support.program(), "--jobs",
-                                "2",
-                                support.example("full_adder"), support.example("wrong_edge"), "--dask"],
-                               capture_output=True, text=True, timeout=120, check=False)
+        ended = self.check("--jobs", "2", support.example("full_adder"), support.example("wrong_edge"), "--dask")
         self.assertEqual(ended.returncode, 1, ended.stderr)
         self.assertIn("2 files: 1 yes, 1 no", ended.stdout)
 
     def test_without_dask(self) -> None:
         """Where Dask is missing, a line says what to install."""
-        with tempfile.TemporaryDirectory() as room:
-            (Path(room) / "distributed.py").write_text("raise ImportError\n")
-            environment: dict[str, Any] = {**os.environ, "PYTHONPATH": room}
-            ended = subprocess.run([sys.executable, str(support.LAB / "bbmlab"), "check", "--dask", "x", "--program",
-                                    support.program(),
-                                    support.example("full_adder")], capture_output=True, text=True, env=environment,
-                                   check=False)
+        self.file("distributed.py", "raise ImportError\n")
+        ended = support.lab("check", "--dask", "x", "--program", support.program(), support.example("full_adder"),
+                            PYTHONPATH=str(self.room))
         self.assertEqual(ended.returncode, 4)
         self.assertIn("python3-distributed", ended.stderr)
-
-
-if __name__ == "__main__":
-    unittest.main()

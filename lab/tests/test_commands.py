@@ -3,7 +3,7 @@
 import json
 import os
 import re
-import stat
+import subprocess
 import tempfile
 import unittest
 import xml.etree.ElementTree as ET
@@ -15,20 +15,11 @@ from bbmlab_core.host.program import ask
 
 def fake_program(room: str, body: str) -> str:
     """Writes a program that answers as its body says."""
-    path = Path(room) / "fake"
-    path.write_text("#!/bin/sh\n" + body)
-    path.chmod(path.stat().st_mode | stat.S_IXUSR)
-    return str(path)
+    return support.executable(Path(room) / "fake", body)
 
 
 class Documents(unittest.TestCase):
     """The lists of docs/JSON.md of what a JSON document has."""
-
-    def members(self, kind: str) -> set[str]:
-        """Returns the members that the page lists for a kind of document."""
-        part = (support.TOP / "docs" / "JSON.md").read_text().split(f"## `{kind}`\n")[1].split("\n##")[0]
-        return {name for line in part.splitlines() if line.startswith("- ")
-                for name in re.findall(r"`(\w+)`", line.split(":")[0])}
 
     def test_page_is_short(self) -> None:
         """docs/LAB.md has at most 1770 words, bars and dashes not counted, and names each command."""
@@ -54,7 +45,8 @@ class Documents(unittest.TestCase):
                                    (("trace", "--json", file), set())]:
                 more = () if words[0] == "json" else ("--program", program)
                 document = json.loads(support.lab(*words, *more).stdout)
-                self.assertEqual(set(document) - {"format"}, self.members(document["format"]) - without, words[0])
+                self.assertEqual(set(document) - {"format"}, support.page_members(document["format"]) - without,
+                                 words[0])
 
 
 class Check(unittest.TestCase):
@@ -107,15 +99,6 @@ class Check(unittest.TestCase):
 class Others(unittest.TestCase):
     """Other commands, and what all have in common."""
 
-    def test_help_of_each(self) -> None:
-        """Each command has a help with an example."""
-        for name in ("check", "explain", "trace", "draw", "view", "studio", "certify", "fmt", "json", "golly",
-                     "from-golly"):
-            ended = support.lab(name, "--help")
-            with self.subTest(name):
-                self.assertEqual(ended.returncode, 0)
-                self.assertIn("Example: bbmlab", ended.stdout)
-
     def test_no_colours_in_a_pipe(self) -> None:
         """What goes to a pipe has no escape codes."""
         ended = support.lab("explain", support.example("wrong_edge"), "--program", support.program())
@@ -123,7 +106,7 @@ class Others(unittest.TestCase):
 
     def test_standard_input(self) -> None:
         """`-` is standard input."""
-        text = (support.EXAMPLES / "not_known.txt").read_text()
+        text = support.text_of("not_known")
         ended = support.lab("explain", "-", text=text, BBMCHECK=support.program())
         self.assertIn("does not know the wire `c`", ended.stdout.replace("\n  ", " "))
 
@@ -162,13 +145,8 @@ class Others(unittest.TestCase):
 
     def test_runs_with_debian_python(self) -> None:
         """The lab runs with /usr/bin/python3, where there is one."""
-        import subprocess
-        if not os.path.exists("/usr/bin/python3"):
-            self.skipTest("there is no /usr/bin/python3")
-        ended = subprocess.run(["/usr/bin/python3", str(support.LAB / "bbmlab"), "--version"], capture_output=True,
+        if not os.path.exists(support.DEBIAN_PYTHON):
+            self.skipTest(f"there is no {support.DEBIAN_PYTHON}")
+        ended = subprocess.run([support.DEBIAN_PYTHON, support.BBMLAB[1], "--version"], capture_output=True,
                                check=False)
         self.assertEqual(ended.returncode, 0)
-
-
-if __name__ == "__main__":
-    unittest.main()

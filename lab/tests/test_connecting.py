@@ -164,7 +164,3 @@ class Process(unittest.TestCase):
         status, said, made = self.run_with(text, "/bin/true")
         self.assertEqual((status, made), (1, None), said)
         self.assertIn("the verdict would be unknown", said)
-
-
-if __name__ == "__main__":
-    unittest.main()

@@ -55,6 +55,13 @@ def picture_colours() -> dict[str, dict[str, Style]]:
 class Contrast(unittest.TestCase):
     """The colours."""
 
+    def assert_seen(self, pairs: list[tuple[str, str]], least: float) -> None:
+        """Asserts that colours of the page have enough contrast to their grounds."""
+        for scheme, colours in page_colours().items():
+            for name, ground in pairs:
+                with self.subTest(scheme, name=name, ground=ground):
+                    self.assertGreaterEqual(contrast(colours[name], colours[ground]), least)
+
     def test_the_ratio(self) -> None:
         """Black on white has 21 to 1, and a colour on itself 1 to 1."""
         self.assertAlmostEqual(contrast("#000", "#ffffff"), 21)
@@ -63,11 +70,8 @@ class Contrast(unittest.TestCase):
 
     def test_shapes_of_the_page(self) -> None:
         """Mirrors, balls, boxes and the waveform can be seen on their grounds."""
-        for scheme, colours in page_colours().items():
-            for name, ground in (("mirror", "plane"), ("ball", "plane"), ("box", "plane"), ("ball", "mirror"),
-                                 ("wave", "paper"), ("box", "paper")):
-                with self.subTest(scheme, name=name, ground=ground):
-                    self.assertGreaterEqual(contrast(colours[name], colours[ground]), SHAPES)
+        self.assert_seen([("mirror", "plane"), ("ball", "plane"), ("box", "plane"), ("ball", "mirror"),
+                          ("wave", "paper"), ("box", "paper")], SHAPES)
 
     def test_borders_of_the_page(self) -> None:
         """Each border of the style has a colour with enough contrast to the paper outside and to the plane inside."""
@@ -77,22 +81,14 @@ class Contrast(unittest.TestCase):
                                                                           r"border(?:-top|-color)?: *(?:\d+px solid "
                                                                          r")?var\("))
         self.assertEqual(borders, understood)
-        for scheme, colours in page_colours().items():
-            for name in names:
-                for ground in ("paper", "plane"):
-                    with self.subTest(scheme, name=name, ground=ground):
-                        self.assertGreaterEqual(contrast(colours[name], colours[ground]), SHAPES)
+        self.assert_seen([(name, ground) for name in names for ground in ("paper", "plane")], SHAPES)
 
     def test_texts_of_the_page(self) -> None:
         """Each colour of texts can be read on paper and plane."""
         named = set(re.findall(r"(?<![\w-])color: var\(--(\w+)\)", STYLE))
         self.assertLessEqual({"ink", "soft", "good", "bad", "edge", "halo", "stop"}, named)
         self.assertFalse(named & FAINT)
-        for scheme, colours in page_colours().items():
-            for name in named:
-                for ground in ("paper", "plane"):
-                    with self.subTest(scheme, name=name, ground=ground):
-                        self.assertGreaterEqual(contrast(colours[name], colours[ground]), TEXTS)
+        self.assert_seen([(name, ground) for name in named for ground in ("paper", "plane")], TEXTS)
 
     def test_pictures(self) -> None:
         """Mirrors, balls, ports, waste cells and modules of `draw` can be seen on the plane."""
@@ -103,7 +99,3 @@ class Contrast(unittest.TestCase):
                                ("fault", "stroke"), ("number", "fill"), ("text", "fill")):
                 with self.subTest(scheme, name=name):
                     self.assertGreaterEqual(contrast(classes[name][kind], plane), SHAPES)
-
-
-if __name__ == "__main__":
-    unittest.main()

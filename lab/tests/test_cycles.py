@@ -5,21 +5,17 @@ The expected values come from the rules of each machine, or from an evaluator in
 
 import itertools
 import random
-import shutil
 import subprocess
 import tempfile
 import unittest
 from pathlib import Path
 from typing import Callable
-from unittest import mock
 
 import support
 from bbmlab_core.circuits.netlists import NetlistError, Reading, map_netlist
 from bbmlab_core.texts.circuits import Circuit, values_under
 from test_netlists import blif_values, random_table
 
-# Fewer tries than users get, which save time: each try is one that a search can end with.
-FEW_TRIES = mock.patch("bbmlab_core.circuits.netlists.search.MAX_TRIES", 8)
 INITIAL = False
 COUNTER = """module counter(input clk, input up, input clear, output reg [2:0] q);
   initial q = 3'd5;
@@ -30,11 +26,15 @@ endmodule
 
 def circuit_of(text: str, cycles: int, has_state_ports: bool = True) -> Circuit:
     """Returns the circuit of a machine."""
-    with FEW_TRIES:
-        circuit = support.read_document(map_netlist(text, reading=Reading(None, cycles, has_state_ports)).text,
-                                        "circuit").circuit
-    assert circuit is not None
-    return circuit
+    with support.FEW_TRIES:
+        return support.circuit_of(map_netlist(text, reading=Reading(None, cycles, has_state_ports)).text)
+
+
+def yosys(room: Path, verilog: str, steps: str) -> None:
+    """Writes a machine to a folder, and lets yosys make a netlist of it there."""
+    (room / "c.v").write_text(verilog)
+    subprocess.run(["yosys", "-q", "-p", f"read_verilog c.v; synth -flatten; abc -g AND,XOR,MUX; {steps}"], cwd=room,
+                   check=True)
 
 
 def outputs_of(circuit: Circuit, on: set[str]) -> dict[str, bool]:
@@ -133,8 +133,7 @@ class Others(unittest.TestCase):
 
     def test_yosys(self) -> None:
         """A counter with an enable and a reset, by yosys: as JSON and as BLIF, with and without merged resets."""
-        if not shutil.which("yosys"):
-            self.skipTest("there is no yosys (Debian: yosys)")
+        support.require("yosys", "yosys")
 
         def follower(number: int, given: dict[str, bool]) -> int:
             """Returns the next number."""
@@ -151,13 +150,8 @@ class Others(unittest.TestCase):
                                   "write_json c.json"),
                                  ("dfflegalize -cell $_DFF_P_ 01; opt_clean; abc -g AND,XOR,MUX;",
                                   "write_blif c.json")):
-                (room / "c.v").write_text(COUNTER.replace("posedge", "negedge") if steps == "negedge" else COUNTER)
-                steps = steps.removeprefix("negedge")
-                done = subprocess.run(["yosys", "-q", "-p",
-                                       f"read_verilog c.v; synth -flatten; abc -g AND,XOR,MUX; {steps} opt_clean; "
-                                       f"{write}"],
-                                      cwd=room, capture_output=True, text=True, check=False)
-                self.assertEqual(done.returncode, 0, done.stderr)
+                verilog = COUNTER.replace("posedge", "negedge") if steps == "negedge" else COUNTER
+                yosys(room, verilog, f"{steps.removeprefix('negedge')} opt_clean; {write}")
                 text = (room / "c.json").read_text()
                 kinds |= {word for word in ("$_SDFFE_PP0P_", "$_SDFFE_PP1P_", "$_DFF_P_", "$_SDFFE_NP0P_", "$_DFFE_PN_",
                                             "$_SDFFCE_PN0N_", "$_SDFFCE_PN1N_", ".latch") if word in text}
@@ -167,15 +161,10 @@ class Others(unittest.TestCase):
 
     def test_first_values_of_yosys(self) -> None:
         """The counter begins with 5, as its Verilog says."""
-        if not shutil.which("yosys"):
-            self.skipTest("there is no yosys (Debian: yosys)")
-        with tempfile.TemporaryDirectory() as name:
-            room = Path(name)
-            (room / "c.v").write_text(COUNTER)
-            subprocess.run(["yosys", "-q", "-p",
-                            "read_verilog c.v; synth -flatten; abc -g AND,XOR,MUX; opt_clean; write_json c.json"],
-                           cwd=room, check=True)
-            circuit = circuit_of((room / "c.json").read_text(), 2, INITIAL)
+        support.require("yosys", "yosys")
+        with tempfile.TemporaryDirectory() as room:
+            yosys(Path(room), COUNTER, "opt_clean; write_json c.json")
+            circuit = circuit_of(Path(room, "c.json").read_text(), 2, INITIAL)
         found = outputs_of(circuit, {"up_0", "up_1"})
         self.assertEqual([found[f"q_{at}__end"] for at in range(3)], [True, True, True])
 
@@ -193,7 +182,3 @@ class Others(unittest.TestCase):
                     state = (not none, not high)
                 wanted.update(low_end=state[0], high_end=state[1])
                 self.assertEqual(outputs_of(circuit_of(text, cycles, INITIAL), set()), wanted)
-
-
-if __name__ == "__main__":
-    unittest.main()

@@ -5,18 +5,16 @@ import os
 import re
 import signal
 import subprocess
-import sys
 import tempfile
 import time
 import unittest
 import xml.etree.ElementTree as ET
 from pathlib import Path
-from typing import Callable
 
 import support
+from support import BBMLAB as LAB
 from test_commands import fake_program
 
-LAB = [sys.executable, str(support.LAB / "bbmlab")]
 # Says yes to a text of one line, $word, as if it were a certificate.
 YES = (r"digest=$(printf '%s\n' $word | sha256sum); printf 'bbmcheck 1\ncertificate %s\nmodules 1\nverdict yes\n' "
        r"${digest%% *}" + "\n")
@@ -86,7 +84,7 @@ class Signals(unittest.TestCase):
         program = fake_program(str(room), body)
         ran = subprocess.Popen([*LAB, "check", "--jobs", "2", "--format", form, "--program", program, str(room)],
                                stdout=subprocess.PIPE, stderr=subprocess.PIPE)
-        self.wait_for(lambda: (room / "begun").exists() and (room / "begun").read_text().count("x") == 2)
+        support.wait_for(lambda: (room / "begun").exists() and (room / "begun").read_text().count("x") == 2)
         asked = time.monotonic()
         ran.send_signal(number)
         output, _ = ran.communicate(timeout=30)
@@ -99,14 +97,6 @@ class Signals(unittest.TestCase):
                              (number.name, 1, 4))
         else:
             self.assertIn(f"1 file: 1 yes; stopped by {number.name}, 4 not checked".encode(), output)
-
-    def wait_for(self, holds: Callable[[], bool]) -> None:
-        """Waits until something holds, at most 20 seconds."""
-        for _ in range(400):
-            if holds():
-                return
-            time.sleep(0.05)
-        self.fail("it did not come to that")
 
     def test_results_come_as_they_are_ready(self) -> None:
         """A quick file's line is there while a slow one still runs, in each form that is written line by line."""
@@ -156,7 +146,7 @@ class Files(unittest.TestCase):
         """An output that is the input, also by a link, is refused, and the file stays."""
         with tempfile.TemporaryDirectory() as room:
             file, link = Path(room) / "a.txt", Path(room) / "b.txt"
-            text = (support.EXAMPLES / "not_gate.txt").read_text()
+            text = support.text_of("not_gate")
             file.write_text(text)
             link.symlink_to(file)
             for words in (("certify", str(file), "-o", str(link)), ("fmt", str(file), "-o", str(file))):
@@ -246,7 +236,3 @@ class Hostile(unittest.TestCase):
                 below = max(depth.get(word, 0) for word in words[1:arrow])
                 depth.update(dict.fromkeys(words[arrow + 1:], below + 1))
         return max(depth.values())
-
-
-if __name__ == "__main__":
-    unittest.main()

@@ -31,7 +31,7 @@ class OtherAnswers(unittest.TestCase):
 
     def test_what_is_no_answer(self) -> None:
         """A file that no command of the program wrote, or one of another text, is refused with a sentence."""
-        run, value = ((support.EXAMPLES / f"{name}.txt").read_text() for name in ("head_on", "collision_values"))
+        run, value = (support.text_of(name) for name in ("head_on", "collision_values"))
         for text, command, output in [(run, "run", "0\n"), (run, "run", ""), (run, "run", "cells x\n"),
                                       (run, "run", "bbmcheck 1\n"),
                                       (value, "value", "p\n"), (value, "value", "undefined 99\n"),
@@ -137,7 +137,7 @@ class Reports(unittest.TestCase):
     def test_line_numbers_are_right(self) -> None:
         """The line of the text that a fault names is the one that says what was wanted."""
         entry = explained_example("extra_cut").entries[0]
-        text = (support.EXAMPLES / "extra_cut.txt").read_text().split("\n")
+        text = support.text_of("extra_cut").split("\n")
         self.assertEqual(text[entry.line - 1], "edge 3 7 4 a")
         self.assertIn("p=1 q=1 a=0", entry.what[0])
 
@@ -159,12 +159,10 @@ class Fixes(unittest.TestCase):
 
     def test_lines_that_are_left_out_come_back(self) -> None:
         """If one edge line of a good bundle is left out, the fix of the first fault is that line."""
-        document = support.read_document((support.EXAMPLES / "gate_and_mirror.txt").read_text(), "check")
-        text = document.text
+        text = support.text_of("gate_and_mirror")
         for line in re.findall(r"^edge \d+ .*$", text, re.M):
             broken = text.replace(line + "\n", "", 1)
-            output = self.answer(broken)
-            told = explain_answer(broken, "check", output, "broken", Trial(support.program()))
+            told = explain_answer(broken, "check", support.checked(broken), "broken", Trial(support.program()))
             first = min((entry for entry in told.entries if entry.facts.get("time") is not None),
                         key=lambda entry: entry.facts["time"])
             wires = {"a": "ad", "d": "ad"}.get(line[-1], line[-1])
@@ -173,14 +171,9 @@ class Fixes(unittest.TestCase):
 
     def test_cut_certificates_get_a_yes(self) -> None:
         """A design whose certificate `certify` makes again gets a yes."""
-        document = support.read_document((support.EXAMPLES / "wrong_edge.txt").read_text())
-        self.assertIn("verdict yes",
-                      self.answer(certified(document, checked_boxes(document.layout, 8, 12), CertificatePlan())))
-
-    def answer(self, text: str) -> str:
-        """Returns what the program's `check` says of a text."""
-        from bbmlab_core.host.program import ask
-        return ask(support.program(), "check", text.encode("latin-1")).output
+        document = support.read_document(support.text_of("wrong_edge"))
+        made = certified(document, checked_boxes(document.layout, 8, 12), CertificatePlan())
+        self.assertIn("verdict yes", support.checked(made))
 
 
 class Listings(unittest.TestCase):
@@ -188,7 +181,7 @@ class Listings(unittest.TestCase):
 
     def test_listings_are_told_as_their_own(self) -> None:
         """They are no values of a circuit."""
-        text = (support.EXAMPLES / "four_modules.txt").read_text()
+        text = support.text_of("four_modules")
         for command, output, words in (("modules", "module 0 0 0 4 4\nmodule 1 4 0 4 4\n", "2 modules"),
                                        ("modules", "module 0 0 0 8 8\n", "one module"),
                                        ("migrate", text, "version 2")):
@@ -212,7 +205,3 @@ def explained_example(name: str):
     data = (support.EXAMPLES / f"{name}.txt").read_bytes()
     return explain_answer(data.decode(), "check", reference_reports.answer(data)[1].decode(), name,
                           Trial(support.program()))
-
-
-if __name__ == "__main__":
-    unittest.main()

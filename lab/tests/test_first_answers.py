@@ -112,7 +112,7 @@ class Search(unittest.TestCase):
         assert bundle.circuit
         self.assertEqual((bundle.circuit.inputs, bool(seen)), (("a", "b"), True))
         self.assertTrue(bbmlab.check(bundle, program=support.program()).is_yes)
-        free = "# by hand\n" + Path(support.example("half_adder")).read_text()
+        free = "# by hand\n" + support.text_of("half_adder")
         with self.assertRaisesRegex(bbmlab.NotFoundError, "the search was cancelled: "):
             bbmlab.route(free, cancel=lambda: True)
         with self.assertRaisesRegex(bbmlab.NotFoundError, "has no row for"):
@@ -121,7 +121,3 @@ class Search(unittest.TestCase):
             bbmlab.route(free, size=17)
         with self.assertRaisesRegex(ValueError, "the netlist cannot be mapped"):
             bbmlab.route(".model m\n.latch a b\n.end\n")
-
-
-if __name__ == "__main__":
-    unittest.main()

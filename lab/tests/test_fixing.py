@@ -27,11 +27,7 @@ from bbmlab_core.texts.layouts import Box, Layout, Part
 from bbmlab_core.texts.reports import ReportError, parse_report
 from measure_fixes import right_texts, rounds_to_yes
 from mutations import FAMILIES, mutants
-
-
-def text_of(name: str) -> str:
-    """Returns the text of an example."""
-    return (support.EXAMPLES / f"{name}.txt").read_text()
+from support import text_of
 
 
 def explained(text: str, command: str = "check") -> ExplainedAnswer:
@@ -42,7 +38,7 @@ def explained(text: str, command: str = "check") -> ExplainedAnswer:
 
 def says_yes(text: str) -> bool:
     """Whether the program says yes to a text."""
-    return "verdict yes" in ask(support.program(), "check", text.encode("latin-1")).output
+    return "verdict yes" in support.checked(text)
 
 
 class Edits(unittest.TestCase):
@@ -249,10 +245,10 @@ class Reports(unittest.TestCase):
         """`explain --report` and `view --report` refuse a report with another digest, and one that names a module that
         there is not."""
         text, other = text_of("wrong_edge"), text_of("extra_cut")
-        report = ask(support.program(), "check", other.encode()).output
+        report = support.checked(other)
         with self.assertRaisesRegex(ReportError, "not of this text"):
             explain_answer(text, "check", report, "text")
-        own = ask(support.program(), "check", text.encode()).output
+        own = support.checked(text)
         with self.assertRaisesRegex(ReportError, "not of this text"):
             explain_answer(text, "check", own.replace("local 1", "local 9"), "text")
         with tempfile.TemporaryDirectory() as room:
@@ -267,8 +263,7 @@ class Reports(unittest.TestCase):
         """The digest of a certificate is that of the program's report."""
         for name in ("wrong_edge", "four_modules", "without_halos"):
             text = text_of(name)
-            self.assertEqual(certificate_digest(text),
-                             parse_report(ask(support.program(), "check", text.encode()).output).digest)
+            self.assertEqual(certificate_digest(text), parse_report(support.checked(text)).digest)
 
     def test_own_reports_are_the_program_s(self) -> None:
         """The report that the lab makes without the program is the program's, for each worked case that is small."""
@@ -412,11 +407,7 @@ class Measure(unittest.TestCase):
                 fix = fixer.find_for(diagnosis, finding)
                 if fix:
                     tried += 1
-                    after = ask(program, "check", applied(text, fix.edits).encode()).output
+                    after = support.checked(applied(text, fix.edits))
                     self.assertNotIn("refused", after)
                     self.assertNotIn(finding.text, after.split("\n"))
         self.assertGreater(tried, 6)
-
-
-if __name__ == "__main__":
-    unittest.main()

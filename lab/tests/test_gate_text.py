@@ -2,21 +2,15 @@
 
 import itertools
 import random
-import resource
-import subprocess
-import sys
 import tempfile
 import unittest
 from pathlib import Path
 from typing import Callable
-from unittest import mock
 
 import support
 from bbmlab_core.circuits.netlists import NetlistError, NetlistFormat, map_netlist, netlist_format
 from bbmlab_core.texts.circuits import values_under
 
-# Fewer tries than users get, which save time: each try is one that a search can end with.
-FEW_TRIES = mock.patch("bbmlab_core.circuits.netlists.search.MAX_TRIES", 8)
 RULES: dict[str, Callable[[list[bool]], bool]] = {
     "and": all, "or": any, "xor": lambda bits: sum(bits) % 2 == 1, "nand": lambda bits: not all(bits),
     "nor": lambda bits: not any(bits),
@@ -51,9 +45,8 @@ class Gates(unittest.TestCase):
         for _ in range(60):
             text, inputs, gates, outputs = random_text(chance)
             self.assertIs(netlist_format(text), NetlistFormat.GATES)
-            with FEW_TRIES:
-                circuit = support.read_document(map_netlist(text).text, "circuit").circuit
-            assert circuit is not None
+            with support.FEW_TRIES:
+                circuit = support.circuit_of(map_netlist(text).text)
             for bits in itertools.product((False, True), repeat=len(inputs)):
                 values = dict(zip(inputs, bits))
                 for word, ins, out in gates:
@@ -68,8 +61,7 @@ class Gates(unittest.TestCase):
                 "-> p q r s\n"
                 "and d e -> both\nxor p s -> zero\n" + "".join(f"output {name}\n"
                                                                for name in "u v copy inverse p q r both zero".split()))
-        circuit = support.read_document(map_netlist(text, NetlistFormat.GATES).text, "circuit").circuit
-        assert circuit is not None
+        circuit = support.circuit_of(map_netlist(text, NetlistFormat.GATES).text)
         for c, x, y in itertools.product((False, True), repeat=3):
             values, _ = values_under(circuit, {name for name, bit in (("c", c), ("x", x), ("y", y)) if bit})
             wanted = [x if c else y, y if c else x, c, not c, x and y, y and not x, x and not y, c, False]
@@ -78,7 +70,7 @@ class Gates(unittest.TestCase):
     def test_a_circuit_section_stays(self) -> None:
         """A text with conservative gates alone is no text of plain gates, and neither is one with a layout."""
         for name in ("half_adder", "machine_fredkin", "fredkin_gate"):
-            self.assertIsNone(netlist_format(Path(support.example(name)).read_text()))
+            self.assertIsNone(netlist_format(support.text_of(name)))
         self.assertIsNone(netlist_format("circuit\ninput a\ninput b\nand a b -> c\noutput c\nend\nlayout 2 2 0\nend\n"))
 
 
@@ -123,8 +115,8 @@ class Refused(unittest.TestCase):
             said = support.lab("explain", str(path))
             self.assertEqual((said.returncode, said.stderr), (
                 1, f"bbmlab: {path}: this is a text of plain gates: `bbmlab circuit` and `route` read it\n"))
-            path.write_text("circuit\ninput a\nnot a -> b\noutput b\nend\n")
-            said = support.lab("explain", str(path), BBMCHECK=support.program())
+            said = support.lab("explain", "-", text="circuit\ninput a\nnot a -> b\noutput b\nend\n",
+                               BBMCHECK=support.program())
             self.assertIn("`bbmlab circuit` writes a circuit of a text of such gates", " ".join(said.stdout.split()))
 
     def test_large_files(self) -> None:
@@ -137,13 +129,6 @@ class Refused(unittest.TestCase):
                                (".i 1\n.o 1\n", "1 1\n"), (" ", " "),
                                ("/*", "*"), ("//\n", "//\n")):
                 path.write_text(head + line * (50_000_000 // len(line)))
-                done = subprocess.run([sys.executable, str(support.LAB / "bbmlab"), "circuit", str(path)],
-                                      capture_output=True, text=True, timeout=200,
-                                      check=False,
-                                      preexec_fn=lambda: resource.setrlimit(resource.RLIMIT_AS, (1_500_000_000,) * 2))
+                done = support.lab("circuit", str(path), seconds=200, memory=1_500_000_000)
                 self.assertEqual((done.returncode, done.stdout), (1, ""), (head, done.stderr[-300:]))
                 self.assertRegex(done.stderr, r"\Abbmlab: [^\n]+\n\Z")
-
-
-if __name__ == "__main__":
-    unittest.main()

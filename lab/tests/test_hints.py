@@ -14,20 +14,9 @@ from bbmlab_core.physics.standard_cells import cell_names
 class Hints(unittest.TestCase):
     """What `explain` says."""
 
-    def setUp(self) -> None:
-        room = tempfile.TemporaryDirectory()
-        self.addCleanup(room.cleanup)
-        self.room = Path(room.name)
-
-    def file(self, text: str, name: str = "text.txt") -> str:
-        """Writes a text, and returns its path."""
-        path = self.room / name
-        path.write_text(text)
-        return str(path)
-
     def explained(self, text: str, *words: str) -> str:
         """Returns what `explain` prints, in one line."""
-        return " ".join(support.lab("explain", *words, self.file(text), BBMCHECK=support.program()).stdout.split())
+        return " ".join(support.lab("explain", *words, "-", text=text, BBMCHECK=support.program()).stdout.split())
 
     def test_gates_of_logic(self) -> None:
         """A gate that conservative logic lacks is answered by its gates and by the cell that makes one."""
@@ -52,7 +41,7 @@ class Hints(unittest.TestCase):
 
     def test_a_design_without_certificate(self) -> None:
         """Of a design without a certificate `explain` says whether one would help."""
-        good = Path(support.example("not_gate")).read_text()
+        good = support.text_of("not_gate")
         self.assertIn("The text has no certificate. In the choices of the inputs that were tried the whole run ends as "
                       "the layout asks.", self.explained(good))
         crossing = (support.LAB / "cells" / "crossing.txt").read_text().split("certificate ")[0]
@@ -75,9 +64,9 @@ class Comments(unittest.TestCase):
     def test_commands_that_take_comments(self) -> None:
         """What only reads a text takes comments, any spaces and unsorted lists, and says what it says of the one
         spelling."""
-        free = "# by hand\n\n" + Path(support.example("wrong_edge")).read_text()
+        plain = support.text_of("wrong_edge")
+        free = "# by hand\n\n" + plain
         free = free.replace("\nlayout", "\n  layout").replace("\nend\n", "  # the end\nend # of it\n")
-        plain = Path(support.example("wrong_edge")).read_text()
         with tempfile.TemporaryDirectory() as room:
             (Path(room) / "free").mkdir()
             (Path(room) / "free" / "a.txt").write_text(free)
@@ -87,22 +76,18 @@ class Comments(unittest.TestCase):
                               for name in ("free/a.txt", "a.txt"))
                 self.assertEqual((one.returncode, one.stdout.replace("free/a.txt", "a.txt")),
                                  (other.returncode, other.stdout), words)
-            route = Path(room) / "circuit.txt"
-            route.write_text("# an adder\n"
-                             + Path(support.example("half_adder")).read_text().replace("\n", "  # why\n"))
-            one, other = (support.lab("route", "--circuit-only", name)
-                          for name in (str(route), support.example("half_adder")))
-            self.assertEqual((one.returncode, one.stdout), (0, other.stdout))
+        text = support.text_of("half_adder")
+        one, other = (support.lab("route", "--circuit-only", "-", text=own)
+                      for own in ("# an adder\n" + text.replace("\n", "  # why\n"), text))
+        self.assertEqual((one.returncode, one.stdout), (0, other.stdout))
 
     def test_lines_of_the_file(self) -> None:
         """A refusal of a text with comments names the line of the file."""
-        with tempfile.TemporaryDirectory() as room:
-            path = Path(room) / "free.txt"
-            path.write_text("# one\n\ncircuit\ninput a # two\noutput b\nend\nlayout 8 8 3\nend\n")
-            for command in ("draw", "json", "trace", "route"):
-                ended = support.lab(command, str(path), BBMCHECK=support.program())
-                self.assertEqual(ended.returncode, 1)
-                self.assertIn("line 5 is refused with code 3", ended.stderr, command)
+        text = "# one\n\ncircuit\ninput a # two\noutput b\nend\nlayout 8 8 3\nend\n"
+        for command in ("draw", "json", "trace", "route"):
+            ended = support.lab(command, "-", text=text, BBMCHECK=support.program())
+            self.assertEqual(ended.returncode, 1)
+            self.assertIn("line 5 is refused with code 3", ended.stderr, command)
 
     def test_commands_give_hints(self) -> None:
         """What only refuses a text says in its one line how to write it, as `explain` does."""
@@ -116,7 +101,3 @@ class Comments(unittest.TestCase):
                 self.assertEqual((ended.returncode, len(ended.stderr.splitlines())), (1, 1), ended.stderr)
                 self.assertIn("line 4 is refused with code", ended.stderr)
                 self.assertIn(hint, ended.stderr, command)
-
-
-if __name__ == "__main__":
-    unittest.main()

@@ -10,17 +10,10 @@ from bbmlab_core.circuits.cones import keeping_cone
 from bbmlab_core.circuits.keeps import KeepSearch, kept_cone, why_not_kept
 from bbmlab_core.texts.certificates import MAX_CUTS, MAX_USES
 from bbmlab_core.texts.circuits import Circuit, evaluate
-from bbmlab_core.texts.documents import read_document
+from support import circuit_of as read_circuit
 
 sys.path.insert(0, str(support.TOP / "bench"))
 from random_circuits import made_circuit  # noqa: E402
-
-
-def read_circuit(text: str) -> Circuit:
-    """Reads a circuit section."""
-    circuit = read_document(text, "circuit").circuit
-    assert circuit
-    return circuit
 
 
 def lacks_a_row(circuit: Circuit, gates: list[int]) -> bool:
@@ -102,7 +95,3 @@ class Keeps(unittest.TestCase):
         circuit = read_circuit(text)
         self.assertIsNone(kept_cone(circuit, 71))
         self.assertIn(f"at least {MAX_USES} gates before it", why_not_kept(circuit, 71))
-
-
-if __name__ == "__main__":
-    unittest.main()

@@ -5,9 +5,6 @@ import io
 import json
 import random
 import re
-import resource
-import subprocess
-import sys
 import tempfile
 import unittest
 from collections import Counter
@@ -36,6 +33,7 @@ from bbmlab_core.texts.documents import HEADER_LINE, HEADERS, Document
 from bbmlab_core.texts.json_form import indented
 from bbmlab_core.texts.layouts import Box, Layout, LayoutReader, Part
 from bbmlab_core.texts.lines import Form, Values, match_line, word_value
+from test_studio_model import random_layout
 
 # Memory in which the trace of a large layout fits.
 MEMORY = 400 << 20
@@ -109,7 +107,7 @@ class Runs(unittest.TestCase):
         chooser = random.Random(82)
         broken = 0
         for _ in range(120):
-            layout = random_layout(chooser)
+            layout = random_layout(chooser, 0, 30)
             on = [name for name in "pq" if chooser.randrange(2)]
             trace, run = tracing.trace_layout(layout, on, 0, layout.steps), run_layout(layout, on)
             states = [run.field.state()]
@@ -139,21 +137,6 @@ class Runs(unittest.TestCase):
                 if not run.step():
                     wanted = None
             self.assertEqual(check.ring_tables, wanted, name)
-
-
-def random_layout(chooser: random.Random) -> Layout:
-    """Returns a layout of mirrors, some of which fall apart, and of balls."""
-    free, parts = {(x, y) for x in range(20) for y in range(20)}, []
-    for _ in range(chooser.randrange(1, 6)):
-        part = Part("mirror", None, chooser.randrange(2, 14), chooser.randrange(2, 14), chooser.randrange(1, 5),
-                    chooser.randrange(1, 5))
-        if set(part.cells()) <= free:
-            free -= set(part.cells())
-            parts.append(part)
-    cells = chooser.sample(sorted(free), chooser.randrange(1, 12))
-    parts += [Part("ball", None, *cell) for cell in cells[::2]]
-    parts += [Part("in", "pq"[x % 2], x, y) for x, y in cells[1::2]]
-    return Layout(20, 20, chooser.randrange(1, 30)).with_parts(parts)
 
 
 class ManyModules(unittest.TestCase):
@@ -276,7 +259,7 @@ class Once(unittest.TestCase):
 
     def test_one_reading_of_a_page(self) -> None:
         """`view` reads the text once, and `explain` compares the borders of its text once."""
-        text = Path(support.example("wrong_edge")).read_text()
+        text = support.text_of("wrong_edge")
         with tempfile.TemporaryDirectory() as room, mock.patch("bbmlab_core.texts.certificates.CertificateReader.read",
                                                                autospec=True,
                                                                side_effect=CertificateReader.read) as reader:
@@ -294,7 +277,7 @@ class Once(unittest.TestCase):
 
     def test_effort_is_the_end(self) -> None:
         """When the effort is used up nothing more is tried, for no line of the report."""
-        text = Path(support.example("wrong_edge")).read_text()
+        text = support.text_of("wrong_edge")
         trial = Trial(support.program(), Budget(seconds=30))
         report = trial.report(text)
         assert report
@@ -309,7 +292,7 @@ class Once(unittest.TestCase):
     def test_the_effort_is_that_of_the_search(self) -> None:
         """What `explain` did before the search does not count, so that a large text gets its search too; in the studio
         it counts."""
-        text = Path(support.example("wrong_edge")).read_text()
+        text = support.text_of("wrong_edge")
         output = ask(support.program(), "check", text.encode()).output
         for is_of_search in (True, False):
             trial = Trial(support.program(), Budget(is_of_search=is_of_search))
@@ -319,7 +302,7 @@ class Once(unittest.TestCase):
     def test_no_run_goes_on_after_the_effort(self) -> None:
         """No run of the search goes on when the time is over: the one that compares borders, and the one for another
         certificate, end at their first step."""
-        text = Path(support.example("wrong_edge")).read_text()
+        text = support.text_of("wrong_edge")
         document = read(text)
         diagnosis = Diagnosis(document)
         self.assertTrue(diagnosis.can_run_whole())
@@ -345,14 +328,7 @@ class Memory(unittest.TestCase):
             path = Path(room) / "mirrors.txt"
             path.write_text(text)
             for more in ([], ["--from", "490"]):
-                ended = subprocess.run([sys.executable, str(support.LAB / "bbmlab"), "trace", *more, "--program",
-                                        "/nonexistent", str(path)], capture_output=True,
-                                       text=True, check=False,
-                                       preexec_fn=lambda: resource.setrlimit(resource.RLIMIT_AS, (MEMORY, MEMORY)))
+                ended = support.lab("trace", *more, "--program", "/nonexistent", str(path), memory=MEMORY)
                 self.assertIn(ended.returncode, (0, 1), ended.stderr)
                 self.assertNotIn("dead mirror cells", ended.stdout)
                 self.assertEqual(ended.stderr[:42], "bbmlab: the last state was not compared: t")
-
-
-if __name__ == "__main__":
-    unittest.main()

@@ -74,7 +74,3 @@ class Labels(unittest.TestCase):
         boxes = [place.box for place in place_names([Name(cell, 30, 8, False) for cell in cells], [], [])]
         self.assertEqual(sum(box.shared(cell) for box in boxes for cell in cells), 0)
         self.assertEqual(sum(one.shared(other) for index, one in enumerate(boxes) for other in boxes[:index]), 0)
-
-
-if __name__ == "__main__":
-    unittest.main()

@@ -3,7 +3,6 @@
 """
 
 import json
-import shutil
 import subprocess
 import sys
 import tempfile
@@ -252,8 +251,7 @@ class Forms(unittest.TestCase):
 
     def test_studio_has_the_same_numbers(self) -> None:
         """The table of the pages is that of the lab."""
-        if shutil.which("node") is None:
-            raise unittest.SkipTest("node is not installed (apt-get install nodejs)")
+        support.require("node", "nodejs")
         script = f"""import {{ FIRST, SECOND }} from {json.dumps((viewing.TEMPLATE / "limits.js").as_uri())};
 console.log(JSON.stringify([FIRST, SECOND]));"""
         ended = subprocess.run(["node", "--input-type=module", "-e", script], capture_output=True, text=True,
@@ -278,16 +276,12 @@ class Runs(unittest.TestCase):
 
     def test_page_and_lab_agree(self) -> None:
         """The page's runs give the lab's states, up to the largest side."""
-        if shutil.which("node") is None:
-            raise unittest.SkipTest("node is not installed (apt-get install nodejs)")
         document = read_document(self.TEXT)
         assert document.layout
-        data = {**json.loads(json_form.document_json(document, None)), "circuit": None, "certificate": None}
-        ended = subprocess.run(["node", str(support.LAB / "tests" / "run_states.js")],
-                               input=json.dumps([{"data": data, "on": [], "times": [0, 7, 40, 11]}]), text=True,
-                               capture_output=True, check=True)
+        data = {**support.data_of(document), "circuit": None, "certificate": None}
+        told = support.node("run_modules.js", [["states", {"data": data, "on": [], "times": [0, 7, 40, 11]}]])[0]
         wanted = tracing.trace_layout(document.layout, [], 0, 40).states
-        for moment, cells in json.loads(ended.stdout)[0]["states"]:
+        for moment, cells in told["states"]:
             self.assertEqual({tuple(cell) for cell in cells}, wanted[moment], moment)
         self.assertNotEqual(wanted[0], wanted[40])
 
@@ -325,7 +319,3 @@ class Program(unittest.TestCase):
                 self.assertEqual(ended.returncode, 0, ended.stderr)
                 self.assertIn("verdict yes", ended.stderr)
                 self.assertEqual(made.read_text().startswith(LINE), side == "528")
-
-
-if __name__ == "__main__":
-    unittest.main()

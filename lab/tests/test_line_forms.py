@@ -8,17 +8,16 @@ import subprocess
 import tempfile
 import unittest
 from pathlib import Path
-from unittest import mock
 
 import support
 from bbmlab_core.circuits import aiger_form, circuit_forms, line_forms
 from bbmlab_core.circuits.netlists import map_netlist
+from bbmlab_core.texts.circuits import Circuit
+from support import circuit_of
 from test_gate_text import random_text as random_gate_text
 from test_netlists import random_blif
 from test_reversible import Gate, qasm_text, random_gates, real_text
-from test_reworking import circuit_of, names, random_text, values_of
-
-FEW_TRIES = mock.patch("bbmlab_core.circuits.netlists.search.MAX_TRIES", 8)
+from test_reworking import names, random_text, values_of
 
 
 def run_real(text: str, on: dict[str, bool]) -> dict[str, bool]:
@@ -143,7 +142,13 @@ def gates_blif(gates: list[Gate], lines: int, starts: list[str], ends: list[str]
                       f".outputs {' '.join(f'o{line}' for line in outs)}", *rows, ".end", ""])
 
 
-class Judged(unittest.TestCase):
+def mapped(text: str) -> Circuit:
+    """Returns the circuit of a netlist, after few tries."""
+    with support.FEW_TRIES:
+        return circuit_of(map_netlist(text).text)
+
+
+class Judged(support.InRoom):
     """abc and yosys say that a circuit is equivalent to its source.
 
     Without them the lab's own comparison and the simulators remain.
@@ -154,15 +159,13 @@ class Judged(unittest.TestCase):
         self.abc = shutil.which("berkeley-abc") or shutil.which("yosys-abc")
         if self.abc is None or not shutil.which("yosys"):
             self.skipTest("there is no abc and yosys (Debian: berkeley-abc yosys)")
-        self.folder = tempfile.TemporaryDirectory()
-        self.addCleanup(self.folder.cleanup)
-        self.room = Path(self.folder.name)
+        super().setUp()
 
-    def require_equivalent(self, source: str, suffix: str, mapped: str, form: str = "blif") -> None:
-        """Asks abc whether a source and a mapped circuit are equivalent."""
-        (self.room / f"a.{suffix}").write_bytes(source.encode("latin-1"))
-        (self.room / f"b.{form}").write_bytes(mapped.encode("latin-1"))
-        said = subprocess.run([str(self.abc), "-c", f"cec a.{suffix} b.{form}"], cwd=self.room, capture_output=True,
+    def require_equivalent(self, source: str, text: str, form: str = "blif") -> None:
+        """Asks abc whether a source in BLIF and a mapped circuit are equivalent."""
+        self.file("a.blif", source)
+        self.file(f"b.{form}", text)
+        said = subprocess.run([str(self.abc), "-c", f"cec a.blif b.{form}"], cwd=self.room, capture_output=True,
                               text=True, check=False).stdout
         self.assertIn("Networks are equivalent", said, source)
 
@@ -174,14 +177,13 @@ class Judged(unittest.TestCase):
             if number % 2 and not self.is_read(text):
                 continue
             compared += 1
-            with FEW_TRIES:
-                circuit = circuit_of(map_netlist(text).text)
+            circuit = mapped(text)
             if not number % 2:
                 ports = set(circuit.inputs) & set(circuit.outputs)
                 self.assertFalse(ports)
             source = text if number % 2 else gate_blif(text, circuit.outputs)
-            self.require_equivalent(source, "blif", circuit_forms.blif_text(circuit))
-            self.require_equivalent(source, "blif", aiger_form.aiger_text(circuit), "aig")
+            self.require_equivalent(source, circuit_forms.blif_text(circuit))
+            self.require_equivalent(source, aiger_form.aiger_text(circuit), "aig")
         self.assertGreaterEqual(compared, 16)
 
     def is_read(self, text: str) -> bool:
@@ -200,20 +202,16 @@ class Judged(unittest.TestCase):
                 text, starts, ends = real_text(chance, lines, gates)
             else:
                 text, starts, ends = qasm_text(chance, lines, gates, 3), ["-"] * lines, ["-"] * lines
-            with FEW_TRIES:
-                circuit = circuit_of(map_netlist(text).text)
-            self.require_equivalent(gates_blif(gates, lines, starts, ends), "blif",
-                                    renamed_blif(circuit_forms.blif_text(circuit), starts, ends))
+            self.require_equivalent(gates_blif(gates, lines, starts, ends),
+                                    renamed_blif(circuit_forms.blif_text(mapped(text)), starts, ends))
 
     def test_yosys(self) -> None:
         """yosys proves the Verilog of a circuit equivalent to its source in BLIF."""
         chance = random.Random(7)
         for _ in range(4):
             source = random_blif(chance)
-            with FEW_TRIES:
-                circuit = circuit_of(map_netlist(source).text)
-            (self.room / "a.blif").write_text(source)
-            (self.room / "b.v").write_text(circuit_forms.verilog_text(circuit))
+            self.file("a.blif", source)
+            self.file("b.v", circuit_forms.verilog_text(mapped(source)))
             steps = ("read_blif a.blif; rename -top gold; design -stash gold; read_verilog b.v; rename -top gate; "
                      "proc; design -stash gate; "
                      "design -copy-from gold -as gold gold; design -copy-from gate -as gate gate; equiv_make gold gate "
@@ -261,7 +259,3 @@ def renamed_blif(text: str, starts: list[str], ends: list[str]) -> str:
     joins += [row for outer, inner in zip(outputs, outs) for row in (f".names c_{inner} {outer}", "1 1")]
     return "\n".join([".model m", f".inputs {' '.join(inputs)}", f".outputs {' '.join(outputs)}", *tables, *joins,
                       ".end", ""])
-
-
-if __name__ == "__main__":
-    unittest.main()

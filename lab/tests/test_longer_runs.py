@@ -111,7 +111,3 @@ class LongerRuns(unittest.TestCase):
             "uninteract": "balls can start at most 1 step further back, and fly on after the end",
             "or": "balls can start any number of steps further back, and fly on for 7 steps after the end",
             "full_adder": "balls cannot start further back, and are disturbed in the first step after the end"})
-
-
-if __name__ == "__main__":
-    unittest.main()

@@ -112,7 +112,3 @@ class Machines(unittest.TestCase):
         for name in RULES:
             ended = subprocess.run([path, "check"], input=self.text(name).encode(), capture_output=True, check=False)
             self.assertEqual((ended.returncode, ended.stdout.decode().splitlines()[3]), (0, "verdict yes"), name)
-
-
-if __name__ == "__main__":
-    unittest.main()

@@ -14,7 +14,6 @@ from unittest import mock
 
 import support
 from bbmlab_core.certify.certifier import Maker, NoBoxError, CertificatePlan, certified, checked_boxes
-from bbmlab_core.host.program import ask
 from bbmlab_core.host.terminal import LabError
 from bbmlab_core.physics.simulation import run_layout
 from bbmlab_core.pictures import golly
@@ -34,8 +33,7 @@ GRIDS = [("fredkin_gate", (14, 14)), ("full_adder", (26, 34)), ("timed_modules",
 
 def design(name: str) -> support.Document:
     """Returns the circuit and the layout of an example."""
-    text = (support.EXAMPLES / f"{name}.txt").read_text()
-    return support.read_document(text.split("certificate ")[0], "design")
+    return support.read_document(support.text_of(name).split("certificate ")[0], "design")
 
 
 class Certificates(unittest.TestCase):
@@ -48,13 +46,13 @@ class Certificates(unittest.TestCase):
                 for cuts in ("safe", "auto"):
                     text = by_grid(name, grid, CertificatePlan(version, cuts))
                     with self.subTest(f"{name} {grid} {version} {cuts}"):
-                        self.assertIn("verdict yes", ask(support.program(), "check", text.encode()).output)
+                        self.assertIn("verdict yes", support.checked(text))
 
     def test_plain_has_one_module(self) -> None:
         """`--plain` makes one module without edge lines, and it gets a yes."""
         ended = support.lab("certify", "--plain", support.example("fredkin_gate"))
         self.assertEqual((ended.stdout.count("module "), ended.stdout.count("edge ")), (1, 0))
-        self.assertIn("verdict yes", ask(support.program(), "check", ended.stdout.encode()).output)
+        self.assertIn("verdict yes", support.checked(ended.stdout))
 
     def test_says_why_there_is_none(self) -> None:
         """Where a cell has the value of no wire, that is said with time and cell: here c without x goes to (8, 10)."""
@@ -100,7 +98,7 @@ class Certificates(unittest.TestCase):
             for version in (1, 2):
                 text = certified(design(name), None, CertificatePlan(version))
                 with self.subTest(f"{name} {version}"):
-                    self.assertIn("verdict yes", ask(support.program(), "check", text.encode()).output)
+                    self.assertIn("verdict yes", support.checked(text))
 
     def test_many_inputs(self) -> None:
         """With 360 inputs no assignment can be tried by itself; the certificate gets a yes, and its stops and its boxes
@@ -122,7 +120,7 @@ class Certificates(unittest.TestCase):
 
     def test_own_stops_are_kept(self) -> None:
         """The stops of the old certificate are those of the new one."""
-        text = (support.EXAMPLES / "timed_modules.txt").read_text()
+        text = support.text_of("timed_modules")
         ended = support.lab("certify", support.example("timed_modules"), BBMCHECK=support.program())
         stops = [sorted(line for line in one.splitlines() if line.startswith("stop ")) for one in (text, ended.stdout)]
         self.assertEqual(stops[0], stops[1])
@@ -164,15 +162,15 @@ class Spelling(unittest.TestCase):
         """A text with comments, odd spaces, other line ends and shuffled lists of modules comes back."""
         chooser = random.Random(7)
         for name in ("gate_and_mirror", "four_modules", "timed_modules", "full_adder"):
-            text = (support.EXAMPLES / f"{name}.txt").read_text()
+            text = support.text_of(name)
             with self.subTest(name):
                 self.assertEqual(spelled(roughened(text, chooser)).text, text)
 
     def test_a_refused_text_is_mended(self) -> None:
         """`fmt` on a Windows text is what the program takes."""
-        text = "\ufeff" + (support.EXAMPLES / "head_on.txt").read_text().replace("\n", "\r\n")
+        text = "\ufeff" + support.text_of("head_on").replace("\n", "\r\n")
         ended = support.lab("fmt", "-", text=text.encode())
-        self.assertEqual(ended.stdout, (support.EXAMPLES / "head_on.txt").read_text())
+        self.assertEqual(ended.stdout, support.text_of("head_on"))
 
 
 def roughened(text: str, chooser: random.Random) -> str:
@@ -204,7 +202,7 @@ class Json(unittest.TestCase):
     def test_report_is_in_it(self) -> None:
         """The report is in the document with its verdict and its lines."""
         report = parse_report("bbmcheck 1\ncertificate " + "0" * 64 + "\nmodules 1\nverdict no\nlocal 0 end 3 2 2 2\n")
-        text = json_form.document_json(support.read_document((support.EXAMPLES / "wrong_border.txt").read_text()),
+        text = json_form.document_json(support.read_document(support.text_of("wrong_border")),
                                        report)
         self.assertIn('"verdict": "no"', text)
         self.assertIn('"assignment": 2', text)
@@ -216,7 +214,7 @@ class Golly(unittest.TestCase):
     def test_there_and_back(self) -> None:
         """A layout comes back from its pattern file, and so do its live cells."""
         for name in ("head_on", "off_a_mirror", "full_adder"):
-            document = support.read_document((support.EXAMPLES / f"{name}.txt").read_text())
+            document = support.read_document(support.text_of(name))
             lines = document.text[document.text.index("layout "):].split("\nend\n")[0].split("\n") + ["end"]
             live = run_layout(document.layout, ["p"]).field.state()
             text = golly.golly_text(document.layout, live, ["p"], lines)
@@ -230,7 +228,7 @@ class Golly(unittest.TestCase):
             self.skipTest("Golly is not installed (apt-get install golly)")
         for name, on in (("head_on", ["p", "q"]), ("off_a_mirror", ["a"]), ("fredkin_gate", ["c", "x"]),
                          ("full_adder", ["a", "b"])):
-            document = support.read_document((support.EXAMPLES / f"{name}.txt").read_text())
+            document = support.read_document(support.text_of(name))
             for time in range(0, document.layout.steps + 1, max(1, document.layout.steps // 5)):
                 run = run_layout(document.layout, on)
                 run.run_to(time)
@@ -286,7 +284,7 @@ class Pictures(unittest.TestCase):
         # The tail of c, and the head of d, which flies left and up.
         names = {part.text: (float(part.get("x")), float(part.get("y"))) for part in ET.fromstring(ended.stdout).iter()
                  if part.get("class") == "name"}
-        layout = support.read_document((support.EXAMPLES / "machine_switch.txt").read_text()).layout
+        layout = support.read_document(support.text_of("machine_switch")).layout
         for mark, kind, best in (("→c", "in", min), ("d→", "out", min)):
             cells = [part.cell for part in layout.of_kind(kind) if part.name == mark.strip("→")]
             self.assertEqual(names[mark][0], centre(best(cells))[0])
@@ -322,7 +320,3 @@ class Pictures(unittest.TestCase):
     def test_ring_and_halo(self) -> None:
         """The ring of a box of four by two cells has all of them, and its halo has sixteen."""
         self.assertEqual((len(Box(2, 2, 4, 2).ring()), len(Box(2, 2, 4, 2).halo())), (8, 16))
-
-
-if __name__ == "__main__":
-    unittest.main()

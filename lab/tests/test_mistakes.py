@@ -30,18 +30,8 @@ SOURCE = ("circuit\nsource 1 -> k\noutput k\nend\nlayout 4 4 2\nmirror 1 0 2 2\n
           "0 0 4 4\nuse 0\nend\n")
 
 
-class InRoom(unittest.TestCase):
+class InRoom(support.InRoom):
     """Tests with a folder of their own."""
-
-    def setUp(self) -> None:
-        room = tempfile.TemporaryDirectory()
-        self.addCleanup(room.cleanup)
-        self.room = Path(room.name)
-
-    def file(self, name: str, text: str) -> str:
-        """Writes a file, one byte for each character, and returns its path."""
-        (self.room / name).write_bytes(text.encode("latin-1"))
-        return str(self.room / name)
 
     def ends(self, status: int, sentence: str, *words: str, **environment: str) -> None:
         """Asserts how a command ends, and that it says a sentence on standard error."""
@@ -74,7 +64,7 @@ class Words(InRoom):
 
     def test_no_command_overwrites_what_it_reads(self) -> None:
         """An output that is the input, or the report, is refused, and the file stays."""
-        text = Path(support.example("wrong_edge")).read_text()
+        text = support.text_of("wrong_edge")
         file, report = self.file("a.txt", text), self.file("report", "bbmcheck 1\n")
         for words in (("draw", file), ("view", file), ("json", file), ("json", "--back", file), ("golly", file),
                       ("from-golly", file), ("trace", file),
@@ -254,7 +244,3 @@ class Programs(InRoom):
         file = support.example("full_adder")
         self.ends(1, "the lab says yes already", "explain", "--fix", file, BBMCHECK="/no/such")
         self.ends(4, "there is no program at /no/such", "check", file, BBMCHECK="/no/such")
-
-
-if __name__ == "__main__":
-    unittest.main()

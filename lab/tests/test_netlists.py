@@ -6,7 +6,6 @@ The expected values come from an evaluator of its own in this file.
 import itertools
 import json
 import random
-import shutil
 import subprocess
 import tempfile
 import unittest
@@ -22,7 +21,6 @@ from bbmlab_core.texts.circuits import Circuit, evaluate, values_under
 # Fewer tries than users get, which save time: each try is one that a search can end with.
 FEW_TRIES = mock.patch("bbmlab_core.circuits.netlists.search.MAX_TRIES", 60)
 ADDER = support.EXAMPLES / "two_bit_adder.v"
-YOSYS_STEPS = "read_verilog {file}; synth -flatten; abc -g AND,XOR,MUX; opt_clean; {write}"
 # The cells of yosys, after its cell library: the ports and the value of Y.
 CELLS: dict[str, tuple[str, Callable[..., bool]]] = {
     "$_BUF_": ("A", lambda a: a), "$_NOT_": ("A", lambda a: not a),
@@ -52,6 +50,16 @@ def blif_values(text: str, inputs: dict[str, bool]) -> dict[str, bool]:
     return values
 
 
+def made_by_yosys(verilog: Path, write: str) -> str:
+    """Returns the netlist that yosys makes of a file; skips the test where it is not installed."""
+    support.require("yosys", "yosys")
+    with tempfile.TemporaryDirectory() as room:
+        made = Path(room) / "made"
+        steps = f"read_verilog {verilog}; synth -flatten; abc -g AND,XOR,MUX; opt_clean; {write} {made}"
+        subprocess.run(["yosys", "-q", "-p", steps], check=True, timeout=60)
+        return made.read_text()
+
+
 def words_of(text: str, keyword: str) -> list[str]:
     """Returns the words of the lines of a text that begin with a keyword."""
     return [word for line in text.splitlines() if line.split()[:1] == [keyword] for word in line.split()[1:]]
@@ -59,9 +67,7 @@ def words_of(text: str, keyword: str) -> list[str]:
 
 def circuit_of(text: str) -> Circuit:
     """Returns the circuit that a netlist is mapped to, as the lab reads it."""
-    document = support.read_document(circuit_from_netlist(text), "circuit")
-    assert document.refusal is None and document.circuit is not None, document.refusal
-    return document.circuit
+    return support.circuit_of(circuit_from_netlist(text))
 
 
 def random_table(chooser: random.Random, name: str, known: list[str]) -> list[str]:
@@ -160,30 +166,19 @@ class Equivalence(unittest.TestCase):
 
     def test_verilog_by_yosys(self) -> None:
         """The two-bit adder in Verilog, through yosys, adds: as BLIF and as JSON."""
-        if shutil.which("yosys") is None:
-            self.skipTest("yosys is not installed (apt-get install yosys)")
         inputs, outputs = ["a0", "a1", "b0", "b1"], ["s0", "s1", "s2"]
-        with tempfile.TemporaryDirectory() as room:
-            for write in ("write_blif", "write_json"):
-                made = Path(room) / write
-                subprocess.run(["yosys", "-q", "-p", YOSYS_STEPS.format(file=ADDER, write=f"{write} {made}")],
-                               check=True, timeout=60)
-                with self.subTest(write):
-                    self.compare(made.read_text(), sum_values, inputs, outputs)
+        for write in ("write_blif", "write_json"):
+            with self.subTest(write):
+                self.compare(made_by_yosys(ADDER, write), sum_values, inputs, outputs)
 
     def test_formats_agree_on_bits(self) -> None:
         """BLIF and JSON name the bits of a port alike, whichever way its indices run."""
-        if shutil.which("yosys") is None:
-            self.skipTest("yosys is not installed (apt-get install yosys)")
         with tempfile.TemporaryDirectory() as room:
             source = Path(room) / "bits.v"
             source.write_text("module bits (input [0:2] a, input [6:4] b, output [1:0] y);\n"
                               "assign y = {a[0] & b[4], a[2] | b[6]};\nendmodule\n")
             for write in ("write_blif", "write_json"):
-                made = Path(room) / write
-                subprocess.run(["yosys", "-q", "-p", YOSYS_STEPS.format(file=source, write=f"{write} {made}")],
-                               check=True, timeout=60)
-                circuit = circuit_of(made.read_text())
+                circuit = circuit_of(made_by_yosys(source, write))
                 with self.subTest(write):
                     self.assertEqual(set(circuit.inputs), {"a_0", "a_1", "a_2", "b_4", "b_5", "b_6"})
                     for on, wanted in (({"a_0", "b_4"}, {"y_1"}), ({"a_2"}, {"y_0"}), ({"b_6"}, {"y_0"}),
@@ -336,14 +331,8 @@ class Command(unittest.TestCase):
 
     def test_verilog_gets_a_yes(self) -> None:
         """Verilog, through yosys and the router, gets a yes from the program."""
-        program = support.program()
-        if shutil.which("yosys") is None:
-            self.skipTest("yosys is not installed (apt-get install yosys)")
-        with tempfile.TemporaryDirectory() as room:
-            netlist = str(Path(room) / "adder.json")
-            subprocess.run(["yosys", "-q", "-p", YOSYS_STEPS.format(file=ADDER, write=f"write_json {netlist}")],
-                           check=True, timeout=60)
-            ended = support.lab("route", netlist, "--effort", "120", "--program", program)
+        netlist = made_by_yosys(ADDER, "write_json")
+        ended = support.lab("route", "-", "--effort", "120", "--program", support.program(), text=netlist)
         self.assertEqual(ended.returncode, 0, ended.stderr)
         self.assertIn("verdict yes", ended.stderr)
 
@@ -394,7 +383,3 @@ class Sentences(unittest.TestCase):
     def test_same_text_each_time(self) -> None:
         """The same netlist gets the same circuit."""
         self.assertEqual(circuit_from_netlist(full_adder_blif()), circuit_from_netlist(full_adder_blif()))
-
-
-if __name__ == "__main__":
-    unittest.main()

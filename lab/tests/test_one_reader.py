@@ -60,12 +60,8 @@ class OneReader(unittest.TestCase):
 
     def test_parts_joined_by_carriage_returns(self) -> None:
         """A text of one line, with carriage returns in the place of line feeds, is refused and drawn as nothing."""
-        good = Path(support.example("gate_and_mirror")).read_text()
+        good = support.text_of("gate_and_mirror")
         for text in (good.replace("\n", "\r"), good.replace("\nin ", "\rin "),
                      good.replace("\nmirror ", "\x1emirror ").replace(" ", "\x1f")):
             self.assertNotEqual(text, good)
             self.assertIsNotNone(read_document(spelled(text).text, "check").refusal)
-
-
-if __name__ == "__main__":
-    unittest.main()

@@ -102,7 +102,3 @@ class Installed(unittest.TestCase):
             self.assertIn("bbmlab.1", output("find", str(usr / "share")))
             output(tool, "uninstall_lab", str(usr))
             self.assertEqual([path for path in usr.rglob("*") if not path.is_dir() and path.name != "bbmcheck"], [])
-
-
-if __name__ == "__main__":
-    unittest.main()

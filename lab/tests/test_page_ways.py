@@ -4,10 +4,11 @@ cannot show is left out.
 
 import random
 import unittest
+from unittest import mock
 
 import support
 from bbmlab_core.physics.simulation import WholeRun, key_of
-from bbmlab_core.pictures.drawing import wire_tables
+from bbmlab_core.pictures.drawing import ball_ways, wire_tables
 from bbmlab_core.texts.documents import Document, read_document
 from bbmlab_core.view import page_ways, viewing
 from test_ways import random_layout, steps_of
@@ -42,10 +43,7 @@ class Ways(unittest.TestCase):
 
     def test_examples(self) -> None:
         """The ways of examples and standard cells."""
-        files = [*sorted(support.EXAMPLES.glob("*.txt")), *sorted((support.LAB / "cells").glob("*.txt"))]
-        documents = [read_document(path.read_text(encoding="latin-1")) for path in files]
-        self.assertGreater(sum(self.assert_there(own) for own in documents if own.layout and own.layout.width
-                               and not own.refusal), 10_000)
+        self.assertGreater(sum(self.assert_there(own) for _, own in support.drawn_documents()), 10_000)
 
     def test_random_layouts(self) -> None:
         """The ways of layouts in which balls collide, mirrors fall apart and balls fly for many steps at once."""
@@ -58,8 +56,7 @@ class Ways(unittest.TestCase):
 
     def test_all_steps_are_there(self) -> None:
         """The page has the same steps as `draw --ways`."""
-        document = read_document((support.EXAMPLES / "full_adder.txt").read_text())
-        from bbmlab_core.pictures.drawing import ball_ways
+        document = read_document(support.text_of("full_adder"))
         assert document.layout
         found = page_ways.page_ways(document)
         assert found
@@ -78,22 +75,13 @@ class Ways(unittest.TestCase):
         balls = read_document("\n".join([*lines[:1], *sorted(lines[1:], key=lambda line: line.startswith("ball")),
                                          "end"]) + "\n")
         self.assertIsNone(balls.refusal)
-        few, page_ways.MAX_MOVES = page_ways.MAX_MOVES, 50_000
-        try:
+        with mock.patch.object(page_ways, "MAX_MOVES", 50_000):
             self.assertIsNone(page_ways.page_ways(balls))
             self.assertIn('"ways":null', viewing.page_data(balls, None))
-        finally:
-            page_ways.MAX_MOVES = few
 
     def test_levels(self) -> None:
         """The level of a wire counts the gates before it, but for sources and delays."""
-        circuit = read_document("circuit\ninput p\nsource 1 -> k\nswitch p k -> a b c\ndelay 3 a -> d\nswitch d b -> e "
-                                "f g\noutput e\nspill f\nspill g\n"
-                                "spill c\nend\n", "circuit").circuit
-        assert circuit
+        circuit = support.circuit_of("circuit\ninput p\nsource 1 -> k\nswitch p k -> a b c\ndelay 3 a -> d\n"
+                                     "switch d b -> e f g\noutput e\nspill f\nspill g\nspill c\nend\n")
         self.assertEqual(page_ways.levels_of(circuit),
                          {"p": 0, "k": 0, "a": 1, "b": 1, "c": 1, "d": 1, "e": 2, "f": 2, "g": 2})
-
-
-if __name__ == "__main__":
-    unittest.main()

@@ -310,7 +310,3 @@ class OneCell(unittest.TestCase):
             with self.subTest(what):
                 self.assertEqual(rows[what], result)
                 self.assertEqual(run([(ORIGIN, ORIGIN), (ORIGIN + other[0], ORIGIN + other[1])], [], 60), cells)
-
-
-if __name__ == "__main__":
-    unittest.main()

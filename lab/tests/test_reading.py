@@ -19,7 +19,3 @@ class Reading(unittest.TestCase):
             with self.subTest(case.name):
                 self.assertEqual(got, wanted)
         self.assertGreater(refused, 900)
-
-
-if __name__ == "__main__":
-    unittest.main()

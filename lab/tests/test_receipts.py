@@ -3,13 +3,8 @@
 import hashlib
 import json
 import os
-import re
 import signal
 import subprocess
-import sys
-import tempfile
-import time
-import unittest
 from pathlib import Path
 
 import support
@@ -17,11 +12,8 @@ import support
 
 def counting_program(room: Path, more: str = "") -> str:
     """Writes a program that notes each check in the file `calls`, and lets the proved program answer."""
-    path = room / "counting"
-    path.write_text(f"#!/bin/sh\n[ \"$1\" != check ] || echo check >>'{room}/calls'\n{more}\nexec "
-                    f"'{support.program()}' \"$@\"\n")
-    path.chmod(0o755)
-    return str(path)
+    return support.executable(room / "counting", f"[ \"$1\" != check ] || echo check >>'{room}/calls'\n{more}\nexec "
+                              f"'{support.program()}' \"$@\"")
 
 
 def calls(room: Path) -> int:
@@ -35,15 +27,20 @@ def digest(data: bytes) -> str:
     return hashlib.sha256(data).hexdigest()
 
 
-class InRoom(unittest.TestCase):
+def stable(folder: Path) -> dict[str, list[str]]:
+    """Returns the lines of the receipts in a folder, without those of the date and the time."""
+    return {path.name: [line for line in path.read_text().splitlines() if '"date"' not in line
+                        and '"processor_seconds"' not in line]
+            for path in folder.iterdir()}
+
+
+class InRoom(support.InRoom):
     """Tests with a folder of designs and one for receipts."""
 
     NAMES = ("gate_and_mirror", "wrong_edge", "full_adder", "not_known")
 
     def setUp(self) -> None:
-        room = tempfile.TemporaryDirectory()
-        self.addCleanup(room.cleanup)
-        self.room = Path(room.name)
+        super().setUp()
         self.designs, self.receipts = self.room / "designs", self.room / "receipts"
         self.designs.mkdir()
         for name in self.NAMES:
@@ -60,12 +57,6 @@ class InRoom(unittest.TestCase):
         found = [path for path in self.receipts.iterdir() if name in path.name]
         self.assertEqual(len(found), 1, name)
         return found[0]
-
-    def stable(self) -> dict[str, list[str]]:
-        """Returns the lines of all receipts, without those of the date and the time."""
-        return {path.name: [line for line in path.read_text().splitlines() if '"date"' not in line
-                            and '"processor_seconds"' not in line]
-                for path in self.receipts.iterdir()}
 
 
 class Documents(InRoom):
@@ -88,17 +79,14 @@ class Documents(InRoom):
             self.assertEqual(list(document["sections"].values()), [digest(part) for part in parts])
             self.assertEqual(document["program"]["sha256"], digest(Path(self.program).read_bytes()))
             self.assertEqual(document["report_sha256"], digest(said.stdout))
-            page = (support.TOP / "docs" / "JSON.md").read_text().split("## `bbmlab receipt 1`\n")[1].split("\n##")[0]
-            listed = {word for line in page.splitlines() if line.startswith("- ")
-                      for word in re.findall(r"`(\w+)`", line.split(":")[0])}
-            self.assertEqual(set(document) - {"format"}, listed)
+            self.assertEqual(set(document) - {"format"}, support.page_members("bbmlab receipt 1"))
 
     def test_a_receipt_is_the_same_at_each_run(self) -> None:
         """All lines but two are the same after a second run, also by more processes."""
         self.check("--jobs", "1")
-        first = self.stable()
+        first = stable(self.receipts)
         self.check("--again", "--jobs", "3")
-        self.assertEqual(self.stable(), first)
+        self.assertEqual(stable(self.receipts), first)
         self.assertEqual(calls(self.room), 2 * len(self.NAMES))
 
     def test_a_released_program_is_named(self) -> None:
@@ -168,13 +156,10 @@ class Holding(InRoom):
         names = sorted(self.designs.iterdir())
         support.lab("check", "--program", self.program, "--receipts", str(self.receipts), str(names[0]))
         (self.room / "slow").write_text("")
-        running = subprocess.Popen([sys.executable, str(support.LAB / "bbmlab"), "check", "--jobs", "2", "--program",
-                                    self.program,
-                                    "--receipts", str(self.receipts), str(self.designs)], stdout=subprocess.PIPE,
+        running = subprocess.Popen([*support.BBMLAB, "check", "--jobs", "2", "--program", self.program, "--receipts",
+                                    str(self.receipts), str(self.designs)], stdout=subprocess.PIPE,
                                    stderr=subprocess.PIPE)
-        until = time.monotonic() + 20
-        while calls(self.room) < 3 and time.monotonic() < until:
-            time.sleep(0.02)
+        support.wait_for(lambda: calls(self.room) >= 3)
         running.send_signal(signal.SIGTERM)
         output, _ = running.communicate(timeout=20)
         self.assertEqual(running.returncode, 143)
@@ -215,8 +200,7 @@ class Verify(InRoom):
         manifest = self.room / "MANIFEST"
         manifest.write_text(f"version 1\nprogram_sha256 {digest(Path(self.program).read_bytes())}\n")
         return support.lab("verify", str(self.receipt(name)), text or str(self.designs / f"{name}.txt"), "--program",
-                           self.program,
-                           "--release", str(manifest), *words)
+                           self.program, "--release", str(manifest), *words)
 
     def test_right_receipts(self) -> None:
         """A receipt of each verdict is of its text, also after the program was run again."""
@@ -298,8 +282,7 @@ class Verify(InRoom):
         self.assertEqual(ended.returncode, 1)
         self.assertIn("says something else", ended.stdout)
         other = support.lab("verify", "--again", str(path), str(self.designs / "wrong_edge.txt"), "--program",
-                            support.program(),
-                            "--release", str(self.room / "MANIFEST"))
+                            support.program(), "--release", str(self.room / "MANIFEST"))
         self.assertEqual(other.returncode, 4)
         self.assertIn("is not the program of the receipt", other.stderr)
 
@@ -310,12 +293,12 @@ class Shards(InRoom):
     def test_parts_are_the_whole(self) -> None:
         """Each file is in one of 16 parts, the receipts are those of one run, and `summary` tells their result."""
         self.check()
-        whole = self.stable()
+        whole = stable(self.receipts)
         self.receipts.rename(self.room / "plain")
         for number in range(1, 17):
             ended = self.check("--shard", f"{number}/16")
             self.assertIn(ended.returncode, (0, 1), ended.stderr)
-        self.assertEqual(self.stable(), whole)
+        self.assertEqual(stable(self.receipts), whole)
         self.assertEqual(calls(self.room), 2 * len(self.NAMES))
         told = support.lab("summary", str(self.receipts))
         self.assertEqual((told.returncode, told.stdout.splitlines()[-1]), (1, "4 receipts: 2 yes, 1 no, 1 refused"))
@@ -340,7 +323,3 @@ class Shards(InRoom):
         for word in ("0/3", "4/3", "3", "1/", "/2", "a/b", "1/0", "-1/2"):
             ended = support.lab("check", f"--shard={word}", str(self.designs))
             self.assertEqual(ended.returncode, 2, word)
-
-
-if __name__ == "__main__":
-    unittest.main()

@@ -170,7 +170,3 @@ def place_reasons(document: support.Document, number: int) -> dict[str, bool]:
             "is on the rim": kind == "edge" and inside and not inner and (x in (0, width - 1) or y in (0, height - 1)),
             "is not in the halo": kind == "halo" and not beside,
             "is outside the rectangle": kind == "halo" and beside and (x >= width or y >= height)}
-
-
-if __name__ == "__main__":
-    unittest.main()

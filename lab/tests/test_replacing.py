@@ -4,8 +4,6 @@ links.
 
 import os
 import stat
-import tempfile
-import unittest
 from pathlib import Path
 from unittest import mock
 
@@ -21,13 +19,8 @@ from bbmlab_core.texts.spelling import spelled
 OTHER = b"# of another editor\n"
 
 
-class Room(unittest.TestCase):
+class Room(support.InRoom):
     """Tests with a folder."""
-
-    def setUp(self) -> None:
-        room = tempfile.TemporaryDirectory()
-        self.addCleanup(room.cleanup)
-        self.room = Path(room.name)
 
     def names(self) -> list[str]:
         """Returns the names in the folder."""
@@ -42,15 +35,15 @@ class Meanwhile(Room):
 
         A second result replaces no first one.
         """
-        file, program = self.room / "design.txt", self.room / "program"
-        program.write_text(f"#!/bin/sh\ncp '{self.room}/other' '{file}'\nexec '{support.program()}' \"$@\"\n")
-        program.chmod(0o755)
+        file = self.room / "design.txt"
+        program = support.executable(self.room / "program",
+                                     f"cp '{self.room}/other' '{file}'\nexec '{support.program()}' \"$@\"")
         wrong = Path(support.example("not_gate")).read_bytes().replace(b"out b 4 4\nwaste 7 4\n",
                                                                        b"out b 7 4\nwaste 4 4\n")
         (self.room / "other").write_bytes(wrong + OTHER)
         for kept in ("design.txt.new", "design.txt.new2"):
             file.write_bytes(wrong)
-            ended = support.lab("explain", "--fix", "-i", "--program", str(program), str(file))
+            ended = support.lab("explain", "--fix", "-i", "--program", program, str(file))
             self.assertEqual(file.read_bytes(), wrong + OTHER)
             self.assertEqual(ended.returncode, 4, ended.stderr)
             self.assertIn("another program changed it meanwhile, so it stays as it is; the result is in "
@@ -190,7 +183,3 @@ class Kept(Room):
                                                                output="refused 1 1\n"), 0.0)
         self.assertEqual(done, ["fsync", "rename"] * 2)
         self.assertEqual([path.name for path in (self.room / "receipts").iterdir()][0][-10:], "x.txt.json")
-
-
-if __name__ == "__main__":
-    unittest.main()

@@ -6,14 +6,11 @@ The expected values come from simulators of their own in this file.
 import itertools
 import random
 import unittest
-from unittest import mock
 
 import support
 from bbmlab_core.circuits.netlists import NetlistError, NetlistFormat, map_netlist, netlist_format, read_netlist
 from bbmlab_core.texts.circuits import values_under
 
-# Fewer tries than users get, which save time: each try is one that a search can end with.
-FEW_TRIES = mock.patch("bbmlab_core.circuits.netlists.search.MAX_TRIES", 8)
 # A gate of the simulators: controls with their values, and one target, or two that change places.
 Gate = tuple[list[tuple[int, bool]], list[int]]
 
@@ -96,30 +93,30 @@ class Mapped(unittest.TestCase):
 
     def compare(self, text: str, inputs: list[int], kept: list[int], gates: list[Gate], starts: list[bool]) -> None:
         """Compares a text's circuit with its gates under all inputs."""
-        with FEW_TRIES:
-            mapped = map_netlist(text)
-        document = support.read_document(mapped.text, "circuit")
-        assert document.circuit is not None, document.refusal
+        with support.FEW_TRIES:
+            circuit = support.circuit_of(map_netlist(text).text)
         for bits in itertools.product((False, True), repeat=len(inputs)):
             begun = list(starts)
             for line, bit in zip(inputs, bits):
                 begun[line] = bit
-            values, undefined = values_under(document.circuit,
-                                             {name for name, bit in zip(document.circuit.inputs, bits) if bit})
+            values, undefined = values_under(circuit, {name for name, bit in zip(circuit.inputs, bits) if bit})
             self.assertIsNone(undefined)
             ended = run_gates(gates, begun)
-            self.assertEqual([values[name] for name in document.circuit.outputs], [ended[line] for line in kept], text)
+            self.assertEqual([values[name] for name in circuit.outputs], [ended[line] for line in kept], text)
+
+    def compare_real(self, chance: random.Random, lines: int, gates: list[Gate]) -> str:
+        """Writes gates as RevLib's file, with constants and garbage, compares its circuit, and returns the text."""
+        text, constants, garbage = real_text(chance, lines, gates)
+        inputs, kept = ([line for line, sign in enumerate(signs) if sign == "-"] for signs in (constants, garbage))
+        self.compare(text, inputs, kept, gates, [sign == "1" for sign in constants])
+        return text
 
     def test_real(self) -> None:
         """RevLib's files, with constants, garbage and negative controls."""
         chance = random.Random(2026)
         for _ in range(60):
             lines = chance.randint(2, 4)
-            gates = random_gates(chance, lines, chance.randint(0, 6))
-            text, constants, garbage = real_text(chance, lines, gates)
-            inputs = [line for line, sign in enumerate(constants) if sign == "-"]
-            kept = [line for line, sign in enumerate(garbage) if sign == "-"]
-            self.compare(text, inputs, kept, gates, [sign == "1" for sign in constants])
+            self.compare_real(chance, lines, random_gates(chance, lines, chance.randint(0, 6)))
 
     def test_qasm(self) -> None:
         """OpenQASM 2 and 3."""
@@ -136,11 +133,7 @@ class Mapped(unittest.TestCase):
         for _ in range(40):
             lines = chance.randint(3, 5)
             gates = random_gates(chance, lines, chance.randint(1, 8), may_flip=False)
-            text, constants, garbage = real_text(chance, lines, gates)
-            inputs = [line for line, sign in enumerate(constants) if sign == "-"]
-            kept = [line for line, sign in enumerate(garbage) if sign == "-"]
-            self.compare(text, inputs, kept, gates, [sign == "1" for sign in constants])
-            words = [gate.kind for gate in map_netlist(text).circuit.gates]
+            words = [gate.kind for gate in map_netlist(self.compare_real(chance, lines, gates)).circuit.gates]
             self.assertEqual(words.count("fredkin"), sum(len(controls) == 1 for controls, _ in gates))
             self.assertLessEqual(set(words), {"fredkin", "source", "delay"})
 
@@ -172,14 +165,10 @@ class Tables(unittest.TestCase):
 
     def values(self, text: str) -> list[tuple[int, ...]]:
         """Returns the outputs for all inputs, the first input changing last."""
-        with FEW_TRIES:
-            document = support.read_document(map_netlist(text).text, "circuit")
-        assert document.circuit is not None
-        circuit, found = document.circuit, []
-        for bits in itertools.product((False, True), repeat=len(circuit.inputs)):
-            values, _ = values_under(circuit, {name for name, bit in zip(circuit.inputs, bits) if bit})
-            found.append(tuple(int(values[name]) for name in circuit.outputs))
-        return found
+        with support.FEW_TRIES:
+            circuit = support.circuit_of(map_netlist(text).text)
+        rows = [values_under(circuit, on)[0] for on in support.choices(circuit.inputs)]
+        return [tuple(int(row[name]) for name in circuit.outputs) for row in rows]
 
     def test_pla(self) -> None:
         """Two-level logic: the sum and the carry of three bits."""
@@ -257,7 +246,3 @@ class Refused(unittest.TestCase):
                      ".numvars 1\n.variables a\n.begin\n" + "t1 a\n" * 70_000 + ".end\n"):
             with self.assertRaises(NetlistError):
                 read_netlist(text)
-
-
-if __name__ == "__main__":
-    unittest.main()

@@ -14,17 +14,10 @@ from bbmlab_core.circuits.inverting import inverse
 from bbmlab_core.circuits.simplifying import simplify
 from bbmlab_core.commands import circuits as circuit_commands
 from bbmlab_core.host.terminal import LabError
-from bbmlab_core.texts.circuits import Circuit
 from bbmlab_core.texts.sections import text_of
+from support import circuit_of
 
 FORWARD = {"source": (0, 1), "fredkin": (3, 3), "cswap": (3, 3), "interact": (2, 4), "switch": (2, 3), "delay": (1, 1)}
-
-
-def circuit_of(text: str) -> Circuit:
-    """Returns the circuit of a text."""
-    document = support.read_document(text, "circuit")
-    assert document.refusal is None and document.circuit is not None, (document.refusal, text)
-    return document.circuit
 
 
 def outputs_of(word: str, number: int, ins: list[bool]) -> list[bool] | None:
@@ -170,20 +163,19 @@ class Inverse(unittest.TestCase):
 
     def test_command(self) -> None:
         """The command writes the inverse, and refuses with status 1 and the file's name."""
-        with tempfile.TemporaryDirectory() as room:
-            path = Path(room) / "c.txt"
-            path.write_text("circuit\ninput a\ninput b\ninput c\nfredkin a b c -> x y z\noutput z\noutput x\noutput "
-                            "y\nend\n")
-            done = support.lab("circuit", "--inverse", str(path))
-            self.assertEqual(done.stdout, "circuit\ninput z\ninput x\ninput y\nfredkin x y z -> a b c\noutput a\n"
-                             "output b\noutput c\nend\n")
-            self.assertEqual(done.stderr, "bbmlab: the new circuit was compared with the one before in all 8 choices "
-                             "of the inputs\n")
-            path.write_text("circuit\ninput a\nspill a\nend\n")
-            done = support.lab("circuit", "--inverse", str(path))
-            self.assertEqual((done.returncode, done.stdout), (1, ""))
-            self.assertRegex(done.stderr, r"\Abbmlab: \S+: there is no inverse: the garbage `a` is 1 with a on and 0 "
-                             r"with no input on")
+        text = "circuit\ninput a\ninput b\ninput c\nfredkin a b c -> x y z\noutput z\noutput x\noutput y\nend\n"
+        done = support.lab("circuit", "--inverse", "-", text=text)
+        self.assertEqual(done.stdout, "circuit\ninput z\ninput x\ninput y\nfredkin x y z -> a b c\noutput a\n"
+                         "output b\noutput c\nend\n")
+        self.assertEqual(done.stderr, "bbmlab: the new circuit was compared with the one before in all 8 choices of "
+                         "the inputs\n")
+        with tempfile.NamedTemporaryFile("w", suffix=".txt") as file:
+            file.write("circuit\ninput a\nspill a\nend\n")
+            file.flush()
+            done = support.lab("circuit", "--inverse", file.name)
+        self.assertEqual((done.returncode, done.stdout), (1, ""))
+        self.assertRegex(done.stderr, r"\Abbmlab: \S+: there is no inverse: the garbage `a` is 1 with a on and 0 with "
+                         r"no input on")
 
 
 class Compared(unittest.TestCase):
@@ -312,7 +304,3 @@ class Simplify(unittest.TestCase):
         """A circuit without values at some inputs has nothing to keep."""
         with self.assertRaisesRegex(LabError, "no values at some inputs"):
             simplify(circuit_of("circuit\ninput c\ninput y\ninput z\nunswitch c y z -> d x\noutput d\noutput x\nend\n"))
-
-
-if __name__ == "__main__":
-    unittest.main()

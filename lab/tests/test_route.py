@@ -9,11 +9,8 @@ import resource
 import signal
 import subprocess
 import sys
-import tempfile
 import time
-import unittest
 from dataclasses import replace
-from pathlib import Path
 from unittest import mock
 
 import support
@@ -57,15 +54,13 @@ def gate_circuit(word: str) -> str:
                         "".join(name for name in made if name not in used))
 
 
-class Routing(unittest.TestCase):
+class Routing(support.InRoom):
     """A case with a folder and the command."""
 
     def setUp(self) -> None:
         """Makes the folder, and finds the program."""
+        super().setUp()
         self.program = support.program()
-        room = tempfile.TemporaryDirectory()
-        self.addCleanup(room.cleanup)
-        self.room = Path(room.name)
 
     def route(self, text: str, *words: str) -> tuple[int, str, str]:
         """Runs the command in this process: its status, the bundle, and what it said."""
@@ -430,7 +425,3 @@ class Refusals(Routing):
         status, _, said = self.route(gate_circuit("fredkin"), "--size", "48", "--effort", "1")
         self.assertEqual(status, 1)
         self.assertIn("found no place: no room", said)
-
-
-if __name__ == "__main__":
-    unittest.main()

@@ -17,8 +17,7 @@ from bbmlab_core.route.ripup import WayMaker
 from bbmlab_core.route.search import routed_bundle
 from bbmlab_core.route.settings import Settings
 from bbmlab_core.route.world import World, path_item
-from bbmlab_core.texts.circuits import Circuit
-from bbmlab_core.texts.documents import read_document
+from support import circuit_of as read_circuit
 from test_route import LINES, circuit_text, gate_circuit
 
 sys.path.insert(0, str(support.TOP / "bench"))
@@ -31,13 +30,6 @@ DELAYS = [
     circuit_text("a", "source 0 -> b\ndelay 200 b -> c\ndelay 5 a -> d\nswitch d c -> x y z", "xyz"),
     circuit_text("", "source 0 -> a\ndelay 500 a -> b\nsource 1 -> c\ndelay 30 c -> d", "bd"),
 ]
-
-
-def read_circuit(text: str) -> Circuit:
-    """Reads a circuit section."""
-    circuit = read_document(text, "circuit").circuit
-    assert circuit
-    return circuit
 
 
 def random_legs(chance: random.Random) -> list[Leg]:
@@ -168,7 +160,3 @@ class RipUp(unittest.TestCase):
         world = World(1200)
         world.add(path.item)
         self.assertEqual((world.claims, world.counts), (attempt.board.world.claims, attempt.board.world.counts))
-
-
-if __name__ == "__main__":
-    unittest.main()

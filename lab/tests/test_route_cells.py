@@ -127,7 +127,3 @@ class Names(unittest.TestCase):
             gate = Gate(word, tuple(inputs), tuple(outputs))
             self.assertEqual(gate.is_inverse, word.startswith("un"))
             self.assertEqual(len(gate_row(word, None, input_tables(len(inputs)), 1)[0]), len(outputs))
-
-
-if __name__ == "__main__":
-    unittest.main()

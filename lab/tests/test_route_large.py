@@ -22,18 +22,10 @@ from bbmlab_core.route.netlist import Netlist
 from bbmlab_core.route.placement import Inlet
 from bbmlab_core.route.settings import Settings
 from bbmlab_core.route.world import MARGIN, World, path_item
-from bbmlab_core.texts.circuits import Circuit
-from bbmlab_core.texts.documents import read_document
+from support import circuit_of as read_circuit
 from random_circuits import made_circuit
 
 SIDE = 400
-
-
-def read_circuit(text: str) -> Circuit:
-    """Returns a circuit."""
-    circuit = read_document(text, "circuit").circuit
-    assert circuit
-    return circuit
 
 
 def crowded_world(chance: random.Random, count: int) -> World:
@@ -195,7 +187,7 @@ class Cropping(Routing):
         self.assertLess(small.width * small.height, whole.width * whole.height)
         for bundle in (small, whole):
             self.assertIn("\nverdict yes\n", self.verdict(bundle.text))
-        layout = read_document(small.text).layout
+        layout = support.read_document(small.text).layout
         assert layout
         columns = [part.x for part in layout.parts]
         self.assertLess(min(columns), 40)
@@ -270,7 +262,3 @@ class Words(Routing):
         """What ended an attempt in a process of its own is known to the others."""
         again = pickle.loads(pickle.dumps(NoRouteError("no room at all", Bound.ROOM)))
         self.assertEqual((str(again), again.bound), ("no room at all", Bound.ROOM))
-
-
-if __name__ == "__main__":
-    unittest.main()

@@ -104,7 +104,3 @@ class Map(unittest.TestCase):
             for words in ((str(circuit),), (f"{room}/out.txt", "-o", f"{room}/out.txt")):
                 ended = support.lab("route", str(circuit), "--map", *words)
                 self.assertEqual((ended.returncode, circuit.read_bytes()), (2, before), ended.stderr)
-
-
-if __name__ == "__main__":
-    unittest.main()

@@ -184,7 +184,3 @@ class Counting(unittest.TestCase):
         part: Circuit = partial_circuit(read_circuit(text), {4})
         self.assertEqual((part.inputs, [gate.kind for gate in part.gates], part.outputs),
                          (("a",), ["source", "delay", "switch"], ("h", "i", "j")))
-
-
-if __name__ == "__main__":
-    unittest.main()

@@ -163,7 +163,3 @@ class Claims(unittest.TestCase):
             longer = path_item(ball, [Leg(steps + 3, None)])
             met += longer is not None and not plane.mirrors.isdisjoint(longer.touched)
         self.assertGreater(met, 10)
-
-
-if __name__ == "__main__":
-    unittest.main()

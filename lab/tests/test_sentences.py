@@ -12,7 +12,7 @@ from check_sentences import Sentences, explained, with_edits
 
 def wrong_edge() -> str:
     """Returns a text with two faults of its certificate."""
-    return (support.EXAMPLES / "wrong_edge.txt").read_text()
+    return support.text_of("wrong_edge")
 
 
 class Compared(unittest.TestCase):
@@ -27,7 +27,7 @@ class Compared(unittest.TestCase):
         compared = 0
         for name in ("wrong_edge", "wrong_border", "plain_no", "plain_rim", "wrong_times", "not_kept",
                      "head_on_bundle"):
-            text = (support.EXAMPLES / f"{name}.txt").read_text()
+            text = support.text_of(name)
             with self.subTest(name):
                 told = self.told(text, explained(text))
                 self.assertEqual([sentence for is_true, sentence in told if is_true is False], [])
@@ -64,7 +64,3 @@ def changed(form: Any, old: str, new: str) -> Any:
     if isinstance(form, list):
         return [changed(part, old, new) for part in form]
     return {name: changed(part, old, new) for name, part in form.items()} if isinstance(form, dict) else form
-
-
-if __name__ == "__main__":
-    unittest.main()

@@ -20,7 +20,7 @@ class Start(unittest.TestCase):
         """`--help` imports none of the modules that make a start slow, beyond those that Python itself imports."""
         code = ("import sys; before = set(sys.modules); sys.path.insert(0, sys.argv[1]); from bbmlab_core.cli import "
                 "commands_for; "
-                "commands_for(['--help']).parser.format_help(); print(*sorted(set(sys.modules) - before))")
+                "commands_for(['--help'])[0].format_help(); print(*sorted(set(sys.modules) - before))")
         ended = subprocess.run([sys.executable, "-S", "-c", code, str(support.LAB)], capture_output=True, text=True,
                                check=True)
         self.assertEqual(HEAVY & set(ended.stdout.split()), set())
@@ -28,8 +28,8 @@ class Start(unittest.TestCase):
     def test_list_has_all_commands(self) -> None:
         """`--help` lists each command, and each of them has a help of its own that names its arguments."""
         listed = support.lab("--help").stdout
-        for name in ("check", "explain", "trace", "draw", "view", "certify", "route", "cells", "fmt", "json", "golly",
-                     "from-golly"):
+        for name in ("check", "explain", "trace", "draw", "view", "studio", "certify", "route", "cells", "fmt", "json",
+                     "golly", "from-golly"):
             with self.subTest(name=name):
                 self.assertRegex(listed, rf"(?m)^    {name}\s+\w")
                 own = support.lab(name, "--help")
@@ -60,7 +60,3 @@ class Start(unittest.TestCase):
         self.assertEqual(ended.returncode, 2)
         self.assertIn("invalid choice: 'shake'", ended.stderr)
         self.assertIn("'from-golly'", ended.stderr)
-
-
-if __name__ == "__main__":
-    unittest.main()

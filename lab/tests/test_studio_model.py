@@ -4,8 +4,6 @@ import itertools
 import json
 import random
 import re
-import shutil
-import subprocess
 import unittest
 from pathlib import Path
 from typing import Any
@@ -18,10 +16,9 @@ from bbmlab_core.texts import json_form
 from bbmlab_core.texts.circuits import values_under
 from bbmlab_core.texts.layouts import Box, Layout, Part
 from bbmlab_core.texts.spelling import spelled
+from support import text_of as example
 
-SCRIPT = support.LAB / "tests" / "run_studio.js"
 STUDIO = Path(server.__file__).resolve().parent
-MAX_FUNCTION_LINES = 40
 COMMENTED = """# A gate by hand.
 circuit  # begins
  input p
@@ -39,13 +36,8 @@ end
 
 def node(*jobs: list[Any]) -> list[Any]:
     """Returns what the studio's modules make of some jobs."""
-    if shutil.which("node") is None:
-        raise unittest.SkipTest("node is not installed (apt-get install nodejs)")
-    ended = subprocess.run(["node", str(SCRIPT)], input=json.dumps(jobs),
-                           text=True, capture_output=True, check=False)
-    if ended.returncode:
-        raise AssertionError(ended.stderr)
-    return json.loads(ended.stdout)
+    found: list[Any] = support.node("run_studio.js", jobs)
+    return found
 
 
 def texts() -> list[str]:
@@ -53,11 +45,6 @@ def texts() -> list[str]:
     files = [*sorted(support.EXAMPLES.glob("*.txt")), *sorted((support.LAB / "cells").glob("*.txt"))]
     worked = [case.input.decode("latin-1") for case in support.worked_cases() if len(case.input) < 400_000]
     return [path.read_text(encoding="latin-1") for path in files] + worked
-
-
-def example(name: str) -> str:
-    """Returns the text of an example."""
-    return (support.EXAMPLES / f"{name}.txt").read_text()
 
 
 def cells(*names: str) -> list[dict[str, Any]]:
@@ -70,8 +57,9 @@ def part(kind: str, *box: int, name: str | None = None) -> dict[str, Any]:
     return {"kind": kind, "name": name, "box": [*box, 1, 1][:4], "line": -1}
 
 
-def random_layout(chooser: random.Random) -> Layout:
-    """Returns a layout of random mirrors, most of which fall apart, and of balls of one cell."""
+def random_layout(chooser: random.Random, margin: int = 6, most: int = 16) -> Layout:
+    """Returns a layout of random mirrors, most of which fall apart, and of balls of one cell, for less than `most`
+    steps."""
     free, parts = {(x, y) for x in range(20) for y in range(20)}, []
     for _ in range(chooser.randrange(6)):
         box = (chooser.randrange(2, 14), chooser.randrange(2, 14), chooser.randrange(1, 5), chooser.randrange(1, 5))
@@ -79,10 +67,11 @@ def random_layout(chooser: random.Random) -> Layout:
         if cells <= free:
             free -= cells
             parts.append(Part("mirror", None, *box))
-    chosen = chooser.sample(sorted((x, y) for x, y in free if 6 <= x < 14 and 6 <= y < 14), chooser.randrange(1, 12))
+    middle = range(margin, 20 - margin)
+    chosen = chooser.sample(sorted((x, y) for x, y in free if x in middle and y in middle), chooser.randrange(1, 12))
     parts += [Part("ball", None, *cell) for cell in chosen[::2]]
     parts += [Part("in", "pq"[x % 2], x, y) for x, y in chosen[1::2]]
-    return Layout(20, 20, chooser.randrange(1, 16)).with_parts(parts)
+    return Layout(20, 20, chooser.randrange(1, most)).with_parts(parts)
 
 
 def text_of(layout: Layout) -> str:
@@ -385,17 +374,8 @@ class Sources(unittest.TestCase):
 
     def test_functions_are_short(self) -> None:
         """No function of the page has 40 lines."""
-        begins, count = re.compile(r"^( *)(?! )(?:/\*\*.*\*/ )?(?!(?:if|for|while|switch|class|else|try|\} "
-                                   r"else)\b).*(?:\)|=>|constructor.*) \{$"), 0
-        for path in sorted(STUDIO.glob("*.js")):
-            lines = path.read_text().splitlines()
-            for number, line in enumerate(lines):
-                if not (found := begins.match(line)):
-                    continue
-                end = next(at for at in range(number + 1, len(lines)) if lines[at].startswith(found[1] + "}"))
-                count += 1
-                self.assertLess(end - number + 1, MAX_FUNCTION_LINES, f"{path.name}:{number + 1}")
-        self.assertGreater(count, 100)
+        count, long = support.long_functions(STUDIO)
+        self.assertEqual((count > 100, long), (True, []))
 
     def test_pictures_of_the_page(self) -> None:
         """The page names three pictures, and each is a PNG file."""
@@ -419,7 +399,3 @@ class Sources(unittest.TestCase):
                 self.assertNotIn(word, path.read_text(), path.name)
         page = (STUDIO / "studio.html").read_text()
         self.assertIsNone(re.search(r"<script(?! type=.module. src=)|<style|<[^>]* (?:style|on\w+)=", page))
-
-
-if __name__ == "__main__":
-    unittest.main()

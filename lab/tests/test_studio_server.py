@@ -9,10 +9,8 @@ import socket
 import stat
 import subprocess
 import sys
-import tempfile
 import threading
 import time
-import unittest
 from pathlib import Path
 from typing import Any
 
@@ -26,22 +24,22 @@ from bbmlab_core.studio.jobs import Jobs, JobWorker
 from bbmlab_core.studio.server import POLICY, Studio, studio_server
 from bbmlab_core.texts.skimming import cuts_of
 from bbmlab_core.texts.spelling import source_line
+from support import processes, text_of, wait_for
 
 MEMORY = 4096
 # A program that does not end, with a name that no other test has.
 SLEEP = f"sleep 987653.{os.getpid()}"
 
 
-class Served(unittest.TestCase):
+class Served(support.InRoom):
     """A server of a folder of its own, in a thread."""
 
     jobs: Jobs | None = None
 
     def setUp(self) -> None:
         """Starts the server."""
-        room = tempfile.TemporaryDirectory()
-        self.addCleanup(room.cleanup)
-        self.outside = Path(room.name)
+        super().setUp()
+        self.outside = self.room
         self.room = self.outside / "designs"
         self.room.mkdir()
         (self.room / "gate.txt").write_bytes(Path(support.example("not_gate")).read_bytes())
@@ -262,7 +260,7 @@ class Files(Served):
 
     def test_refusals(self) -> None:
         """The refusal names the line as it was typed, also behind comments."""
-        good = Path(support.example("not_gate")).read_text()
+        good = text_of("not_gate")
         self.assertIsNone(self.ask("refusal", text=good)["refusal"])
         wrong = "# by hand\n\n" + good.replace("spill a\n", "spill a # left over\nspill a\n")
         told = self.ask("refusal", text=wrong)["refusal"]
@@ -272,7 +270,7 @@ class Files(Served):
 
     def test_spelling(self) -> None:
         """A text with comments has a one spelling without them; a text of one spelling is its own."""
-        good = Path(support.example("not_gate")).read_text()
+        good = text_of("not_gate")
         self.assertEqual(self.ask("spelling", text=good), {"text": good, "comments": 0})
         self.assertEqual(self.ask("spelling", text="# a\n" + good.replace("end\n", "end # b\r\n", 1)),
                          {"text": good, "comments": 2})
@@ -280,7 +278,7 @@ class Files(Served):
     def test_templates(self) -> None:
         """New texts are an empty layout, standard cells and examples; other names are none."""
         start = self.ask("start")
-        self.assertEqual(start["text"], Path(support.example("not_gate")).read_text())
+        self.assertEqual(start["text"], text_of("not_gate"))
         self.assertEqual(self.ask("template", name="empty")["text"], EMPTY)
         self.assertIn("layout 44 44 37", self.ask("template", name="not")["text"])
         self.assertIn("fredkin_gate", start["examples"])
@@ -309,10 +307,10 @@ class Verdicts(Served):
         for name, verdict, by in (("machine_fredkin", "yes", "own"), ("not_gate", "yes", "plain"),
                                   ("plain_no", "no", "plain"), ("delay_line", "yes", "own"),
                                   ("wrong_edge", "yes", "plain"), ("wrong_delay", "no", "own")):
-            told = self.ask("verdict", text=Path(support.example(name)).read_text(), tab="a")
+            told = self.ask("verdict", text=text_of(name), tab="a")
             self.assertEqual((told["verdict"], told["by"]), (verdict, by), name)
             self.assertIn(f"verdict {verdict}", told["report"])
-        text = Path(support.example("not_gate")).read_text().replace("spill a\n", "spill q\n")
+        text = text_of("not_gate").replace("spill a\n", "spill q\n")
         told = self.ask("verdict", text=text, tab="a")
         self.assertEqual((told["verdict"], told["line"], told["code"]), ("refused", 6, 3))
 
@@ -321,7 +319,7 @@ class Verdicts(Served):
 
         The earlier certificate is tried before the lab makes one.
         """
-        text = Path(support.example("delay_line")).read_text()
+        text = text_of("delay_line")
         head, certificate = text.split("certificate ")
         told = self.ask("verdict", text=head, tab="a", stage="first", earlier=f"certificate {certificate}")
         self.assertEqual((told["verdict"], told["by"], told["is_last"]), ("yes", "earlier", True))
@@ -329,10 +327,10 @@ class Verdicts(Served):
         self.assertEqual((told["verdict"], told["report"], told["is_last"]), ("none", "", False))
         told = self.ask("verdict", text=head, tab="a", stage="made", earlier="")
         self.assertEqual((told["verdict"], told["by"], told["is_last"]), ("yes", "certify", True))
-        told = self.ask("verdict", text=Path(support.example("wrong_delay")).read_text(), tab="a", stage="first",
+        told = self.ask("verdict", text=text_of("wrong_delay"), tab="a", stage="first",
                         earlier="")
         self.assertEqual((told["verdict"], told["by"], told["is_last"]), ("no", "own", False))
-        told = self.ask("verdict", text=Path(support.example("wrong_delay")).read_text(), tab="a", stage="other",
+        told = self.ask("verdict", text=text_of("wrong_delay"), tab="a", stage="other",
                         earlier="")
         self.assertNotIn("With all inputs on", told["words"][0])
         told = self.ask("verdict", text=text.replace("out b 26 28", "out b 26 27"), tab="a", stage="other", earlier="")
@@ -347,14 +345,14 @@ class Verdicts(Served):
     def test_cuts(self) -> None:
         """The wires that modules cut are those of the reader."""
         for name in ("four_modules", "timed_modules", "not_gate", "machine_full_adder"):
-            text = Path(support.example(name)).read_text()
+            text = text_of(name)
             document = support.read_document(text, "check")
             wanted = [list(module.cuts) for module in document.certificate.modules] if document.certificate else []
             self.assertEqual(cuts_of(text), wanted, name)
 
     def test_fixes(self) -> None:
         """A no comes with words and a fix, and the program says yes to the text after it."""
-        text = Path(support.example("not_gate")).read_text().replace("out b 4 4\nwaste 7 4\n", "out b 7 4\nwaste 4 4\n")
+        text = text_of("not_gate").replace("out b 4 4\nwaste 7 4\n", "out b 7 4\nwaste 4 4\n")
         told = self.ask("verdict", text=text, tab="a")
         self.assertEqual(told["verdict"], "no")
         self.assertEqual(told["faults"][0]["cell"], [7, 4])
@@ -367,7 +365,7 @@ class Verdicts(Served):
 
     def test_exports(self) -> None:
         """A text can be had as SVG, for Golly and as one page."""
-        text = Path(support.example("not_gate")).read_text()
+        text = text_of("not_gate")
         for form, word in (("svg", "<svg "), ("golly", "rule = BBM-Margolus-emulated"),
                            ("page", "Content-Security-Policy")):
             self.assertIn(word,
@@ -385,13 +383,13 @@ class Verdicts(Served):
         """Half a character, and a report that is none, are told as what they are."""
         for request, more, sentence in (("verdict", {"text": "# \ud800"}, "half a character"),
                                         ("explain",
-                                         {"text": Path(support.example("not_gate")).read_text(), "bundle": "",
+                                         {"text": text_of("not_gate"), "bundle": "",
                                           "report": "junk"}, "report")):
             self.assertIn(sentence, self.ask(request, tab="a", **more)["error"])
 
     def test_an_export_is_not_ended(self) -> None:
         """A verdict of the same tab waits for an export, and the export for a verdict."""
-        text, answers = Path(support.example("machine_full_adder")).read_text(), {}
+        text, answers = text_of("machine_full_adder"), {}
         asks = [threading.Thread(target=lambda name=name,
                                  more=more: answers.update({name: self.ask(name, text=text, tab="a",
                                                                            **more)}))  # type: ignore[misc]
@@ -438,8 +436,7 @@ class Searches(Served):
         self.assertEqual(told["state"], "found", told)
         self.assertIn("switch p q -> a b c", told["text"])
         self.assertIn("verdict yes", told["said"])
-        self.assertEqual(subprocess.run([support.program(), "check"], input=told["text"].encode(),
-                                        stdout=subprocess.DEVNULL, check=False).returncode, 0)
+        self.assertIn("verdict yes", support.checked(told["text"]))
         self.assertEqual(self.ask("routed", tab="a")["state"], "none")
 
     def test_ports_are_connected(self) -> None:
@@ -497,17 +494,12 @@ class Searches(Served):
         self.assertEqual(self.routes.found, {})
 
 
-class Limits(unittest.TestCase):
+class Limits(support.InRoom):
     """What ends a program."""
 
     def fake(self, script: str) -> str:
         """Returns the path of a program that does what a script says."""
-        room = tempfile.TemporaryDirectory()
-        self.addCleanup(room.cleanup)
-        path = Path(room.name) / "program"
-        path.write_text(f"#!/bin/sh\n{script}\n")
-        path.chmod(0o755)
-        return str(path)
+        return support.executable(self.room / "program", script)
 
     def test_time_limit(self) -> None:
         """A program that does not end is killed."""
@@ -516,7 +508,7 @@ class Limits(unittest.TestCase):
         jobs.close()
         self.assertEqual((told["verdict"], told["words"]),
                          ("unknown", ["The program gave no answer within 0.5 seconds."]))
-        self.assertNotIn(f"sleep 987654.{os.getpid()}", running())
+        self.assertNotIn(f"sleep 987654.{os.getpid()}", processes())
 
     def test_newer_jobs_end_older_ones(self) -> None:
         """A newer job of a tab ends its older one with its program; a job of another tab waits, so at most one program
@@ -526,29 +518,20 @@ class Limits(unittest.TestCase):
         first = threading.Thread(target=lambda: answers.append(jobs.run("a", {"kind": "verdict", "text": EMPTY})))
         other = threading.Thread(target=lambda: answers.append(jobs.run("b", {"kind": "verdict", "text": EMPTY})))
         first.start()
-        self.wait(lambda: running().count(SLEEP) == 1)
+        wait_for(lambda: processes().count(SLEEP) == 1)
         other.start()
         time.sleep(0.3)
-        self.assertEqual(running().count(SLEEP), 1)
-        closer = threading.Thread(target=lambda: answers.append(jobs.run("a",
-                                                                         {"kind": "export", "text": "circuit\n",
-                                                                          "bundle": "", "form": "svg", "name": "",
-                                                                          "on": []})))
+        self.assertEqual(processes().count(SLEEP), 1)
+        export = {"kind": "export", "text": "circuit\n", "bundle": "", "form": "svg", "name": "", "on": []}
+        closer = threading.Thread(target=lambda: answers.append(jobs.run("a", export)))
         closer.start()
-        self.wait(lambda: {"replaced": True} in answers)
-        self.wait(lambda: running().count(SLEEP) == 1 or len(answers) > 1)
+        wait_for(lambda: {"replaced": True} in answers)
+        wait_for(lambda: processes().count(SLEEP) == 1 or len(answers) > 1)
         jobs.close()
         for thread in (first, other, closer):
             thread.join(30)
             self.assertFalse(thread.is_alive())
-        self.assertNotIn(SLEEP, running())
-
-    def wait(self, test: Any) -> None:
-        """Waits until something holds."""
-        until = time.monotonic() + 60
-        while not test():
-            self.assertLess(time.monotonic(), until)
-            time.sleep(0.05)
+        self.assertNotIn(SLEEP, processes())
 
     def test_memory_limit(self) -> None:
         """The process of the jobs and the program run under a memory limit, and one that needs more gets no verdict."""
@@ -564,13 +547,18 @@ class Limits(unittest.TestCase):
         self.assertIn("There is no verdict", told["words"][0])
 
 
-def running() -> str:
-    """Returns the commands of all processes."""
-    return subprocess.run(["ps", "-eo", "args"], capture_output=True, text=True, check=True).stdout
-
-
-class Command(unittest.TestCase):
+class Command(support.InRoom):
     """The command."""
+
+    def started(self, *words: str, **environment: str) -> tuple["subprocess.Popen[str]", str]:
+        """Starts the studio, and returns its process and the address that it prints."""
+        process = subprocess.Popen([*support.BBMLAB, "studio", f"{self.room}/a.txt", *words], stdout=subprocess.PIPE,
+                                   stderr=subprocess.DEVNULL, text=True, env={**os.environ, **environment})
+        self.addCleanup(process.wait)
+        self.addCleanup(process.terminate)
+        assert process.stdout
+        self.addCleanup(process.stdout.close)
+        return process, process.stdout.readline().strip()
 
     def test_open(self) -> None:
         """Without `--no-open` the browser gets a page that only this user can read, and that leads to the address that
@@ -578,42 +566,21 @@ class Command(unittest.TestCase):
 
         All users can list the arguments of a process, so they contain nothing of the address but the page's path.
         """
-        with tempfile.TemporaryDirectory() as room:
-            browser, seen = Path(room) / "browser", Path(room) / "seen"
-            browser.write_text(f'#!/bin/sh\nprintf %s "$1" >"{seen}.new" && mv "{seen}.new" "{seen}"\n')
-            browser.chmod(0o755)
-            process = subprocess.Popen([sys.executable, str(support.LAB / "bbmlab"), "studio", f"{room}/a.txt"],
-                                       stdout=subprocess.PIPE,
-                                       stderr=subprocess.DEVNULL, text=True,
-                                       env={**os.environ, "BROWSER": str(browser)})
-            self.addCleanup(process.wait)
-            self.addCleanup(process.terminate)
-            address = process.stdout.readline().strip()
-            until = time.monotonic() + 60
-            while not seen.exists():
-                self.assertLess(time.monotonic(), until)
-                time.sleep(0.05)
-            page = Path(seen.read_text().removeprefix("file://"))
-            self.assertEqual([stat.S_IMODE(os.stat(path).st_mode) for path in (page, page.parent)], [0o600, 0o700])
-            self.assertIn(f'content="0; url={address}"', page.read_text())
-            self.assertNotIn(address.split("#")[1], str(page))
-            process.stdout.close()
-            process.terminate()
-            process.wait(30)
-            self.assertFalse(page.exists())
+        seen = self.room / "seen"
+        browser = support.executable(self.room / "browser", f'printf %s "$1" >"{seen}.new" && mv "{seen}.new" "{seen}"')
+        process, address = self.started(BROWSER=browser)
+        wait_for(seen.exists)
+        page = Path(seen.read_text().removeprefix("file://"))
+        self.assertEqual([stat.S_IMODE(os.stat(path).st_mode) for path in (page, page.parent)], [0o600, 0o700])
+        self.assertIn(f'content="0; url={address}"', page.read_text())
+        self.assertNotIn(address.split("#")[1], str(page))
+        process.terminate()
+        process.wait(30)
+        self.assertFalse(page.exists())
 
     def test_no_open(self) -> None:
         """`--no-open` prints the address alone, and SIGTERM ends the server with its processes."""
-        with tempfile.TemporaryDirectory() as room:
-            process = subprocess.Popen([sys.executable, str(support.LAB / "bbmlab"), "studio", f"{room}/a.txt",
-                                        "--no-open"], stdout=subprocess.PIPE,
-                                       stderr=subprocess.DEVNULL, text=True)
-            address = process.stdout.readline().strip()
-            self.assertRegex(address, r"^http://127\.0\.0\.1:\d+/#[\w-]{32}$")
-            process.terminate()
-            self.assertEqual(process.wait(30), 143)
-            process.stdout.close()
-
-
-if __name__ == "__main__":
-    unittest.main()
+        process, address = self.started("--no-open")
+        self.assertRegex(address, r"^http://127\.0\.0\.1:\d+/#[\w-]{32}$")
+        process.terminate()
+        self.assertEqual(process.wait(30), 143)

@@ -8,33 +8,23 @@ import resource
 import signal
 import subprocess
 import sys
-import tempfile
 import time
-import unittest
 from pathlib import Path
-from typing import Callable
 
 import support
 from bbmlab_core.explain.diagnosis import Diagnosis, Truth
 from bbmlab_core.studio.jobs import Jobs
+from support import processes, wait_for
 
-LAB = str(support.LAB / "bbmlab")
+LAB = support.BBMLAB[1]
 
 
-class Room(unittest.TestCase):
+class Room(support.InRoom):
     """Tests with a folder and programs of their own."""
-
-    def setUp(self) -> None:
-        room = tempfile.TemporaryDirectory()
-        self.addCleanup(room.cleanup)
-        self.room = Path(room.name)
 
     def program(self, script: str, name: str = "program") -> str:
         """Writes a program that runs a script. `real` in it is the proved one."""
-        path = self.room / name
-        path.write_text(f"#!/bin/sh\nreal='{support.program()}'\n{script}\n")
-        path.chmod(0o755)
-        return str(path)
+        return support.executable(self.room / name, f"real='{support.program()}'\n{script}")
 
     def shell(self, line: str, *words: str, **environment: str) -> "subprocess.CompletedProcess[bytes]":
         """Runs a line of a shell, in which `lab` is the lab and $1 the first of the words."""
@@ -73,7 +63,7 @@ class Outputs(Room):
         """Control characters of names and of a program's messages reach no terminal, and make no line of a diagnosis.
         """
         name = self.room / "a\nforged.txt:1: error: \x1b[31mb.txt"
-        for text in ("circuit\nsource 2 -> a\nend\n", Path(support.example("wrong_edge")).read_text()):
+        for text in ("circuit\nsource 2 -> a\nend\n", support.text_of("wrong_edge")):
             name.write_text(text)
             ended = support.lab("explain", "--gcc", "--program", support.program(), str(name))
             self.assertEqual(ended.returncode, 1, ended.stderr)
@@ -96,14 +86,12 @@ class Inputs(Room):
         os.mkfifo(folder / "x.txt")
         (folder / "y.txt").write_bytes(Path(support.example("gate_and_mirror")).read_bytes())
         started = time.monotonic()
-        ended = subprocess.run([sys.executable, LAB, "check", "--timeout", "1", "--program", support.program(),
-                                str(folder / "x.txt")], capture_output=True,
-                               text=True, check=False, timeout=30)
+        ended = support.lab("check", "--timeout", "1", "--program", support.program(), str(folder / "x.txt"),
+                            seconds=30)
         self.assertEqual((ended.returncode, time.monotonic() - started < 20), (4, True))
         self.assertIn("the file did not end within 1 seconds", ended.stdout)
-        ended = subprocess.run([sys.executable, LAB, "check", "--timeout", "1", "--receipts", str(self.room / "r"),
-                                "--program", support.program(), str(folder)],
-                               capture_output=True, text=True, check=False, timeout=30)
+        ended = support.lab("check", "--timeout", "1", "--receipts", str(self.room / "r"), "--program",
+                            support.program(), str(folder), seconds=30)
         self.assertEqual(ended.returncode, 0, ended.stdout)
         self.assertIn(f"bbmlab: {folder}/x.txt: this is no plain file, and is left out", ended.stderr)
         ended = self.shell('cat "$1" | lab check --timeout 20 --program "$2" /dev/fd/0',
@@ -168,9 +156,7 @@ class Programs(Room):
             self.assertNotIn("says yes", ended.stderr)
         jobs = Jobs(program, 20.0, 4096)
         self.addCleanup(jobs.close)
-        told = jobs.run("a",
-                        {"kind": "verdict", "text": Path(support.example("not_gate")).read_text(), "stage": "first",
-                         "earlier": ""})
+        told = jobs.run("a", {"kind": "verdict", "text": support.text_of("not_gate"), "stage": "first", "earlier": ""})
         self.assertEqual(told["verdict"], "unknown", told)
         self.assertIn("another text", told["words"][0])
 
@@ -189,8 +175,7 @@ class Programs(Room):
         jobs = Jobs(self.program(f"[ -e '{self.room}/once' ] || {{ touch '{self.room}/once'; kill -9 $PPID; }}\nexec "
                                  "\"$real\" \"$@\""), 20.0, 4096)
         self.addCleanup(jobs.close)
-        job = {"kind": "verdict", "text": Path(support.example("not_gate")).read_text(), "stage": "first",
-               "earlier": ""}
+        job = {"kind": "verdict", "text": support.text_of("not_gate"), "stage": "first", "earlier": ""}
         self.assertEqual(jobs.run("a", job), {"error": "There is no answer: the lab's process was ended by SIGKILL."})
         self.assertEqual(jobs.run("a", job)["verdict"], "yes")
 
@@ -217,13 +202,6 @@ class Signals(Room):
         self.sleeper = self.program(f"[ \"$1\" = check ] || exec \"$real\" \"$@\"\n: >'{self.room}/started'\nexec "
                                     f"{self.mark}")
 
-    def wait(self, test: Callable[[], bool]) -> None:
-        """Waits until something holds."""
-        until = time.monotonic() + 60
-        while not test():
-            self.assertLess(time.monotonic(), until)
-            time.sleep(0.05)
-
     def run_with(self, patch: str, *words: str) -> int:
         """Returns the status of the lab after a patch. In it, `hang_up` sends a signal to the thread that calls it when
         the program runs.
@@ -243,7 +221,7 @@ class Signals(Room):
                                    stdout=subprocess.DEVNULL, stderr=subprocess.DEVNULL)
         try:
             status = running.wait(60)
-            self.wait(lambda: self.mark not in processes())
+            wait_for(lambda: self.mark not in processes())
         finally:
             running.kill()
             running.wait()
@@ -258,10 +236,10 @@ class Signals(Room):
                       ["check", "--jobs", "2", support.example("wrong_edge"), support.example("full_adder")]):
             running = subprocess.Popen([sys.executable, LAB, *words, "--program", self.sleeper],
                                        stdout=subprocess.DEVNULL, stderr=subprocess.DEVNULL, start_new_session=True)
-            self.wait(lambda: self.mark in processes())
+            wait_for(lambda: self.mark in processes())
             os.killpg(running.pid, signal.SIGHUP)
             self.assertEqual(running.wait(60), 129, words)
-            self.wait(lambda: self.mark not in processes())
+            wait_for(lambda: self.mark not in processes())
 
     def test_signal_just_before_a_call(self) -> None:
         """A signal that does not interrupt the system call in which the main thread waits is obeyed, as if it had come
@@ -298,27 +276,20 @@ class Signals(Room):
         self.assertEqual(self.run_with(again, "explain", support.example("wrong_edge")), 129)
 
 
-def processes(columns: str = "args") -> str:
-    """Returns a line for each process, with its command last."""
-    return subprocess.run(["ps", "-eo", columns], capture_output=True, text=True, check=True).stdout
-
-
 class Words(Room):
     """Sentences that say no more than was found out."""
 
     def test_live_rim(self) -> None:
         """A live rim is no fault of the certificate: no certificate gets a yes."""
-        text = Path(support.example("plain_rim")).read_text().replace("use 1\nend", "use 1\nstop 0 p 4 4\nend")
-        path = self.room / "rim.txt"
-        path.write_text(text)
-        ended = support.lab("explain", "--program", support.program(), str(path))
+        text = support.text_of("plain_rim").replace("use 1\nend", "use 1\nstop 0 p 4 4\nend")
+        ended = support.lab("explain", "--program", support.program(), "-", text=text)
         self.assertNotIn("fault is in the certificate", ended.stdout)
         self.assertRegex(" ".join(ended.stdout.split()), r"the cell \(\d+, 0\) of the rim is live at time 1\. .* no "
                          r"certificate gets a yes before the layout is changed")
         outcome = Diagnosis(support.read_document(text, "check")).outcome
         self.assertEqual((outcome.is_right, outcome.is_rim), (Truth.NO, True))
         for name, wanted in (("gate_and_mirror", Truth.YES), ("not_gate", None)):
-            document = support.read_document(Path(support.example(name)).read_text(), "check")
+            document = support.read_document(support.text_of(name), "check")
             if document.certificate and not document.refusal:
                 self.assertEqual(Diagnosis(document).outcome.is_right, wanted, name)
 
@@ -332,13 +303,7 @@ class Words(Room):
                 "cells": {"cell_7": {"type": "$lut", "parameters": {"WIDTH": width, "LUT": table},
                                      "port_directions": {"A": "input", "Y": "output"},
                                      "connections": {"A": [place + 2 for place in range(width)], "Y": [9]}}}}}}
-            path = self.room / "netlist.json"
-            path.write_text(json.dumps(netlist))
-            ended = support.lab("route", "--circuit-only", str(path))
+            ended = support.lab("route", "--circuit-only", "-", text=json.dumps(netlist))
             self.assertEqual(ended.returncode, 0 if is_good else 1, (width, table, ended.stderr))
             if not is_good:
                 self.assertIn("cell_7", ended.stderr)
-
-
-if __name__ == "__main__":
-    unittest.main()

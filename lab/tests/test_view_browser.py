@@ -5,17 +5,11 @@ BBMLAB_SHOTS names a folder that keeps the screenshots.
 """
 
 import lzma
-import os
-import shutil
-import subprocess
-import tempfile
 import unittest
-from pathlib import Path
 
 import support
 from test_view_engine import large_layout
 
-SCRIPT = support.LAB / "tests" / "browse_view.py"
 WRONG = """circuit
 input p
 input q
@@ -46,30 +40,9 @@ end
 class Browser(unittest.TestCase):
     """The page in a browser."""
 
-    def setUp(self) -> None:
-        if shutil.which("chromium") is None or not os.path.exists("/usr/bin/chromedriver"):
-            self.skipTest("Chromium and its driver are not installed (apt-get install chromium chromium-driver "
-                          "python3-selenium)")
-        if subprocess.run(["/usr/bin/python3", "-c", "import selenium"], capture_output=True, check=False).returncode:
-            self.skipTest("/usr/bin/python3 has no selenium (apt-get install python3-selenium)")
-
     def test_pages(self) -> None:
         """All that browse_view.py asks of the pages holds, and the console has no error."""
-        program = support.program()
-        with tempfile.TemporaryDirectory() as room:
-            folder = os.environ.get("BBMLAB_SHOTS", room)
-            machine = lzma.decompress((support.EXAMPLES / "machines" / "adder_4.txt.xz").read_bytes()).decode("ascii")
-            for name, text in (("wrong", WRONG), ("large", large_layout().text), ("machine", machine)):
-                Path(room, f"{name}.txt").write_text(text)
-            for name, file in (("fault", support.example("wrong_border")), ("wrong", f"{room}/wrong.txt"),
-                               ("large", f"{room}/large.txt"),
-                               ("machine", f"{room}/machine.txt")):
-                made = support.lab("view", file, "-o", f"{folder}/{name}.html", "--program", program)
-                self.assertEqual((made.returncode, made.stderr), (0, ""))
-            ended = subprocess.run(["/usr/bin/python3", str(SCRIPT), folder], capture_output=True, text=True,
-                                   check=False, timeout=540)
-        self.assertEqual(ended.returncode, 0, ended.stderr)
-
-
-if __name__ == "__main__":
-    unittest.main()
+        support.require_browser()
+        machine = lzma.decompress((support.EXAMPLES / "machines" / "adder_4.txt.xz").read_bytes()).decode("ascii")
+        support.browse_pages("browse_view.py", {"fault": support.text_of("wrong_border"), "wrong": WRONG,
+                                                "large": large_layout().text, "machine": machine})

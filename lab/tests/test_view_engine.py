@@ -2,54 +2,33 @@
 they take.
 """
 
-import json
 import random
-import shutil
-import subprocess
 import time
 import unittest
+from typing import Any
 
 import support
 from bbmlab_core.host.program import ask
 from bbmlab_core.physics import tracing
-from bbmlab_core.texts import json_form
 from bbmlab_core.texts.documents import Document
 
-STATES = support.LAB / "tests" / "run_states.js"
 # With room for a busy machine. A step that looks at each cell takes longer.
 MAX_SECONDS = 200
 
 
-def node(jobs: list[dict]) -> list[dict]:
+def node(jobs: list[dict[str, Any]]) -> Any:
     """Returns what the page's automaton makes of some jobs."""
-    if shutil.which("node") is None:
-        raise unittest.SkipTest("node is not installed (apt-get install nodejs)")
-    ended = subprocess.run(["node", str(STATES)], input=json.dumps(jobs), text=True,
-                           capture_output=True, check=True)
-    return json.loads(ended.stdout)
+    return support.node("run_modules.js", [["states", it] for it in jobs])
 
 
-def job(document: Document, on: list[str], times: list[int]) -> dict:
+def job(document: Document, on: list[str], times: list[int]) -> dict[str, Any]:
     """Returns the data of a text, the inputs that are on, and the times to go to."""
-    return {"data": json.loads(json_form.document_json(document, None)), "on": on, "times": times}
+    return {"data": support.data_of(document), "on": on, "times": times}
 
 
-def layouts() -> list[tuple[str, Document]]:
-    """Returns the examples that have a layout and are read without a refusal, with their names."""
-    found = []
-    for path in sorted(support.EXAMPLES.glob("*.txt")):
-        document = support.read_document(path.read_text(encoding="latin-1"))
-        if document.layout and not document.refusal:
-            found.append((path.name, document))
-    return found
-
-
-def run_words(told: dict) -> str:
+def run_words(told: dict[str, Any]) -> str:
     """Writes the last state of a job as the program's `run` does."""
-    if told["left"] is not None:
-        return f"left {told['left']}\n"
-    cells = told["states"][-1][1]
-    return f"cells {len(cells)}\n" + "".join(f"{x} {y}\n" for x, y in cells)
+    return support.run_words(told["states"][-1][1], told["left"])
 
 
 def large_layout() -> Document:
@@ -68,7 +47,7 @@ class Engine(unittest.TestCase):
     def test_last_states_by_the_program(self) -> None:
         """Each example ends as the program's `run` says, under three choices of inputs, also by way of other times."""
         program, chooser, asked, jobs = support.program(), random.Random(43), [], []
-        for name, document in layouts():
+        for name, document in support.drawn_documents():
             names, steps = tracing.port_names(document.layout), document.layout.steps
             for share in (0.0, 0.5, 1.0):
                 on = [wire for wire in names if chooser.random() < share]
@@ -84,7 +63,7 @@ class Engine(unittest.TestCase):
     def test_every_time_there_and_back(self) -> None:
         """Each time of each example is as in the lab's trace, on the way there and on the way back."""
         jobs, wanted = [], []
-        for name, document in layouts():
+        for name, document in support.drawn_documents():
             on = tracing.port_names(document.layout)
             trace = tracing.trace_layout(document.layout, on, 0, 200)
             states = [[at, tracing.cells_text(state)] for at, state in enumerate(trace.states)]
@@ -106,7 +85,3 @@ class Engine(unittest.TestCase):
         self.assertLess(time.monotonic() - began, MAX_SECONDS)
         self.assertEqual([at for at, _ in told["states"]], [last, last // 2, 3, last])
         self.assertEqual(run_words(told), output)
-
-
-if __name__ == "__main__":
-    unittest.main()

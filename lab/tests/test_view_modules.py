@@ -1,10 +1,7 @@
 """The page's modules under node: the address, names of ports, trails, the waveform, outputs, and pictures as SVG."""
 
-import json
 import random
 import re
-import shutil
-import subprocess
 import unittest
 import xml.etree.ElementTree as ET
 from typing import Any
@@ -14,35 +11,23 @@ from bbmlab_core.physics import tracing
 from bbmlab_core.physics.simulation import block_of, cell_of, key_of
 from bbmlab_core.pictures.label_places import Name, Rect, place_names
 from bbmlab_core.pictures.ways import block_moves
-from bbmlab_core.texts import json_form
 from bbmlab_core.texts.documents import Document
 from bbmlab_core.view import viewing
+from support import data_of
 
-SCRIPT = support.LAB / "tests" / "run_modules.js"
 SVG = "{http://www.w3.org/2000/svg}"
 LIMITS = {"steps": 30, "names": ["p", "q", "constructor"], "faults": 2}
-MAX_FUNCTION_LINES = 40
 
 
 def node(jobs: list[list[Any]]) -> list[Any]:
     """Returns what the page's modules make of some jobs."""
-    if shutil.which("node") is None:
-        raise unittest.SkipTest("node is not installed (apt-get install nodejs)")
-    ended = subprocess.run(["node", str(SCRIPT)], input=json.dumps(jobs), text=True,
-                           capture_output=True, check=False)
-    if ended.returncode:
-        raise AssertionError(ended.stderr)
-    return json.loads(ended.stdout)
+    found: list[Any] = support.node("run_modules.js", jobs)
+    return found
 
 
 def example(name: str) -> Document:
     """Returns an example."""
-    return support.read_document((support.EXAMPLES / f"{name}.txt").read_text())
-
-
-def data_of(document: Document) -> dict[str, Any]:
-    """Returns the page's data of a text."""
-    return json.loads(json_form.document_json(document, None))
+    return support.read_document(support.text_of(name))
 
 
 def many_outputs(count: int, wrong: list[int]) -> Document:
@@ -349,28 +334,12 @@ class Sources(unittest.TestCase):
     """The sources of the page."""
 
     def test_functions_are_short(self) -> None:
-        """No function has 40 lines.
-
-        One begins at a line that ends with a brace, and ends at the first one that is not indented more.
-        """
-        begins, count = re.compile(r"^( *)(?! )(?:/\*\*.*\*/ )?(?!(?:if|for|while|switch|class|else|try|\} "
-                                   r"else)\b).*(?:\)|=>|constructor.*) \{$"), 0
-        for path in sorted(viewing.TEMPLATE.glob("*.js")):
-            lines = path.read_text().splitlines()
-            for number, line in enumerate(lines):
-                if not (found := begins.match(line)):
-                    continue
-                end = next(at for at in range(number + 1, len(lines)) if lines[at].startswith(found[1] + "}"))
-                count += 1
-                self.assertLess(end - number + 1, MAX_FUNCTION_LINES, f"{path.name}:{number + 1}")
-        self.assertGreater(count, 100)
+        """No function has 40 lines."""
+        count, long = support.long_functions(viewing.TEMPLATE)
+        self.assertEqual((count > 100, long), (True, []))
 
     def test_no_html_from_texts(self) -> None:
         """No script makes HTML or code from a text."""
         for path in viewing.TEMPLATE.glob("*.js"):
             self.assertIsNone(re.search(r"innerHTML|outerHTML|insertAdjacentHTML|document\.write|\beval\(|new "
                                         r"Function|DOMParser|srcdoc", path.read_text()))
-
-
-if __name__ == "__main__":
-    unittest.main()

@@ -104,10 +104,7 @@ class Ways(unittest.TestCase):
 
     def test_examples(self) -> None:
         """The ways of each example and standard cell."""
-        files = [*sorted(support.EXAMPLES.glob("*.txt")), *sorted((support.LAB / "cells").glob("*.txt"))]
-        documents = [read_document(path.read_text(encoding="latin-1")) for path in files]
-        self.assertGreater(sum(self.assert_same(own) for own in documents if own.layout and own.layout.width
-                               and not own.refusal), 10_000)
+        self.assertGreater(sum(self.assert_same(own) for _, own in support.drawn_documents()), 10_000)
 
     def test_random_layouts(self) -> None:
         """The ways of layouts in which balls collide, and mirrors fall apart."""
@@ -254,8 +251,7 @@ class Large(unittest.TestCase):
         """In a large layout the modules that use gates are outlined, but for the smallest ones, and borders of modules
         are left out."""
         text = self.text(2)
-        circuit = read_document(text.split("certificate")[0], "design").circuit
-        assert circuit
+        circuit = support.circuit_of(text.split("layout")[0])
         self.assertEqual(gate_boxes(text, circuit), [(Box(16, 0, 32, 32), ["switch 1"])])
         self.assertEqual(gate_boxes("circuit\nend\n", circuit), [])
 
@@ -329,10 +325,8 @@ class Chosen(unittest.TestCase):
 
     def test_cone(self) -> None:
         """A cone is a wire with all on which it depends."""
-        circuit = read_document("circuit\ninput p\ninput q\ninput r\nswitch p q -> a b c\nswitch a r -> d e f\noutput "
-                                "d\nspill b\nspill c\nspill e\nspill f\nend\n",
-                                "circuit").circuit
-        assert circuit
+        circuit = support.circuit_of("circuit\ninput p\ninput q\ninput r\nswitch p q -> a b c\nswitch a r -> d e f\n"
+                                     "output d\nspill b\nspill c\nspill e\nspill f\nend\n")
         self.assertEqual(set(cone_of(circuit, "e")), {"e", "a", "r", "p", "q"})
         self.assertEqual(set(cone_of(circuit, "b")), {"b", "p", "q"})
 
@@ -355,7 +349,3 @@ class Chosen(unittest.TestCase):
         with_arrows, without = (picture_of(read_design(support.example("fredkin_gate")), None, None, None,
                                            Look(has_arrows=has)) for has in (True, False))
         self.assertGreater(with_arrows.count('class="way'), without.count('class="way'))
-
-
-if __name__ == "__main__":
-    unittest.main()

@@ -74,51 +74,40 @@ def repeat_lines(text):
     yield b"%s times \\ %s" % (count, unit)
 
 
-def case_lines(folder):
-    words = (folder / "args").read_text().split()
-    yield b"case " + folder.name.encode()
-    yield " ".join(["words", *words]).encode()
+def case_text(name: str, words: list[str], given: list[bytes], status: int, **texts: bytes) -> bytes:
+    """A case, by the lines that stand for what it is given, and by the texts of `output` and `errors`."""
+    lines = [f"case {name}".encode(), " ".join(["words", *words]).encode(), *([b"input", *given] if given else [])]
+    for part, text in texts.items():
+        lines += [part.encode(), *text_lines(text)]
+    return b"\n" + b"".join(line + b"\n" for line in [*lines, b"status %d" % status])
+
+
+def folder_case(folder):
+    """The case of a folder."""
     repeat = folder / "stdin_repeat"
-    given = list(repeat_lines(repeat.read_bytes()) if repeat.exists() else text_lines((folder / "stdin").read_bytes()))
-    if given:
-        yield b"input"
-        yield from given
-    for name, file in (("output", "stdout"), ("errors", "stderr")):
-        path = folder / file
-        if path.exists():
-            yield name.encode()
-            yield from text_lines(path.read_bytes())
-    yield b"status %d" % number(folder / "status", 0)
+    given = repeat_lines(repeat.read_bytes()) if repeat.exists() else text_lines((folder / "stdin").read_bytes())
+    texts = {name: (folder / file).read_bytes() for name, file in (("output", "stdout"), ("errors", "stderr"))
+             if (folder / file).exists()}
+    return case_text(folder.name, (folder / "args").read_text().split(), list(given), number(folder / "status", 0),
+                     **texts)
 
 
-def bundle_lines(text):
-    """A case of `check` for a bundle, whose report lies beside it."""
-    report = text.with_suffix(".report").read_bytes()
-    yield b"case bundle_" + text.stem.encode()
-    yield b"words check"
-    yield b"input"
-    yield from text_lines(text.read_bytes())
-    yield b"output"
-    yield from text_lines(report)
-    yield b"status %d" % (1 if b"\nverdict no\n" in report else 0)
+def answered_case(name: str, command: str, text: bytes, status: int, output: bytes) -> bytes:
+    """A case of a command on a text."""
+    return case_text(name, [command], list(text_lines(text)), status, output=output)
 
 
-def migrate_lines(text, most):
-    """A case of `migrate` from a bundle to the one of version 2 beside it."""
+def bundle_cases(text, most):
+    """The case of `check` for a bundle, whose report lies beside it, and that of `migrate` to the one of version 2 if
+    there is one."""
+    bundle, report = text.read_bytes(), text.with_suffix(".report").read_bytes()
+    yield answered_case(f"bundle_{text.stem}", "check", bundle, 1 if b"\nverdict no\n" in report else 0, report)
     after = text.with_name(text.name.replace("_v1", "_v2"))
-    if after == text or not after.exists() or most is not None and text.stat().st_size > most:
-        return
-    yield b""
-    yield b"case migrate_" + text.stem.encode()
-    yield b"words migrate"
-    yield b"input"
-    yield from text_lines(text.read_bytes())
-    yield b"output"
-    yield from text_lines(after.read_bytes())
-    yield b"status 0"
+    if after != text and after.exists() and (most is None or len(bundle) <= most):
+        yield answered_case(f"migrate_{text.stem}", "migrate", bundle, 0, after.read_bytes())
 
 
-def run_lines(text, most):
+def run_cases(text, most):
     """The cases of `run` for the bundle's layout."""
     bundle = text.read_bytes()
     inputs = bundle.split(b"\nend\n", 1)[0].count(b"\ninput ")
@@ -126,14 +115,8 @@ def run_lines(text, most):
         return
     for number, (asked, live, _) in enumerate(ends(bundle)):
         rows = sorted(live, key=lambda cell: (cell[1], cell[0]))
-        yield b""
-        yield b"case run_of_%s_%d" % (text.stem.encode(), number)
-        yield b"words run"
-        yield b"input"
-        yield from text_lines(asked)
-        yield b"output"
-        yield from text_lines(b"cells %d\n" % len(rows) + b"".join(b"%d %d\n" % cell for cell in rows))
-        yield b"status 0"
+        yield answered_case(f"run_of_{text.stem}_{number}", "run", asked, 0,
+                            b"cells %d\n" % len(rows) + b"".join(b"%d %d\n" % cell for cell in rows))
 
 
 def has_word(text, words):
@@ -173,7 +156,7 @@ def main():
     out.write(HEAD.encode())
     for folder in found:
         if is_taken(folder, options):
-            out.write(b"\n" + b"\n".join(case_lines(folder)) + b"\n")
+            out.write(folder_case(folder))
     if options.bundles:
         for text in sorted(options.bundles.glob("*_v[12].txt")):
             if has_word(text, options.without):
@@ -183,10 +166,9 @@ def main():
                 for path in (text, text.with_suffix(".report"))[text.stem.endswith("_v2"):]:
                     shutil.copyfile(path, options.large / path.name)
             else:
-                out.write(b"\n" + b"\n".join(bundle_lines(text)) + b"\n")
-                out.write(b"".join(line + b"\n" for line in migrate_lines(text, options.largest)))
+                out.writelines(bundle_cases(text, options.largest))
                 if text.stem.endswith("_v1"):
-                    out.write(b"".join(line + b"\n" for line in run_lines(text, options.runs)))
+                    out.writelines(run_cases(text, options.runs))
 
 
 if __name__ == "__main__":

@@ -13,10 +13,9 @@ from pathlib import Path
 
 sys.dont_write_bytecode = True
 sys.path.insert(0, str(Path(__file__).resolve().parent))
-import reference  # noqa: E402
-import reference_reports  # noqa: E402
-from make_cases import text_lines  # noqa: E402
+from make_cases import answered_case  # noqa: E402
 from reference import FRONT_LINE  # noqa: E402
+from reference_reports import answer_to as answer  # noqa: E402
 
 HEAD = ("# The line `limits 2` and lines that are nearly it, in the form of cases.txt. "
         "tools/oracle/make_front_cases.py writes this file.\n")
@@ -45,11 +44,6 @@ NEARLY = {
     "with_a_zero_byte": b"limits 2\0", "with_a_byte_order_mark": b"\xef\xbb\xbflimits 2",
     "with_another_digit": "limits ２".encode(),
 }
-
-
-def answer(command: str, text: bytes) -> tuple[int, bytes]:
-    """Returns the exit status and the output for a text."""
-    return reference_reports.answer(text) if command == "check" else reference.answer(command, text)
 
 
 def one_further(command: str, found: tuple[int, bytes]) -> tuple[int, bytes]:
@@ -101,11 +95,7 @@ def main() -> None:
     for command, text in TEXTS.items():
         # three commands read a bundle alike
         for name, given in list(cases_of(command, text))[::4 if command in ("modules", "migrate") else 1]:
-            status, output = answer(command, given)
-            out.write(f"\ncase {name}_{command}\nwords {command}\ninput\n".encode())
-            out.write(b"".join(line + b"\n" for line in text_lines(given)))
-            out.write(b"output\n" + b"".join(line + b"\n" for line in text_lines(output)))
-            out.write(b"status %d\n" % status)
+            out.write(answered_case(f"{name}_{command}", command, given, *answer(command, given)))
 
 
 if __name__ == "__main__":

@@ -18,8 +18,8 @@ TOP = HERE.parent.parent
 sys.dont_write_bytecode = True
 sys.path[:0] = [str(HERE), str(TOP / "conformance")]
 import reference  # noqa: E402
-import reference_reports  # noqa: E402
 from limit_texts import LIMITS, Limit, text_of  # noqa: E402
+from reference_reports import answer_to  # noqa: E402
 
 ANSWERS = TOP / "conformance" / "data" / "limits.json"
 # A longer output is told by its digest.
@@ -30,9 +30,7 @@ Answer = tuple[int, bytes]
 
 def answer(command: str, text: bytes) -> Answer:
     """Returns the exit status and the output for a text."""
-    if len(text) > reference.limits_of(text).text_bytes:
-        return TOO_LONG
-    return reference_reports.answer(text) if command == "check" else reference.answer(command, text)
+    return TOO_LONG if len(text) > reference.limits_of(text).text_bytes else answer_to(command, text)
 
 
 # The code with which a text is refused whose value is within the limit, or None, and that of a text over it.

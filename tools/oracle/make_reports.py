@@ -12,6 +12,7 @@ from pathlib import Path
 
 sys.dont_write_bytecode = True
 sys.path.insert(0, str(Path(__file__).resolve().parent))
+from make_cases import answered_case  # noqa: E402
 from mostly_right_bundle import mostly_right_bundle  # noqa: E402
 from random_bundle import second_version  # noqa: E402
 from reference_reports import answer  # noqa: E402
@@ -21,10 +22,6 @@ HEAD = ("# Random bundles, in the form of cases.txt, and their reports by a slow
 SORTS = ["verdict yes", " edge ", " end ", "border ", "\nkeep ", "\nunkept "]
 
 
-def lines_of(keyword, text):
-    return [keyword, *("| " + line if line else "|" for line in text.decode().splitlines())]
-
-
 def main():
     reader = argparse.ArgumentParser(usage=__doc__)
     for name in ("count", "dense", "second", "seed"):
@@ -32,16 +29,14 @@ def main():
     given = reader.parse_args()
     count, dense, second, seed = given.count, given.dense, given.second, given.seed
     rng, reports = random.Random(seed), []
-    print(HEAD, end="")
+    sys.stdout.buffer.write(HEAD.encode())
     for number in range(count + dense + second):
         text = mostly_right_bundle(rng, is_dense=count <= number < count + dense)
         if number >= count + dense:
             text = second_version(text)
         status, report = answer(text)
         reports.append(report.decode())
-        case = [f"case random_{number}", "words check", *lines_of("input", text), *lines_of("output", report),
-                f"status {status}"]
-        print("\n" + "\n".join(case))
+        sys.stdout.buffer.write(answered_case(f"random_{number}", "check", text, status, report))
     missing = [sort for sort in SORTS if not any(sort in report for report in reports)]
     if missing:
         sys.exit(f"no report has {missing}")

@@ -1,10 +1,12 @@
 """`check` in plain Python, straight from docs/FORMATS.md: the findings are those of reference_findings.py, and borders
 are compared cell by cell.
 
-answer(text) gives the exit status and what is written for a text of bytes.
+answer(text) gives the exit status and what is written for a text of bytes, and answer_to(command, text) that of any
+command.
 """
 import hashlib
 
+import reference
 from reference import INVERSE, Certificate, Circuit, Lines, Refused, read_section
 from reference_findings import KINDS, Pattern, least_fault, least_keep
 
@@ -100,3 +102,7 @@ def answer(text: bytes) -> tuple[int, bytes]:
     is_yes = not faults and all(kept for _, kept in timing)
     lines = b"".join([*faults, *(line for line, _ in timing)])
     return (0, head + b"verdict yes\n" + lines) if is_yes else (1, head + b"verdict no\n" + lines)
+
+
+def answer_to(command: str, text: bytes) -> tuple[int, bytes]:
+    return answer(text) if command == "check" else reference.answer(command, text)

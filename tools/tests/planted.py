@@ -1,6 +1,4 @@
 """A copy of the sources, in which a test plants a fault, and the tools that look for it, also as modules."""
-import importlib.machinery
-import importlib.util
 import shutil
 import subprocess
 import sys
@@ -10,26 +8,29 @@ from pathlib import Path
 from typing import Any
 
 TOP = Path(__file__).resolve().parent.parent.parent
+sys.path.insert(0, str(TOP / "tools" / "gate"))
+from scripts import load  # noqa: E402
 
 
 def gate_script(name: str) -> Any:
     """Returns a script of `tools/gate` as a module."""
-    loader = importlib.machinery.SourceFileLoader(name, str(TOP / "tools" / "gate" / name))
-    spec = importlib.util.spec_from_loader(loader.name, loader)
-    assert spec is not None
-    module = importlib.util.module_from_spec(spec)
-    sys.modules[loader.name] = module
-    loader.exec_module(module)
-    return module
+    return load(TOP / "tools" / "gate" / name)
 
 
-class Planted(unittest.TestCase):
-    """Tests that change a copy of crates/ and run a tool of the copy."""
+class InRoom(unittest.TestCase):
+    """Tests with a folder of their own."""
 
     def setUp(self) -> None:
         room = tempfile.TemporaryDirectory()
         self.addCleanup(room.cleanup)
         self.top = Path(room.name)
+
+
+class Planted(InRoom):
+    """Tests that change a copy of crates/ and run a tool of the copy."""
+
+    def setUp(self) -> None:
+        super().setUp()
         for folder in ("crates", "tools", "docs", "release"):
             shutil.copytree(TOP / folder, self.top / folder,
                             ignore=shutil.ignore_patterns("out", "data", "proofs", "must-*", "__pycache__"))

@@ -2,21 +2,18 @@
 import shutil
 import subprocess
 import sys
-import tempfile
-import unittest
-from pathlib import Path
 
-TOP = Path(__file__).resolve().parent.parent.parent
+from planted import TOP, InRoom
+
 LIMITS = "bbmlab_core/texts/limits.py"
 
 
-class CheckPackages(unittest.TestCase):
+class CheckPackages(InRoom):
     """The tool on a copy of the lab's modules."""
 
     def setUp(self) -> None:
-        room = tempfile.TemporaryDirectory()
-        self.addCleanup(room.cleanup)
-        self.lab = Path(room.name)
+        super().setUp()
+        self.lab = self.top
         shutil.copytree(TOP / "lab" / "bbmlab_core", self.lab / "bbmlab_core",
                         ignore=shutil.ignore_patterns("__pycache__"))
         shutil.copy(TOP / "lab" / "packages.txt", self.lab)
@@ -64,7 +61,3 @@ class CheckPackages(unittest.TestCase):
         (self.lab / "packages.txt").write_text(text.replace("texts: host", "texts: host physics"))
         self.add(LIMITS, "from ..physics import simulation")
         self.assertEqual(self.said(), ["packages.txt: texts is above physics in the list"])
-
-
-if __name__ == "__main__":
-    unittest.main()

@@ -4,7 +4,6 @@ compared by name.
 import os
 import subprocess
 import sys
-import unittest
 
 import planted
 
@@ -79,7 +78,3 @@ class CheckProverLines(planted.Planted):
         self.assertEqual(status, 1)
         self.assertIn("libc::chmod is assumed", wrong)
         self.assertIn("libc::chdir is not assumed", wrong)
-
-
-if __name__ == "__main__":
-    unittest.main()

@@ -1,11 +1,9 @@
 """Tests of tools/sources/check_unused: it notices what nothing uses, and what is proved twice, in a small tree."""
 import subprocess
 import sys
-import tempfile
-import unittest
-from pathlib import Path
 
-TOP = Path(__file__).resolve().parent.parent.parent
+from planted import TOP, InRoom
+
 LIB, BELOW, ABOVE, NAMES = "one/src/lib.rt", "one/proofs/Below.antt", "two/proofs/Above.antt", "two/proofs/Imports.antt"
 NEXT = "next' : (k : ℕ) → k + 1 ≡ k + 1\nnext' k = refl"
 TREE = {
@@ -45,13 +43,11 @@ pub fn none() {}
 }
 
 
-class CheckUnused(unittest.TestCase):
+class CheckUnused(InRoom):
     """The tool on a tree of two crates."""
 
     def setUp(self) -> None:
-        room = tempfile.TemporaryDirectory()
-        self.addCleanup(room.cleanup)
-        self.top = Path(room.name)
+        super().setUp()
         for path, text in TREE.items():
             file = self.top / "crates" / path
             file.parent.mkdir(parents=True, exist_ok=True)
@@ -110,7 +106,3 @@ class CheckUnused(unittest.TestCase):
         self.plant(BELOW, "Common.{ℕ, ◌≡◌, refl}", "Common.{◌≡◌, refl}\nuse Rattle.one.specs.Other.{ℕ, ◌+◌}")
         self.plant(BELOW, "same n = refl", f"same n = (next' n).0\n\n{NEXT}")
         self.assertEqual(self.said(), [])
-
-
-if __name__ == "__main__":
-    unittest.main()

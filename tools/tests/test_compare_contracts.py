@@ -2,7 +2,6 @@
 stay as they were.
 """
 import subprocess
-import unittest
 
 import planted
 
@@ -91,7 +90,3 @@ class CompareContracts(planted.Planted):
         status, said = self.compare("--renames", "list")
         self.assertEqual(status, 1)
         self.assertIn("the list renames IsForm to IsLine, which meant something at HEAD", said)
-
-
-if __name__ == "__main__":
-    unittest.main()

@@ -1,7 +1,6 @@
 """Tests of tools/docs/reading_list.py: the prover accepts each of the planted changes, so the list must follow them or
 say that it can't.
 """
-import unittest
 
 import planted
 
@@ -100,7 +99,3 @@ class ReadingList(planted.Planted):
     def test_body_behind_an_empty_line(self) -> None:
         self.change(GATES, "uses (Source b) = 0", "\nuses (Source b) = 0")
         self.assert_fails("uses (Source b) = 0")
-
-
-if __name__ == "__main__":
-    unittest.main()

@@ -63,7 +63,3 @@ class Counts(unittest.TestCase):
             self.assertEqual(len(TRIED.wrong_counts(tried - alone - 1, crates, "must-fail-more")), 1)
             (crate / "must-fail-more" / "0.edit").unlink()
             self.assertEqual(len(TRIED.wrong_counts(tried - alone, crates, "must-fail-more")), 1)
-
-
-if __name__ == "__main__":
-    unittest.main()

@@ -1,11 +1,10 @@
 """Runs `bbmlab certify`."""
 
 import argparse
-import sys
 
 from ..certify.certifier import CertificatePlan, certified, checked_boxes
 from ..host.program import BadProgramError, ProgramTimeout, ask, find_program
-from ..host.terminal import LabError, escape_controls, read_text, write_text
+from ..host.terminal import LabError, read_text, tell, write_text
 from ..texts.certificates import MAX_BOX_SIDE
 from ..texts.documents import Document, read_document
 from ..texts.layouts import Box, Layout
@@ -32,7 +31,7 @@ def run(options: argparse.Namespace) -> int:
     notes: list[str] = []
     bundle = certified(document, chosen_boxes(options, document.layout), plan, notes)
     for note in notes:
-        print(f"bbmlab: {escape_controls(note)}", file=sys.stderr)
+        tell(note)
     status = verdict_status(bundle, options)
     write_text(options.output, bundle, [options.file])
     return status
@@ -88,17 +87,16 @@ def verdict_status(bundle: str, options: argparse.Namespace) -> int:
     try:
         answer = ask(find_program(options.program), "check", bundle.encode("latin-1"), options.timeout)
     except (BadProgramError, ProgramTimeout) as error:
-        print(f"bbmlab: the certificate was not checked: {escape_controls(str(error))}", file=sys.stderr)
+        tell(f"the certificate was not checked: {error}")
         return 4
     lines = answer.output.split("\n")
     verdict = lines[3] if len(lines) > 3 else ""
     if (answer.status, verdict) == (0, "verdict yes"):
-        print("bbmlab: the program says yes", file=sys.stderr)
+        tell("the program says yes")
         return 0
     if answer.status == 3 or (answer.status, verdict) == (1, "verdict no"):
         what = lines[0] if answer.status == 3 else f"no: {lines[4]}"
-        print(f"bbmlab: the program does not say yes: {escape_controls(what)}", file=sys.stderr)
+        tell(f"the program does not say yes: {what}")
         return 1
-    print(f"bbmlab: the program gave no verdict: status {answer.status} {escape_controls(answer.errors)}".rstrip(),
-          file=sys.stderr)
+    tell(f"the program gave no verdict: status {answer.status} {answer.errors}".rstrip())
     return 4

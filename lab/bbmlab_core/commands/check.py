@@ -1,17 +1,16 @@
 """Runs `bbmlab check`."""
 
 import argparse
-import sys
 
 from ..farm.checking import Checker, exit_status, text_files
 from ..farm.progress import Progress
 from ..farm.receipts import ReceiptFolder
-from ..farm.results import WRITERS, FilteredWriter, ResultWriter
+from ..farm.results import WRITERS, ResultWriter
 from ..farm.sharding import in_shard
 from ..host.program import find_program
 from ..host.releases import program_of
 from ..host.signals import Stopped
-from ..host.terminal import LabError, escape_controls
+from ..host.terminal import LabError, tell
 
 
 def source(options: argparse.Namespace) -> Checker:
@@ -30,13 +29,11 @@ def source(options: argparse.Namespace) -> Checker:
 
 def run(options: argparse.Namespace) -> int:
     """Checks all files. A signal ends all programs that run, and the results so far are written."""
-    files = [file for file in text_files(options.files, tell_of_left) if in_shard(file, options.shard)]
+    files = [file for file in text_files(options.files, tell) if in_shard(file, options.shard)]
     checker = source(options)
-    writer: ResultWriter = WRITERS[options.format]()
-    if options.only:
-        if options.format in ("tap", "junit"):
-            raise LabError("--only is for the formats text, json and jsonl: TAP and JUnit count all files", 2)
-        writer = FilteredWriter(writer, options.only)
+    if options.only and options.format in ("tap", "junit"):
+        raise LabError("--only is for the formats text, json and jsonl: TAP and JUnit count all files", 2)
+    writer = WRITERS[options.format](options.only)
     writer.begin(files)
     counts: dict[str, int] = {}
     try:
@@ -46,11 +43,6 @@ def run(options: argparse.Namespace) -> int:
         return signal.status
     writer.end("a contradiction" if is_contradicted else None)
     return exit_status(counts)
-
-
-def tell_of_left(words: str) -> None:
-    """Says on standard error what is left out of a folder."""
-    print(f"bbmlab: {escape_controls(words)}", file=sys.stderr)
 
 
 def write_results(checker: Checker, files: list[str], writer: ResultWriter, counts: dict[str, int]) -> bool:
@@ -65,7 +57,7 @@ def write_results(checker: Checker, files: list[str], writer: ResultWriter, coun
                 progress.done += 1
                 counts[result.result] = counts.get(result.result, 0) + 1
                 progress.hide()
-                writer.add(result)
+                writer.take(result)
                 if result.is_fatal:
                     return True
             progress.look(result.file if result else "")

@@ -3,7 +3,6 @@
 import argparse
 import csv
 import io
-import sys
 from typing import Callable, Iterable
 
 from ..circuits import truth
@@ -15,7 +14,7 @@ from ..circuits.inverting import inverse, values_of
 from ..circuits.line_forms import qasm_text, real_text
 from ..circuits.netlists import Reading
 from ..circuits.simplifying import simplify
-from ..host.terminal import LabError, read_text, write_bytes, write_text
+from ..host.terminal import LabError, read_text, tell, write_bytes, write_text
 from ..route.command import circuit_of
 from ..texts.circuits import Circuit, evaluate_under
 from ..texts.documents import read_document
@@ -35,13 +34,11 @@ def run_circuit(options: argparse.Namespace) -> int:
             lines, before = change(circuit), circuit
             text, circuit = text_of(lines), read_circuit(lines)
             if before.outputs:
-                print(f"bbmlab: the new circuit was compared with the one before {compared(change, before, circuit)}",
-                      file=sys.stderr)
+                tell(f"the new circuit was compared with the one before {compared(change, before, circuit)}")
     except LabError as error:
         raise LabError(f"{options.file}: {error}", error.status) from error
     if options.clean and any(name.endswith("_not") for name in circuit.outputs):
-        print("bbmlab: each output that a gate makes also leaves as its complement, with `_not` at its end: no gate "
-              "makes balls", file=sys.stderr)
+        tell("each output that a gate makes also leaves as its complement, with `_not` at its end: no gate makes balls")
     write_bytes(options.output, (text if options.to is None else WRITERS[options.to](circuit)).encode("latin-1"))
     return 0
 
@@ -123,5 +120,5 @@ def run_equal(options: argparse.Namespace) -> int:
         raise LabError("only one of two files can be standard input", 2)
     one, other = circuit_of(options.file)[1], circuit_of(options.other)[1]
     differs, scope = truth.difference(one, other, options.common)
-    print(f"not equal: {differs}" if differs else f"equal {scope}", file=sys.stdout)
+    print(f"not equal: {differs}" if differs else f"equal {scope}")
     return 1 if differs else 0

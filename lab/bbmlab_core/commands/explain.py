@@ -1,7 +1,6 @@
 """Runs `bbmlab explain`."""
 
 import argparse
-import sys
 
 from ..circuits.netlists import NetlistFormat, netlist_format
 from ..explain import explaining
@@ -10,7 +9,7 @@ from ..explain.fixing import Fixer, outcome_words
 from ..explain.trials import Budget, Trial
 from ..farm.answering import why_no_verdict
 from ..host.program import Executable, BadProgramError, ask, find_program
-from ..host.terminal import LabError, painted, escape_controls, read_text, wrapped, write_bytes
+from ..host.terminal import LabError, painted, read_text, tell, wrapped, write_bytes
 from ..texts.cell_pictures import LEGEND
 from ..texts.documents import command_for
 
@@ -81,12 +80,13 @@ def write_fix(text: str, command: str, program: Executable | None, options: argp
     fixer = Fixer(text, report, trial)
     fix = None if report.verdict == "yes" else fixer.find()
     if fix is None and report.verdict != "yes":
-        print("\n".join(f"bbmlab: {escape_controls(line)}" for line in explaining.tried_words(fixer, trial)),
-              file=sys.stderr)
+        for line in explaining.tried_words(fixer, trial):
+            tell(line)
         return 1
     words = [*fix.words,
              outcome_words(report, fix)] if fix else [f"{trial.judge} says yes already: there is nothing to fix."]
-    print("\n".join(f"bbmlab: {escape_controls(line)}" for line in words), file=sys.stderr)
+    for line in words:
+        tell(line)
     data = (fix.text if fix else text).encode("latin-1")
     if options.in_place:
         if fix:

@@ -3,7 +3,7 @@
 import argparse
 import sys
 
-from ..host.terminal import LabError, escape_controls, read_bytes, write_bytes
+from ..host.terminal import LabError, escape_controls, read_bytes, tell, write_bytes
 from ..texts.documents import read_document
 from ..texts.spelling import Spelling, spelled
 
@@ -30,7 +30,7 @@ def run(options: argparse.Namespace) -> int:
             write_in_place(file, spelling, data, after, options.strip_comments)
         else:
             write_bytes(options.output, after, [file])
-        tell(file, spelling)
+        tell_changes(file, spelling)
     return 1 if changed else 0
 
 
@@ -45,17 +45,14 @@ def write_in_place(file: str, spelling: Spelling, before: bytes, after: bytes, s
         print(f"{escape_controls(file)}: written again", file=sys.stderr)
 
 
-def tell(file: str, spelling: Spelling) -> None:
+def tell_changes(file: str, spelling: Spelling) -> None:
     """Says on standard error what was changed, and whether the text is still refused."""
     for note in spelling.notes[:MAX_SHOWN_NOTES]:
-        print(f"bbmlab: {escape_controls(file)}: {escape_controls(note)}", file=sys.stderr)
+        tell(f"{file}: {note}")
     if len(spelling.notes) > MAX_SHOWN_NOTES:
-        print(f"bbmlab: {escape_controls(file)}: and {len(spelling.notes) - MAX_SHOWN_NOTES} more changes",
-              file=sys.stderr)
+        tell(f"{file}: and {len(spelling.notes) - MAX_SHOWN_NOTES} more changes")
     if len(spelling.text) > 2_000_000:
         return
     refusal = read_document(spelling.text).refusal
     if refusal:
-        print(f"bbmlab: {escape_controls(file)}: line {refusal.line} is still refused, with code {refusal.code}: "
-              "bbmlab explain "
-              "says why", file=sys.stderr)
+        tell(f"{file}: line {refusal.line} is still refused, with code {refusal.code}: bbmlab explain says why")

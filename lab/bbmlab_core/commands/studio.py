@@ -11,7 +11,7 @@ from html import escape
 from pathlib import Path
 
 from ..host.program import BadProgramError, find_program
-from ..host.terminal import LabError, escape_controls
+from ..host.terminal import LabError, tell
 from ..studio.answers import Answers
 from ..studio.folder import Folder
 from ..studio.jobs import Jobs
@@ -31,14 +31,14 @@ def run(options: argparse.Namespace) -> int:
         program = find_program(options.program)
         jobs, routes = Jobs(program, options.timeout or 20.0, options.memory), Routes(str(program), options.memory)
     except BadProgramError as error:
-        print(f"bbmlab: the studio gives no verdicts: {escape_controls(str(error))}", file=sys.stderr)
+        tell(f"the studio gives no verdicts: {error}")
     try:
         server = studio_server(options.port, Answers(folder, jobs, routes))
     except OSError as error:
         raise LabError(f"port {options.port}: {error.strerror or error}") from error
     print(server.address, flush=True)
-    print("bbmlab: the studio runs until you press Ctrl-C. The address lets one browser in, which can change the files "
-          "of this folder.", file=sys.stderr)
+    tell("the studio runs until you press Ctrl-C. The address lets one browser in, which can change the files of this "
+         "folder.")
     server.on_entry = lambda: tell_of_entry(server)
     if jobs:
         threading.Thread(target=jobs.warm, daemon=True).start()
@@ -62,8 +62,7 @@ def open_browser(address: str, ending: ExitStack) -> None:
     try:
         page = private_page(Path(ending.enter_context(tempfile.TemporaryDirectory(prefix="bbmlab-"))), address)
     except OSError as error:
-        print(f"bbmlab: no browser is opened, since no page can be written for it: {error.strerror or error}",
-              file=sys.stderr)
+        tell(f"no browser is opened, since no page can be written for it: {error.strerror or error}")
         return
     threading.Thread(target=webbrowser.open, args=(page.as_uri(),), daemon=True).start()
 

@@ -1,10 +1,9 @@
 """Runs `bbmlab trace`."""
 
 import argparse
-import sys
 
 from ..host.program import BadProgramError, ProgramTimeout, ask, find_program
-from ..host.terminal import LabError, escape_controls, write_text
+from ..host.terminal import LabError, tell, write_text
 from ..physics import tracing
 from ..texts.designs import read_design
 
@@ -35,13 +34,12 @@ def warn_of_difference(options: argparse.Namespace, trace: tracing.Trace, text: 
     try:
         answer = ask(find_program(options.program), "run", text, options.timeout)
     except (BadProgramError, ProgramTimeout) as error:
-        print(f"bbmlab: the last state was not compared: {escape_controls(str(error))}", file=sys.stderr)
+        tell(f"the last state was not compared: {error}")
         return
     if answer.status >= 3:
-        print(f"bbmlab: the last state was not compared: {escape_controls(answer.errors or answer.output.strip())}",
-              file=sys.stderr)
+        tell(f"the last state was not compared: {answer.errors or answer.output.strip()}")
         return
     differs = tracing.compare_with_run(trace, answer.output)
     if differs:
         raise LabError(f"the lab's run is wrong: {differs}")
-    print("bbmlab: the last state is what the program's run says", file=sys.stderr)
+    tell("the last state is what the program's run says")

@@ -2,13 +2,12 @@
 
 import argparse
 import os
-import sys
 
 from ..explain import explaining
 from ..explain.trials import Budget, Trial
 from ..farm.answering import why_no_verdict
 from ..host.program import BadProgramError, ProgramTimeout, ask, find_program
-from ..host.terminal import escape_controls, read_text, write_text
+from ..host.terminal import read_text, tell, write_text
 from ..texts.designs import read_design
 from ..view import viewing
 
@@ -22,7 +21,7 @@ def run(options: argparse.Namespace) -> int:
             explanation = explaining.explain_answer(document.text, "check", output, options.file, trial_of(options),
                                                     document)
         except (BadProgramError, ProgramTimeout) as error:
-            print(f"bbmlab: the page has no report: {escape_controls(str(error))}", file=sys.stderr)
+            tell(f"the page has no report: {error}")
     write_text(options.output, viewing.page(document, explanation, os.path.basename(options.file)))
     return 0
 

@@ -7,6 +7,7 @@ import multiprocessing
 import os
 import signal
 import sys
+from collections import Counter
 from dataclasses import dataclass
 from multiprocessing.connection import Connection, wait
 from pathlib import Path
@@ -90,12 +91,9 @@ class Order:
 
     def check(self, file: str, given: bytes | None, running: Running) -> Result:
         """Returns what the program says of a file, or of a text that was read already."""
-        try:
-            text = read_in_time(file, self.timeout) if given is None else given
-        except LabError as error:
-            return Result(file, "missing", str(error).removeprefix(f"{file}: "), 0)
-        except ProgramTimeout as error:
-            return Result(file, "timeout", str(error), 0)
+        text = text_or_why(file, self.timeout) if given is None else given
+        if isinstance(text, Result):
+            return text
         before = children_seconds()
         result = timed_answer(self.program, file, text, self.timeout, running)
         if self.keeper and result.result in KEPT:
@@ -119,6 +117,16 @@ def read_in_time(file: str, timeout: float | None) -> bytes:
         return read_bytes(file)
     finally:
         beat()
+
+
+def text_or_why(file: str, timeout: float | None) -> bytes | Result:
+    """Returns the bytes of a file, or the result that it has if it cannot be read."""
+    try:
+        return read_in_time(file, timeout)
+    except LabError as error:
+        return Result(file, "missing", str(error).removeprefix(f"{file}: "), 0)
+    except ProgramTimeout as error:
+        return Result(file, "timeout", str(error), 0)
 
 
 def keep_result(keeper: ResultKeeper, text: bytes, result: Result, seconds: float) -> Result:
@@ -257,10 +265,7 @@ def summary(counts: dict[str, int]) -> str:
 
 def counted(results: Iterable[Result]) -> dict[str, int]:
     """Returns how many results there are of each kind."""
-    counts: dict[str, int] = {}
-    for result in results:
-        counts[result.result] = counts.get(result.result, 0) + 1
-    return counts
+    return Counter(result.result for result in results)
 
 
 def exit_status(counts: dict[str, int]) -> int:

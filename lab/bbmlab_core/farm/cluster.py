@@ -11,11 +11,11 @@ from typing import Any, Iterable, Iterator
 
 from ..host import sealed
 from ..host.own_digest import foreign_report
-from ..host.program import Executable, ProgramTimeout
+from ..host.program import Executable
 from ..host.terminal import LabError
 from . import remote
 from .answering import Result, result_of_report
-from .checking import KEPT, Checker, keep_result, read_in_time
+from .checking import KEPT, Checker, keep_result, text_or_why
 from .receipts import ReceiptFolder, sha256
 
 # How many groups of texts are on their way for each thread of the workers, and seconds between two looks.
@@ -122,12 +122,10 @@ class ClusterChecker(Checker):
 
     def added(self, file: str, group: FileGroup) -> Result | None:
         """Adds a file to a group. Returns a result only if it can't be read."""
-        try:
-            group.files.append((file, read_in_time(file, self.order.timeout)))
-        except LabError as error:
-            return Result(file, "missing", str(error).removeprefix(f"{file}: "), 0)
-        except ProgramTimeout as error:
-            return Result(file, "timeout", str(error), 0)
+        text = text_or_why(file, self.order.timeout)
+        if isinstance(text, Result):
+            return text
+        group.files.append((file, text))
         return None
 
     def is_full(self, group: FileGroup) -> bool:

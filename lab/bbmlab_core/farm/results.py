@@ -2,7 +2,7 @@
 
 import json
 import sys
-from typing import Any, Protocol
+from typing import Any
 
 from ..host.terminal import painted, escape_controls
 from ..texts.code_names import CODE_NAMES
@@ -12,17 +12,28 @@ from .checking import counted, summary
 COLOURS = {"yes": "green", "no": "red", "refused": "red"}
 
 
-class ResultWriter(Protocol):
+class ResultWriter:
     """Writes results:
 
-    `begin` before the first, `add` for each as it comes, and `end` with the signal that stopped the run, if one did.
+    `begin` before the first, `take` for each as it comes, and `end` with the signal that stopped the run, if one did.
+    Only some kinds of results are listed if words are given. The summary and the status are those of all files.
     """
+
+    def __init__(self, words: list[str] | None = None) -> None:
+        self.words = words
+
+    def take(self, result: Result) -> None:
+        """Takes one result."""
+        if self.words is None or result.result in self.words:
+            self.add(result)
+        else:
+            self.leave(result)
 
     def begin(self, files: list[str]) -> None:
         """Begins with the names of all files."""
 
     def add(self, result: Result) -> None:
-        """Takes one result."""
+        """Lists one result."""
 
     def leave(self, result: Result) -> None:
         """Counts one result without listing it."""
@@ -31,7 +42,7 @@ class ResultWriter(Protocol):
         """Ends the list."""
 
 
-class TextWriter:
+class TextWriter(ResultWriter):
     """A line for each file as soon as its result is there, and a summary."""
 
     def begin(self, files: list[str]) -> None:
@@ -42,8 +53,7 @@ class TextWriter:
 
     def add(self, result: Result) -> None:
         """Writes a line, unless the result is a yes that a receipt holds."""
-        self.results[result.result] = self.results.get(result.result, 0) + 1
-        self.held += result.held
+        self.leave(result)
         if result.held and result.result == "yes":
             return
         word = painted(WORDS[result.result].ljust(8), COLOURS.get(result.result, "yellow"))
@@ -63,7 +73,7 @@ class TextWriter:
         print(summary(self.results) + held + left, flush=True)
 
 
-class TapWriter:
+class TapWriter(ResultWriter):
     """The Test Anything Protocol: a line for each file as soon as its result is there."""
 
     def begin(self, files: list[str]) -> None:
@@ -80,10 +90,6 @@ class TapWriter:
         else:
             print(f"not ok {self.number} - {file}: {WORDS[result.result]}, {escape_controls(result.detail)}",
                   flush=True)
-
-    def leave(self, result: Result) -> None:
-        """Lists the result: a plan counts all of them."""
-        self.add(result)
 
     def end(self, stopped: str | None) -> None:
         """Says whether the run was stopped."""
@@ -106,24 +112,16 @@ def refusal_row(result: Result) -> dict[str, Any]:
     return {"refusal": {"line": line, "code": code, "name": CODE_NAMES.get(code, "")}}
 
 
-class LinesWriter:
-    """A JSON object for each file as soon as its result is there, each in a line of its own."""
-
-    def begin(self, files: list[str]) -> None:
-        """Writes nothing."""
+class LinesWriter(ResultWriter):
+    """A JSON object for each file as soon as its result is there, each in a line of its own. A run that was stopped has
+    fewer lines."""
 
     def add(self, result: Result) -> None:
         """Writes a line."""
         print(json.dumps(row(result)), flush=True)
 
-    def leave(self, result: Result) -> None:
-        """Writes nothing."""
 
-    def end(self, stopped: str | None) -> None:
-        """Writes nothing: a run that was stopped has fewer lines."""
-
-
-class WholeWriter:
+class WholeWriter(ResultWriter):
     """Keeps all results and writes one document at the end, in the order of the files."""
 
     def begin(self, files: list[str]) -> None:
@@ -193,31 +191,5 @@ class JunitWriter(WholeWriter):
         return "\n".join([*lines, "</testsuite>"]) + "\n"
 
 
-class FilteredWriter:
-    """Lists only some kinds of results. The summary and the status are those of all files."""
-
-    def __init__(self, writer: ResultWriter, words: list[str]) -> None:
-        self.writer, self.words = writer, words
-
-    def begin(self, files: list[str]) -> None:
-        """Begins the list."""
-        self.writer.begin(files)
-
-    def add(self, result: Result) -> None:
-        """Takes one result."""
-        if result.result in self.words:
-            self.writer.add(result)
-        else:
-            self.writer.leave(result)
-
-    def leave(self, result: Result) -> None:
-        """Counts a result without listing it."""
-        self.writer.leave(result)
-
-    def end(self, stopped: str | None) -> None:
-        """Ends the list."""
-        self.writer.end(stopped)
-
-
-WRITERS: dict[str, type[TextWriter | TapWriter | LinesWriter | JsonWriter | JunitWriter]] = {
+WRITERS: dict[str, type[ResultWriter]] = {
     "text": TextWriter, "json": JsonWriter, "jsonl": LinesWriter, "tap": TapWriter, "junit": JunitWriter}

@@ -45,6 +45,11 @@ def escaped(code: int) -> str:
     return f"\\x{code:02x}" if code < 0x100 else f"\\u{code:04x}"
 
 
+def tell(words: object) -> None:
+    """Writes a sentence for the user on standard error."""
+    print(f"bbmlab: {escape_controls(str(words))}", file=sys.stderr)
+
+
 def wrapped(text: str, first: str = "", rest: str | None = None, width: int = 100) -> str:
     """Returns a paragraph in lines of at most `width` columns."""
     import textwrap

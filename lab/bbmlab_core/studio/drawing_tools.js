@@ -4,7 +4,7 @@
  */
 import { counted } from "../view/stage.js";
 import * as geometry from "./geometry.js";
-import { cellParts, ModelRefusal } from "./model.js";
+import { cellParts, refusalOf } from "./model.js";
 
 const CELL_KINDS = ["ball", "in", "out", "waste"];
 const CLICK_MIRROR = [4, 2];
@@ -79,14 +79,9 @@ class Tools {
 
   /** Does a command, and says why if it cannot be done. Returns whether it was done. */
   attempt(action) {
-    try {
-      action();
-      return true;
-    } catch (error) {
-      if (!(error instanceof ModelRefusal)) throw error;
-      this.say(error.message, true);
-      return false;
-    }
+    const reason = refusalOf(action);
+    if (reason !== null) this.say(reason, true);
+    return reason === null;
   }
 
   // ---- what a tool would do

@@ -17,6 +17,17 @@ const LINE = /^(\ufeff?[ \t]*)([^#]*?)([ \t\r]*(?:#.*)?)$/s;
 /** A command that cannot be done. The message is for the user. */
 class ModelRefusal extends Error {}
 
+/** Returns why the model does not do a command, or null if it was done. */
+function refusalOf(command) {
+  try {
+    command();
+    return null;
+  } catch (error) {
+    if (!(error instanceof ModelRefusal)) throw error;
+    return error.message;
+  }
+}
+
 /** Returns the first word of a line, without a comment. */
 const firstWord = (line) => wordsOf(line)[0] ?? "";
 
@@ -529,4 +540,4 @@ function cellParts(layout, x, y, nameOf, steps) {
   return geometry.shifted([...firm, ...ins, ...geometry.flyOn(late, layout.steps, steps - layout.steps)], x, y);
 }
 
-export { Model, ModelRefusal, cellParts };
+export { Model, ModelRefusal, cellParts, refusalOf };

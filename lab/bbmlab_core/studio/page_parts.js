@@ -1,14 +1,5 @@
 /** Small helpers for elements of the page and its dialog. Texts are set as text, never as HTML. */
-
-const element = (id) => document.getElementById(id);
-
-/** Returns a new element with a text. */
-function made(tag, text = "", className = "") {
-  const found = document.createElement(tag);
-  found.textContent = text;
-  found.className = className;
-  return found;
-}
+import { element, made } from "../view/boxes.js";
 
 /** Returns a new button. */
 function button(text, action, className = "") {

@@ -1,6 +1,6 @@
 /** The panels beside the picture: size, inputs, the circuit with its refusal, and the truth table. */
 import { fillBox } from "../view/boxes.js";
-import { Model, ModelRefusal } from "./model.js";
+import { Model, refusalOf } from "./model.js";
 import { appendWords, ask, delayed, element, made } from "./page_parts.js";
 import { server } from "./server_link.js";
 import { wireInks } from "./sketch.js";
@@ -12,17 +12,6 @@ const MAX_FOLLOW_MILLISECONDS = 1500;
 
 /** Returns the kinds and cells of parts, in an order of their own. */
 const placesOf = (parts) => parts.map(({ kind, box }) => `${kind} ${box[0]} ${box[1]}`).sort().join("\n");
-
-/** Returns why the model does not do a command, or null if it was done. */
-function refusalOf(command) {
-  try {
-    command();
-    return null;
-  } catch (error) {
-    if (!(error instanceof ModelRefusal)) throw error;
-    return error.message;
-  }
-}
 
 class SidePanels {
   desk;

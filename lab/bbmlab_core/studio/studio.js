@@ -58,10 +58,7 @@ function showTool() {
   element("tool-words").textContent = tools.name === "paste" ? "Press where the copy goes." : TOOLS[tools.name][2];
   canvasParts.whole.dataset.tool = tools.name;
   if (isPort) suggestWire();
-  if (tools.name === "out" || tools.name === "waste") {
-    desk.player.play(0);
-    desk.player.seek(desk.layout.steps);
-  }
+  if (tools.name === "out" || tools.name === "waste") desk.player.goTo(desk.layout.steps);
   else if (["mirror", "ball", "in", "cell"].includes(tools.name) && desk.player.run.time !== 0) desk.player.seek(0);
 }
 
@@ -101,20 +98,7 @@ function showTime() {
   sketch.requestPaint();
 }
 
-function showCell() {
-  const cell = sketch.cursor || sketch.pointed;
-  const words = cell ? sketch.wordsOf(cell) : "";
-  if (element("cell").textContent !== words) element("cell").textContent = words;
-}
-
-/** Shows what follows from the run's end. */
-function showEnd() {
-  const results = desk.player.results();
-  sketch.good = results
-    && new Map(results.flatMap(({ cells }) => cells.map(({ cell, isGood }) => [String(cell), isGood])));
-  sketch.requestPaint();
-  sketch.paintWave();
-}
+const showCell = () => sketch.showWords(element("cell"), sketch.cursor || sketch.pointed);
 
 /** Shows the desk after a change. */
 function showChange() {
@@ -142,17 +126,9 @@ const actions = {
     if (label) say(`Did again: ${label}.`);
     tools.select([]);
   },
-  play: () => desk.player.play(desk.player.direction ? 0 : 1), step: (count) => {
-    desk.player.play(0);
-    desk.player.seek(desk.player.run.time + count);
-  },
-  first: () => {
-    desk.player.play(0);
-    desk.player.seek(0);
-  }, last: () => {
-    desk.player.play(0);
-    desk.player.seek(desk.layout.steps);
-  },
+  play: () => desk.player.play(desk.player.direction ? 0 : 1),
+  step: (count) => desk.player.goTo(desk.player.run.time + count),
+  first: () => desk.player.goTo(0), last: () => desk.player.goTo(desk.layout.steps),
   cut: () => {
     tools.copy();
     tools.remove();
@@ -237,31 +213,15 @@ function onKey(event) {
 
 // ---- pointers
 
-// Where each finger and the mouse were last, by the number of the pointer.
-const fingers = new Map();
 const isHand = (event) => tools.name === "hand" || event.buttons & 6;
-
-/** Returns how far two fingers are apart, and the place in the middle. */
-function spread() {
-  const [[x, y], [u, v]] = fingers.values();
-  return { gap: Math.hypot(x - u, y - v), x: (x + u) / 2, y: (y + v) / 2 };
-}
 
 /** Draws with one finger or the mouse; moves and zooms the picture with two or with the hand. */
 function movePointer(event) {
-  const from = fingers.get(event.pointerId), cell = sketch.cellAt(event.offsetX, event.offsetY);
+  const cell = sketch.cellAt(event.offsetX, event.offsetY), from = sketch.moveFinger(event);
   sketch.pointed = cell;
-  if (!from) {
-    tools.hover(cell);
-    return;
-  }
-  const before = fingers.size === 2 ? spread() : null;
-  fingers.set(event.pointerId, [event.offsetX, event.offsetY]);
-  if (before) {
-    const after = spread();
-    sketch.pan(before.x - after.x, before.y - after.y);
-    if (before.gap > 0) sketch.zoom(after.gap / before.gap, after.x, after.y);
-  } else if (isHand(event)) sketch.pan(from[0] - event.offsetX, from[1] - event.offsetY);
+  if (!from) tools.hover(cell);
+  else if (sketch.fingers.size === 2) return;
+  else if (isHand(event)) sketch.pan(from[0] - event.offsetX, from[1] - event.offsetY);
   else tools.drag(cell);
 }
 
@@ -271,20 +231,19 @@ function movePointer(event) {
  */
 function listenToPointers(canvas) {
   canvas.addEventListener("pointerdown", (event) => {
-    fingers.set(event.pointerId, [event.offsetX, event.offsetY]);
-    canvas.setPointerCapture(event.pointerId);
+    sketch.putFinger(event);
     sketch.cursor = null;
-    if (fingers.size > 1) tools.cancel();
+    if (sketch.fingers.size > 1) tools.cancel();
     else if (!isHand(event)) tools.down(sketch.cellAt(event.offsetX, event.offsetY), event.shiftKey);
   });
   canvas.addEventListener("pointermove", movePointer);
   canvas.addEventListener("pointerup", (event) => {
-    fingers.delete(event.pointerId);
+    sketch.fingers.delete(event.pointerId);
     tools.up(sketch.cellAt(event.offsetX, event.offsetY));
     showTool();
   });
   canvas.addEventListener("pointercancel", (event) => {
-    fingers.delete(event.pointerId);
+    sketch.fingers.delete(event.pointerId);
     tools.cancel();
   });
   canvas.addEventListener("pointerleave", () => {
@@ -292,10 +251,6 @@ function listenToPointers(canvas) {
     tools.hover(null);
   });
   canvas.addEventListener("contextmenu", (event) => event.preventDefault());
-  canvas.addEventListener("wheel", (event) => {
-    event.preventDefault();
-    sketch.zoom(Math.exp(-Math.max(-100, Math.min(100, event.deltaY)) / 500), event.offsetX, event.offsetY);
-  }, { passive: false });
 }
 
 /** Sets what the buttons and fields do. */
@@ -313,10 +268,7 @@ function listenToButtons() {
     buttons[name].id = `tool-${name}`;
     element("palette").append(buttons[name]);
   }
-  element("slider").addEventListener("input", (event) => {
-    desk.player.play(0);
-    desk.player.seek(Number(event.target.value));
-  });
+  element("slider").addEventListener("input", (event) => desk.player.goTo(Number(event.target.value)));
   element("wire").addEventListener("input", (event) => { tools.wire = event.target.value.trim(); });
   element("pair").addEventListener("change", (event) => { tools.isPair = event.target.checked; });
   element("with-wires").addEventListener("change", (event) => { tools.hasWires = event.target.checked; });
@@ -342,7 +294,7 @@ ends.id = "ends";
 function listenToChanges() {
   desk.listen("change", showChange);
   desk.listen("time", showTime);
-  desk.listen("end", showEnd);
+  desk.listen("end", () => sketch.takeResults());
   desk.listen("ways", () => sketch.takeWays());
   desk.listen("play", () => { element("play").textContent = desk.player.direction ? "■ stop" : "play ▶"; });
   sketch.onPaint = showCell;
@@ -352,17 +304,11 @@ function listenToChanges() {
     [[`make the layout ${size.join(" by ")}`, () => true], ["cancel", () => null]]);
   tools.onConnect = (output, input) => router.connect(output, input);
   verdicts.onInputs = () => panels.showInputs();
-  new ResizeObserver(() => (sketch.isFit ? sketch.fit() : sketch.requestPaint())).observe(canvasParts.whole);
-  new ResizeObserver(() => sketch.paintWave()).observe(canvasParts.waveBox);
   element("wave-part").addEventListener("toggle", () => desk.setWave(element("wave-part").open));
   const { wave } = canvasParts;
   const seek = (event) => { if (event.buttons & 1) desk.player.seek(sketch.timeAt(event.offsetX)); };
   for (const name of ["pointerdown", "pointermove"]) wave.addEventListener(name, seek);
-  matchMedia("(prefers-color-scheme: dark)").addEventListener("change", () => {
-    sketch.redraw();
-    sketch.paintWave();
-    panels.showLegend();
-  });
+  sketch.listen(() => panels.showLegend());
   document.addEventListener("keydown", onKey);
 }
 

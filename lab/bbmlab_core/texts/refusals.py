@@ -4,6 +4,7 @@ hint.
 
 import difflib
 from dataclasses import dataclass, field
+from string import Formatter
 from typing import Any, Callable, NamedTuple, Sequence
 
 from .certificates import line_words
@@ -76,11 +77,26 @@ def box_words(box: Any) -> str:
     return f"columns {box.x} to {box.x + box.width - 1}, rows {box.y} to {box.y + box.height - 1}"
 
 
+def kind_words(kind: str) -> str:
+    """Returns how a kind of line is called."""
+    return "gate" if kind == "gate" else f"`{kind}`"
+
+
+def gate_numbers(count: int) -> str:
+    """Returns the numbers of some gates."""
+    return f"gates 0 to {count - 1}" if count > 1 else "gate 0 alone" if count else "no gate"
+
+
+def corners(x: int, y: int, width: int, height: int) -> str:
+    """Returns the first and the last cell of a rectangle."""
+    return f"({x}, {y})" if width == height == 1 else f"({x}, {y}) to ({x + width - 1}, {y + height - 1})"
+
+
 class Sentences(NamedTuple):
     """What is wrong, and a hint, as format strings over the facts of a cause.
 
-    `names` and `lines` are the facts with the names and lines that are meant. The hint goes on with how the line is
-    called for which `limits 2` is needed, if that is given.
+    `names` and `lines` say where the facts have the names and lines that are meant. The hint goes on with how the line
+    is called for which `limits 2` is needed, if that is given.
     """
 
     what: str
@@ -93,6 +109,17 @@ class Sentences(NamedTuple):
 SENTENCES = {
     "line_not_ended": Sentences("The last line, `{rest:.60}`, does not end with a line feed.",
                                 "Add a line feed at the end of the file. `bbmlab fmt` does."),
+    "text_goes_on": Sentences("The text goes on after the {section} section, which is the last: {rest_words}.",
+                              "Remove what comes after the last `end`, or use the command that reads these sections."),
+    "first_not_header": Sentences(
+        "The {section} section begins here with a line `{keyword}` and not with its header.",
+        "Write the header `{header}` first."),
+    "kind_after_later_kind": Sentences(
+        "This {kind_words} line comes after the {later_words} line {at}; it belongs before all {later_words} lines.",
+        "Move the line up. `bbmlab fmt` sorts the kinds.", lines="at"),
+    "no_module": Sentences(
+        "The certificate has no module.",
+        "Add modules that cover the rectangle of {size[0]} by {size[1]} cells, such as `module 0 0 {largest_sides}`."),
     "second_header": Sentences("The {section} section has a second header; the first is line {first}.",
                                "Remove this header, or write `end` before it.", lines="first"),
     "before_first_module": Sentences(
@@ -108,6 +135,8 @@ SENTENCES = {
     "gate_count": Sentences("With this line the circuit has more than {limits.max_gates} gates, sources among them.",
                             "Split the design into smaller circuits.",
                             large="A circuit of more than {limits.max_gates} gates"),
+    "box_side": Sentences("The {what} of the box is {number}, which is {why_no_side}.",
+                          "Take an even {what} from 2 to 64."),
     "certificate_version": Sentences("There is no certificate version {number}.",
                                      "Write `certificate 2`, or `certificate 1` with `halo` lines."),
     "module_count": Sentences(
@@ -125,6 +154,13 @@ SENTENCES = {
         names="name"),
     "wire_unknown": Sentences("The circuit has no wire `{name}`.{near}", "Write the name as the circuit has it.",
                               names="name"),
+    "gate_unknown": Sentences(
+        "There is no gate {number}: the circuit has {gate_numbers}.",
+        "Count gate lines from 0, `source` lines among them, in the order of their lines.", "number"),
+    "keep_not_inverse": Sentences(
+        "Gate {number} is `{gate.kind}` (line {gate.line}), which is no inverse gate. {inverse_gates}",
+        "Remove the line, or give the number of an `unswitch` or `uninteract`.", "number", "gate.line"),
+    "on_unknown": Sentences("`{name}` can't be turned on: {why_not_on}.{near}", "{names_to_turn_on}", "name"),
     "on_twice": Sentences("`{name}` is on already (line {at}).", "Remove one of the two lines.", "name", "at"),
     "wire_defined": Sentences("The wire `{name}` is defined already ({earlier}).",
                               "Give one of the two another name.", "name", "at"),
@@ -138,18 +174,56 @@ SENTENCES = {
         "Gate {gate.number} (`{gate.kind}`, line {gate.line}) makes {listed}, which module {module} cuts already "
         "(line {at[0]}).", "Remove `cut {names[0]}`: a wire is cut, or made by a used gate, and not both.",
         "names", "at"),
+    "cell_outside": Sentences(
+        "The `{kind}` lies at {corners}, outside the rectangle of {size[0]} by {size[1]} cells, from (0, 0) to "
+        "{last_cell}.", "Move it, or make the layout larger."),
+    "cell_taken": Sentences("The cell ({cell[0]}, {cell[1]}) is taken by {other_part} already (line {at}).",
+                            "Move one of the two, or remove it. An `in` and an `out` may share a cell.", lines="at"),
+    "box_odd": Sentences("The corner of the box is odd: {odd_sides}.", "Move the box so that X and Y are even."),
     "box_outside": Sentences(
         "The box ({box_words}) is not inside the rectangle of {size[0]} by {size[1]} cells.",
         "Make the box smaller, or move it."),
     "box_overlap": Sentences(
         "The box ({box_words}) overlaps that of module {other} ({other_box_words}, line {at}): the cell ({cell[0]}, "
         "{cell[1]}) is in both.", "Move one of the boxes, or make it smaller.", lines="at"),
+    "use_input_not_local": Sentences(
+        "Gate {gate.number} (`{gate.kind}`, line {gate.line}) uses {listed}, which {is_or_are} not local in module "
+        "{module}.", "Add `cut {names[0]}`, or `use` the gate that makes `{names[0]}`, before this line.",
+        "names", "gate.line"),
+    "wire_not_local": Sentences("The wire `{name}` is not local in module {module}. {local_words}", "{make_local}",
+                                "name"),
+    "keep_not_used": Sentences(
+        "Module {module} keeps gate {gate.number} (`{gate.kind}`, line {gate.line}) and does not use it.",
+        "Add `use {gate.number}` before it, with the wires {wires_of_gate} local.", "gate.number", "gate.line"),
 }
 # What the sentences say of the facts in other words.
 DERIVED: dict[str, Callable[[Facts], str]] = {
     "near": lambda facts: near(facts["name"], facts["known"]), "earlier": lambda facts: earlier(facts),
     "listed": lambda facts: listed(facts["names"]), "box_words": lambda facts: box_words(facts["box"]),
     "other_box_words": lambda facts: box_words(facts["other_box"]),
+    "rest_words": lambda facts: f"`{facts['rest'][:60]}`" if facts["rest"] else "an empty line",
+    "header": lambda facts: {"layout": "layout W H STEPS", "certificate": "certificate 2"}.get(facts["section"],
+                                                                                              facts["section"]),
+    "kind_words": lambda facts: kind_words(facts["kind"]), "later_words": lambda facts: kind_words(facts["later"]),
+    "largest_sides": lambda facts: " ".join(str(min(side, 64)) for side in facts["size"]),
+    "why_no_side": lambda facts: "odd" if 2 <= facts["number"] <= 64 else "outside 2 to 64",
+    "gate_numbers": lambda facts: gate_numbers(facts["count"]),
+    "inverse_gates": lambda facts: (f"Its inverse gates are {', '.join(map(str, facts['inverse']))}."
+                                    if facts["inverse"] else "The circuit has no inverse gate."),
+    "why_not_on": lambda facts: ("no `in` line of the layout has that name" if facts["command"] == "run"
+                                 else "the circuit has no such input"),
+    "names_to_turn_on": lambda facts: (f"The names are {listed(facts['known'])}." if facts["known"]
+                                       else "There is none: remove the `on` line."),
+    "corners": lambda facts: corners(*facts["box"]),
+    "last_cell": lambda facts: f"({facts['size'][0] - 1}, {facts['size'][1] - 1})",
+    "other_part": lambda facts: (f"`{facts['other']} {facts['other_name']}`" if facts["other_name"]
+                                 else f"a `{facts['other']}`"),
+    "odd_sides": lambda facts: " and ".join(f"{name} {value}" for name, value in zip("xy", facts["box"]) if value % 2),
+    "is_or_are": lambda facts: "are" if len(facts["names"]) > 1 else "is",
+    "local_words": lambda facts: (f"Local there: {listed(facts['local'])}." if facts["local"]
+                                  else "No wire is local there."),
+    "make_local": lambda facts: make_local(facts["name"], facts["gate"]),
+    "wires_of_gate": lambda facts: listed(facts["gate"].ins),
 }
 
 
@@ -164,8 +238,10 @@ class FactWords(dict[str, Any]):
 def told(sentences: Sentences, facts: Facts) -> Explained:
     """Returns a refusal in the sentences of its cause."""
     words = FactWords(facts)
-    names, lines = (value if isinstance(value, list) else [value]
-                    for value in (facts.get(sentences.names, []), facts.get(sentences.lines, [])))
+    named, lines = (value if isinstance(value, list) else [value]
+                    for value in (Formatter().get_field(place, (), words)[0] if place else []
+                                  for place in (sentences.names, sentences.lines)))
+    names = list(map(str, named))
     more = needs_line(sentences.large.format_map(words), facts["limits"]) if sentences.large else ""
     return Explained([sentences.what.format_map(words)], [sentences.hint.format_map(words) + more], names=names,
                      lines=lines)
@@ -182,34 +258,7 @@ def _text_ended(facts: Facts) -> Explained:
                       *(["`bbmlab certify` makes a certificate."] if section == "certificate" else [])])
 
 
-@tells("text_goes_on")
-def _text_goes_on(facts: Facts) -> Explained:
-    """Explains lines after the last section."""
-    rest = facts["rest"]
-    shown = f"`{rest[:60]}`" if rest else "an empty line"
-    return Explained([f"The text goes on after the {facts['section']} section, which is the last: {shown}."],
-                     ["Remove what comes after the last `end`, or use the command that reads these sections."])
-
-
 # ---- code 6
-
-@tells("first_not_header")
-def _first_not_header(facts: Facts) -> Explained:
-    """Explains a section that does not begin with its header."""
-    header = {"layout": "layout W H STEPS", "certificate": "certificate 2"}.get(facts["section"], facts["section"])
-    return Explained([f"The {facts['section']} section begins here with a line `{facts['keyword']}` and not with its "
-                      "header."],
-                     [f"Write the header `{header}` first."])
-
-
-@tells("kind_after_later_kind")
-def _kind_after_later_kind(facts: Facts) -> Explained:
-    """Explains a kind of line that comes too late in its section or module."""
-    kind, other = ("gate" if facts[name] == "gate" else f"`{facts[name]}`" for name in ("kind", "later"))
-    return Explained([f"This {kind} line comes after the {other} line {facts['at']}; it belongs before all {other} "
-                      "lines."],
-                     ["Move the line up. `bbmlab fmt` sorts the kinds."], lines=[facts["at"]])
-
 
 @tells("gate_not_rising")
 def _gate_not_rising(facts: Facts) -> Explained:
@@ -288,15 +337,6 @@ def make_local(name: str, gate: Any) -> str:
             f"Or add `cut {name}` if the module lies away from that gate.")
 
 
-@tells("no_module")
-def _no_module(facts: Facts) -> Explained:
-    """Explains a certificate without modules."""
-    width, height = facts["size"]
-    return Explained(["The certificate has no module."],
-                     [f"Add modules that cover the rectangle of {width} by {height} cells, such as `module 0 0 "
-                      f"{min(width, 64)} {min(height, 64)}`."])
-
-
 @tells("gap")
 def _gap(facts: Facts) -> Explained:
     """Explains cells that are in no box."""
@@ -326,11 +366,6 @@ def _heard_not_local(facts: Facts) -> Explained:
 
 # ---- code 2
 
-def limit(what: str, hint: str) -> Explained:
-    """Returns a refusal for a limit."""
-    return Explained([what], [hint])
-
-
 @tells("layout_side")
 def _layout_side(facts: Facts) -> Explained:
     """Explains a side of a layout that is odd or outside its limits."""
@@ -338,10 +373,10 @@ def _layout_side(facts: Facts) -> Explained:
     most = limits.max_side
     why = f"outside 2 to {most}" if not 2 <= number <= most else "odd"
     size = {"width": "wider", "height": "higher"}[facts["what"]]
-    return limit(f"The {facts['what']} of the layout is {number}, which is {why}.",
-                 f"Take an even {facts['what']} from 2 to {most}"
-                 + (f", such as {number + 1}." if number % 2 and number < most else ".")
-                 + (needs_line(f"A layout {size} than {most}", limits) if number > most else ""))
+    return Explained([f"The {facts['what']} of the layout is {number}, which is {why}."],
+                     [f"Take an even {facts['what']} from 2 to {most}"
+                      + (f", such as {number + 1}." if number % 2 and number < most else ".")
+                      + (needs_line(f"A layout {size} than {most}", limits) if number > most else "")])
 
 
 @tells("mirror_side")
@@ -349,40 +384,11 @@ def _mirror_side(facts: Facts) -> Explained:
     """Explains a side of a mirror outside its limits."""
     most = facts["limits"].max_side
     more = needs_line(f"A side of more than {most}", facts["limits"]) if facts["number"] > most else ""
-    return limit(f"The {facts['what']} of the mirror is {facts['number']}; it is 1 to {most}.",
-                 f"A `mirror` line is `mirror X Y W H`: the cell, then width and height.{more}")
-
-
-@tells("box_side")
-def _box_side(facts: Facts) -> Explained:
-    """Explains a side of a box that is odd or outside its limits."""
-    number = facts["number"]
-    why = "outside 2 to 64" if not 2 <= number <= 64 else "odd"
-    return limit(f"The {facts['what']} of the box is {number}, which is {why}.",
-                 f"Take an even {facts['what']} from 2 to 64.")
+    return Explained([f"The {facts['what']} of the mirror is {facts['number']}; it is 1 to {most}."],
+                     [f"A `mirror` line is `mirror X Y W H`: the cell, then width and height.{more}"])
 
 
 # ---- codes 3, 4 and 5
-
-@tells("gate_unknown")
-def _gate_unknown(facts: Facts) -> Explained:
-    """Explains a number that no gate has."""
-    count = facts["count"]
-    has = f"gates 0 to {count - 1}" if count > 1 else "gate 0 alone" if count else "no gate"
-    return Explained([f"There is no gate {facts['number']}: the circuit has {has}."],
-                     ["Count gate lines from 0, `source` lines among them, in the order of their lines."],
-                     names=[str(facts["number"])])
-
-
-@tells("keep_not_inverse")
-def _keep_not_inverse(facts: Facts) -> Explained:
-    """Explains a `keep` line for a gate that is no inverse gate."""
-    gate, inverse = facts["gate"], facts["inverse"]
-    has = f"Its inverse gates are {', '.join(map(str, inverse))}." if inverse else "The circuit has no inverse gate."
-    return Explained([f"Gate {facts['number']} is `{gate.kind}` (line {gate.line}), which is no inverse gate. {has}"],
-                     ["Remove the line, or give the number of an `unswitch` or `uninteract`."],
-                     names=[str(facts["number"])], lines=[gate.line])
-
 
 @tells("port_unknown")
 def _port_unknown(facts: Facts) -> Explained:
@@ -395,78 +401,7 @@ def _port_unknown(facts: Facts) -> Explained:
                       else f"The circuit has no {side}."], names=[name])
 
 
-@tells("on_unknown")
-def _on_unknown(facts: Facts) -> Explained:
-    """Explains an `on` line whose name is no input."""
-    name, known = facts["name"], facts["known"]
-    what = "no `in` line of the layout has that name" if facts["command"] == "run" else "the circuit has no such input"
-    return Explained([f"`{name}` can't be turned on: {what}.{near(name, known)}"],
-                     [f"The names are {listed(known)}." if known else "There is none: remove the `on` line."],
-                     names=[name])
-
-
-# ---- codes 7 and 8
-
-@tells("cell_outside")
-def _cell_outside(facts: Facts) -> Explained:
-    """Explains a cell outside the rectangle."""
-    x, y, width, height = facts["box"]
-    size = f"{facts['size'][0]} by {facts['size'][1]}"
-    shown = f"({x}, {y})" if width == height == 1 else f"({x}, {y}) to ({x + width - 1}, {y + height - 1})"
-    return Explained([f"The `{facts['kind']}` lies at {shown}, outside the rectangle of {size} cells, from (0, 0) to "
-                      f"({facts['size'][0] - 1}, {facts['size'][1] - 1})."],
-                     ["Move it, or make the layout larger."])
-
-
-@tells("cell_taken")
-def _cell_taken(facts: Facts) -> Explained:
-    """Explains a cell that is taken already."""
-    x, y = facts["cell"]
-    other = f"`{facts['other']} {facts['other_name']}`" if facts["other_name"] else f"a `{facts['other']}`"
-    return Explained([f"The cell ({x}, {y}) is taken by {other} already (line {facts['at']})."],
-                     ["Move one of the two, or remove it. An `in` and an `out` may share a cell."], lines=[facts["at"]])
-
-
-@tells("box_odd")
-def _box_odd(facts: Facts) -> Explained:
-    """Explains a box with an odd corner."""
-    box = facts["box"]
-    odd = " and ".join(f"{name} {value}" for name, value in (("x", box.x), ("y", box.y)) if value % 2)
-    return Explained([f"The corner of the box is odd: {odd}."], ["Move the box so that X and Y are even."])
-
-
-# ---- codes 9 and 10
-
-@tells("use_input_not_local")
-def _use_input_not_local(facts: Facts) -> Explained:
-    """Explains a gate whose input is not local."""
-    gate, names = facts["gate"], facts["names"]
-    is_are = "are" if len(names) > 1 else "is"
-    return Explained([f"Gate {gate.number} (`{gate.kind}`, line {gate.line}) uses {listed(names)}, which {is_are} not "
-                      "local in module "
-                      f"{facts['module']}."],
-                     [f"Add `cut {names[0]}`, or `use` the gate that makes `{names[0]}`, before this line."],
-                     names=names, lines=[gate.line])
-
-
-@tells("wire_not_local")
-def _wire_not_local(facts: Facts) -> Explained:
-    """Explains a wire of a line that is not local."""
-    name = facts["name"]
-    local = f"Local there: {listed(facts['local'])}." if facts["local"] else "No wire is local there."
-    return Explained([f"The wire `{name}` is not local in module {facts['module']}. {local}"],
-                     [make_local(name, facts["gate"])], names=[name])
-
-
-@tells("keep_not_used")
-def _keep_not_used(facts: Facts) -> Explained:
-    """Explains a `keep` line for a gate that the module does not use."""
-    gate = facts["gate"]
-    return Explained([f"Module {facts['module']} keeps gate {gate.number} (`{gate.kind}`, line {gate.line}) and does "
-                      "not use it."],
-                     [f"Add `use {gate.number}` before it, with the wires {listed(gate.ins)} local."],
-                     names=[str(gate.number)], lines=[gate.line])
-
+# ---- code 10
 
 def even_time_hint(time: int, steps: int) -> str:
     """Returns a hint for an edge or halo line at an even time: the odd times beside it that are below the steps."""

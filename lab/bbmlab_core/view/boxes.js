@@ -1,8 +1,18 @@
-/** Fills boxes that list very much. */
+/** Makes elements, and fills boxes that list very much. */
 
 // A box shows so many items at first, and as many more where it is scrolled to their end: to lay out 20,480 switches
 // and 40,960 outputs takes three seconds.
 const CHUNK = 500;
+
+const element = (id) => document.getElementById(id);
+
+/** Returns a new element with a text. */
+function made(tag, text = "", className = "") {
+  const found = document.createElement(tag);
+  found.textContent = text;
+  found.className = className;
+  return found;
+}
 
 /**
  * Puts items in the place of what a box shows, the first ones at once.
@@ -22,4 +32,4 @@ function fillBox(box, items, itemOf) {
   box.onscroll = () => { if (count < items.length && box.scrollTop + 2 * box.clientHeight > box.scrollHeight) more(); };
 }
 
-export { fillBox };
+export { element, fillBox, made };

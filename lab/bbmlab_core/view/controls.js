@@ -91,20 +91,15 @@ function showPlay() {
 
 /** Shows the outputs and what depends on the run's end. */
 function showEnd() {
-  const results = player.results();
-  stage.good = results
-    && new Map(results.flatMap(({ cells }) => cells.map(({ cell, isGood }) => [String(cell), isGood])));
   panels.showResults(player, goToCell);
   showTime();
-  stage.requestPaint();
-  stage.paintWave();
+  stage.takeResults();
 }
 
 /** Shows the cell under the pointer with what there is. */
 function showCell() {
   stage.pointed = pageState.place ? stage.cellAt(...pageState.place) : stage.mark;
-  const words = stage.pointed ? stage.wordsOf(stage.pointed) : "";
-  if (element("cell").textContent !== words) element("cell").textContent = words;
+  stage.showWords(element("cell"), stage.pointed);
 }
 
 /** Lets the wire under the pointer stand out, or none while the picture moves. */
@@ -264,10 +259,7 @@ function beginWays() {
 }
 
 /** Makes one step. */
-const step = (direction) => {
-  player.play(0);
-  player.seek(player.target + direction);
-};
+const step = (direction) => player.goTo(player.target + direction);
 
 /** Plays in a direction, or stops if it plays so already. */
 const toggle = (direction) => player.play(player.direction === direction ? 0 : direction);
@@ -310,38 +302,19 @@ function onKey(event) {
 }
 
 /**
- * Moves and zooms by mouse, wheel and fingers. On a phone one finger scrolls the page up and down (touch-action); two
- * move and zoom.
+ * Moves and zooms by mouse and fingers. On a phone one finger scrolls the page up and down (touch-action); two move and
+ * zoom.
  */
 function listenToFingers(canvas) {
-  const fingers = new Map();
-  const spread = () => {
-    const [[x, y], [u, v]] = fingers.values();
-    return { gap: Math.hypot(x - u, y - v), x: (x + u) / 2, y: (y + v) / 2 };
-  };
-  canvas.addEventListener("pointerdown", (event) => {
-    fingers.set(event.pointerId, [event.offsetX, event.offsetY]);
-    canvas.setPointerCapture(event.pointerId);
-  });
+  canvas.addEventListener("pointerdown", (event) => stage.putFinger(event));
   for (const name of ["pointerup", "pointercancel"]) canvas.addEventListener(name,
-      (event) => fingers.delete(event.pointerId));
+      (event) => stage.fingers.delete(event.pointerId));
   canvas.addEventListener("pointermove", (event) => {
-    const from = fingers.get(event.pointerId);
-    if (!from) return;
-    const before = fingers.size === 2 ? spread() : null;
-    fingers.set(event.pointerId, [event.offsetX, event.offsetY]);
-    if (fingers.size === 1) stage.pan(from[0] - event.offsetX, from[1] - event.offsetY);
-    if (!before) return;
-    const after = spread();
-    stage.pan(before.x - after.x, before.y - after.y);
-    if (before.gap > 0) stage.zoom(after.gap / before.gap, after.x, after.y);
+    const from = stage.moveFinger(event);
+    if (from && stage.fingers.size === 1) stage.pan(from[0] - event.offsetX, from[1] - event.offsetY);
   });
   canvas.addEventListener("touchmove", (event) => { if (event.touches.length > 1) event.preventDefault(); },
     { passive: false });
-  canvas.addEventListener("wheel", (event) => {
-    event.preventDefault();
-    stage.zoom(Math.exp(-Math.max(-100, Math.min(100, event.deltaY)) / 500), event.offsetX, event.offsetY);
-  }, { passive: false });
 }
 
 /** Shows the cell under the pointer, and goes to a time where the waveform is pressed. */
@@ -361,10 +334,7 @@ function listenToPointers() {
     pointAtWire(false);
     stage.requestPaint();
   });
-  const seek = (event) => { if (event.buttons & 1) {
-    player.play(0);
-    player.seek(stage.timeAt(event.offsetX));
-  } };
+  const seek = (event) => { if (event.buttons & 1) player.goTo(stage.timeAt(event.offsetX)); };
   wave.addEventListener("pointerdown", seek);
   wave.addEventListener("pointermove", seek);
   parts.waveBox.addEventListener("scroll", () => stage.paintWave());
@@ -437,12 +407,7 @@ function listenToChanges() {
   };
   stage.onPaint = showCell;
   stage.onPainted = () => minimap.paint();
-  new ResizeObserver(() => (stage.isFit ? stage.fit() : stage.requestPaint())).observe(parts.whole);
-  new ResizeObserver(() => stage.paintWave()).observe(parts.waveBox);
-  matchMedia("(prefers-color-scheme: dark)").addEventListener("change", () => {
-    stage.redraw();
-    stage.paintWave();
-  });
+  stage.listen();
   addEventListener("hashchange", readAddress);
   document.addEventListener("keydown", onKey);
 }

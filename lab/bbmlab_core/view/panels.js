@@ -1,17 +1,8 @@
 /** Fills the panels beside the picture: inputs, outputs, the report, the lines of the certificate. */
-import { fillBox } from "./boxes.js";
+import { element, fillBox, made } from "./boxes.js";
 import { counted } from "./stage.js";
 
 const MAX_LINES_SHOWN = 200;
-const element = (id) => document.getElementById(id);
-
-/** Returns a new element with a text. */
-function made(tag, text, className = "") {
-  const found = document.createElement(tag);
-  found.textContent = text;
-  found.className = className;
-  return found;
-}
 
 /** Returns a link that does something on this page. */
 function link(text, action) {

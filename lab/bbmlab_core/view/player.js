@@ -120,6 +120,12 @@ class Player {
     this.notify("end");
   }
 
+  /** Stops, and goes to a time. */
+  goTo(time) {
+    this.play(0);
+    this.seek(time);
+  }
+
   /** Goes to a time: in slices, so that a far one does not stop the page. */
   seek(time) {
     this.target = Math.max(0, Math.min(this.layout.steps, time));

@@ -35,6 +35,8 @@ class Stage {
   hasWays = false;
   wire = null;
   pointedWire = null;
+  // Where each finger and the mouse were last, by the number of the pointer.
+  fingers = new Map();
   mirrors;
   boxes;
   filedBoxes;
@@ -171,6 +173,63 @@ class Stage {
     this.left += x / this.scale;
     this.top += y / this.scale;
     this.afterMove();
+  }
+
+  /** Notes where a finger or the mouse was put down. */
+  putFinger({ pointerId, offsetX, offsetY }) {
+    this.fingers.set(pointerId, [offsetX, offsetY]);
+    this.parts.whole.setPointerCapture(pointerId);
+  }
+
+  /** Returns how far two fingers are apart, and the place in the middle. */
+  spread() {
+    const [[x, y], [u, v]] = this.fingers.values();
+    return { gap: Math.hypot(x - u, y - v), x: (x + u) / 2, y: (y + v) / 2 };
+  }
+
+  /** Moves and zooms the picture by one of two fingers. Returns where the finger was, or undefined if it is up. */
+  moveFinger({ pointerId, offsetX, offsetY }) {
+    const { fingers } = this, from = fingers.get(pointerId);
+    if (!from) return from;
+    const before = fingers.size === 2 ? this.spread() : null;
+    fingers.set(pointerId, [offsetX, offsetY]);
+    if (before) {
+      const after = this.spread();
+      this.pan(before.x - after.x, before.y - after.y);
+      if (before.gap > 0) this.zoom(after.gap / before.gap, after.x, after.y);
+    }
+    return from;
+  }
+
+  /** Zooms by the wheel, and draws again after changes of the window and of its colours, which `action` hears of. */
+  listen(action = () => {}) {
+    const { whole, waveBox } = this.parts;
+    whole.addEventListener("wheel", (event) => {
+      event.preventDefault();
+      this.zoom(Math.exp(-Math.max(-100, Math.min(100, event.deltaY)) / 500), event.offsetX, event.offsetY);
+    }, { passive: false });
+    new ResizeObserver(() => (this.isFit ? this.fit() : this.requestPaint())).observe(whole);
+    new ResizeObserver(() => this.paintWave()).observe(waveBox);
+    matchMedia("(prefers-color-scheme: dark)").addEventListener("change", () => {
+      this.redraw();
+      this.paintWave();
+      action();
+    });
+  }
+
+  /** Takes the outputs at the run's end, or that there are none yet. */
+  takeResults() {
+    const results = this.player.results();
+    this.good = results
+      && new Map(results.flatMap(({ cells }) => cells.map(({ cell, isGood }) => [String(cell), isGood])));
+    this.requestPaint();
+    this.paintWave();
+  }
+
+  /** Shows in an element what there is at a cell, if one is given. */
+  showWords(element, cell) {
+    const words = cell ? this.wordsOf(cell) : "";
+    if (element.textContent !== words) element.textContent = words;
   }
 
   /** Notes that the picture is no longer fitted. */

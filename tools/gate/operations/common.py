@@ -38,6 +38,11 @@ def holds(fact, what):
         raise AssertionError(what)
 
 
+def ran(*command, **more):
+    """Runs a command, and returns how it ended and what it wrote."""
+    return subprocess.run(command, **{"capture_output": True, "text": True, **more})
+
+
 def path_without(room, *missing):
     """A folder with links to every tool of PATH but these."""
     folder = Path(room) / ("without_" + "_".join(missing))

@@ -11,7 +11,7 @@ import time
 from pathlib import Path
 
 from operations.common import (FAST, MANIFEST, RELEASED, TOP, Skipped, copy_of_checkout, holds, in_namespace, need,
-                               path_without, same)
+                               path_without, ran, same)
 
 sys.path.insert(0, str(TOP / "tools" / "docs"))
 import links  # noqa: E402
@@ -22,8 +22,8 @@ def release_manifest(_):
     documented."""
     with tempfile.TemporaryDirectory(prefix="operations-") as room:
         top = copy_of_checkout(room)
-        check = lambda: subprocess.run([top / "tools" / "package" / "release", "--check-sources"], capture_output=True,
-                                       text=True)
+        release = top / "tools" / "package" / "release"
+        check = lambda: ran(release, "--check-sources")
         ended = check()
         same(ended.returncode, 0, ended.stderr)
         # The digest, made another way.
@@ -53,33 +53,28 @@ def release_manifest(_):
         holds(check().returncode == 1, "a changed program is not seen")
         program.write_bytes(bytes_of)
         same(check().returncode, 0, "as it was")
-        ended = subprocess.run([top / "tools" / "package" / "release", "--check"], capture_output=True, text=True)
-        same(ended.returncode, 70, "--check with nothing built")
+        same(ran(release, "--check").returncode, 70, "--check with nothing built")
         out = top / "crates" / "bbmcheck" / "out"
         out.mkdir()
         shutil.copy(program, out / "bbmcheck")
         shutil.copy(top / FAST, out / "bbmcheck-v3")
-        same(subprocess.run([top / "tools" / "package" / "release", "--check"], capture_output=True).returncode, 0,
-             "--check with the same program")
+        same(ran(release, "--check").returncode, 0, "--check with the same program")
         shutil.copyfile(program, out / "bbmcheck")
         undated = lambda: re.sub("date .*", "", (top / MANIFEST).read_text())
         before = undated()
-        ended = subprocess.run([top / "tools" / "package" / "release"], capture_output=True, text=True)
+        ended = ran(release)
         same((ended.returncode, undated()), (0, before), f"a renewed MANIFEST {ended.stderr}")
         time.sleep(0.05)
         source.write_bytes(was[:-1] + b" ")
         os.utime(source, (1e9, 1e9))
-        ended = subprocess.run([top / "tools" / "package" / "release"], capture_output=True, text=True)
-        same((ended.returncode, undated()), (1, before),
+        same((ran(release).returncode, undated()), (1, before),
              "a release of sources that changed after the build, with old times")
         source.write_bytes(was)
         (out / "bbmcheck").write_bytes(bytes_of + b"\n")
-        same(subprocess.run([top / "tools" / "package" / "release", "--check"], capture_output=True).returncode, 1,
-             "--check with another program")
+        same(ran(release, "--check").returncode, 1, "--check with another program")
         (out / "bbmcheck").write_bytes(bytes_of)
         (out / "bbmcheck-v3").write_bytes(bytes_of)
-        same(subprocess.run([top / "tools" / "package" / "release", "--check"], capture_output=True).returncode, 1,
-             "--check with another fast program")
+        same(ran(release, "--check").returncode, 1, "--check with another fast program")
 
 
 def release_other_kit(_):
@@ -93,8 +88,7 @@ def release_other_kit(_):
             rt.write_text(f"#!/bin/sh\necho '{named}'\n")
             rt.chmod(0o755)
             environment = {**os.environ, "PATH": f"{rt.parent}:{os.environ['PATH']}"}
-            ended = subprocess.run([top / "tools" / "package" / "release", "--check-sources"], capture_output=True,
-                                   text=True, env=environment)
+            ended = ran(top / "tools" / "package" / "release", "--check-sources", env=environment)
             same(ended.returncode, status, f"{named}: {ended.stderr}")
 
 
@@ -104,8 +98,7 @@ def release_older_sources(_):
     with tempfile.TemporaryDirectory(prefix="operations-") as room:
         top = copy_of_checkout(room)
         environment = {**os.environ, "RATTLE_KIT": f"{room}/nothing", "PATH": path_without(room)}
-        run = lambda: subprocess.run([top / "bbmcheck", "--version"], env=environment, stdin=subprocess.DEVNULL,
-                                     capture_output=True, text=True)
+        run = lambda: ran(top / "bbmcheck", "--version", env=environment, stdin=subprocess.DEVNULL)
         same(run().returncode, 0, "the release")
         time.sleep(2.1)
         same(run().returncode, 0, "the release, with a stamp")
@@ -119,8 +112,8 @@ def release_older_sources(_):
             path.write_bytes(was)
             same(run().returncode, 0, f"{name} as it was")
         has_git = shutil.which("git") and (TOP / ".git").exists()
-        commit = subprocess.run(["git", "-C", TOP, "log", "-1", "--format=%H", "--skip=1", "--", "crates"],
-                                capture_output=True, text=True).stdout.strip() if has_git else ""
+        commit = ran("git", "-C", TOP, "log", "-1", "--format=%H", "--skip=1", "--",
+                     "crates").stdout.strip() if has_git else ""
         if not commit:
             raise Skipped("there is no older commit to check out")
         archive = subprocess.run(["git", "-C", TOP, "archive", commit, "crates", "crates.txt"], stdout=subprocess.PIPE,
@@ -129,8 +122,7 @@ def release_older_sources(_):
         subprocess.run(["tar", "-C", top, "-x"], input=archive, check=True)
         subprocess.run(["find", top / "crates", top / "crates.txt", "-exec", "touch", "-d", "2001-01-01", "{}", "+"],
                        check=True)
-        digest = subprocess.run([top / "tools" / "package" / "source_digest"], stdout=subprocess.PIPE, text=True,
-                                check=True).stdout.strip()
+        digest = ran(top / "tools" / "package" / "source_digest", check=True).stdout.strip()
         if digest in (top / MANIFEST).read_text():
             raise Skipped("the older commit has the same sources")
         same((run().returncode, run().stdout), (70, ""), "an older commit with older times")
@@ -146,7 +138,7 @@ def release_archives(_):
             top = Path(room) / name
             if not top.exists():
                 copy_of_checkout(room, name)
-            ended = subprocess.run(["make", "-s", "-C", top, "dist"], umask=umask, capture_output=True, text=True)
+            ended = ran("make", "-s", "-C", top, "dist", umask=umask)
             same(ended.returncode, 0, ended.stderr)
             archive, = (top / "dist").glob("bbmcheck-*-x86_64-linux-gnu.tar.gz")
             sums.append(hashlib.sha256(archive.read_bytes()).hexdigest())
@@ -167,7 +159,7 @@ def made_packages(room):
     sums = []
     for name in ("one", "two"):
         top = copy_of_checkout(room, name)
-        ended = subprocess.run(["make", "-s", "-C", top, "deb"], capture_output=True, text=True)
+        ended = ran("make", "-s", "-C", top, "deb")
         same(ended.returncode, 0, ended.stderr)
         packages = {path.name.split("_")[0]: path for path in (top / "dist").glob("*.deb")}
         same(sorted(packages), ["bbmcheck", "bbmlab"], "packages")
@@ -189,15 +181,14 @@ def empty_root(room):
 def installed_lab_works(root):
     """Runs the lab of a root in an environment that names no program, and imports its package."""
     environment = {"PATH": "/usr/bin:/bin", "LANG": "C.UTF-8"}
-    ran = subprocess.run([root / "usr/bin/bbmlab", "check", TOP / "examples" / "fredkin_gate.txt",
-                          TOP / "examples" / "wrong_edge.txt"],
-                         capture_output=True, text=True, env=environment)
-    same((ran.returncode, "2 files: 1 yes, 1 no" in ran.stdout + ran.stderr), (1, True), ran.stdout + ran.stderr)
+    ended = ran(root / "usr/bin/bbmlab", "check", TOP / "examples" / "fredkin_gate.txt",
+                TOP / "examples" / "wrong_edge.txt", env=environment)
+    said = ended.stdout + ended.stderr
+    same((ended.returncode, "2 files: 1 yes, 1 no" in said), (1, True), said)
     code = "import bbmlab, sys; print(bbmlab.check(open(sys.argv[1]).read()).verdict)"
-    ran = subprocess.run(["/usr/bin/python3", "-B", "-c", code, TOP / "examples" / "fredkin_gate.txt"],
-                         capture_output=True, text=True,
-                         env={**environment, "PYTHONPATH": str(root / "usr/lib/python3/dist-packages")})
-    same((ran.returncode, ran.stdout), (0, "yes\n"), ran.stderr)
+    ended = ran("/usr/bin/python3", "-B", "-c", code, TOP / "examples" / "fredkin_gate.txt",
+                env={**environment, "PYTHONPATH": str(root / "usr/lib/python3/dist-packages")})
+    same((ended.returncode, ended.stdout), (0, "yes\n"), ended.stderr)
     for name in ("man/man1/bbmlab.1.gz", "doc/bbmcheck/LAB.md", "doc/bbmcheck/API.md", "doc/bbmlab/copyright"):
         holds((root / "usr/share" / name).exists(), f"{name} is missing")
 
@@ -209,21 +200,21 @@ def release_debian_packages(_):
     with tempfile.TemporaryDirectory(prefix="operations-") as room:
         packages, (root, dpkg) = made_packages(room), empty_root(room)
         environment = {**os.environ, "PATH": f"{os.environ['PATH']}:/usr/sbin:/sbin"}
-        ended = subprocess.run([*dpkg, "-i", *packages.values()], capture_output=True, text=True, env=environment)
+        ended = ran(*dpkg, "-i", *packages.values(), env=environment)
         same(ended.returncode, 0, ended.stderr)
         same((root / "usr/bin/bbmcheck").read_bytes(), (TOP / RELEASED).read_bytes(), "the installed program")
         with open(TOP / "examples" / "fredkin_gate.txt", "rb") as text:
-            ran = subprocess.run([root / "usr/bin/bbmcheck", "check"], stdin=text, capture_output=True)
-        same((ran.returncode, ran.stdout.splitlines()[-1]), (0, b"verdict yes"))
-        needs = subprocess.run(["dpkg-deb", "-f", packages["bbmlab"], "Depends"], capture_output=True, text=True).stdout
+            ended = ran(root / "usr/bin/bbmcheck", "check", stdin=text)
+        same((ended.returncode, ended.stdout.splitlines()[-1]), (0, "verdict yes"))
+        needs = ran("dpkg-deb", "-f", packages["bbmlab"], "Depends").stdout
         holds(re.match(r"bbmcheck \(>= [\d.]+\), python3 ", needs), needs)
         installed_lab_works(root)
         same(links.dead_in_folder(root / "usr/share/doc"), [], "dead links")
-        ended = subprocess.run([*dpkg, "-r", "bbmlab", "bbmcheck"], capture_output=True, text=True, env=environment)
+        ended = ran(*dpkg, "-r", "bbmlab", "bbmcheck", env=environment)
         same(ended.returncode, 0, ended.stderr)
         same([it for it in root.rglob("usr/**/*") if it.is_file() or it.is_symlink()], [], "files after the removal")
         if shutil.which("lintian"):
-            said = subprocess.run(["lintian", *packages.values()], capture_output=True, text=True).stdout
+            said = ran("lintian", *packages.values()).stdout
             same([it for it in said.splitlines() if it.startswith("E:")], [], "errors of lintian")
         else:
             print("try_operations: lintian SKIPPED: there is none")

@@ -128,6 +128,18 @@ class Tree:
                 "errors": "replace", "timeout": 60, **more}
         return subprocess.run([*start, *words], cwd=cwd or self.room, **more)
 
+    def begin(self, *shell, **more):
+        """Begins a check by the wrapper, whose output is piped, and returns its process."""
+        more = {"stdout": subprocess.PIPE, "stderr": subprocess.PIPE, "text": True, **more}
+        return subprocess.Popen([*shell, self.file("bbmcheck"), "check"], env=self.environment, cwd=self.room,
+                                stdin=subprocess.DEVNULL, **more)
+
+    def fails(self, what="", **more):
+        """Asserts that a check ends with 70 and writes no answer, and returns what it says."""
+        ended = self.run("check", **more)
+        same((ended.returncode, ended.stdout), (70, ""), f"{what}{ended.stderr}")
+        return ended.stderr
+
     def program(self, **more):
         """Which kind of program the wrapper runs, if it is made of the sources that are there now."""
         ended = self.run("check", **more)
@@ -307,9 +319,8 @@ def wrapper_other_rt(tree):
     same(tree.program(), "released", "with no need of rt")
     tree.file().write_text("low src 1\n")
     for _ in range(2):
-        ended = tree.run("check")
-        same((ended.returncode, ended.stdout), (70, ""))
-        holds(f"{other}/rt is not the rt of a Rattle kit" in ended.stderr, ended.stderr)
+        said = tree.fails()
+        holds(f"{other}/rt is not the rt of a Rattle kit" in said, said)
     tree.environment["RATTLE_KIT"] = str(tree.kit)
     same(tree.program(), "built", "with a kit behind it")
 
@@ -409,9 +420,8 @@ def wrapper_read_only(tree):
         if os.geteuid():
             return
         tree.file().write_text("low src 1\n")
-        ended = tree.run("check", shell=[*drop, "sh"])
-        same((ended.returncode, ended.stdout), (70, ""), ended.stderr)
-        holds("cannot be written" in ended.stderr, ended.stderr)
+        said = tree.fails(shell=[*drop, "sh"])
+        holds("cannot be written" in said, said)
         holds(tree.program() == "built", "the owner cannot build")
         same(tree.program(shell=[*drop, "sh"]), "built", "what the owner built, for another user")
     finally:
@@ -438,10 +448,7 @@ def stopped_by(tree, number, shell=()):
     (tree.kit / "pause").write_text("30")
     # In a process group of its own, with no signal ignored, as a job in the background has SIGINT.
     heard = lambda: [signal.signal(it, signal.SIG_DFL) for it in (signal.SIGTERM, signal.SIGINT, signal.SIGHUP)]
-    running = subprocess.Popen([*shell, tree.file("bbmcheck"), "check"], env=tree.environment, stdin=subprocess.DEVNULL,
-                               stdout=subprocess.PIPE,
-                               stderr=subprocess.PIPE, cwd=tree.room, text=True, start_new_session=True,
-                               preexec_fn=heard)
+    running = tree.begin(*shell, start_new_session=True, preexec_fn=heard)
     wait_for(lambda: (tree.kit / "pid").exists() and (tree.kit / "pid").read_text().strip(), "rt did not start")
     time.sleep(0.1)
     rt = int((tree.kit / "pid").read_text())
@@ -471,9 +478,7 @@ def wrapper_killed(tree):
     """After SIGKILL in the middle of a build, what is half built is not run, and the next call builds."""
     tree.file().write_text("low src 1\n")
     (tree.kit / "half").write_text("")
-    running = subprocess.Popen([tree.file("bbmcheck"), "check"], env=tree.environment, stdin=subprocess.DEVNULL,
-                               stdout=subprocess.PIPE,
-                               stderr=subprocess.DEVNULL, start_new_session=True)
+    running = tree.begin(start_new_session=True)
     wait_for((tree.kit / "pid").exists, "rt did not start")
     os.killpg(running.pid, signal.SIGKILL)
     running.communicate()
@@ -492,19 +497,14 @@ def wrapper_two_calls(tree):
     need("flock")
     tree.file().write_text("low src 1\n")
     (tree.kit / "pause").write_text("0.3")
-    running = [subprocess.Popen([tree.file("bbmcheck"), "check"], env=tree.environment, stdin=subprocess.DEVNULL,
-                                stdout=subprocess.PIPE,
-                                stderr=subprocess.PIPE, text=True) for _ in range(4)]
+    running = [tree.begin() for _ in range(4)]
     same({it.communicate()[0] for it in running}, {f"built {tree.sum()}\nwords check\n"}, "what they wrote")
     same(tree.calls("run"), 1, "builds")
     # A call that waited holds no lock while its program runs: this one prints the files that it has open.
     rt = tree.kit / "bin" / "rt"
     rt.write_text(rt.read_text().replace('echo "words $*"', 'readlink /proc/self/fd/*'))
     tree.file().write_text("low src 2\n")
-    running = [subprocess.Popen([tree.file("bbmcheck"), "check"], env=tree.environment, stdin=subprocess.DEVNULL,
-                                stdout=subprocess.PIPE,
-                                stderr=subprocess.PIPE, text=True) for _ in range(2)]
-    for it in running:
+    for it in [tree.begin() for _ in range(2)]:
         output = it.communicate()[0]
         holds(output.startswith("built ") and "lock" not in output, f"open files: {output}")
 
@@ -521,8 +521,7 @@ def wrapper_progress(tree):
     holds(re.fullmatch(r"bbmcheck: proved and built in \d+ min \d+ s", told[-1]), told[-1])
     tree.file().write_text("low src 2\n")
     own, terminal = pty.openpty()
-    running = subprocess.Popen([tree.file("bbmcheck"), "check"], env=tree.environment, stdin=subprocess.DEVNULL,
-                               stdout=subprocess.DEVNULL, stderr=terminal)
+    running = tree.begin(stdout=subprocess.DEVNULL, stderr=terminal)
     os.close(terminal)
     seen = b""
     while True:
@@ -548,9 +547,8 @@ def wrapper_failed_proof(tree):
     """Where rt fails, the status is 70, with what it said; a later call tries again."""
     tree.file().write_text("low src 1\n")
     (tree.kit / "fail").write_text("")
-    ended = tree.run("check")
-    same((ended.returncode, ended.stdout), (70, ""))
-    holds("error: this is not proved" in ended.stderr and "the proof failed" in ended.stderr, ended.stderr)
+    said = tree.fails()
+    holds("error: this is not proved" in said and "the proof failed" in said, said)
     same(tree.left(), [], "files that were left")
     (tree.kit / "fail").unlink()
     same(tree.program(), "built")
@@ -564,9 +562,8 @@ def wrapper_without_kit(tree):
     tree.environment["PATH"] = path_without(tree.room, "rt")
     same(tree.program(), "built", "what was built, without the kit")
     tree.file().write_text("low src 2\n")
-    ended = tree.run("check")
-    same((ended.returncode, ended.stdout), (70, ""))
-    holds("needs the Rattle kit" in ended.stderr, ended.stderr)
+    said = tree.fails()
+    holds("needs the Rattle kit" in said, said)
     tree.file().write_text("low src 0\n")
     same(tree.program(), "released")
 
@@ -657,9 +654,7 @@ def wrapper_broken_checkout(tree):
     for name in ("crates.txt", "tools/package/source_digest", "crates/mid/src"):
         path, aside = tree.file(name), tree.room / "aside"
         path.rename(aside)
-        ended = tree.run("check")
-        same((ended.returncode, ended.stdout), (70, ""), f"without {name}: {ended.stderr}")
-        holds(ended.stderr.strip(), "no message")
+        holds(tree.fails(f"without {name}: ").strip(), "no message")
         aside.rename(path)
     tree.file("crates.txt").write_text("low:\n")
     same(tree.run("check").returncode, 70, "crates.txt without bbmcheck")
