@@ -4,6 +4,7 @@ from __future__ import annotations
 
 import argparse
 import importlib
+import io
 import os
 import sys
 
@@ -424,6 +425,15 @@ def open_standard_error() -> None:
         sys.stderr = open(2, "w", encoding="utf-8")
 
 
+def buffer_output() -> None:
+    """Puts a buffer before standard output if it has none, as with PYTHONUNBUFFERED. Without one, a write that a signal
+    interrupts writes a part, and the rest is lost."""
+    output = sys.stdout
+    if isinstance(output, io.TextIOWrapper) and isinstance(output.buffer, io.RawIOBase):
+        encoding = output.encoding
+        sys.stdout = io.TextIOWrapper(io.BufferedWriter(output.detach()), encoding, line_buffering=True)
+
+
 def drop_output() -> None:
     """Drops what could not be written and is still in the buffer, so that the interpreter does not try once more."""
     if sys.stdout is not None:
@@ -433,6 +443,7 @@ def drop_output() -> None:
 def main(words: list[str] | None = None) -> int:
     """Runs a command and returns the exit status."""
     open_standard_error()
+    buffer_output()
     words = sys.argv[1:] if words is None else words
     parser, commands = commands_for(words)
     options, unknown = parser.parse_known_args(words)

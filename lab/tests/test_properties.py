@@ -49,6 +49,7 @@ COMMANDS: dict[str, list[list[str]]] = {
                 ["certify", "--boxes", OUT, FILE]],
     "route": [["route", "--effort", "0.2", FILE], ["route", "--circuit-only", FILE],
               ["route", "--keep-partial", "--effort", "0.2", FILE]],
+    "join": [["join", "--effort", "0.2", FILE, OUT], ["join", FILE, OUT, "--connect", "A.p=B.q"]],
     "circuit": [["circuit", FILE], ["circuit", "--from", "qasm", FILE], ["circuit", "--to", "verilog", FILE],
                 ["circuit", "--inverse", FILE],
                 ["circuit", "--clean", "--to", "qasm", FILE], ["circuit", "--simplify", "--to", "aiger", FILE],

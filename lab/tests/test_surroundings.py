@@ -59,6 +59,16 @@ class Outputs(Room):
             self.assertEqual(self.shell(f"lab {words} >&-").returncode, 4, words)
         self.assertEqual(self.shell("lab --help >out; lab --help | grep -c check").returncode, 0)
 
+    def test_slow_reader(self) -> None:
+        """A reader that is slower than the beat of signals gets all bytes, also if Python does not buffer output."""
+        for command in ("view", "trace --json"):
+            words = f'lab {command} "$1" --program "$2"'
+            files = (support.example("machine_fredkin"), support.program())
+            wanted = self.shell(words, *files).stdout
+            self.assertGreater(len(wanted), 131072)
+            ended = self.shell(f"{words} | (sleep 1.2; cat)", *files, PYTHONUNBUFFERED="1")
+            self.assertEqual((len(ended.stdout), ended.stdout == wanted), (len(wanted), True), command)
+
     def test_names_forge_no_lines(self) -> None:
         """Control characters of names and of a program's messages reach no terminal, and make no line of a diagnosis.
         """
