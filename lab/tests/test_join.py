@@ -250,6 +250,24 @@ class Joining(unittest.TestCase):
                 self.assertLess(max(abs(x - across), abs(y - down)), 160 + 32 + 8 * GAP)
         self.assertEqual(list(all_places(areas, 600)), [])
 
+    def test_time_for_each_ball(self) -> None:
+        """A part to which many balls come begins so late that each of them gets its steps, and with more to spare
+        later."""
+        part = read_part("half", self.parts["half"].read_text(), ["sum", "carry", "a", "b"])
+        words = ("a.sum=c.a", "b.sum=c.b", "a.carry=d.a", "b.carry=d.b", "c.sum=e.a", "d.sum=e.b")
+        made = composed(dict.fromkeys("abcde", part), [command.connection_of(word) for word in words])
+        ends = []
+        for spare, own in enumerate(planning.SPARES):
+            plan = planning.made_plan(made, 800, [spare] * len(words))
+            assert plan
+            between = [job for job in plan.jobs if job.start and job.goal]
+            self.assertEqual(len(between), len(words))
+            for job in between:
+                assert job.start and job.goal
+                self.assertGreaterEqual(job.steps, own.steps_between(job.start, job.goal), job)
+            ends.append(plan.end)
+        self.assertEqual(ends, sorted(set(ends)))
+
     def test_more_time_for_one_ball(self) -> None:
         """A ball between two parts that cannot be led in its time gets more, and no other one does."""
         search = command.JoinSearch(self.made(), command.JoinOptions(1, None, 60), ProgressLine(60))

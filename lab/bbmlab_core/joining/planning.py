@@ -184,7 +184,7 @@ def set_times(composed: Composed, placed: list[PlacedPart], spares: Spares) -> N
                 last = start_ball(own, connection.input)
                 ways = sorted(ways_between(first, last))
                 own_spare = SPARES[min(len(SPARES) - 1, spare + (ways[0] > SLANTED * ways[1]))]
-                after = first.time + own_spare.steps_between(first, last) - last.time
+                after = first.time + own_spare.steps_between(first, last) - (last.time - own.time)
                 own.time = max(own.time, (after + 1) // 2 * 2)
 
 
