@@ -25,9 +25,10 @@ from bbmlab_core.joining.places import GAP, Area, all_places
 from bbmlab_core.joining.turning import TURNINGS, UPRIGHT, Placing
 from bbmlab_core.physics.simulation import run_layout
 from bbmlab_core.route.attempt import Attempt
-from bbmlab_core.route.balls import Ball, follow, mirror_cells
+from bbmlab_core.route.balls import BOUNCE_STEPS, Ball, Turn, bounce, follow, mirror_cells
 from bbmlab_core.route.command import ProgressLine
 from bbmlab_core.route.netlist import Netlist
+from bbmlab_core.route.paths import PathFinder
 from bbmlab_core.route.settings import OPEN_STEPS, Settings
 from bbmlab_core.route.world import MARGIN, ROW, STEP, TILE, Item, World, cell_number, number_cell, path_item
 from bbmlab_core.texts.certificates import Module
@@ -317,6 +318,31 @@ class Joining(unittest.TestCase):
             self.assertEqual((len(own.world.claims), len(own.world.mirrors)), before)
             own.world.add(path.sealed)
 
+    def test_legs_to_coils(self) -> None:
+        """What a leg to a coil takes is in its rectangle. A bounce is sought wherever its mirror has room."""
+        world, chance = World(512), random.Random(1)
+        for _ in range(300):
+            world.add(Item(frozenset([cell_number((chance.randrange(180, 330), chance.randrange(180, 330)))])))
+        finder = PathFinder(world, chance, command.SETTINGS)
+        for dx, dy, is_backward in itertools.product((1, -1), (1, -1), (False, True)):
+            ball = Ball(256 + (dx < 0), 256 + (dy < 0), dx, dy, 1000)
+            search = coil_ways.CoilSearch(finder, coil_ways.CoilGround(world, []), ball, 3000 * (not is_backward),
+                                          is_backward)
+            first = search.first
+            room = world.free_flight(first.ball, coil_ways.LONGEST)
+            with mock.patch.object(search, "places", lambda *words, most=room: range(most + 1)):
+                found = list(search.options_behind(first, room))
+            on = coil_ways.LEAST_ON
+            self.assertEqual([(option.steps, option.turn) for option in found], [
+                (steps, turn) for steps in range(room + 1) for turn in Turn
+                for after, mirror in [bounce(first.ball.flown(steps), turn)]
+                if world.can_hold(mirror) and world.free_flight(after.flown(BOUNCE_STEPS), on) == on])
+            search.queue = found
+            for bend in iter(search.next_bend, None):
+                item, left, right, top, bottom = bend.spans[-1]
+                for x, y in map(number_cell, item.mirrors | item.touched):
+                    self.assertTrue(left <= x <= right and top <= y <= bottom, bend)
+
     def test_ground_of_coils(self) -> None:
         """Squares are free if nothing is in them or near them. Tiles far away from them need as many steps at least."""
         size, part, world = 160, Box(50, 40, 20, 30), World(160)
@@ -352,6 +378,7 @@ class Joining(unittest.TestCase):
                 self.assertEqual(blocks.inverse()(own), number)
                 flight = range(number, number + 5 * (STEP + ROW + 1), STEP + ROW + 1)
                 self.assertEqual(list(blocks.of_range(flight)), [blocks(each) for each in flight])
+                self.assertEqual(list(blocks.of_all(flight)), [blocks(each) for each in flight])
                 dx, dy = chance.choice((-1, 1)), chance.choice((-1, 1))
                 ball = Ball(2 * (x // 2) + (dx < 0), 2 * (y // 2) + (dy < 0), dx, dy, 2 * time)
                 there = placing.ball(ball)
