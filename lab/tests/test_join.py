@@ -18,7 +18,7 @@ from unittest import mock
 
 import support
 from bbmlab_core.joining import coil_ways, coils, command, lone_ways, modules, planning, wiring
-from bbmlab_core.joining.composing import Composed, Connection, NamedPart, composed
+from bbmlab_core.joining.composing import Composed, Connection, NamedPart, composed, ordered
 from bbmlab_core.joining.lone_ways import balls_of
 from bbmlab_core.joining.parts import read_part
 from bbmlab_core.joining.places import GAP, Area, all_places
@@ -251,6 +251,13 @@ class Joining(unittest.TestCase):
                 self.assertLess(max(abs(x - across), abs(y - down)), 160 + 32 + 8 * GAP)
         self.assertEqual(list(all_places(areas, 600)), [])
 
+    def test_order_of_parts(self) -> None:
+        """A part comes next to those that feed it: before other parts that nothing feeds."""
+        fed = [Connection(*own.split()) for own in ("u o x i", "v o y i", "w o y j")]
+        self.assertEqual(ordered(list("uvwxy"), fed), list("uxvwy"))
+        self.assertEqual(ordered(list("yxwvu"), fed), list("wvyux"))
+        self.assertEqual(ordered(list("uvw"), []), list("uvw"))
+
     def test_time_for_each_ball(self) -> None:
         """A part to which many balls come begins so late that each of them gets its steps, and with more to spare
         later."""
@@ -259,15 +266,33 @@ class Joining(unittest.TestCase):
         made = composed(dict.fromkeys("abcde", part), [command.connection_of(word) for word in words])
         ends = []
         for spare, own in enumerate(planning.SPARES):
-            plan = planning.made_plan(made, 800, [spare] * len(words))
+            with mock.patch.object(planning, "SHALLOW", 30):
+                plan = planning.made_plan(made, 800, [spare] * len(words))
             assert plan
-            between = [job for job in plan.jobs if job.start and job.goal]
+            between, world = [job for job in plan.jobs if job.start and job.goal], wiring.JoinWorld(plan)
             self.assertEqual(len(between), len(words))
+            deep = []
             for job in between:
                 assert job.start and job.goal
-                self.assertGreaterEqual(job.steps, own.steps_between(job.start, job.goal), job)
+                deep.append(max(0, world.depth(job.goal.x, job.goal.y) - 30))
+                self.assertGreaterEqual(job.steps, own.steps_between(job.start, job.goal) + deep[-1], job)
+            self.assertTrue(any(deep))
             ends.append(plan.end)
         self.assertEqual(ends, sorted(set(ends)))
+
+    def test_ways_back_from_deep_goals(self) -> None:
+        """A path to a ball deep in a part comes back from it for more steps, so that it can be joined outside."""
+        search = command.JoinSearch(self.made(), command.JoinOptions(1, None, 60), ProgressLine(60))
+        _, _, own = search.prepared()
+        ball = Ball(512, 512, 1, 1, 4000)
+        for depth in (0, planning.SHALLOW, planning.SHALLOW + 500):
+            with mock.patch.object(own.world, "depth", lambda *words, own=depth: own), mock.patch.object(
+                    own.finder, "wander", return_value=False) as wander:
+                self.assertIsNone(own.connected("w", ball.at(0), ball))
+            steps, deep = [ball.time + call.args[1] for call in wander.call_args_list], max(0, depth - planning.SHALLOW)
+            self.assertEqual(len(steps), wiring.CONNECT_TRIES)
+            self.assertGreaterEqual(min(steps), wiring.BACK_STEPS[0] + deep)
+            self.assertLessEqual(max(steps), wiring.BACK_STEPS[1] + 2 * deep)
 
     def test_more_time_for_one_ball(self) -> None:
         """A ball between two parts that cannot be led in its time gets more, and no other one does."""
