@@ -308,6 +308,20 @@ class Joining(unittest.TestCase):
             self.assertEqual(search.run(), (mock.sentinel.bundle, ""))
         self.assertEqual(search.spares, [1, 2])
 
+    def test_more_time_for_all_balls(self) -> None:
+        """If a ball gets no more time by itself, since another one decides when its part begins, all get more."""
+        part = read_part("half", self.parts["half"].read_text(), ["sum", "carry", "a", "b"])
+        words = ("a.sum=b.a", "b.sum=c.a", "a.carry=c.b")
+        made = composed(dict.fromkeys("abc", part), [command.connection_of(word) for word in words])
+        search = command.JoinSearch(made, command.JoinOptions(1, 800, 60), ProgressLine(60))
+        before = search.steps_between()
+        search.loosen([2])
+        self.assertEqual(search.spares, [1, 1, 2])
+        self.assertTrue(all(more > steps for more, steps in zip(search.steps_between(), before)))
+        search.spares = [0, 0, 0]
+        search.loosen([1])
+        self.assertEqual(search.spares, [0, 1, 0])
+
     def test_coils(self) -> None:
         """A coil takes its steps: its path meets itself nowhere, and stays in its box behind the entry."""
         for (dx, dy), steps in itertools.product(itertools.product((1, -1), repeat=2), (90, 327, 328, 2567, 9000)):
