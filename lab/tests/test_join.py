@@ -18,16 +18,17 @@ from unittest import mock
 
 import support
 from bbmlab_core.joining import coil_ways, coils, command, lone_ways, modules, planning, wiring
-from bbmlab_core.joining.composing import Composed, Connection, NamedPart, composed
+from bbmlab_core.joining.composing import Composed, Connection, NamedPart, composed, ordered
 from bbmlab_core.joining.lone_ways import balls_of
 from bbmlab_core.joining.parts import read_part
 from bbmlab_core.joining.places import GAP, Area, all_places
 from bbmlab_core.joining.turning import TURNINGS, UPRIGHT, Placing
 from bbmlab_core.physics.simulation import run_layout
 from bbmlab_core.route.attempt import Attempt
-from bbmlab_core.route.balls import Ball, follow, mirror_cells
+from bbmlab_core.route.balls import BOUNCE_STEPS, Ball, Turn, bounce, follow, mirror_cells
 from bbmlab_core.route.command import ProgressLine
 from bbmlab_core.route.netlist import Netlist
+from bbmlab_core.route.paths import PathFinder
 from bbmlab_core.route.settings import OPEN_STEPS, Settings
 from bbmlab_core.route.world import MARGIN, ROW, STEP, TILE, Item, World, cell_number, number_cell, path_item
 from bbmlab_core.texts.certificates import Module
@@ -250,6 +251,49 @@ class Joining(unittest.TestCase):
                 self.assertLess(max(abs(x - across), abs(y - down)), 160 + 32 + 8 * GAP)
         self.assertEqual(list(all_places(areas, 600)), [])
 
+    def test_order_of_parts(self) -> None:
+        """A part comes next to those that feed it: before other parts that nothing feeds."""
+        fed = [Connection(*own.split()) for own in ("u o x i", "v o y i", "w o y j")]
+        self.assertEqual(ordered(list("uvwxy"), fed), list("uxvwy"))
+        self.assertEqual(ordered(list("yxwvu"), fed), list("wvyux"))
+        self.assertEqual(ordered(list("uvw"), []), list("uvw"))
+
+    def test_time_for_each_ball(self) -> None:
+        """A part to which many balls come begins so late that each of them gets its steps, and with more to spare
+        later."""
+        part = read_part("half", self.parts["half"].read_text(), ["sum", "carry", "a", "b"])
+        words = ("a.sum=c.a", "b.sum=c.b", "a.carry=d.a", "b.carry=d.b", "c.sum=e.a", "d.sum=e.b")
+        made = composed(dict.fromkeys("abcde", part), [command.connection_of(word) for word in words])
+        ends = []
+        for spare, own in enumerate(planning.SPARES):
+            with mock.patch.object(planning, "SHALLOW", 30):
+                plan = planning.made_plan(made, 800, [spare] * len(words))
+            assert plan
+            between, world = [job for job in plan.jobs if job.start and job.goal], wiring.JoinWorld(plan)
+            self.assertEqual(len(between), len(words))
+            deep = []
+            for job in between:
+                assert job.start and job.goal
+                deep.append(max(0, world.depth(job.goal.x, job.goal.y) - 30))
+                self.assertGreaterEqual(job.steps, own.steps_between(job.start, job.goal) + deep[-1], job)
+            self.assertTrue(any(deep))
+            ends.append(plan.end)
+        self.assertEqual(ends, sorted(set(ends)))
+
+    def test_ways_back_from_deep_goals(self) -> None:
+        """A path to a ball deep in a part comes back from it for more steps, so that it can be joined outside."""
+        search = command.JoinSearch(self.made(), command.JoinOptions(1, None, 60), ProgressLine(60))
+        _, _, own = search.prepared()
+        ball = Ball(512, 512, 1, 1, 4000)
+        for depth in (0, planning.SHALLOW, planning.SHALLOW + 500):
+            with mock.patch.object(own.world, "depth", lambda *words, own=depth: own), mock.patch.object(
+                    own.finder, "wander", return_value=False) as wander:
+                self.assertIsNone(own.connected("w", ball.at(0), ball))
+            steps, deep = [ball.time + call.args[1] for call in wander.call_args_list], max(0, depth - planning.SHALLOW)
+            self.assertEqual(len(steps), wiring.CONNECT_TRIES)
+            self.assertGreaterEqual(min(steps), wiring.BACK_STEPS[0] + deep)
+            self.assertLessEqual(max(steps), wiring.BACK_STEPS[1] + 2 * deep)
+
     def test_more_time_for_one_ball(self) -> None:
         """A ball between two parts that cannot be led in its time gets more, and no other one does."""
         search = command.JoinSearch(self.made(), command.JoinOptions(1, None, 60), ProgressLine(60))
@@ -263,6 +307,20 @@ class Joining(unittest.TestCase):
         with mock.patch.object(command.JoinSearch, "attempt", side_effect=results):
             self.assertEqual(search.run(), (mock.sentinel.bundle, ""))
         self.assertEqual(search.spares, [1, 2])
+
+    def test_more_time_for_all_balls(self) -> None:
+        """If a ball gets no more time by itself, since another one decides when its part begins, all get more."""
+        part = read_part("half", self.parts["half"].read_text(), ["sum", "carry", "a", "b"])
+        words = ("a.sum=b.a", "b.sum=c.a", "a.carry=c.b")
+        made = composed(dict.fromkeys("abc", part), [command.connection_of(word) for word in words])
+        search = command.JoinSearch(made, command.JoinOptions(1, 800, 60), ProgressLine(60))
+        before = search.steps_between()
+        search.loosen([2])
+        self.assertEqual(search.spares, [1, 1, 2])
+        self.assertTrue(all(more > steps for more, steps in zip(search.steps_between(), before)))
+        search.spares = [0, 0, 0]
+        search.loosen([1])
+        self.assertEqual(search.spares, [0, 1, 0])
 
     def test_coils(self) -> None:
         """A coil takes its steps: its path meets itself nowhere, and stays in its box behind the entry."""
@@ -299,6 +357,31 @@ class Joining(unittest.TestCase):
             self.assertEqual((len(own.world.claims), len(own.world.mirrors)), before)
             own.world.add(path.sealed)
 
+    def test_legs_to_coils(self) -> None:
+        """What a leg to a coil takes is in its rectangle. A bounce is sought wherever its mirror has room."""
+        world, chance = World(512), random.Random(1)
+        for _ in range(300):
+            world.add(Item(frozenset([cell_number((chance.randrange(180, 330), chance.randrange(180, 330)))])))
+        finder = PathFinder(world, chance, command.SETTINGS)
+        for dx, dy, is_backward in itertools.product((1, -1), (1, -1), (False, True)):
+            ball = Ball(256 + (dx < 0), 256 + (dy < 0), dx, dy, 1000)
+            search = coil_ways.CoilSearch(finder, coil_ways.CoilGround(world, []), ball, 3000 * (not is_backward),
+                                          is_backward)
+            first = search.first
+            room = world.free_flight(first.ball, coil_ways.LONGEST)
+            with mock.patch.object(search, "places", lambda *words, most=room: range(most + 1)):
+                found = list(search.options_behind(first, room))
+            on = coil_ways.LEAST_ON
+            self.assertEqual([(option.steps, option.turn) for option in found], [
+                (steps, turn) for steps in range(room + 1) for turn in Turn
+                for after, mirror in [bounce(first.ball.flown(steps), turn)]
+                if world.can_hold(mirror) and world.free_flight(after.flown(BOUNCE_STEPS), on) == on])
+            search.queue = found
+            for bend in iter(search.next_bend, None):
+                item, left, right, top, bottom = bend.spans[-1]
+                for x, y in map(number_cell, item.mirrors | item.touched):
+                    self.assertTrue(left <= x <= right and top <= y <= bottom, bend)
+
     def test_ground_of_coils(self) -> None:
         """Squares are free if nothing is in them or near them. Tiles far away from them need as many steps at least."""
         size, part, world = 160, Box(50, 40, 20, 30), World(160)
@@ -334,6 +417,7 @@ class Joining(unittest.TestCase):
                 self.assertEqual(blocks.inverse()(own), number)
                 flight = range(number, number + 5 * (STEP + ROW + 1), STEP + ROW + 1)
                 self.assertEqual(list(blocks.of_range(flight)), [blocks(each) for each in flight])
+                self.assertEqual(list(blocks.of_all(flight)), [blocks(each) for each in flight])
                 dx, dy = chance.choice((-1, 1)), chance.choice((-1, 1))
                 ball = Ball(2 * (x // 2) + (dx < 0), 2 * (y // 2) + (dy < 0), dx, dy, 2 * time)
                 there = placing.ball(ball)

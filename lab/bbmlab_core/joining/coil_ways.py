@@ -6,10 +6,11 @@ coil is led in reversed time.
 
 import bisect
 import heapq
-from dataclasses import dataclass, replace
-from typing import Iterable, Iterator
+from dataclasses import dataclass
+from typing import Iterable, Iterator, NamedTuple
 
 from ..route.balls import BOUNCE_STEPS, Ball, Leg, Turn, bounce, reversed_legs
+from ..route.bit_rows import BitJoiner
 from ..route.paths import PathFinder
 from ..route.world import MARGIN, ROW, TILE, Item, World, path_item
 from ..texts.layouts import Box
@@ -36,6 +37,14 @@ LEAST_AHEAD = 12
 FARTHEST = 140
 # A ball can fly at least so many steps on behind a bounce.
 LEAST_ON = 9
+# The first bit of each tile of a row, and the digits 0 and 1 for these numbers.
+FIRST_BITS = sum(1 << column for column in range(0, ROW, TILE))
+DIGITS = bytes.maketrans(b"\0\1", b"01")
+# What a leg takes is less than so many cells away from the rectangle between its ends.
+AROUND_LEG = 12
+# The balls behind bounces, by the direction before them, as seen from the cell of the bounce.
+BALLS_BEHIND = {(dx, dy): [(turn, bounce(Ball(0, 0, dx, dy, 0), turn)[0]) for turn in Turn]
+                for dx in (1, -1) for dy in (1, -1)}
 
 
 class CoilGround:
@@ -103,25 +112,39 @@ class Squares:
 
 
 class Distances:
-    """The distances of tiles to some tiles, in tiles: each level has the tiles that are at most so far away."""
+    """The distances of tiles to some tiles, in tiles: each level has the tiles that are at most so far away.
+
+    A level is made when it is needed.
+    """
 
     def __init__(self, rows: list[int]) -> None:
-        self.levels = [rows]
-        while len(self.levels) < FARTHEST and any(rows):
-            wide = [0, *(row | row << 1 | row >> 1 for row in rows), 0]
-            rows = [above | own | below for above, own, below in zip(wide, wide[1:], wide[2:])]
-            self.levels.append(rows)
+        self.levels, self.is_empty = [rows], not any(rows)
+        self.known = dict[tuple[int, int], int]()
+
+    def widen(self) -> None:
+        """Makes the next level."""
+        wide = [0, *(row | row << 1 | row >> 1 for row in self.levels[-1]), 0]
+        self.levels.append([above | own | below for above, own, below in zip(wide, wide[1:], wide[2:])])
 
     def steps_from(self, x: int, y: int) -> int:
         """Returns the least steps from a cell to one of the tiles, about."""
-        column, row = x // TILE, y // TILE
-        return TILE * bisect.bisect_left(self.levels, True, key=lambda own: bool(own[row] >> column & 1))
+        column, row = tile = x // TILE, y // TILE
+        found = self.known.get(tile)
+        if found is None:
+            while len(self.levels) < FARTHEST and not self.is_empty and not self.levels[-1][row] >> column & 1:
+                self.widen()
+            found = TILE * bisect.bisect_left(self.levels, True, key=lambda own: bool(own[row] >> column & 1))
+            self.known[tile] = found
+        return found
 
 
 def tile_bits(row: int) -> int:
     """Returns for each tile of a row whether one of its bits is set."""
-    words = row.to_bytes(ROW // 4, "little")
-    return sum(1 << index // 2 for index in range(0, ROW // 8, 2) if words[index] or words[index + 1])
+    for shift in (1, 2, 4, 8):
+        row |= row >> shift
+    # Each tile's bits come together in its first one: a digit of a number with two bytes a tile.
+    words = (row & FIRST_BITS).to_bytes(ROW // 8, "big")
+    return int(words[1::2].translate(DIGITS), 2)
 
 
 def with_square(rows: list[int], side: int) -> list[int]:
@@ -149,8 +172,30 @@ def with_column(rows: list[int], length: int) -> list[int]:
     return rows
 
 
-@dataclass(frozen=True, eq=False)
-class Bend:
+class Span(NamedTuple):
+    """What a leg takes, and a rectangle that has it: the first column and the last one, and so for the rows."""
+
+    item: Item
+    left: int
+    right: int
+    top: int
+    bottom: int
+
+    def meets(self, other: "Span") -> bool:
+        """Whether mirrors of one leg are where the other one is touched."""
+        if self.left > other.right or other.left > self.right or self.top > other.bottom or other.top > self.bottom:
+            return False
+        return any(number in part for one, own in ((self.item, other.item), (other.item, self.item))
+                   for number in one.mirrors for part in own.touched_parts)
+
+
+def span_of(item: Item, first: Ball, last: Ball) -> Span:
+    """Returns what a leg takes that leads from a ball to another one."""
+    return Span(item, min(first.x, last.x) - AROUND_LEG, max(first.x, last.x) + AROUND_LEG,
+                min(first.y, last.y) - AROUND_LEG, max(first.y, last.y) + AROUND_LEG)
+
+
+class Bend(NamedTuple):
     """A bounce of a way that is being sought, after some steps of a leg, with the ball behind it. The first has no leg.
     """
 
@@ -159,7 +204,7 @@ class Bend:
     before: "Bend | None" = None
     leg: Leg = Leg(0, None)
     # What the legs take up to here, or up to the bounce before if it is not known yet.
-    items: tuple[Item, ...] = ()
+    spans: tuple[Span, ...] = ()
 
     @property
     def begun(self) -> int:
@@ -171,15 +216,21 @@ class Bend:
         return [*self.before.legs(), self.leg] if self.before else []
 
 
+class Option(NamedTuple):
+    """A bounce that may come next, after some steps behind another one. The one with the least rank is tried first, and
+    of equal ones the one with the least number."""
+
+    rank: float
+    number: int
+    cost: float
+    before: Bend
+    steps: int
+    turn: Turn
+
+
 def place_of(ball: Ball) -> tuple[int, int, int, int]:
     """Returns the place and direction of a ball, about: a search comes to each once."""
     return ball.x // PLACE, ball.y // PLACE, ball.dx, ball.dy
-
-
-def meets(item: Item, own: Item) -> bool:
-    """Whether mirrors of one item are where the other one is touched."""
-    return any(number in part for one, other in ((item, own), (own, item)) for number in one.mirrors
-               for part in other.touched_parts)
 
 
 class CoilSearch:
@@ -194,20 +245,16 @@ class CoilSearch:
         self.width = least_width(end - self.first.ball.time)
         self.squares = ground.squares(self.width + 1, ball.y)
         self.distances = self.squares.distances()
+        # Nothing is added to the world before the search ends.
+        self.taken = BitJoiner(self.world, finder.chance, finder.settings).taken
         self.seen = set[tuple[int, int, int, int]]()
-        self.tried = 0
+        self.queue = list[Option]()
+        self.tried, self.count = 0, 0
 
     def run(self) -> Iterator[tuple[Coil, list[Leg]]]:
         """Yields coils with the legs up to the end, those of a cheap way first."""
-        if not any(self.squares.rows):
-            return
-        queue: list[tuple[float, int, Bend]] = [(0.0, 0, self.first)]
-        count = 0
-        while queue and self.tried < MOST_BOUNCES:
-            found = heapq.heappop(queue)[2]
-            bend = None if place_of(found.ball) in self.seen else self.with_item(found)
-            if bend is None:
-                continue
+        bend: Bend | None = self.first if any(self.squares.rows) else None
+        while bend is not None and self.tried < MOST_BOUNCES:
             self.seen.add(place_of(bend.ball))
             self.tried += 1
             room = self.room(bend)
@@ -215,10 +262,20 @@ class CoilSearch:
                 ahead = coil.entry.time - bend.ball.time
                 inner = list(coil.legs(self.end - coil.entry.time))
                 yield coil, [*bend.legs(), Leg(ahead + inner[0].steps, inner[0].turn), *inner[1:]]
-            for option in self.bends_behind(bend, room):
-                count += 1
-                left = self.distances.steps_from(option.ball.x, option.ball.y)
-                heapq.heappush(queue, (option.cost + LEFT_CELLS * left, count, option))
+            for option in self.options_behind(bend, room):
+                heapq.heappush(self.queue, option)
+            bend = self.next_bend()
+
+    def next_bend(self) -> Bend | None:
+        """Returns the next bounce at a place to which the search did not come yet, or None if there is none."""
+        while self.queue:
+            _, _, cost, before, steps, turn = heapq.heappop(self.queue)
+            ball = bounce(before.ball.flown(steps), turn)[0]
+            if place_of(ball) not in self.seen:
+                bend = self.with_item(Bend(ball, cost, before, Leg(steps, turn), before.spans))
+                if bend is not None:
+                    return bend
+        return None
 
     def room(self, bend: Bend) -> int:
         """Returns how many steps a ball can fly straight on."""
@@ -226,32 +283,47 @@ class CoilSearch:
         begun = bend.begun
         return begun + self.world.free_flight(bend.ball.flown(begun), most - begun) if most > begun else 0
 
-    def bends_behind(self, bend: Bend, room: int) -> Iterator[Bend]:
-        """Yields the bounces that a ball can come to without another one."""
-        chance = self.finder.chance
+    def places(self, bend: Bend, room: int) -> list[int]:
+        """Returns the steps behind a bounce after which another one is tried."""
+        chance, begun = self.finder.chance, bend.begun
         stride = 1 if self.tried < ALL_BOUNCES else STRIDE
-        places = {*range(bend.begun, room + 1, stride), *range(max(bend.begun, room - 2), room + 1)}
-        places |= {chance.randint(bend.begun, room) for _ in range(4)} if room >= bend.begun else set()
-        for steps in sorted(places):
-            if self.end - bend.ball.time - steps < BOUNCE_STEPS:
-                continue
-            at = bend.ball.flown(steps)
-            for turn in Turn:
-                after, mirror = bounce(at, turn)
-                if place_of(after) in self.seen or not self.world.can_hold(mirror):
+        found = {*range(begun, room + 1, stride), *range(max(begun, room - 2), room + 1)}
+        found |= {chance.randint(begun, room) for _ in range(4)} if room >= begun else set()
+        latest = self.end - bend.ball.time - BOUNCE_STEPS
+        return sorted(steps for steps in found if steps <= latest)
+
+    def options_behind(self, bend: Bend, room: int) -> Iterator[Option]:
+        """Yields the bounces that a ball can come to without another one."""
+        x, y, dx, dy, _ = bend.ball
+        # The columns from the first one to the last one in which a mirror has no room, as bits.
+        low = x if dx > 0 else x - room
+        turns = [(turn, *behind, self.taken(bend.ball, turn, dx == dy) >> low & (1 << room + 1) - 1)
+                 for turn, behind in BALLS_BEHIND[dx, dy]]
+        for steps in self.places(bend, room):
+            column, row, cost = x + steps * dx, y + steps * dy, None
+            # This runs most often: no more balls are made than needed.
+            for turn, right, down, across, along, _, taken in turns:
+                i, j = column + right, row + down
+                if taken >> column - low & 1 or (i // PLACE, j // PLACE, across, along) in self.seen:
                     continue
-                if self.world.free_flight(after.flown(BOUNCE_STEPS), LEAST_ON) >= LEAST_ON:
-                    cost = bend.cost + self.world.new_cells(bend.ball, steps) + BOUNCE_CELLS
-                    yield Bend(after, cost, bend, Leg(steps, turn), bend.items)
+                on = Ball(i + BOUNCE_STEPS * across, j + BOUNCE_STEPS * along, across, along, 0)
+                if self.world.free_flight(on, LEAST_ON) >= LEAST_ON:
+                    if cost is None:
+                        cost = bend.cost + self.world.new_cells(bend.ball, steps) + BOUNCE_CELLS
+                    self.count += 1
+                    rank = cost + LEFT_CELLS * self.distances.steps_from(i, j)
+                    yield Option(rank, self.count, cost, bend, steps, turn)
 
     def with_item(self, bend: Bend) -> Bend | None:
         """Returns a bounce with what the leg before it takes, or None if the leg meets something."""
-        if bend.before is None:
-            return bend
+        assert bend.before is not None
         item = self.leg_item(bend.before, bend.leg)
-        if item is None or not self.world.fits(item) or any(meets(item, own) for own in bend.items):
+        if item is None:
             return None
-        return replace(bend, items=(*bend.items, item))
+        span = span_of(item, bend.before.ball, bend.ball)
+        if any(span.meets(own) for own in bend.spans) or not self.world.fits(item):
+            return None
+        return bend._replace(spans=(*bend.spans, span))
 
     def leg_item(self, bend: Bend, leg: Leg) -> Item | None:
         """Returns what a leg takes behind a bounce."""

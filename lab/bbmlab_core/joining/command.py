@@ -140,13 +140,26 @@ class JoinSearch:
                 return self.attempt(), ""
             except TightError as error:
                 why = str(error)
-                for index in error.connections:
-                    self.spares[index] += 1
+                self.loosen(error.connections)
             except NoRouteError as error:
                 why = str(error)
                 if not self.asked.side:
                     self.side = min(SECOND.max_side, int(self.side * GROWTH) // (2 * TILE) * 2 * TILE)
         return None, why
+
+    def loosen(self, connections: list[int]) -> None:
+        """Gives some balls between two parts more steps: all balls, if the time of one of these is that of another."""
+        before = self.steps_between()
+        for index in connections:
+            self.spares[index] += 1
+        after = self.steps_between()
+        if any(after[index] <= before[index] for index in connections):
+            self.spares = [min(len(SPARES) - 1, spare + 1) for spare in self.spares]
+
+    def steps_between(self) -> list[int]:
+        """Returns the steps that each ball between two parts would get."""
+        plan = made_plan(self.made, self.side, self.spares)
+        return [job.steps for job in plan.jobs if job.is_between] if plan else []
 
     def attempt(self) -> Routed:
         """Returns the bundle of one attempt; raises NoRouteError."""

@@ -153,15 +153,17 @@ def require_connections(parts: dict[str, PartText], connections: list[Connection
 
 
 def ordered(names: list[str], connections: list[Connection]) -> list[str]:
-    """Returns the parts so that each comes after those that feed it; raises LabError if there is a loop."""
+    """Returns the parts so that each comes soon after those that feed it; raises LabError if there is a loop."""
     left, order = list(names), list[str]()
+    targets = {own.target for own in connections}
     while left:
         fed = {own.target for own in connections if own.source in left}
-        ready = next((name for name in left if name not in fed), None)
-        if ready is None:
+        ready = [name for name in left if name not in fed]
+        if not ready:
             raise LabError(f"the connections make a loop through {', '.join(left)}: a circuit has none", 1)
-        left.remove(ready)
-        order.append(ready)
+        # Parts are placed in this order, and balls between parts that are far from each other take many steps.
+        order.append(next((name for name in ready if name in targets), ready[0]))
+        left.remove(order[-1])
     return order
 
 

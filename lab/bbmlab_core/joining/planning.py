@@ -44,6 +44,8 @@ def ways_between(first: Ball, last: Ball) -> tuple[int, int]:
 # its way are more than a part of the others: it has few ways to go.
 SPARES = (Spare(0.1, 60), Spare(0.2, 100), Spare(0.35, 150), Spare(0.35, 250), Spare(0.35, 350))
 SLANTED = 0.6
+# A ball that is led deeper into its part than so many cells gets a step to spare for each further cell.
+SHALLOW = 150
 # How often all parts are turned anew.
 TURNS = 2
 # For each connection the place of its spare steps in `SPARES`.
@@ -79,6 +81,12 @@ class PlacedPart:
         """The width and the height in cells, in whole tiles."""
         layout = self.part.text.layout
         return Area(-(-layout.width // TILE) * TILE, -(-layout.height // TILE) * TILE)
+
+    def too_deep(self, ball: Ball) -> int:
+        """Returns by how many cells a ball is deeper in the part than others can easily come to it."""
+        area = self.area
+        return max(0, min(ball.x - self.x, self.x + area.width - ball.x,
+                          ball.y - self.y, self.y + area.height - ball.y) - SHALLOW)
 
     @property
     def end(self) -> int:
@@ -184,7 +192,8 @@ def set_times(composed: Composed, placed: list[PlacedPart], spares: Spares) -> N
                 last = start_ball(own, connection.input)
                 ways = sorted(ways_between(first, last))
                 own_spare = SPARES[min(len(SPARES) - 1, spare + (ways[0] > SLANTED * ways[1]))]
-                after = first.time + own_spare.steps_between(first, last) - last.time
+                steps = own_spare.steps_between(first, last) + own.too_deep(last)
+                after = first.time + steps - (last.time - own.time)
                 own.time = max(own.time, (after + 1) // 2 * 2)
 
 

@@ -5,7 +5,8 @@ connected with.
 """
 
 import itertools
-from typing import NamedTuple
+from array import array
+from typing import Iterable, NamedTuple
 
 from ..route.balls import Ball
 from ..route.world import ROW, STEP, cell_number
@@ -36,6 +37,12 @@ class NumberMap(NamedTuple):
         """Returns what a number becomes."""
         at = number % STEP
         return self.first + number - at + self.column * (at % ROW) + self.row * (at // ROW)
+
+    def of_all(self, numbers: Iterable[int]) -> "array[int]":
+        """Returns what numbers become, as calls would one by one."""
+        first, column, row = self
+        return array("q", [first + number // STEP * STEP + column * (number % ROW) + row * (number % STEP // ROW)
+                           for number in numbers])
 
     def of_range(self, own: range) -> range:
         """Returns what the numbers of a straight flight become."""

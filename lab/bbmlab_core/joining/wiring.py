@@ -20,7 +20,7 @@ from ..texts.layouts import Box
 from .coil_ways import CoilGround, CoilSearch
 from .modules import JoinedModules
 from .parts import ALWAYS
-from .planning import Job, JoinPlan, PlacedPart
+from .planning import SHALLOW, Job, JoinPlan, PlacedPart
 from .turning import NumberMap
 
 # The steps at the open ends of balls that wait which are kept free, the first that fit.
@@ -28,7 +28,8 @@ STUB_STEPS = (20, 14, 10, 6, 3)
 # The steps at such an end within which room for a bounce is kept.
 BOUNCE_REACH = 60
 # The tries of a path between two parts. It comes back from its goal for some of the first steps, and is joined in some
-# of the second ones.
+# of the second ones. It comes back further from a goal that is deep in its part: among what is there, 11 of 12 balls
+# could not be led to multipliers of 4 bits, 247 to 664 cells deep.
 CONNECT_TRIES = 12
 BACK_STEPS = (60, 300)
 JOIN_STEPS = (80, 260)
@@ -98,13 +99,13 @@ class PartClaims(NamedTuple):
     numbers: NumberMap
     claims: set[int]
 
-    def meets(self, part: "range | array[int]") -> bool:
-        """Whether some claims on a straight way, or near each other, meet those of the part."""
+    def meets(self, part: "range | array[int]", corners: tuple[int, int, int, int]) -> bool:
+        """Whether some claims between two corners meet those of the part."""
         left, top, right, bottom = self.corners
-        (x, y), (far, low) = number_cell(part[0] % STEP), number_cell(part[-1] % STEP)
-        if max(x, far) < left - 8 or min(x, far) > right + 8 or max(y, low) < top - 8 or min(y, low) > bottom + 8:
+        x, y, far, low = corners
+        if far < left - 8 or x > right + 8 or low < top - 8 or y > bottom + 8:
             return False
-        own: Iterable[int] = self.numbers.of_range(part) if isinstance(part, range) else map(self.numbers, part)
+        own = self.numbers.of_range(part) if isinstance(part, range) else self.numbers.of_all(part)
         return not self.claims.isdisjoint(own)
 
 
@@ -129,16 +130,20 @@ class JoinWorld(World):
         """Adds a part where and when it is in the join."""
         item, area = placed.part.item, placed.area
         cells = placed.placing.cell_numbers()
-        touched = tuple(array("q", map(cells, own)) for own in item.touched_parts)
-        self.add(Item(frozenset(map(cells, item.mirrors)), touched))
+        self.add(Item(frozenset(cells.of_all(item.mirrors)), tuple(map(cells.of_all, item.touched_parts))))
         corners = placed.x, placed.y, placed.x + area.width, placed.y + area.height
         claims = self.claim_sets.setdefault(id(item), item.claims)
         self.part_claims.append(PartClaims(corners, placed.placing.block_numbers().inverse(), claims))
 
     def fits(self, item: Item) -> bool:
         """Whether an item may be added: it meets nothing that is there, neither in space nor in time."""
-        return super().fits(item) and not any(own.meets(part) for part in map(compact_part, item.claim_parts)
-                                              for own in self.part_claims)
+        return super().fits(item) and not any(map(self.meets_parts, map(compact_part, item.claim_parts)))
+
+    def meets_parts(self, claims: "range | array[int]") -> bool:
+        """Whether some claims on a straight way, or near each other, meet those of a part."""
+        (x, y), (far, low) = number_cell(claims[0] % STEP), number_cell(claims[-1] % STEP)
+        corners = min(x, far), min(y, low), max(x, far), max(y, low)
+        return any(own.meets(claims, corners) for own in self.part_claims)
 
     def depth(self, x: int, y: int) -> int:
         """Returns how far a cell is from the border of the part that it is in, or 0."""
@@ -342,7 +347,8 @@ class JoinWiring:
     def legs_between(self, back: Trail, on: Trail, start: Ball, goal: Ball) -> list[Leg] | None:
         """Returns legs from a start to a goal by two trails, or None."""
         finder, chance = self.finder, self.chance
-        before = goal.time - chance.randint(*BACK_STEPS)
+        deep = max(0, self.world.depth(goal.x, goal.y) - SHALLOW)
+        before = goal.time - chance.randint(BACK_STEPS[0] + deep, BACK_STEPS[1] + 2 * deep)
         if before <= start.time or not finder.wander(back, -before):
             return None
         last, behind = back.ball.reversed(), back.legs()
