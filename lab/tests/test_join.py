@@ -27,7 +27,7 @@ from bbmlab_core.physics.simulation import run_layout
 from bbmlab_core.route.attempt import Attempt
 from bbmlab_core.route.balls import BOUNCE_STEPS, Ball, Turn, bounce, follow, mirror_cells
 from bbmlab_core.route.command import ProgressLine
-from bbmlab_core.route.netlist import Netlist
+from bbmlab_core.route.netlist import RouterNetlist
 from bbmlab_core.route.paths import PathFinder
 from bbmlab_core.route.settings import OPEN_STEPS, Settings
 from bbmlab_core.route.world import MARGIN, ROW, STEP, TILE, Item, World, cell_number, number_cell, path_item
@@ -450,7 +450,7 @@ class Joining(unittest.TestCase):
         circuit = read_document(BLOCK, "circuit").circuit
         assert circuit
         for steps in (OPEN_STEPS, 0):
-            design = Attempt(Netlist(circuit), 160, 1, Settings(open_steps=steps)).run()
+            design = Attempt(RouterNetlist(circuit), 160, 1, Settings(open_steps=steps)).run()
             ends = [path for path in design.paths if path.end.time == design.end]
             kept = sum(len(path.item.mirrors) > len(mirror_cells(path.mirrors())) for path in ends)
             self.assertEqual(kept > 0, steps > 0)

@@ -19,8 +19,8 @@ from bbmlab_core.host.signals import Stopped
 from bbmlab_core.physics.simulation import WholeRun, key_of
 from bbmlab_core.route import certificate, search, world
 from bbmlab_core.route.attempt import Attempt
-from bbmlab_core.route.design import used_tiles
-from bbmlab_core.route.netlist import Netlist
+from bbmlab_core.route.design import used_tile_bounds
+from bbmlab_core.route.netlist import RouterNetlist
 from bbmlab_core.route.settings import Settings
 from bbmlab_core.route.world import Item
 from bbmlab_core.texts.circuits import evaluate_all
@@ -166,7 +166,7 @@ class Yes(Routing):
         assert routed
         for _ in range(30):
             last = replace(routed, width=16 * chance.randint(3, 30), height=16 * chance.randint(3, 30))
-            plans = list(search.compact_plans(Netlist(circuit), options, Settings(), last, 7))
+            plans = list(search.compact_plans(RouterNetlist(circuit), options, Settings(), last, 7))
             self.assertEqual(len({plan.seed for plan in plans}), len(plans))
             for plan in plans:
                 height = plan.height or 0
@@ -174,16 +174,16 @@ class Yes(Routing):
                 self.assertLessEqual(48, height)
                 self.assertLessEqual(height, plan.side)
                 self.assertEqual(plan.side, plan.most_side)
-        plans = list(search.compact_plans(Netlist(circuit), options, Settings(), routed, 7))
+        plans = list(search.compact_plans(RouterNetlist(circuit), options, Settings(), routed, 7))
         self.assertEqual(len(plans), len(search.COMPACT_PARTS))
 
     def test_attempts_on_a_rectangle(self) -> None:
         """A layout of a plane that is no square lies on it."""
         circuit = read_document(gate_circuit("fredkin"), "circuit").circuit
         assert circuit
-        design = Attempt(Netlist(circuit), 256, 1, Settings(), height=128).run()
+        design = Attempt(RouterNetlist(circuit), 256, 1, Settings(), height=128).run()
         self.assertEqual((design.width, design.height), (256, 128))
-        left, top, right, bottom = used_tiles(design)
+        left, top, right, bottom = used_tile_bounds(design)
         self.assertTrue(0 <= left and 0 <= top and right <= 16 and bottom <= 8)
 
 
@@ -382,7 +382,7 @@ class LateInputs(Routing):
         """Returns when the input b meets another ball, and when the gate that does not depend on it ends."""
         circuit = read_document(LATE, "circuit").circuit
         assert circuit
-        design = Attempt(Netlist(circuit, late=late), 256, 1, Settings()).run()
+        design = Attempt(RouterNetlist(circuit, late=late), 256, 1, Settings()).run()
         gate = next(gate for gate in design.gates if gate.number == 1)
         return next(path.end.time for path in design.paths if path.wire == "b"), gate.time + gate.cell.length
 
@@ -396,7 +396,7 @@ class LateInputs(Routing):
         """The gates that depend on a late input are known, and the balls that wait for it."""
         circuit = read_document(LATE, "circuit").circuit
         assert circuit
-        netlist = Netlist(circuit, late=("b",))
+        netlist = RouterNetlist(circuit, late=("b",))
         self.assertEqual(netlist.late_gates, {2, 3})
         self.assertEqual([wire for wire in "abcdefghk" if netlist.is_awaited(wire)], ["a", "c", "d"])
 

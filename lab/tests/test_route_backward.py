@@ -11,7 +11,7 @@ from bbmlab_core.route.attempt import Attempt
 from bbmlab_core.route.balls import BOUNCE_STEPS, Ball, Leg, Turn, follow, path_run, reversed_legs
 from bbmlab_core.route.board import Board, NoRouteError
 from bbmlab_core.route.design import turned_path
-from bbmlab_core.route.netlist import Netlist
+from bbmlab_core.route.netlist import RouterNetlist
 from bbmlab_core.route.paths import Path
 from bbmlab_core.route.ripup import WayMaker
 from bbmlab_core.route.search import routed_bundle
@@ -44,7 +44,7 @@ class Backward(unittest.TestCase):
 
     def assert_yes(self, text: str, seed: int) -> None:
         """Asserts that a circuit that is placed backwards gets a yes."""
-        netlist = Netlist(read_circuit(text), is_backward=True)
+        netlist = RouterNetlist(read_circuit(text), is_backward=True)
         for index in range(8):
             try:
                 design = Attempt(netlist, 256, seed + index, Settings()).run()
@@ -81,7 +81,7 @@ class Backward(unittest.TestCase):
             if item is None:
                 continue
             path = turned_path(Path("a", start, end, tuple(legs), item),
-                               Netlist(read_circuit(circuit_text("a", "", "a"))), last)
+                               RouterNetlist(read_circuit(circuit_text("a", "", "a"))), last)
             run = path_run(path.start, path.legs)
             self.assertEqual(set(run.states[-1]), set(start.cells()))
             self.assertEqual(set(path.start.cells()), set(end.cells()))
@@ -118,7 +118,7 @@ class RipUp(unittest.TestCase):
 
         with mock.patch.object(WayMaker, "make_way", checked):
             for seed in range(40):
-                attempt = Attempt(Netlist(read_circuit(made_circuit("forward", 14, 8, 3))), 160, seed, Settings())
+                attempt = Attempt(RouterNetlist(read_circuit(made_circuit("forward", 14, 8, 3))), 160, seed, Settings())
                 before = len(results)
                 try:
                     attempt.run(lambda placed, total: self.assert_books(attempt.board))
@@ -144,7 +144,7 @@ class RipUp(unittest.TestCase):
             made.extend([path] if path else [])
             return path
 
-        attempt = Attempt(Netlist(read_circuit(made_circuit("forward", 12, 8, 1))), 384, 1, Settings())
+        attempt = Attempt(RouterNetlist(read_circuit(made_circuit("forward", 12, 8, 1))), 384, 1, Settings())
         with mock.patch.object(Attempt, "path_through", counted), mock.patch.object(Attempt, "last_path", unwilling):
             attempt.run()
         self.assert_books(attempt.board)
@@ -153,7 +153,7 @@ class RipUp(unittest.TestCase):
 
     def test_long_ways(self) -> None:
         """A ball is led on for 9,000 steps, which take more legs than the tries of a short wander."""
-        attempt = Attempt(Netlist(read_circuit(circuit_text("a", "", "a"))), 1200, 1, Settings())
+        attempt = Attempt(RouterNetlist(read_circuit(circuit_text("a", "", "a"))), 1200, 1, Settings())
         path = attempt.last_path("a", Ball(600, 600, 1, 1, 0), 9000)
         assert path
         self.assertEqual((path.end.time, follow(path.start, path.legs)[0]), (9000, path.end))

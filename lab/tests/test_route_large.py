@@ -18,7 +18,7 @@ from bbmlab_core.route.bit_rows import BitJoiner
 from bbmlab_core.route.board import Bound, NoRouteError, Waiting
 from bbmlab_core.route.certificate import require_keeps
 from bbmlab_core.route.design import cropped
-from bbmlab_core.route.netlist import Netlist
+from bbmlab_core.route.netlist import RouterNetlist
 from bbmlab_core.route.placement import Inlet
 from bbmlab_core.route.settings import Settings
 from bbmlab_core.route.world import MARGIN, World, path_item
@@ -124,7 +124,7 @@ class Growth(unittest.TestCase):
 
     def test_a_small_plane_grows(self) -> None:
         """A circuit that has no room on its first plane is routed on a larger one, and not if a side is given."""
-        netlist = Netlist(read_circuit(made_circuit("forward", 8, 6, 1)))
+        netlist = RouterNetlist(read_circuit(made_circuit("forward", 8, 6, 1)))
         grown = []
         for seed in range(3):
             attempt = Attempt(netlist, 128, seed, Settings(), most_size=4096)
@@ -149,7 +149,7 @@ class Growth(unittest.TestCase):
                           *(f"delay 300 {name} -> {name}_late" for name in names),
                           *(f"output {name}_late" for name in names), "end"]) + "\n"
         for most, is_grown in ((4096, True), (160, False)):
-            attempt = Attempt(Netlist(read_circuit(text)), 160, 1, Settings(), most_size=most)
+            attempt = Attempt(RouterNetlist(read_circuit(text)), 160, 1, Settings(), most_size=most)
             attempt.make_room_for_ends()
             side, least = attempt.board.size, (30 * 300 * Settings().step_cells / Settings().end_fill) ** 0.5
             self.assertEqual(side > 160, is_grown)
@@ -163,7 +163,7 @@ class Lanes(unittest.TestCase):
     def test_gates_keep_off(self) -> None:
         """No gate is put on the way ahead of a ball that waits, but for the gate that consumes it, or behind the ball.
         """
-        attempt = Attempt(Netlist(read_circuit(gate_circuit("switch"))), 400, 1, Settings())
+        attempt = Attempt(RouterNetlist(read_circuit(gate_circuit("switch"))), 400, 1, Settings())
         placer, board = attempt.placer, attempt.board
         gate = attempt.netlist.gates[0]
         cell, ball = board.netlist.cells(gate)[0], Ball(200, 200, 1, 1, 0)
@@ -197,7 +197,7 @@ class Cropping(Routing):
     def design(self, text: str, seed: int) -> "search.Design | None":
         """Returns a design on a plane of 512 by 512, or None."""
         try:
-            return Attempt(Netlist(read_circuit(text)), 512, seed, Settings()).run()
+            return Attempt(RouterNetlist(read_circuit(text)), 512, seed, Settings()).run()
         except NoRouteError:
             return None
 

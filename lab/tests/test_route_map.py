@@ -10,7 +10,7 @@ from pathlib import Path
 import support
 from bbmlab_core.route.board import Board
 from bbmlab_core.route.crowding import COLOURS, class_of, crowding_of, runs, tile_counts
-from bbmlab_core.route.netlist import Netlist
+from bbmlab_core.route.netlist import RouterNetlist
 from bbmlab_core.route.settings import Settings
 from bbmlab_core.route.world import ROW, TILE, Item, World
 from bbmlab_core.texts.documents import read_document
@@ -62,7 +62,7 @@ class Counts(unittest.TestCase):
         """A board without gates is empty."""
         circuit = read_document(str(made_circuit("forward", 5, 4, 1)), "circuit").circuit
         assert circuit is not None
-        crowding = crowding_of(Board(Netlist(circuit), 96, Settings()))
+        crowding = crowding_of(Board(RouterNetlist(circuit), 96, Settings()))
         self.assertEqual((crowding.part, crowding.gates), (0, ()))
 
 

@@ -21,9 +21,9 @@ from bbmlab_core.route.balls import Ball, Leg
 from bbmlab_core.route.board import NoRouteError, Placement, Waiting
 from bbmlab_core.route.command import report_failure
 from bbmlab_core.route.design import Design
-from bbmlab_core.route.netlist import Netlist
-from bbmlab_core.route.partial import (PartialRoute, affordable_count, partial_circuit, partial_design, partial_text,
-                                       steps_without)
+from bbmlab_core.route.netlist import RouterNetlist
+from bbmlab_core.route.partial import (PartialRoute, finishable_step_count, partial_circuit, partial_design,
+                                       partial_text, steps_without)
 from bbmlab_core.route.paths import Path as BallPath
 from bbmlab_core.route.search import Options, Outcome, Search, routed_bundle
 from bbmlab_core.route.settings import Settings
@@ -41,7 +41,7 @@ from random_circuits import made_circuit  # noqa: E402
 def placed_part(text: str, side: int, seed: int, failures: int = 0) -> PartialRoute:
     """Returns what an attempt on a plane of one side placed at most."""
     circuit = read_circuit(text)
-    attempt = Attempt(Netlist(circuit), side, seed, Settings(failures=failures))
+    attempt = Attempt(RouterNetlist(circuit), side, seed, Settings(failures=failures))
     try:
         attempt.run()
     except NoRouteError:
@@ -110,7 +110,7 @@ class Parts(unittest.TestCase):
     def test_affordable_count(self) -> None:
         """Without time no gate is kept after an interrupt, with much time all are, and with more time never fewer."""
         part = placed_part(made_circuit("forward", 12, 8, 1), 512, 1)
-        counts = [affordable_count(part.circuit, part.steps, seconds) for seconds in (0.0, 0.05, 0.1, 0.2, 100.0)]
+        counts = [finishable_step_count(part.circuit, part.steps, seconds) for seconds in (0.0, 0.05, 0.1, 0.2, 100.0)]
         self.assertEqual((counts[0], counts[-1], counts), (0, len(part.steps), sorted(counts)))
 
     def test_which_gate_is_left_out(self) -> None:
@@ -135,10 +135,10 @@ class Adopting(unittest.TestCase):
         assert way
         other = BallPath("y", ball.flown(2), ball.flown(22), (Leg(20, None),), way)
         own = Placement(step.gate, step.paths, {"x": step.outs["x"]}, [*step.parked, other])
-        attempt = Attempt(Netlist(part.circuit), 384, 1, Settings())
+        attempt = Attempt(RouterNetlist(part.circuit), 384, 1, Settings())
         self.assertEqual(attempt.adopt([own]), "x")
         self.assertIsInstance(attempt.board.waiting["x"], Waiting)
-        again = Attempt(Netlist(part.circuit), 384, 1, Settings())
+        again = Attempt(RouterNetlist(part.circuit), 384, 1, Settings())
         self.assertEqual(again.adopt([step]), "")
 
 
@@ -156,7 +156,8 @@ class Counting(unittest.TestCase):
                 outcome = Outcome(None, "", Counter(), 1, 12, 12, part.steps, 512, is_interrupted)
                 said = io.StringIO()
                 with mock.patch.object(partial, "led_design", slow_above(3)), \
-                        mock.patch.object(partial, "affordable_count", lambda *_: 3), contextlib.redirect_stderr(said):
+                        mock.patch.object(partial, "finishable_step_count", lambda *_: 3), \
+                        contextlib.redirect_stderr(said):
                     report_failure(part.circuit, outcome, options, find_program(support.program()))
                 kept = sum(line.split(" ")[0] in GATE_SIZES for line in Path(options.output).read_text().split("\n"))
                 with self.subTest(is_interrupted=is_interrupted):

@@ -162,7 +162,7 @@ class Maker:
         ring, halo = perimeter(self.layout, box)
         unnamed = [key for key in (*ring, *halo) if self.observer.names_at(key) is None]
         if unnamed:
-            raise NoBoxError(self.observer.unnamed_words(min(unnamed, key=self.observer.unnamed_place)))
+            raise NoBoxError(self.observer.unnamed_words(min(unnamed, key=self.observer.first_unnamed_moment)))
         module = ModuleDraft(box, edges=self.border_lines(ring), halos=self.border_lines(halo))
         module.stops = [stop for stop in self.stops if box.has(stop.cell)]
         if len(module.edges) + max(len(module.halos), len(module.stops)) > MAX_BORDER_LINES:

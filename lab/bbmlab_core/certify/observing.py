@@ -133,14 +133,14 @@ class Observer:
             self.wires[key] = None if None in names else frozenset(name for name in names if name and name != "1")
         return self.wires[key]
 
-    def unnamed_place(self, key: int) -> tuple[int, int, int]:
+    def first_unnamed_moment(self, key: int) -> tuple[int, int, int]:
         """Returns the first time at which a cell carries no wire, with the cell's row and column."""
         x, y = cell_of(key)
         return next(time for time, table in self.observed.seen[key] if table not in self.signals), y, x
 
     def unnamed_words(self, key: int) -> str:
         """Says when a cell carries no wire."""
-        time, y, x = self.unnamed_place(key)
+        time, y, x = self.first_unnamed_moment(key)
         table = dict(self.observed.seen[key])[time]
         on = listed(self.values.names_of(lowest_bit(table))) or "none of the inputs"
         return (f"at time {time} the cell ({x}, {y}) is live with {on} on, and no wire of the circuit is true in just "

@@ -56,7 +56,7 @@ class KeepSearch:
         if len(necessary) >= MAX_USES:
             return None
         core = frozenset({*necessary, self.number})
-        return self.shown(self.cut_off(core)) or self.grown(core) or self.peeled(core)
+        return self.shown(self.cut_off(core)) or self.grown(core) or self.cone_by_removal(core)
 
     def cuts(self, gates: Iterable[int]) -> set[str]:
         """Returns the wires that come into some gates from elsewhere."""
@@ -120,7 +120,7 @@ class KeepSearch:
                 if wire in self.circuit.maker:
                     yield self.with_sources(gates | {self.circuit.maker[wire].number})
 
-    def peeled(self, core: Gates) -> Cone | None:
+    def cone_by_removal(self, core: Gates) -> Cone | None:
         """Returns what is found by leaving gates out of all before the inverse gate, those first that leave the fewest
         wires to cut."""
         self.runs = 0

@@ -36,7 +36,7 @@ def run(options: argparse.Namespace) -> int:
     elif program:
         output = asked(program, command, text, options)
     else:
-        own = explaining.own_answer(text, command)
+        own = explaining.own_refusal(text, command)
         if own is None:
             find_program(options.program)
             raise LabError("The lab's reader takes the text, but only the program gives a verdict.")

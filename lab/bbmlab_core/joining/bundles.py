@@ -4,7 +4,7 @@ from typing import Iterator
 
 from ..route.certificate import rectangles
 from ..route.design import corner_numbers
-from ..route.netlist import Netlist
+from ..route.netlist import RouterNetlist
 from ..route.paths import Path
 from ..route.search import Routed
 from ..route.world import RIM, ROW, TILE, number_cell
@@ -21,7 +21,7 @@ class JoinedLayout:
 
     def __init__(self, composed: Composed, plan: JoinPlan, paths: list[Path]) -> None:
         self.composed, self.plan, self.paths = composed, plan, paths
-        self.netlist = Netlist(composed.circuit)
+        self.netlist = RouterNetlist(composed.circuit)
         self.starts: dict[str, list[Cell]] = {}
         self.ends: dict[str, list[Cell]] = {}
         for placed in plan.placed:

@@ -195,13 +195,13 @@ def span_of(item: Item, first: Ball, last: Ball) -> Span:
                 min(first.y, last.y) - AROUND_LEG, max(first.y, last.y) + AROUND_LEG)
 
 
-class Bend(NamedTuple):
+class CoilBounce(NamedTuple):
     """A bounce of a way that is being sought, after some steps of a leg, with the ball behind it. The first has no leg.
     """
 
     ball: Ball
     cost: float = 0.0
-    before: "Bend | None" = None
+    before: "CoilBounce | None" = None
     leg: Leg = Leg(0, None)
     # What the legs take up to here, or up to the bounce before if it is not known yet.
     spans: tuple[Span, ...] = ()
@@ -216,14 +216,14 @@ class Bend(NamedTuple):
         return [*self.before.legs(), self.leg] if self.before else []
 
 
-class Option(NamedTuple):
+class CoilOption(NamedTuple):
     """A bounce that may come next, after some steps behind another one. The one with the least rank is tried first, and
     of equal ones the one with the least number."""
 
     rank: float
     number: int
     cost: float
-    before: Bend
+    before: CoilBounce
     steps: int
     turn: Turn
 
@@ -241,19 +241,19 @@ class CoilSearch:
 
     def __init__(self, finder: PathFinder, ground: CoilGround, ball: Ball, end: int, is_backward: bool) -> None:
         self.finder, self.world, self.is_backward, self.end = finder, finder.world, is_backward, end
-        self.first = Bend(ball.reversed() if is_backward else ball)
+        self.first = CoilBounce(ball.reversed() if is_backward else ball)
         self.width = least_width(end - self.first.ball.time)
         self.squares = ground.squares(self.width + 1, ball.y)
         self.distances = self.squares.distances()
         # Nothing is added to the world before the search ends.
         self.taken = BitJoiner(self.world, finder.chance, finder.settings).taken
         self.seen = set[tuple[int, int, int, int]]()
-        self.queue = list[Option]()
+        self.queue = list[CoilOption]()
         self.tried, self.count = 0, 0
 
     def run(self) -> Iterator[tuple[Coil, list[Leg]]]:
         """Yields coils with the legs up to the end, those of a cheap way first."""
-        bend: Bend | None = self.first if any(self.squares.rows) else None
+        bend: CoilBounce | None = self.first if any(self.squares.rows) else None
         while bend is not None and self.tried < MOST_BOUNCES:
             self.seen.add(place_of(bend.ball))
             self.tried += 1
@@ -266,24 +266,24 @@ class CoilSearch:
                 heapq.heappush(self.queue, option)
             bend = self.next_bend()
 
-    def next_bend(self) -> Bend | None:
+    def next_bend(self) -> CoilBounce | None:
         """Returns the next bounce at a place to which the search did not come yet, or None if there is none."""
         while self.queue:
             _, _, cost, before, steps, turn = heapq.heappop(self.queue)
             ball = bounce(before.ball.flown(steps), turn)[0]
             if place_of(ball) not in self.seen:
-                bend = self.with_item(Bend(ball, cost, before, Leg(steps, turn), before.spans))
+                bend = self.with_item(CoilBounce(ball, cost, before, Leg(steps, turn), before.spans))
                 if bend is not None:
                     return bend
         return None
 
-    def room(self, bend: Bend) -> int:
+    def room(self, bend: CoilBounce) -> int:
         """Returns how many steps a ball can fly straight on."""
         most = min(LONGEST, self.end - bend.ball.time)
         begun = bend.begun
         return begun + self.world.free_flight(bend.ball.flown(begun), most - begun) if most > begun else 0
 
-    def places(self, bend: Bend, room: int) -> list[int]:
+    def places(self, bend: CoilBounce, room: int) -> list[int]:
         """Returns the steps behind a bounce after which another one is tried."""
         chance, begun = self.finder.chance, bend.begun
         stride = 1 if self.tried < ALL_BOUNCES else STRIDE
@@ -292,7 +292,7 @@ class CoilSearch:
         latest = self.end - bend.ball.time - BOUNCE_STEPS
         return sorted(steps for steps in found if steps <= latest)
 
-    def options_behind(self, bend: Bend, room: int) -> Iterator[Option]:
+    def options_behind(self, bend: CoilBounce, room: int) -> Iterator[CoilOption]:
         """Yields the bounces that a ball can come to without another one."""
         x, y, dx, dy, _ = bend.ball
         # The columns from the first one to the last one in which a mirror has no room, as bits.
@@ -312,9 +312,9 @@ class CoilSearch:
                         cost = bend.cost + self.world.new_cells(bend.ball, steps) + BOUNCE_CELLS
                     self.count += 1
                     rank = cost + LEFT_CELLS * self.distances.steps_from(i, j)
-                    yield Option(rank, self.count, cost, bend, steps, turn)
+                    yield CoilOption(rank, self.count, cost, bend, steps, turn)
 
-    def with_item(self, bend: Bend) -> Bend | None:
+    def with_item(self, bend: CoilBounce) -> CoilBounce | None:
         """Returns a bounce with what the leg before it takes, or None if the leg meets something."""
         assert bend.before is not None
         item = self.leg_item(bend.before, bend.leg)
@@ -325,7 +325,7 @@ class CoilSearch:
             return None
         return bend._replace(spans=(*bend.spans, span))
 
-    def leg_item(self, bend: Bend, leg: Leg) -> Item | None:
+    def leg_item(self, bend: CoilBounce, leg: Leg) -> Item | None:
         """Returns what a leg takes behind a bounce."""
         begun = min(bend.begun, leg.steps)
         if not self.is_backward:
@@ -334,7 +334,7 @@ class CoilSearch:
         goal = bend.ball.flown(begun).reversed()
         return path_item(self.finder.before(goal, legs), legs)
 
-    def coils_ahead(self, bend: Bend, room: int) -> Iterator[Coil]:
+    def coils_ahead(self, bend: CoilBounce, room: int) -> Iterator[Coil]:
         """Yields the first coils that have room on the straight way behind a bounce."""
         ball, has = bend.ball, self.squares.has
         if self.distances.steps_from(ball.x, ball.y) > room + self.width + TILE:

@@ -187,7 +187,7 @@ class JoinSearch:
             modules.require_meetings()
             seed = self.asked.seed * 1_000_003 + self.attempts + 1
             wiring = JoinWiring(plan, modules, seed, SETTINGS, self.deadline)
-            closed = [] if self.attempts else wiring.closed_ends()
+            closed = [] if self.attempts else wiring.blocked_ends()
             if not closed:
                 return plan, modules, wiring
             self.made = with_whole_ports(self.made, plan, closed)

@@ -8,7 +8,7 @@ from ..circuits.gate_lines import read_circuit
 from ..circuits.netlists.naming import MAX_NAME
 from ..host.terminal import LabError
 from ..route.balls import Ball
-from ..route.netlist import Netlist
+from ..route.netlist import RouterNetlist
 from ..route.world import Item, cell_number
 from ..texts.circuits import Circuit, Gate
 from ..texts.layouts import Cell
@@ -146,7 +146,7 @@ def require_connections(parts: dict[str, PartText], connections: list[Connection
             if (what + name, wire) in used:
                 raise LabError(f"{own}: the {what} {wire} of {name} is connected twice", 2)
             used[what + name, wire] = own
-        netlist = Netlist(parts[own.source].circuit)
+        netlist = RouterNetlist(parts[own.source].circuit)
         if netlist.root(own.output) in netlist.constants:
             what = f"the output {own.output} of {own.source} is a constant"
             raise LabError(f"{own}: {what}, which `join` does not lead to an input", 1)

@@ -111,7 +111,7 @@ class LoneRuns:
                     run.note_meeting(time)
 
 
-def lone_way(run: LoneRun, claims: set[int], mirrors: set[Cell]) -> LoneWay:
+def removable_way(run: LoneRun, claims: set[int], mirrors: set[Cell]) -> LoneWay:
     """Returns what a run leaves out at its best cut."""
     ball = next(ball for time in run.times() for ball in [lone_ball(run.states[time], time)] if ball)
     steps = run.steps(ball.time)

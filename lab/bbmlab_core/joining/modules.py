@@ -12,7 +12,7 @@ from ..circuits.cones import fewest_cuts
 from ..host.terminal import LabError
 from ..route.balls import moving_cells
 from ..route.board import Bound, NoRouteError
-from ..route.netlist import Netlist
+from ..route.netlist import RouterNetlist
 from ..route.paths import Path
 from ..route.world import ROW, STEP, TILE, number_cell
 from ..texts.certificates import MAX_CUTS, MAX_USES, Border, Module, ModuleDraft, Stop, local_wires
@@ -39,7 +39,7 @@ class JoinedModules:
     """
 
     def __init__(self, composed: Composed, plan: JoinPlan) -> None:
-        self.circuit, self.netlist, self.plan = composed.circuit, Netlist(composed.circuit), plan
+        self.circuit, self.netlist, self.plan = composed.circuit, RouterNetlist(composed.circuit), plan
         self.owners = Owners(plan.side, plan.side)
         self.boxes: list[Box] = []
         self.origins: list[tuple[PlacedPart, Module]] = []

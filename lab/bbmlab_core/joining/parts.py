@@ -7,7 +7,7 @@ from typing import Collection
 from ..host.terminal import LabError
 from ..physics.simulation import local_values
 from ..route.balls import Ball, block_corner, stepped
-from ..route.netlist import Netlist
+from ..route.netlist import RouterNetlist
 from ..route.world import ROW, STEP, Item, cell_number
 from ..texts.certificates import Certificate, Module
 from ..texts.circuits import Circuit
@@ -16,7 +16,7 @@ from ..texts.gates import Table
 from ..texts.layouts import Cell, Layout
 from ..texts.owners import Owners
 from ..texts.refusals import refusal_words
-from .lone_ways import LoneRun, LoneRuns, LoneWay, balls_of, lone_way
+from .lone_ways import LoneRun, LoneRuns, LoneWay, balls_of, removable_way
 
 # The wire of a ball that is always there.
 ALWAYS = "1"
@@ -73,7 +73,7 @@ def read_part(name: str, text: str, connected: Collection[str] = ()) -> PartText
     lone = {} if not connected else lone_runs(circuit, layout, certificate, connected)
     run = PartRun(circuit, layout, certificate, LoneRuns(list(lone.values())))
     item, last = run.run()
-    ways = {key: lone_way(own, run.claims, run.mirrors) for key, own in lone.items()}
+    ways = {key: removable_way(own, run.claims, run.mirrors) for key, own in lone.items()}
     starts, start_fault = start_ports(layout)
     ends, end_fault = end_ports(circuit, layout, run.wires_at_end(last))
     starts = [replace(port, way=ways.get(("in", port.wire))) for port in starts]
@@ -87,7 +87,7 @@ def lone_runs(circuit: Circuit, layout: Layout, certificate: Certificate,
 
     A ball from an input to an output has none.
     """
-    netlist, mirrors = Netlist(circuit), layout.mirror_cells()
+    netlist, mirrors = RouterNetlist(circuit), layout.mirror_cells()
     bound = {*netlist.delayed, *netlist.after, *(line.name for module in certificate.modules for line in module.stops)}
     bound |= set(circuit.inputs).intersection(circuit.outputs)
     cells: dict[tuple[str, str], list[Cell]] = defaultdict(list)
@@ -114,7 +114,7 @@ def start_ports(layout: Layout) -> tuple[list[PartPort], str]:
 def end_ports(circuit: Circuit, layout: Layout, wastes: dict[Cell, str | None]) -> tuple[list[PartPort], str]:
     """Returns the balls at the last time, without cells that are never live, and why they are none if that is so."""
     cells: dict[str, list[Cell]] = defaultdict(list)
-    netlist = Netlist(circuit)
+    netlist = RouterNetlist(circuit)
     for part in layout.of_kind("out"):
         if not netlist.is_zero(part.name or ""):
             cells[part.name or ""].append(part.cell)
@@ -214,7 +214,7 @@ class PartRun:
 
     def wires_at_end(self, last: dict[Cell, tuple[Module, Table]]) -> dict[Cell, str | None]:
         """Returns the wire of each `waste` cell that may be live at the last time, or None if it carries none."""
-        netlist, wires = Netlist(self.circuit), dict[Cell, str | None]()
+        netlist, wires = RouterNetlist(self.circuit), dict[Cell, str | None]()
         spills = set(self.circuit.spills)
         for part in self.layout.of_kind("waste"):
             if part.cell not in last:

@@ -222,7 +222,7 @@ class JoinWiring:
                 for what, ball in (("from", job.start), ("to", job.goal)) if ball]
         return f"{ball_words(job)} could not be led {' '.join(ends)}"
 
-    def closed_ends(self) -> list[tuple[int, Ball, int]]:
+    def blocked_ends(self) -> list[tuple[int, Ball, int]]:
         """Returns the open ends that no ball can leave even if no other ball is led: the number of the job, the ball,
         and 1 behind it or -1 before it. The paths to come do not depend on what was tried."""
         self.finder.chance = random.Random(0)

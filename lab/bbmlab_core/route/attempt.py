@@ -10,7 +10,7 @@ from ..texts.circuits import Gate
 from .balls import Ball, Leg
 from .board import Board, Bound, NoRouteError, Placement, Waiting
 from .design import Design, forward_design
-from .netlist import Netlist
+from .netlist import RouterNetlist
 from .paths import Path
 from .placement import Placer
 from .ripup import WayMaker
@@ -33,7 +33,7 @@ def no_progress(placed: int, total: int) -> None:
 class Attempt:
     """An attempt. It depends on circuit, size, seed and settings alone, unless the time is over."""
 
-    def __init__(self, netlist: Netlist, size: int, seed: int, settings: Settings, deadline: float = float("inf"),
+    def __init__(self, netlist: RouterNetlist, size: int, seed: int, settings: Settings, deadline: float = float("inf"),
                  most_size: int = 0, height: int | None = None) -> None:
         self.netlist = netlist
         # The side up to which the plane may grow.

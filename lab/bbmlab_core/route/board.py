@@ -9,7 +9,7 @@ from ..circuits.cones import fewest_cuts
 from ..texts.certificates import MAX_CUTS
 from .balls import Ball, Leg
 from .cells import GateCell
-from .netlist import Netlist
+from .netlist import RouterNetlist
 from .paths import Path
 from .settings import Settings
 from .world import ROW, TILE, Item, World, cell_item, path_item
@@ -109,7 +109,7 @@ def tiles_in(box: TileBox) -> list[int]:
 class Board:
     """The state of an attempt. Each change can be taken back."""
 
-    def __init__(self, netlist: Netlist, size: int, settings: Settings, height: int | None = None) -> None:
+    def __init__(self, netlist: RouterNetlist, size: int, settings: Settings, height: int | None = None) -> None:
         self.netlist, self.settings = netlist, settings
         self.world = World(size, height)
         # The root wires that wait.

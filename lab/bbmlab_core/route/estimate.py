@@ -4,7 +4,7 @@ fared when measured.
 
 from dataclasses import dataclass
 
-from .netlist import Netlist
+from .netlist import RouterNetlist
 
 
 @dataclass(frozen=True)
@@ -50,7 +50,7 @@ def counted(count: int, noun: str) -> str:
     return f"{count} {noun}{'' if count == 1 else 's'}"
 
 
-def estimate_of(netlist: Netlist, side: int) -> Estimate:
+def estimate_of(netlist: RouterNetlist, side: int) -> Estimate:
     """Returns the estimate for a circuit that is tried first with a side."""
     levels: dict[str, int] = {}
     for gate in netlist.circuit.gates:

@@ -194,7 +194,7 @@ class PathFinder:
         """
         if not most:
             return NO_ITEM
-        for legs in self.open_legs(ball, sign, most):
+        for legs in self.legs_past_bounce(ball, sign, most):
             way = path_item(ball if sign > 0 else self.before(ball, legs), legs)
             # A few steps of the straight way keep mirrors so far away that a search sees the bounce.
             steps = OPEN_PAST + (legs[0] if sign > 0 else legs[-1]).steps
@@ -206,7 +206,7 @@ class PathFinder:
                 return found
         return None
 
-    def open_legs(self, ball: Ball, sign: int, most: int) -> Iterator[list[Leg]]:
+    def legs_past_bounce(self, ball: Ball, sign: int, most: int) -> Iterator[list[Leg]]:
         """Yields legs with one bounce that has room, soon behind a ball or before it, with a free way beyond the
         bounce.
 

@@ -24,7 +24,7 @@ from .certificate import Certifier, bundle_text, circuit_section
 from .crowding import Crowding, crowding_of
 from .design import Design, cropped
 from .estimate import Estimate, estimate_of
-from .netlist import Netlist
+from .netlist import RouterNetlist
 from .partial import EFFORT_PART, INTERRUPT_SECONDS, SECONDS, PartialRoute, hurried_design, partial_design, partial_text
 from .settings import Settings
 from .world import TILE
@@ -112,7 +112,7 @@ class Outcome:
 Progress = Callable[[int, int, int, int], None]
 
 
-def estimated_side(netlist: Netlist) -> int:
+def estimated_side(netlist: RouterNetlist) -> int:
     """Returns a side of a layout in which a circuit has room, by an estimate of what its balls touch."""
     area = 0.0
     for gate in netlist.gates:
@@ -127,14 +127,14 @@ def estimated_side(netlist: Netlist) -> int:
     return side
 
 
-def netlists_of(circuit: Circuit, options: Options) -> list[Netlist]:
+def netlists_of(circuit: Circuit, options: Options) -> list[RouterNetlist]:
     """Returns a circuit forward in time; and also backward if far more balls end than begin, which comes first if the
     circuit is shallow.
 
     Balls that begin at any place are led more easily than balls to one last time. Parts are kept of forward netlists
     alone, and only they have late inputs.
     """
-    forward, backward = Netlist(circuit, late=options.late), Netlist(circuit, is_backward=True)
+    forward, backward = RouterNetlist(circuit, late=options.late), RouterNetlist(circuit, is_backward=True)
     if options.late or len(backward.free_roots()) - len(forward.free_roots()) <= MOST_GROWTH:
         return [forward]
     is_shallow = max(forward.tails.values(), default=0) <= SHALLOW_STEPS
@@ -146,7 +146,7 @@ class AttemptPlan:
     """What an attempt is made with: the circuit, the first side and that up to which the plane may grow, the seed, the
     costs, and the height of the plane if it is no square."""
 
-    netlist: Netlist
+    netlist: RouterNetlist
     side: int
     most_side: int
     seed: int
@@ -163,7 +163,7 @@ def seed_of(options: Options, index: int) -> int:
     return options.seed * 1_000_003 + index
 
 
-def plans_of(netlists: list[Netlist], options: Options, settings: Settings) -> Iterator[AttemptPlan]:
+def plans_of(netlists: list[RouterNetlist], options: Options, settings: Settings) -> Iterator[AttemptPlan]:
     """Yields what attempts are made with, in their order, without end."""
     side, index = options.side or estimated_side(netlists[0]), 0
     while True:
@@ -196,7 +196,7 @@ def compact_settings(settings: Settings) -> Settings:
                    least_parking=SECOND.max_steps)
 
 
-def compact_plans(netlist: Netlist, options: Options, settings: Settings, routed: Routed,
+def compact_plans(netlist: RouterNetlist, options: Options, settings: Settings, routed: Routed,
                   first: int) -> Iterator[AttemptPlan]:
     """Yields what attempts on smaller planes than a layout are made with; `first` is the number of the first of them.
     """

@@ -72,7 +72,7 @@ class Leading(JoinWiring):
 
     def closed_end(self) -> str:
         """Says which open end no ball can leave even if no other ball is led, or returns nothing."""
-        for index, ball, sign in self.closed_ends():
+        for index, ball, sign in self.blocked_ends():
             where = "behind it" if sign > 0 else "before it"
             words = ball_words(self.plan.jobs[index])
             return (f"{words} at ({ball.x}, {ball.y}) at time {ball.time} has no room for a "

@@ -199,7 +199,7 @@ class Survey {
     }
     this.changedAt = this.time + 1;
     if ((one !== 0 && (note & 1) === 0) || (other !== 0 && (note & 2) === 0)
-        || (both !== 0 && (note & 4) === 0)) this.noteWays(a, one, other, both);
+        || (both !== 0 && (note & 4) === 0)) this.noteBlockWays(a, one, other, both);
     if ((note & 64) === 0) return;
     if (diagonal !== 0) this.loosen(a, d);
     if (across !== 0) this.loosen(b, c);
@@ -235,7 +235,7 @@ class Survey {
    * Notes the ways through a block, each once: bit 0 of the note is the one diagonal, bit 1 the other, bit 2 a
    * collision.
    */
-  noteWays(a, one, other, both) {
+  noteBlockWays(a, one, other, both) {
     const { noted } = this, bits = noted[a];
     if ((bits & 7) === 0) this.blocks.push(a);
     if (one && !(bits & 1)) this.down[a] = this.colourOf(one);

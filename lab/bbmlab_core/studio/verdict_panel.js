@@ -17,7 +17,7 @@ const KINDS = { "local end": "the end is wrong", "local edge": "an edge line is 
     meet: "inputs do not meet" };
 
 /** Says what kind of no a report makes, by its first line. */
-function kindOf({ text, cell, time }, { width, height }) {
+function describeFault({ text, cell, time }, { width, height }) {
   const words = text.split(" "), isRim = cell && (cell[0] % (width - 1) === 0 || cell[1] % (height - 1) === 0);
   if (words[0] === "local" && words[2] === "edge" && isRim)
       return `the rim is live at (${cell.join(", ")}), time ${time}`;
@@ -138,7 +138,7 @@ class VerdictPanel {
       : isCurrent ? TITLES[verdict.verdict] : `${TITLES[verdict.verdict]}, outdated`;
     const said = isCurrent && !isNothing && ["yes", "no", "refused"].includes(verdict.verdict);
     const [fault] = verdict ? verdict.faults : [];
-    const kind = said && verdict.verdict === "no" && fault ? `${kindOf(fault, this.desk.layout)}; ` : "";
+    const kind = said && verdict.verdict === "no" && fault ? `${describeFault(fault, this.desk.layout)}; ` : "";
     element("who").textContent = said ? `${kind}${this.programWords()}` : "";
     element("who").title = this.program && this.program.path ? `${this.program.path}\nSHA-256 ${this.program.sha256}`
       : "";

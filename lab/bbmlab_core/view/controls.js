@@ -90,7 +90,7 @@ function showPlay() {
 }
 
 /** Shows the outputs and what depends on the run's end. */
-function showEnd() {
+function showRunResults() {
   panels.showResults(player, goToCell);
   showTime();
   stage.takeResults();
@@ -393,7 +393,7 @@ function listenToChanges() {
     stage.paintWave();
   });
   player.listen("end", () => {
-    showEnd();
+    showRunResults();
     speakSoon();
   });
   player.listen("play", () => {
