@@ -148,7 +148,10 @@ class JoinSearch:
         return None, why
 
     def loosen(self, connections: list[int]) -> None:
-        """Gives some balls between two parts more steps: all balls, if the time of one of these is that of another."""
+        """Gives some balls between two parts more steps.
+
+        If one of them gets none by that, since another ball decides when its part begins, all balls get more.
+        """
         before = self.steps_between()
         for index in connections:
             self.spares[index] += 1

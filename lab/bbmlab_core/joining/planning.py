@@ -82,8 +82,8 @@ class PlacedPart:
         layout = self.part.text.layout
         return Area(-(-layout.width // TILE) * TILE, -(-layout.height // TILE) * TILE)
 
-    def too_deep(self, ball: Ball) -> int:
-        """Returns by how many cells a ball is deeper in the part than others can easily come to it."""
+    def cells_too_deep(self, ball: Ball) -> int:
+        """Returns how many cells deeper than `SHALLOW` a ball is in the part, or 0."""
         area = self.area
         return max(0, min(ball.x - self.x, self.x + area.width - ball.x,
                           ball.y - self.y, self.y + area.height - ball.y) - SHALLOW)
@@ -192,7 +192,7 @@ def set_times(composed: Composed, placed: list[PlacedPart], spares: Spares) -> N
                 last = start_ball(own, connection.input)
                 ways = sorted(ways_between(first, last))
                 own_spare = SPARES[min(len(SPARES) - 1, spare + (ways[0] > SLANTED * ways[1]))]
-                steps = own_spare.steps_between(first, last) + own.too_deep(last)
+                steps = own_spare.steps_between(first, last) + own.cells_too_deep(last)
                 after = first.time + steps - (last.time - own.time)
                 own.time = max(own.time, (after + 1) // 2 * 2)
 
