@@ -16,7 +16,7 @@ use crate::desk::{Desk, DeskSeat};
 use crate::gate::Gate;
 use certificate::Job;
 use core_book::{Claim, Reply};
-use local_run::{Finding, run_job};
+use local_run::{Buffers, Finding, run_job_with_buffers};
 use std::alloc::{AllocError, Global};
 use std::sync::ledger::Ledger;
 use std::sync::{Arc, Wait};
@@ -62,11 +62,12 @@ impl<F: Filings, A: Ledger> Worker<F, A> {
         requires links { AreLinks shared_work.now.groups.now shared_work.now.links.now }
         ensures { HasWorked shared_work.now.desk.now shared_work.now.groups.now self.old self.new }
     {
+        let mut buffers = Buffers::new(alloc);
         while let Claim::Number(number) = shared_work.desk.claim(&mut self.seat) {
             shared_work.gate.before(number);
             let share = &mut self.share;
             let runs = &mut self.runs;
-            match run_group_if_first(rt, alloc, shared_work, number, share, runs) {
+            match run_group_if_first(rt, &mut buffers, shared_work, number, share, runs) {
                 Ok(()) => shared_work.gate.after(number),
                 Err(_) => {
                     self.starved = true;
@@ -81,7 +82,7 @@ impl<F: Filings, A: Ledger> Worker<F, A> {
 // book's digest. For another number there is nothing to do.
 fn run_group_if_first<F: Filings, A: Ledger, G, R: Wait>(
     rt: &R,
-    alloc: Global,
+    buffers: &mut Buffers,
     shared_work: &SharedWork<'_, F, A, G>,
     number: usize,
     share: &mut Share<F, A>,
@@ -103,13 +104,13 @@ fn run_group_if_first<F: Filings, A: Ledger, G, R: Wait>(
         return Ok(());
     }
     let digest = shared_work.book.digest();
-    let finding = run_counted(alloc, digest, number, &jobs[number], runs)?;
+    let finding = run_counted(buffers, digest, number, &jobs[number], runs)?;
     file_members(rt, shared_work, &finding, number, share)
 }
 
 // Runs a job and counts the run, also one that finds no memory. No other function of this crate runs jobs.
 fn run_counted(
-    alloc: Global,
+    buffers: &mut Buffers,
     digest: [u8; 32],
     number: usize,
     job: &Arc<Job>,
@@ -120,7 +121,7 @@ fn run_counted(
     ensures counted { IsOneMore runs.old runs.new }
 {
     *runs = runs.saturating_add(1);
-    run_job(alloc, digest, number, job.clone()?)
+    run_job_with_buffers(buffers, digest, number, job.clone()?)
 }
 
 // Files the findings of all members of a group, by that of its first number. It looks at no other job.

@@ -15,6 +15,7 @@ ghost use Rattle.std.specs.Prelude.{ℕ, ◌≡◌, ◌+◌, ◌*◌, ◌/◌, �
 
 use crate::block_marks::BlockMarks;
 use crate::blocks::Partition;
+use crate::buffers::Buffers;
 use crate::frozen::FrozenBlocks;
 use crate::live::LiveMarks;
 use crate::marked_steps::STEPS_TO_SEARCH;
@@ -22,7 +23,7 @@ use crate::marks::{is_marked, mark_border, marked_in_first_and_other, marked_in_
 use crate::phases::WholePlaneSteps;
 use crate::planes::{Planes, WordSource};
 use crate::words::Changes;
-use std::alloc::{AllocError, Global};
+use std::alloc::AllocError;
 
 /// The planes of a run, with marks on the blocks that a turn may change.
 #[derive(Drop)]
@@ -72,7 +73,7 @@ impl MarkedPlanes {
     /// has a mark, since each stays.
     #[tactic(auto, using(crate::proofs::LiveLemmas::dead_blocks))]
     pub fn new(
-        alloc: Global,
+        buffers: &mut Buffers,
         width: usize,
         height: usize,
         words: usize,
@@ -85,11 +86,11 @@ impl MarkedPlanes {
         ensures all_cells_dead { IfOk result (λ m. AreAllCellsDead m.planes) }
         ensures none_settled { IfOk result (λ m. (u : ℕ) → IsSettled m u → ⊥) }
     {
-        let planes = Planes::new(alloc, width, height, words)?;
+        let planes = Planes::new(buffers, width, height, words)?;
         let long = planes.cells_per_plane().div_ceil(64);
-        let block_marks = BlockMarks::new(alloc, long)?;
-        let live_marks = LiveMarks::new(alloc, long)?;
-        let mut border_marks = vec![in alloc; 0u64; long]?;
+        let block_marks = BlockMarks::new(buffers, long)?;
+        let live_marks = LiveMarks::new(buffers, long)?;
+        let mut border_marks = buffers.take_zeros(long)?;
         mark_border(&mut border_marks, planes.stride(), planes.rows());
         Ok(MarkedPlanes {
             planes,
@@ -101,10 +102,25 @@ impl MarkedPlanes {
             border_marks,
             is_settled: false,
             whole_plane_steps: WholePlaneSteps::NONE,
-            frozen: FrozenBlocks::not_found_yet(alloc),
+            frozen: FrozenBlocks::not_found_yet(buffers.alloc()),
             steps_until_search: STEPS_TO_SEARCH,
             searches_left: MAX_SEARCHES,
         })
+    }
+
+    /// Leaves the vectors to later planes.
+    pub fn leave(self, buffers: &mut Buffers) {
+        let MarkedPlanes {
+            planes,
+            block_marks,
+            live_marks,
+            border_marks,
+            ..
+        } = self;
+        buffers.leave(border_marks);
+        live_marks.leave(buffers);
+        block_marks.leave(buffers);
+        planes.leave(buffers);
     }
 
     /// Returns the planes.
