@@ -31,7 +31,7 @@ use Rattle.answers.specs.Answers.{AnswersOrRefuses}
 use Rattle.answers.specs.BundleReading.{IsDesignRead, TellsRefusal, bundle_of_certificate}
 use Rattle.core_book.specs.Concluding.{port_names_of}
 use Rattle.pattern.specs.FromLines.{layout_of}
-use Rattle.answers.specs.BundleText.{Bundle, bundle_with}
+use Rattle.answers.specs.BundleText.{Bundle, bundle_with_limits}
 use Rattle.answers.specs.declared.outcome.Outcome.{Outcome}
 use Rattle.section_text.specs.declared.code.RefusalCode.TheVariants.{TextCut}
 
@@ -104,18 +104,19 @@ module _ (l : Limits) (text : List ℕ) where
       section_then (layout_grammar l (Some (port_names_of circuit))) n ahead (after_layout circuit)
 
 module _ (l : Limits) (f0 f1 : FeedView) (unread : f0.taken ≡ front_lines l) (going : f0.stop ≡ None) where
-  from_start : section_then (circuit_grammar l) f0.taken (ahead f0) (after_circuit l f0.text) ≡ bundle_with l f0.text
-  unfolding bundle_with after_circuit after_layout ended whole
+  from_start : section_then (circuit_grammar l) f0.taken (ahead f0) (after_circuit l f0.text)
+      ≡ bundle_with_limits l f0.text
+  unfolding bundle_with_limits after_circuit after_layout ended whole
   from_start = ap (λ n. section_then (circuit_grammar l) n (drop n (lines_of f0.text)) (after_circuit l f0.text)) unread
 
   pub circuit_failed : (fault : ReadFault) →
       Reads {A = List CircuitLine} (circuit_grammar l) circuit_section f0 f1 (Err fault) →
-      FailsAsReading fault (bundle_with l f0.text)
+      FailsAsReading fault (bundle_with_limits l f0.text)
   circuit_failed fault reads = subst (FailsAsReading fault) from_start
       (section_failed (circuit_grammar l) circuit_section f0 f1 going (after_circuit l f0.text) fault reads)
 
   module _ (circuit : List CircuitLine) (read : Reads (circuit_grammar l) circuit_section f0 f1 (Ok circuit)) where
-    circuit_read : bundle_with l f0.text ≡ after_circuit l f0.text tt circuit f1.taken (ahead f1)
+    circuit_read : bundle_with_limits l f0.text ≡ after_circuit l f0.text tt circuit f1.taken (ahead f1)
     circuit_read = sym from_start
         ∙ section_read (circuit_grammar l) circuit_section f0 f1 going (after_circuit l f0.text) circuit read
 
@@ -127,10 +128,10 @@ module _ (l : Limits) (f0 f1 : FeedView) (unread : f0.taken ≡ front_lines l) (
 
     pub layout_failed : (f2 : FeedView) (fault : ReadFault) →
         Reads {A = Pattern} (layout_grammar l (Some (port_names_of circuit))) layout_section f1 f2 (Err fault) →
-        FailsAsReading fault (bundle_with l f0.text)
+        FailsAsReading fault (bundle_with_limits l f0.text)
     unfolding after_circuit
     layout_failed f2 fault reads =
-        fails_along fault (bundle_with l f0.text) _ circuit_read
+        fails_along fault (bundle_with_limits l f0.text) _ circuit_read
         (section_failed (layout_grammar l (Some (port_names_of circuit))) layout_section f1 f2 going_1
         (after_layout l f0.text circuit) fault reads)
 
@@ -138,7 +139,8 @@ module _ (l : Limits) (f0 f1 : FeedView) (unread : f0.taken ≡ front_lines l) (
 
 module _ (l : Limits) (f0 f2 : FeedView) (unread : f0.taken ≡ front_lines l) (going : f0.stop ≡ None)
     (circuit : List CircuitLine) (layout : Pattern) (design : IsDesignRead l f0 f2 circuit layout) where
-  layout_read : bundle_with l f0.text ≡ after_layout l f0.text circuit layout.size (parts_of layout) f2.taken (ahead f2)
+  layout_read : bundle_with_limits l f0.text
+      ≡ after_layout l f0.text circuit layout.size (parts_of layout) f2.taken (ahead f2)
   unfolding after_circuit
   layout_read = circuit_read l f0 design.between unread going circuit design.circuit_read ∙ section_read
       (layout_grammar l (Some (port_names_of circuit))) layout_section design.between f2
@@ -162,13 +164,13 @@ module _ (l : Limits) (f0 f2 : FeedView) (unread : f0.taken ≡ front_lines l) (
   module _ (f3 : FeedView) where
     pub certificate_failed : (fault : ReadFault) →
         Reads {A = CertView} (certificate_grammar l (setting_of circuit layout)) certificate_section f2 f3
-        (Err fault) → FailsAsReading fault (bundle_with l f0.text)
+        (Err fault) → FailsAsReading fault (bundle_with_limits l f0.text)
     unfolding after_layout setting
     certificate_failed fault reads =
         let right : Reads {A = CertView} (certificate_grammar l setting) certificate_section f2 f3 (Err fault) =
         subst (λ g. Reads {A = CertView} (certificate_grammar l g) certificate_section f2 f3 (Err fault))
         (sym (same_setting circuit layout)) reads in
-        fails_along fault (bundle_with l f0.text) _ layout_read
+        fails_along fault (bundle_with_limits l f0.text) _ layout_read
         (section_failed (certificate_grammar l setting) certificate_section f2 f3 going_2
         (ended l f0.text circuit layout.size (parts_of layout)) fault right)
 
@@ -179,7 +181,7 @@ module _ (l : Limits) (f0 f2 : FeedView) (unread : f0.taken ≡ front_lines l) (
       right = subst (λ g. Reads (certificate_grammar l g) certificate_section f2 f3 (Ok cert))
           (sym (same_setting circuit layout)) read_3
 
-      certificate_read : bundle_with l f0.text
+      certificate_read : bundle_with_limits l f0.text
           ≡ ended l f0.text circuit layout.size (parts_of layout) cert.version cert.entries f3.taken (ahead f3)
       unfolding after_layout setting
       certificate_read = layout_read
@@ -196,7 +198,7 @@ module _ (l : Limits) (f0 f2 : FeedView) (unread : f0.taken ≡ front_lines l) (
 
       pub bundle_read : cert.circuit ≡ circuit → cert.layout ≡ layout → ahead f3 ≡ [] →
           bytes_after_last_line_feed f3.text ≡ [] →
-          bundle_with l f0.text ≡ Ok (bundle_of_certificate cert)
+          bundle_with_limits l f0.text ≡ Ok (bundle_of_certificate cert)
       unfolding ended whole
       bundle_read same_circuit same_layout none over =
           certificate_read ∙ at_the_end f3.taken (ahead f3) (bytes_after_last_line_feed f0.text)
@@ -206,10 +208,10 @@ module _ (l : Limits) (f0 f2 : FeedView) (unread : f0.taken ≡ front_lines l) (
           (sym same_layout)
 
       pub bundle_goes_on : (fault : ReadFault) → (ahead f3 ≡ [] → bytes_after_last_line_feed f3.text ≢ []) →
-          fault ≡ refusal (f3.taken + 1) TextCut → FailsAsReading fault (bundle_with l f0.text)
+          fault ≡ refusal (f3.taken + 1) TextCut → FailsAsReading fault (bundle_with_limits l f0.text)
       unfolding ended
       bundle_goes_on fault more is =
-          fails_along fault (bundle_with l f0.text) _ certificate_read
+          fails_along fault (bundle_with_limits l f0.text) _ certificate_read
           (more_fails f3.taken (ahead f3) (bytes_after_last_line_feed f0.text)
           (whole l f0.text circuit layout.size (parts_of layout) cert.version cert.entries) fault
           (λ none over. more none (ap bytes_after_last_line_feed text_3 ∙ over)) is)

@@ -19,8 +19,8 @@ use Rattle.certificate_lines.specs.declared.certificate_line.CertificateLine.The
 use Rattle.certificate_lines.specs.declared.certificate_line.CertificateLine.TheVariants.{Module, Stop, Use}
 use Rattle.certificate.specs.Text.{entry_text, form_text}
 use Rattle.certificate.proofs.Spelling.{form_line}
-use Rattle.answers.specs.KeptLines.{begins_with_h, line_without_h}
-unfoldable use Rattle.answers.specs.KeptLines.{lines_without_h}
+use Rattle.answers.specs.KeptLines.{begins_with_h, line_unless_begins_with_h}
+unfoldable use Rattle.answers.specs.KeptLines.{lines_not_beginning_with_h}
 
 -- ---- line by line
 
@@ -43,37 +43,38 @@ begins_alike : (l : List ℕ) → begins_with_h (with_line_feed l) ≡ begins_wi
 begins_alike [] = refl
 begins_alike (byte ∷ bytes) = refl
 
-dropped : (l : List ℕ) (ls : List (List ℕ)) → begins_with_h l ≡ true → lines_without_h (l ∷ ls) ≡ lines_without_h ls
-unfolding lines_without_h
-dropped l ls h = ap (λ b. if not b then l ∷ lines_without_h ls else lines_without_h ls) h
+dropped : (l : List ℕ) (ls : List (List ℕ)) → begins_with_h l ≡ true →
+    lines_not_beginning_with_h (l ∷ ls) ≡ lines_not_beginning_with_h ls
+unfolding lines_not_beginning_with_h
+dropped l ls h = ap (λ b. if not b then l ∷ lines_not_beginning_with_h ls else lines_not_beginning_with_h ls) h
 
 kept : (l : List ℕ) (ls : List (List ℕ)) → begins_with_h l ≡ false →
-    lines_without_h (l ∷ ls) ≡ l ∷ lines_without_h ls
-unfolding lines_without_h
-kept l ls h = ap (λ b. if not b then l ∷ lines_without_h ls else lines_without_h ls) h
+    lines_not_beginning_with_h (l ∷ ls) ≡ l ∷ lines_not_beginning_with_h ls
+unfolding lines_not_beginning_with_h
+kept l ls h = ap (λ b. if not b then l ∷ lines_not_beginning_with_h ls else lines_not_beginning_with_h ls) h
 
 -- the text of the lines that are kept
 abbrev pub kept_text : List ℕ → List ℕ
-kept_text w = flat_map with_line_feed (lines_without_h (lines_of w))
+kept_text w = flat_map with_line_feed (lines_not_beginning_with_h (lines_of w))
 
 pub none_kept : (w : List ℕ) → position is_line_feed w ≡ None → kept_text w ≡ []
-unfolding lines_without_h
-none_kept w none = ap (λ ls. flat_map with_line_feed (lines_without_h ls)) (no_line w none).0
+unfolding lines_not_beginning_with_h
+none_kept w none = ap (λ ls. flat_map with_line_feed (lines_not_beginning_with_h ls)) (no_line w none).0
 
 more_kept : (l : List ℕ) (ls : List (List ℕ)) (b : Bool) → begins_with_h l ≡ b →
-    flat_map with_line_feed (lines_without_h (l ∷ ls))
-    ≡ (if b then [] else with_line_feed l) ++ flat_map with_line_feed (lines_without_h ls)
+    flat_map with_line_feed (lines_not_beginning_with_h (l ∷ ls))
+    ≡ (if b then [] else with_line_feed l) ++ flat_map with_line_feed (lines_not_beginning_with_h ls)
 more_kept l ls true h = ap (flat_map with_line_feed) (dropped l ls h)
 more_kept l ls false h = ap (flat_map with_line_feed) (kept l ls h)
 
 -- the first line, and the text behind it
 pub first_kept : (w : List ℕ) (n : ℕ) → position is_line_feed w ≡ Some n →
-    kept_text w ≡ line_without_h (take (n + 1) w) ++ kept_text (drop (n + 1) w)
+    kept_text w ≡ line_unless_begins_with_h (take (n + 1) w) ++ kept_text (drop (n + 1) w)
 first_kept w n at =
     let line = take n w in
-    ap (λ ls. flat_map with_line_feed (lines_without_h ls)) (first_line w n at).lines
+    ap (λ ls. flat_map with_line_feed (lines_not_beginning_with_h ls)) (first_line w n at).lines
     ∙ more_kept line (lines_of (drop (n + 1) w)) (begins_with_h (with_line_feed line)) (sym (begins_alike line))
-    ∙ ap (λ l. line_without_h l ++ kept_text (drop (n + 1) w)) (sym (first_with_line_feed w n at))
+    ∙ ap (λ l. line_unless_begins_with_h l ++ kept_text (drop (n + 1) w)) (sym (first_with_line_feed w n at))
 
 -- ---- the lines of a certificate
 
@@ -115,7 +116,7 @@ begins l (Halo border) e = first_of l _ 104 e (other_than_10 104 (omega arith))
 begins l (Stop stop) e = first_of l _ 115 e (other_than_10 115 (omega arith))
 
 abbrev AreKept : List (List ℕ) → List CertificateLine → Type 0
-AreKept ls items = flat_map with_line_feed (lines_without_h ls)
+AreKept ls items = flat_map with_line_feed (lines_not_beginning_with_h ls)
     ≡ flat_map entry_text (without_halos items) ++ form_text End
 
 one_more : (l : List ℕ) (i : CertificateLine) (ls : List (List ℕ)) (items : List CertificateLine) (b : Bool) →
@@ -131,17 +132,17 @@ one_more l i ls items false halo e more =
 
 items_kept : (items : List CertificateLine) (ls : List (List ℕ)) → forms form_of ls ≡ items_said form_of items →
     AreKept ls items
-unfolding without_halos lines_without_h
+unfolding without_halos lines_not_beginning_with_h
 items_kept [] ls e =
     let one = one_line form_of (Some End) [] ls e in
     let end = form_line one.line End one.first_form in
-    ap (λ ks. flat_map with_line_feed (lines_without_h ks))
+    ap (λ ks. flat_map with_line_feed (lines_not_beginning_with_h ks))
     (one.lines ∙ ap (λ ks. one.line ∷ ks) (no_lines form_of one.rest one.other_forms))
     ∙ ap (flat_map with_line_feed) (kept one.line [] (first_of one.line _ 101 end (other_than_10 101 (omega arith))))
     ∙ append-nil (with_line_feed one.line) ∙ end
 items_kept (i ∷ items) ls e =
     let one = one_line form_of (Some (Item i)) (items_said form_of items) ls e in
-    ap (λ ks. flat_map with_line_feed (lines_without_h ks)) one.lines
+    ap (λ ks. flat_map with_line_feed (lines_not_beginning_with_h ks)) one.lines
     ∙ one_more one.line i one.rest items (is_halo i) refl (form_line one.line (Item i) one.first_form)
     (items_kept items one.rest one.other_forms)
 
@@ -149,5 +150,5 @@ pub section_kept : (ls : List (List ℕ)) (version : ℕ) (items : List Certific
     IsSection form_of ls version items → AreKept (drop 1 ls) items
 section_kept ls version items e =
     let one = one_line form_of (Some (Header version)) (items_said form_of items) ls e in
-    ap (λ ks. flat_map with_line_feed (lines_without_h (drop 1 ks))) one.lines
+    ap (λ ks. flat_map with_line_feed (lines_not_beginning_with_h (drop 1 ks))) one.lines
     ∙ items_kept items one.rest one.other_forms

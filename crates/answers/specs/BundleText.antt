@@ -26,8 +26,8 @@ pub record Bundle : Type 0 where
 
 -- With these limits, after their line: a circuit section, a layout section whose ports are named as its inputs and
 -- outputs, a certificate section for both, and nothing more.
-unfoldable pub bundle_with : Limits → List ℕ → Result Bundle Refusal
-bundle_with l text =
+unfoldable pub bundle_with_limits : Limits → List ℕ → Result Bundle Refusal
+bundle_with_limits l text =
     section_then (circuit_grammar l) (front_lines l) (drop (front_lines l) (lines_of text)) (λ _ circuit n ahead.
     section_then (layout_grammar l (Some (port_names_of circuit))) n ahead (λ size parts m later.
     section_then (certificate_grammar l (setting_of circuit (layout_of size parts))) m later (λ version entries k last.
@@ -36,4 +36,4 @@ bundle_with l text =
 
 -- with the limits that the text has
 unfoldable pub bundle_of : List ℕ → Result Bundle Refusal
-bundle_of text = bundle_with (limits_of (lines_of text)) text
+bundle_of text = bundle_with_limits (limits_of (lines_of text)) text

@@ -7,11 +7,11 @@ begins_with_h [] = false
 begins_with_h (byte ∷ bytes) = byte == 104
 
 -- the lines that do not
-unfoldable pub lines_without_h : List (List ℕ) → List (List ℕ)
-lines_without_h [] = []
-lines_without_h (line ∷ lines) =
-    if not (begins_with_h line) then line ∷ lines_without_h lines else lines_without_h lines
+unfoldable pub lines_not_beginning_with_h : List (List ℕ) → List (List ℕ)
+lines_not_beginning_with_h [] = []
+lines_not_beginning_with_h (line ∷ lines) =
+    if not (begins_with_h line) then line ∷ lines_not_beginning_with_h lines else lines_not_beginning_with_h lines
 
 -- a line with its line feed, or nothing if it begins so
-abbrev pub line_without_h : List ℕ → List ℕ
-line_without_h line = if begins_with_h line then [] else line
+abbrev pub line_unless_begins_with_h : List ℕ → List ℕ
+line_unless_begins_with_h line = if begins_with_h line then [] else line

@@ -31,5 +31,5 @@ pub record SaysModules (bundle : Bundle) (output : List ℕ) (outcome : Outcome)
   pub ends : outcome ≡ Yes
 
 -- what `modules` writes for a text, and how it ends
-abbrev pub IsModulesOf : List ℕ → List ℕ → Outcome → Type 0
-IsModulesOf text output outcome = AnswersOrRefuses SaysModules (bundle_of text) output outcome
+abbrev pub IsModulesAnswerOf : List ℕ → List ℕ → Outcome → Type 0
+IsModulesAnswerOf text output outcome = AnswersOrRefuses SaysModules (bundle_of text) output outcome

@@ -24,9 +24,9 @@ use Rattle.answers.specs.Answers.{AnswersOrRefuses, value_and_names_on}
 -- ---- what is read
 
 -- the name of an input cell
-abbrev pub name_of_in_line : LayoutLine → List (List ℕ)
-name_of_in_line (In p) = p.name ∷ []
-name_of_in_line _ = []
+abbrev pub input_name_of_line : LayoutLine → List (List ℕ)
+input_name_of_line (In p) = p.name ∷ []
+input_name_of_line _ = []
 
 -- the lines of a layout, and the names that are on
 abbrev pub RunQuestion : Type 0
@@ -34,14 +34,14 @@ RunQuestion = (LayoutHeader × List LayoutLine) × List (List ℕ)
 
 -- With these limits, after their line: a layout section, an assign section in which the names of its input cells may be
 -- on, and nothing more.
-unfoldable pub run_sections_with : Limits → List ℕ → Result RunQuestion Refusal
-run_sections_with l text =
+unfoldable pub run_sections_with_limits : Limits → List ℕ → Result RunQuestion Refusal
+run_sections_with_limits l text =
     section_then (layout_grammar l None) (front_lines l) (drop (front_lines l) (lines_of text))
-    (λ size parts n ahead. value_and_names_on text (size, parts) (flat_map name_of_in_line parts) n ahead)
+    (λ size parts n ahead. value_and_names_on text (size, parts) (flat_map input_name_of_line parts) n ahead)
 
 -- with the limits that the text has
 unfoldable pub run_sections_of : List ℕ → Result RunQuestion Refusal
-run_sections_of text = run_sections_with (limits_of (lines_of text)) text
+run_sections_of text = run_sections_with_limits (limits_of (lines_of text)) text
 
 -- ---- what is written
 
@@ -70,5 +70,5 @@ pub record SaysRunEnd (asked : RunQuestion) (output : List ℕ) (outcome : Outco
   pub ends : outcome ≡ run_end_outcome end
 
 -- what `run` writes for a text, and how it ends
-abbrev pub IsRunOf : List ℕ → List ℕ → Outcome → Type 0
-IsRunOf text output outcome = AnswersOrRefuses SaysRunEnd (run_sections_of text) output outcome
+abbrev pub IsRunAnswerOf : List ℕ → List ℕ → Outcome → Type 0
+IsRunAnswerOf text output outcome = AnswersOrRefuses SaysRunEnd (run_sections_of text) output outcome

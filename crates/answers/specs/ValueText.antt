@@ -23,14 +23,14 @@ ValueQuestion = List CircuitLine × List (List ℕ)
 
 -- with these limits, after their line: a circuit section, an assign section in which its inputs may be on, and nothing
 -- more
-unfoldable pub value_sections_with : Limits → List ℕ → Result ValueQuestion Refusal
-value_sections_with l text =
+unfoldable pub value_sections_with_limits : Limits → List ℕ → Result ValueQuestion Refusal
+value_sections_with_limits l text =
     section_then (circuit_grammar l) (front_lines l) (drop (front_lines l) (lines_of text))
     (λ _ entries n ahead. value_and_names_on text entries (input_names entries) n ahead)
 
 -- with the limits that the text has
 unfoldable pub value_sections_of : List ℕ → Result ValueQuestion Refusal
-value_sections_of text = value_sections_with (limits_of (lines_of text)) text
+value_sections_of text = value_sections_with_limits (limits_of (lines_of text)) text
 
 -- an input is true exactly if its name is on
 abbrev pub assigned_inputs : ValueQuestion → Valuation
@@ -57,5 +57,5 @@ pub record SaysValues (asked : ValueQuestion) (output : List ℕ) (outcome : Out
   pub says : SaysAllValues asked output outcome ⊎ SaysValuesBeforeGate asked output outcome
 
 -- what `value` writes for a text, and how it ends
-abbrev pub IsValueOf : List ℕ → List ℕ → Outcome → Type 0
-IsValueOf text output outcome = AnswersOrRefuses SaysValues (value_sections_of text) output outcome
+abbrev pub IsValueAnswerOf : List ℕ → List ℕ → Outcome → Type 0
+IsValueAnswerOf text output outcome = AnswersOrRefuses SaysValues (value_sections_of text) output outcome

@@ -2,10 +2,10 @@
 ghost use Rattle.std.specs.Prelude.{◌≡◌, true, None, IfOk};
 ghost use Rattle.section_text.specs.Words.{lines_of};
 ghost use Rattle.answers.specs.Answers.{AnswersOrRefuses as AnsweredAs};
-ghost use Rattle.answers.specs.BundleText.{bundle_of, bundle_with};
+ghost use Rattle.answers.specs.BundleText.{bundle_of, bundle_with_limits};
 ghost use Rattle.section_text.specs.Limits.{front_lines, limits_of};
 ghost use Rattle.answers.specs.MigrateText.{IsMigrationOf};
-ghost use Rattle.answers.specs.ModulesText.{IsModulesOf};
+ghost use Rattle.answers.specs.ModulesText.{IsModulesAnswerOf};
 ghost use Rattle.answers.specs.Questions.{AnswersQuestion};
 
 use crate::design::read_design;
@@ -30,10 +30,10 @@ pub fn modules_text(alloc: Global, text: &mut Feed) -> Result<Answered, AllocErr
     requires text_closed { text.old.closed ≡ true }
     requires unread { text.old.taken ≡ 0 }
     requires feed_not_stopped { text.old.stop ≡ None }
-    ensures { IfOk result (λ answered. IsModulesOf text.old.text answered.output.items
+    ensures { IfOk result (λ answered. IsModulesAnswerOf text.old.text answered.output.items
         answered.outcome) }
 {
-    answer_of_text(alloc, text, Question::Modules)
+    answer_bundle_question(alloc, text, Question::Modules)
 }
 
 /// Reads a bundle up to the end of the text, and writes it in certificate version 2, without halo lines. The text is
@@ -45,12 +45,12 @@ pub fn migrate_text(alloc: Global, text: &mut Feed) -> Result<Answered, AllocErr
     ensures { IfOk result (λ answered. IsMigrationOf text.old.text answered.output.items
         answered.outcome) }
 {
-    answer_of_text(alloc, text, Question::Migration)
+    answer_bundle_question(alloc, text, Question::Migration)
 }
 
 // Reads a bundle up to the end of the text, and answers the question.
 #[tactic(auto, unfolding(crate::specs::BundleText::bundle_of))]
-fn answer_of_text(
+fn answer_bundle_question(
     alloc: Global,
     text: &mut Feed,
     question: Question,
@@ -79,7 +79,7 @@ fn answer_after_front(
     requires front_taken { text.old.taken ≡ front_lines limits }
     requires feed_not_stopped { text.old.stop ≡ None }
     ensures { IfOk result (λ answered. AnsweredAs (AnswersQuestion limits question)
-        (bundle_with limits text.old.text) answered.output.items answered.outcome) }
+        (bundle_with_limits limits text.old.text) answered.output.items answered.outcome) }
 {
     let design = match read_design(alloc, text, limits) {
         Err(fault) => return refusal_answer(alloc, fault),

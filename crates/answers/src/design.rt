@@ -5,7 +5,7 @@ ghost use Rattle.section_text.specs.Section.{FailsAsReading, Reads};
 ghost use Rattle.certificate.specs.Grammars.{certificate_grammar, certificate_section};
 ghost use Rattle.certificate_lines.specs.Settings.{setting_of};
 ghost use Rattle.answers.specs.BundleReading.{IsDesignRead};
-ghost use Rattle.answers.specs.BundleText.{bundle_with};
+ghost use Rattle.answers.specs.BundleText.{bundle_with_limits};
 
 use certificate::{Cert, read_certificate_within};
 use circuit::{Circuit, port_names, read_circuit_within};
@@ -52,7 +52,7 @@ pub fn read_design(alloc: Global, text: &mut Feed, limits: Limits) -> Result<Des
     ensures read { IfOk result (λ design. IsDesignRead limits text.old text.new design.circuit
         design.layout) }
     ensures fault { IfErr result (λ fault. FailsAsReading fault
-        (bundle_with limits text.old.text)) }
+        (bundle_with_limits limits text.old.text)) }
 {
     let circuit = match read_circuit_within(alloc, text, limits) {
         Err(fault) => return Err(fault),

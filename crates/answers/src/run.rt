@@ -5,7 +5,7 @@ ghost use Rattle.std.specs.List.{flat_map};
 ghost use Rattle.section_text.specs.Section.{ReaderReturnsSection};
 ghost use Rattle.section_text.specs.Spelling.{line_text};
 ghost use Rattle.pattern.specs.Grammars.{layout_section};
-ghost use Rattle.answers.specs.RunText.{IsRunOf, SaysRunEnd, live_cell_line, run_end_outcome, run_end_text, run_sections_with};
+ghost use Rattle.answers.specs.RunText.{IsRunAnswerOf, SaysRunEnd, live_cell_line, run_end_outcome, run_end_text, run_sections_with_limits};
 ghost use Rattle.answers.specs.Answers.{AnswersOrRefuses};
 ghost use Rattle.section_text.specs.Limits.{front_lines};
 
@@ -34,7 +34,7 @@ fn read_layout_and_assign(
     requires front_taken { feed.old.taken ≡ front_lines limits }
     requires feed_not_stopped { feed.old.stop ≡ None }
     ensures { ReaderReturnsSection (λ asked. (layout_section asked.0, asked.1.items)) result
-        (run_sections_with limits feed.old.text) }
+        (run_sections_with_limits limits feed.old.text) }
 {
     let layout = match read_layout_within(alloc, feed, limits, &PortNames::Any) {
         Err(fault) => return Err(fault),
@@ -125,7 +125,7 @@ fn run_after_front(alloc: Global, feed: &mut Feed, limits: Limits) -> Result<Ans
     requires front_taken { feed.old.taken ≡ front_lines limits }
     requires feed_not_stopped { feed.old.stop ≡ None }
     ensures { IfOk result (λ answered. AnswersOrRefuses SaysRunEnd
-        (run_sections_with limits feed.old.text) answered.output.items answered.outcome) }
+        (run_sections_with_limits limits feed.old.text) answered.output.items answered.outcome) }
 {
     match read_layout_and_assign(alloc, feed, limits) {
         Err(fault) => refusal_answer(alloc, fault),
@@ -139,7 +139,7 @@ pub fn run_text(alloc: Global, feed: &mut Feed) -> Result<Answered, AllocError>
     requires text_closed { feed.old.closed ≡ true }
     requires unread { feed.old.taken ≡ 0 }
     requires feed_not_stopped { feed.old.stop ≡ None }
-    ensures { IfOk result (λ answered. IsRunOf feed.old.text answered.output.items
+    ensures { IfOk result (λ answered. IsRunAnswerOf feed.old.text answered.output.items
         answered.outcome) }
 {
     let limits = feed.take_limits();

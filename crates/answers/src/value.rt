@@ -7,7 +7,7 @@ ghost use Rattle.circuit.specs.Entries.{defined};
 ghost use Rattle.circuit.specs.Text.{value_lines};
 ghost use Rattle.section_text.specs.Section.{ReaderReturnsSection};
 ghost use Rattle.circuit.specs.Bridge.{input_names, netlist_of};
-ghost use Rattle.answers.specs.ValueText.{IsValueOf, SaysValues, value_sections_with};
+ghost use Rattle.answers.specs.ValueText.{IsValueAnswerOf, SaysValues, value_sections_with_limits};
 ghost use Rattle.answers.specs.Answers.{AnswersOrRefuses};
 ghost use Rattle.section_text.specs.Limits.{front_lines};
 
@@ -15,7 +15,7 @@ use crate::asking::read_assign_and_end;
 use crate::outcome::{Answered, Outcome};
 use crate::refusing::refusal_answer;
 use circuit::{Circuit, ValuesFault, port_names, print_values, read_circuit_within};
-use pattern::are_on;
+use pattern::which_are_on;
 use section_text::{Feed, Limits, Name, PortNames, ReadFault};
 use std::alloc::{AllocError, Global};
 
@@ -40,7 +40,7 @@ fn read_circuit_and_assign(
     requires front_taken { feed.old.taken ≡ front_lines limits }
     requires feed_not_stopped { feed.old.stop ≡ None }
     ensures { ReaderReturnsSection (λ asked. (asked.0, asked.1.items)) result
-        (value_sections_with limits feed.old.text) }
+        (value_sections_with_limits limits feed.old.text) }
 {
     let circuit = match read_circuit_within(alloc, feed, limits) {
         Err(fault) => return Err(fault),
@@ -79,7 +79,7 @@ fn answer(alloc: Global, circuit: &Circuit, on: &[Name]) -> Result<Answered, All
         answered.outcome) }
 {
     let ins = input_name_list(alloc, circuit)?;
-    let bits = are_on(alloc, &ins, on)?;
+    let bits = which_are_on(alloc, &ins, on)?;
     circuit.prove_valid();
     match circuit.values(alloc, &bits) {
         Ok(values) => {
@@ -107,7 +107,7 @@ fn value_after_front(alloc: Global, feed: &mut Feed, limits: Limits) -> Result<A
     requires front_taken { feed.old.taken ≡ front_lines limits }
     requires feed_not_stopped { feed.old.stop ≡ None }
     ensures { IfOk result (λ answered. AnswersOrRefuses SaysValues
-        (value_sections_with limits feed.old.text) answered.output.items answered.outcome) }
+        (value_sections_with_limits limits feed.old.text) answered.output.items answered.outcome) }
 {
     match read_circuit_and_assign(alloc, feed, limits) {
         Err(fault) => refusal_answer(alloc, fault),
@@ -121,7 +121,7 @@ pub fn value_text(alloc: Global, feed: &mut Feed) -> Result<Answered, AllocError
     requires text_closed { feed.old.closed ≡ true }
     requires unread { feed.old.taken ≡ 0 }
     requires feed_not_stopped { feed.old.stop ≡ None }
-    ensures { IfOk result (λ answered. IsValueOf feed.old.text answered.output.items
+    ensures { IfOk result (λ answered. IsValueAnswerOf feed.old.text answered.output.items
         answered.outcome) }
 {
     let limits = feed.take_limits();

@@ -5,7 +5,7 @@ use Rattle.border_match.specs.BorderFaults.{AreBorderFaultsOf}
 use Rattle.border_match.specs.declared.fault.BorderFault.{BorderFault}
 use Rattle.certificate.specs.Grammars.{CertView}
 use Rattle.module_job.specs.Jobs.{JobView}
-use Rattle.certificate.specs.Times.{are_all_obeyed, delay_and_meet_lines}
+use Rattle.certificate.specs.Times.{are_all_timings_obeyed, delay_and_meet_lines}
 use Rattle.core_book.specs.Concluding.{AreJobsOfCertificate, modules, setting}
 use Rattle.core_book.specs.Verdicts.{AreLeastFaults, IsVerdict, report_lines_from, timing_report_line, unkept_lines}
 use Rattle.core_book.specs.declared.verdict.LeastFaults.{LeastFaults}
@@ -30,7 +30,7 @@ same-count s jobs fs bs all = all.least.count ∙ all.own.count ∙ sym all.bord
 
 pub verdict-yes : (s : CertView) (jobs : List JobView) (fs : List LeastFaults) (bs : List (Option BorderFault)) →
     AreAllFaults s jobs fs bs → report_lines_from 0 fs bs ++ unkept_lines (setting s) (modules s) ≡ [] →
-    are_all_obeyed (delay_and_meet_lines (setting s).circuit (modules s)) ≡ true →
+    are_all_timings_obeyed (delay_and_meet_lines (setting s).circuit (modules s)) ≡ true →
     IsVerdict (setting s) (modules s) jobs Yes
 unfolding IsVerdict
 verdict-yes s jobs fs bs all none kept =
@@ -42,7 +42,7 @@ pub verdict-no : (s : CertView) (jobs : List JobView) (fs : List LeastFaults) (b
     lines.items ≡ report_lines_from 0 fs bs ++ unkept_lines (setting s) (modules s)
     ++ map timing_report_line (delay_and_meet_lines (setting s).circuit (modules s)) →
     ¬ ((report_lines_from 0 fs bs ++ unkept_lines (setting s) (modules s) ≡ [])
-    × (are_all_obeyed (delay_and_meet_lines (setting s).circuit (modules s)) ≡ true)) →
+    × (are_all_timings_obeyed (delay_and_meet_lines (setting s).circuit (modules s)) ≡ true)) →
     IsVerdict (setting s) (modules s) jobs (No lines)
 unfolding IsVerdict
 verdict-no s jobs fs bs lines all lines_are some = (

@@ -6,7 +6,7 @@ ghost use Rattle.circuit.specs.Bridge.{circuit_of};
 ghost use Rattle.pattern.specs.Layout.{parts_of};
 ghost use Rattle.pattern.specs.Lines.{AreNamed};
 ghost use Rattle.border_match.specs.BorderFaults.{AreBorderFaultsOf};
-ghost use Rattle.certificate.specs.Times.{are_all_obeyed};
+ghost use Rattle.certificate.specs.Times.{are_all_timings_obeyed};
 ghost use Rattle.core_book.specs.Concluding.{AreJobsOfCertificate, modules, port_names_of, setting};
 ghost use Rattle.meaning.specs.Implements.{IsCorrect};
 ghost use Rattle.soundness.specs.OnTime.{IsOnTime};
@@ -114,17 +114,17 @@ fn verdict_of(
     let unkept = cert.unkept(alloc)?;
     let times = cert.times(alloc)?;
     let mut lines = report_lines(alloc, faults, borders, &unkept)?;
-    let obeyed = are_all_obeyed(&times);
+    let obeyed = are_all_timings_obeyed(&times);
     if obeyed & lines.is_empty() {
         return Ok(Verdict::Yes);
     }
-    push_time_lines(&mut lines, &times)?;
+    push_timing_report_lines(&mut lines, &times)?;
     Ok(Verdict::No(lines))
 }
 
 // Whether all delays take as many steps as they say, and all inputs meet.
-fn are_all_obeyed(times: &[TimeLine]) -> bool
-    ensures { result ≡ are_all_obeyed times.now }
+fn are_all_timings_obeyed(times: &[TimeLine]) -> bool
+    ensures { result ≡ are_all_timings_obeyed times.now }
 {
     times.iter().all(|line| line.is_obeyed())
 }
@@ -140,7 +140,10 @@ fn timing_report_line(line: &TimeLine) -> ReportLine
 }
 
 // Adds what stops say of all gates.
-fn push_time_lines(lines: &mut Vec<ReportLine>, times: &[TimeLine]) -> Result<(), AllocError>
+fn push_timing_report_lines(
+    lines: &mut Vec<ReportLine>,
+    times: &[TimeLine],
+) -> Result<(), AllocError>
     ensures { OnOk result (lines.new.items ≡ lines.old.items ++ map timing_report_line times.now) }
 {
     for line in times {
@@ -163,7 +166,7 @@ fn faults_of_held_findings(
 {
     let mut faults = Vec::with_capacity(alloc, jobs.len())?;
     for (number, job) in jobs.iter().enumerate() {
-        let Some(finding) = book.found_for(number, job) else {
+        let Some(finding) = book.held_finding_of_job(number, job) else {
             return Err(Unfinished::Missing(number));
         };
         faults.push(least_faults_of(finding))?;
@@ -193,7 +196,7 @@ fn least_faults_of(finding: &Finding) -> LeastFaults
 {
     let keep = match finding.keep() {
         Some(keep) => Some(KeepFault {
-            gate: finding.job().gate_number(keep.gate) as usize,
+            gate: finding.job().circuit_gate_number(keep.gate) as usize,
             assignment: keep.assignment,
         }),
         None => None,

@@ -7,6 +7,6 @@ pub use core_book::laws::{
 pub use soundness::laws::{
     accepted_has_no_undefined_gate, accepted_is_correct, accepted_is_on_time,
     accepted_without_halos, first_fault_is_real, inputs_decide_the_run, module_has_one_job,
-    plain_certificate_decides, plane_ends_as_asked, plane_starts_as_jobs, plane_steps_as_jobs,
+    plain_verdict_decides_design, plane_ends_as_asked, plane_starts_as_jobs, plane_steps_as_jobs,
     some_layout_is_wrong, something_is_accepted, verdict_exists,
 };

@@ -1,5 +1,5 @@
 -- Pairs of rows that stay, while others are turned
-use Rattle.bbm_rule.proofs.Imports.{AreRowPairsStable, AreSameBits, AreSameCells, HasNoSetBit}
+use Rattle.bbm_rule.proofs.Imports.{AreSameBits, AreSameCells, AreUnmarkedPairsStable, HasNoSetBit}
 use Rattle.bbm_rule.proofs.Imports.{HasWordAt, IsUnmarked, List, MarksOne, SetsPlace, SetsWordAt, TurnsRowPart, inl}
 use Rattle.bbm_rule.proofs.Imports.{inr, ◌⊎◌}
 use Rattle.bbm_rule.proofs.Imports.{TurnsRows, arith, bit, bit_or, cell_at, common_steps, false, get_or, length}
@@ -69,7 +69,7 @@ after_pair k i s l = let h : (k + 1) * s ≤ i * s = mul-le-mul_right s (omega a
 
 -- the other pairs of a partition stay while pair k is turned
 pub others_kept : (p s r k : ℕ) (marks old new : List ℕ) → s % 2 ≡ 0 → TurnsRowPart (p + 2 * (k * s)) s s old new →
-    AreRowPairsStable p s r marks old → (i : ℕ) → i < r → i ≢ k → IsUnmarked marks i →
+    AreUnmarkedPairsStable p s r marks old → (i : ℕ) → i < r → i ≢ k → IsUnmarked marks i →
     TurnsRowPart (p + 2 * (i * s)) s s new new
 others_kept p s r k marks old new whole run calm i l other free =
     pair_kept (p + 2 * (i * s)) s old new whole same (calm i l free)
@@ -80,21 +80,21 @@ others_kept p s r k marks old new whole run calm i l other free =
 -- all of them but pair k, which gets a mark
 pub calm_marked : (p s r k : ℕ) (marks marks' old new : List ℕ) → s % 2 ≡ 0 →
     TurnsRowPart (p + 2 * (k * s)) s s old new →
-    MarksOne k marks marks' → AreRowPairsStable p s r marks old → AreRowPairsStable p s r marks' new
+    MarksOne k marks marks' → AreUnmarkedPairsStable p s r marks old → AreUnmarkedPairsStable p s r marks' new
 calm_marked p s r k marks marks' old new whole run marked calm i l free = grind (arith, common_steps, others_kept)
 
 -- and pair k too, where no cell of it changed
 pub calm_settled : (p s r k : ℕ) (marks marks' old new : List ℕ) → s % 2 ≡ 0 →
     TurnsRowPart (p + 2 * (k * s)) s s old new →
-    AreSameCells old new → SetsPlace k false marks marks' → AreRowPairsStable p s r marks old →
-    AreRowPairsStable p s r marks' new
+    AreSameCells old new → SetsPlace k false marks marks' → AreUnmarkedPairsStable p s r marks old →
+    AreUnmarkedPairsStable p s r marks' new
 calm_settled p s r k marks marks' old new whole run same sets calm i l free =
     grind (arith, common_steps, common_steps, by_eq_or_not, pair_settled, others_kept)
 
 -- pairs stay where no cell changed
 pub calm_same : (p s r : ℕ) (marks old new : List ℕ) → s % 2 ≡ 0 → AreSameCells old new →
-    AreRowPairsStable p s r marks old →
-    AreRowPairsStable p s r marks new
+    AreUnmarkedPairsStable p s r marks old →
+    AreUnmarkedPairsStable p s r marks new
 calm_same p s r marks old new whole same calm i l free = grind (arith, common_steps, pair_kept)
 
 -- Pairs stay, but for those that reach the cells that change. `second` has the marks then.
@@ -102,7 +102,7 @@ but_marked : (p s r from to : ℕ) (first second old new : List ℕ) → s % 2 �
     ((q : ℕ) → q < from → cell_at new q ≡ cell_at old q) → ((q : ℕ) → to ≤ q → cell_at new q ≡ cell_at old q) →
     ((i : ℕ) → IsUnmarked second i →
     IsUnmarked first i × ((p + 2 * (i * s) + 2 * s ≤ from) ⊎ (to ≤ p + 2 * (i * s)))) →
-    AreRowPairsStable p s r first old → AreRowPairsStable p s r second new
+    AreUnmarkedPairsStable p s r first old → AreUnmarkedPairsStable p s r second new
 but_marked p s r from to first second old new whole before after apart calm i l free =
     grind (arith, common_steps, pair_kept)
 
@@ -110,7 +110,7 @@ but_marked p s r from to first second old new whole before after apart calm i l 
 -- rows
 pub odd_kept : (s r k : ℕ) (first second third old new : List ℕ) → s % 2 ≡ 0 → 0 < s →
     TurnsRowPart (s + 1 + 2 * (k * s)) s s old new → MarksOne k first second → MarksOne (k + 1) second third →
-    AreRowPairsStable 0 s r first old → AreRowPairsStable 0 s r third new
+    AreUnmarkedPairsStable 0 s r first old → AreUnmarkedPairsStable 0 s r third new
 odd_kept s r k first second third old new whole positive run one two =
     but_marked 0 s r (s + 1 + 2 * (k * s)) (s + 1 + 2 * (k * s) + s + s) first third old new whole run.before run.after
     (λ i free.
@@ -124,8 +124,8 @@ odd_kept s r k first second third old new whole positive run one two =
 -- and those of the even partition, while pair k of the odd partition is turned
 pub even_kept : (s r k : ℕ) (first second third old new : List ℕ) → s % 2 ≡ 0 → 0 < s →
     TurnsRowPart (0 + 2 * (k * s)) s s old new → MarksOne k first second →
-    ((i : ℕ) → IsUnmarked third i → IsUnmarked second i × (i + 1 ≢ k)) → AreRowPairsStable (s + 1) s r first old →
-    AreRowPairsStable (s + 1) s r third new
+    ((i : ℕ) → IsUnmarked third i → IsUnmarked second i × (i + 1 ≢ k)) → AreUnmarkedPairsStable (s + 1) s r first old →
+    AreUnmarkedPairsStable (s + 1) s r third new
 even_kept s r k first second third old new whole positive run one two =
     but_marked (s + 1) s r (0 + 2 * (k * s)) (0 + 2 * (k * s) + s + s) first third old new whole run.before run.after
     (λ i free.
@@ -148,7 +148,7 @@ rows_passed p s a (suc d) old new whole rows calm =
 
 -- up to the next pair that may have a mark
 pub rows_until : (p s r a b : ℕ) (marks old new : List ℕ) → s % 2 ≡ 0 → a ≤ b → b ≤ r → TurnsRows p s a old new →
-    AreRowPairsStable p s r marks new → ((u : ℕ) → a ≤ u → u < b → IsUnmarked marks u) → TurnsRows p s b old new
+    AreUnmarkedPairsStable p s r marks new → ((u : ℕ) → a ≤ u → u < b → IsUnmarked marks u) → TurnsRows p s b old new
 rows_until p s r a b marks old new whole le within rows calm free =
     let e : a + (b - a) ≡ b = omega arith in
     rw e at (rows_passed p s a (b - a) old new whole rows
@@ -199,7 +199,7 @@ place_before s i v l = let h : v * s ≤ 2 * i * s = mul-le-mul_right s l in ome
 pub row_changed : (p s r x y n place : ℕ) (first second old new : List ℕ) → s % 2 ≡ 0 → x + n ≤ s →
     place ≡ p + s * y + x → ((q : ℕ) → q < place → cell_at new q ≡ cell_at old q) →
     ((q : ℕ) → place + n ≤ q → cell_at new q ≡ cell_at old q) → MarksOne (y / 2) first second →
-    AreRowPairsStable p s r first old → AreRowPairsStable p s r second new
+    AreUnmarkedPairsStable p s r first old → AreUnmarkedPairsStable p s r second new
 row_changed p s r x y n place first second old new whole wide at before after marked =
     but_marked p s r place (place + n) first second old new whole before after (λ i free.
     let was = marked i free in (
@@ -210,5 +210,5 @@ row_changed p s r x y n place first second old new whole wide at before after ma
 
 -- ---- where nothing is live, every pair stays
 pub none_calm : (p s r : ℕ) (marks words : List ℕ) → ((q : ℕ) → cell_at words q ≡ false) →
-    AreRowPairsStable p s r marks words
+    AreUnmarkedPairsStable p s r marks words
 none_calm p s r marks words none i l free = grind (arith, common_steps, dead_block)

@@ -6,7 +6,7 @@ use Rattle.bbm_rule.proofs.Imports.{sym, true, turned, zero, ℕ, ◌%◌, ◌*�
 use Rattle.lemmas.proofs.Common.{nat_le, div_below, get_or-map-range_with_len, mod_below, mul-le-mul_left, lt_test}
 use Rattle.lemmas.proofs.Common.{not_le_test}
 use Rattle.bbm_rule.specs.Rows.{HasLiveMargin, HasDeadMargin}
-use Rattle.bbm_rule.specs.Board.{IsStep, Leaves}
+use Rattle.bbm_rule.specs.Board.{IsStep, LeavesBoard}
 use Rattle.bbm_rule.proofs.BitLemmas.{by_lt_or_le, by_eq_or_not}
 use Rattle.bbm_rule.proofs.PairLemmas.{mate_even, mate_odd}
 use Rattle.bbm_rule.proofs.BlockRuns.{mate_lt}
@@ -144,7 +144,7 @@ inside_ext b (suc x) zero outer = refl
 inside_ext b (suc x) (suc y) outer = grind (arith, common_steps, by_lt_or_le, inner_test, not_lt_test, and-false)
 
 pub odd_leaves : (t w h s r : ℕ) (old new : List ℕ) → t % 2 ≡ 1 → IsPlane w h s old → TurnsRows 0 s r old new →
-    2 * r ≡ h + 2 → HasLiveMargin w h s new → Leaves t (board w h s old)
+    2 * r ≡ h + 2 → HasLiveMargin w h s new → LeavesBoard t (board w h s old)
 odd_leaves t w h s r old new at_odd plane rows e m = record {
   x = ext m.x;
   y = ext m.y;

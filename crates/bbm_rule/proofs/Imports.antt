@@ -1,5 +1,5 @@
 -- The names from outside this folder that two or more proofs of this crate use, in one file to import them from.
-pub use Rattle.bbm_rule.specs.Bands.{AreRowPairsStable}
+pub use Rattle.bbm_rule.specs.Bands.{AreUnmarkedPairsStable}
 pub use Rattle.bbm_rule.specs.Bits.{AreSameBits, HasNoSetBit}
 unfoldable pub use Rattle.bbm_rule.specs.Bits.{bit}
 pub use Rattle.bbm_rule.specs.Board.{Board, is_inside, live}
@@ -11,7 +11,7 @@ pub use Rattle.bbm_rule.specs.Rows.{AreFlips, ArePairsTurned, AreSameCells, Fill
 pub use Rattle.bbm_rule.specs.Rows.{SetsPlace, SetsWordAt, TurnsRowPart, TurnsRows, flip_carried_bits, is_board_cell}
 unfoldable pub use Rattle.bbm_rule.specs.Rows.{cell_at, mate}
 unfoldable pub use Rattle.bbm_rule.specs.Spans.{in_span}
-pub use Rattle.bbm_rule.specs.Words.{TurnsBetween}
+pub use Rattle.bbm_rule.specs.Words.{TurnsWordsBetween}
 unfoldable pub use Rattle.bbm_rule.specs.Words.{turn_of}
 pub use Rattle.lemmas.proofs.Common.{Bool, List, SFits, [], and-false, and_parts, ap, arith, bit_and, bit_at, bit_at-lt}
 pub use Rattle.lemmas.proofs.Common.{bit_or, bit_xor, cases_Bool, common_steps, cond-false, cond-true, div-add-mod}

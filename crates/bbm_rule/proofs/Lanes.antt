@@ -1,5 +1,6 @@
 -- Vectors of four words, and the words of four slices.
-use Rattle.bbm_rule.proofs.Imports.{List, TurnsBetween, arith, bit_and, bit_or, bit_xor, common_steps, get_or, length}
+use Rattle.bbm_rule.proofs.Imports.{List, TurnsWordsBetween, arith, bit_and, bit_or, bit_xor, common_steps, get_or}
+use Rattle.bbm_rule.proofs.Imports.{length}
 use Rattle.bbm_rule.proofs.Imports.{refl, ℕ, ◌+◌, ◌-◌, ◌<◌, ◌≡◌, ◌≤◌}
 use Rattle.lemmas.proofs.Common.{get_or-chunk, get_or-put_chunk_above, get_or-put_chunk_at, get_or-put_chunk_below}
 use Rattle.lemmas.proofs.Common.{get_or-zip2, length-zip2}
@@ -64,7 +65,8 @@ vectors_long ul ur ll lr lul lur ldl ldr = grind (arith, common_steps, length-zi
 pub chunk_turned : (at : ℕ) (ul ur ll lr a b c d : List ℕ) → at + 4 ≤ length ul → at + 4 ≤ length ur →
     at + 4 ≤ length ll → at + 4 ≤ length lr → length a ≡ 4 → length b ≡ 4 → length c ≡ 4 → length d ≡ 4 →
     ((k : ℕ) → k < 4 → AreTurnedAt k (chunk at 4 ul) (chunk at 4 ur) (chunk at 4 ll) (chunk at 4 lr) a b c d) →
-    TurnsBetween at (at + 4) ul ur ll lr (put_chunk at ul a) (put_chunk at ur b) (put_chunk at ll c) (put_chunk at lr d)
+    TurnsWordsBetween at (at + 4) ul ur ll lr (put_chunk at ul a) (put_chunk at ur b) (put_chunk at ll c)
+    (put_chunk at lr d)
 chunk_turned at ul ur ll lr a b c d wul wur wdl wdr la lb lc ld turned = record {
   inside = λ k low high. inside_at k (k - at) (omega arith) (omega arith);
   below = λ k l. record {

@@ -2,7 +2,7 @@
 use Rattle.bbm_rule.proofs.Imports.{Bool, ap, arith, cases_Bool, common_steps, cond-false, cond-true, ints, negsuc}
 use Rattle.bbm_rule.proofs.Imports.{parity, partner, pos, refl, step, suc, turned, ℕ, ℤ, ◌%◌, ◌+ℤ◌, ◌+◌, ◌∙◌, ◌≡◌}
 use Rattle.lemmas.proofs.Common.{cases_lt, down_moved, up_moved}
-use Rattle.bbm_rule.specs.Moves.{StepCommutesWithMoves}
+use Rattle.bbm_rule.specs.Moves.{StepCommutesWithEvenMoves}
 
 -- what is added is at least, or at most, what is there
 sum_up : (a b c : ℕ) → a ≡ suc b + c → pos a +ℤ negsuc b ≡ pos c
@@ -36,6 +36,6 @@ partner_moved t x d even =
 same_turned : (a a' b b' c c' d d' : Bool) → a ≡ a' → b ≡ b' → c ≡ c' → d ≡ d' → turned a b c d ≡ turned a' b' c' d'
 same_turned a a' b b' c c' d d' p q r s = λ i. turned (p i) (q i) (r i) (s i)
 
-pub step_moved : StepCommutesWithMoves
+pub step_moved : StepCommutesWithEvenMoves
 unfolding step
 step_moved t dx dy s s' even_x even_y moved x y = grind (arith, common_steps, partner_moved, same_turned)

@@ -31,7 +31,7 @@ abbrev pub IsStep : ℕ → Board → Board → Type 0
 IsStep t old new = (x y : ℤ) → live new x y ≡ step t (live old) x y
 
 -- some cell outside the board is live after the step at time t
-pub record Leaves (t : ℕ) (b : Board) : Type 0 where
+pub record LeavesBoard (t : ℕ) (b : Board) : Type 0 where
   pub x : ℤ
   pub y : ℤ
   pub outside : is_inside b x y ≡ false

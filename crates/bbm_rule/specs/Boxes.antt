@@ -25,7 +25,7 @@ unfoldable pub in_halo : Box2 → State
 in_halo b x y = not (in_box b x y) && some_neighbour (in_box b) x y
 
 -- the box's corner and its sides are even
-pub record IsEven (b : Box2) : Type 0 where
+pub record IsEvenBox (b : Box2) : Type 0 where
   pub x : b.x % 2 ≡ 0
   pub y : b.y % 2 ≡ 0
   pub w : b.w % 2 ≡ 0

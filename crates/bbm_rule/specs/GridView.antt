@@ -3,7 +3,7 @@ use Rattle.std.specs.Prelude.{◌≡◌, false, ℕ, ◌+◌, ◌*◌, ◌/◌, 
 use Rattle.std.specs.List.{range_with_len}
 use Rattle.bbm_rule.specs.declared.grid.Grid.TheInside.{Inside}
 use Rattle.bbm_rule.specs.Board.{Board}
-use Rattle.bbm_rule.specs.Bands.{AreRowPairsStable}
+use Rattle.bbm_rule.specs.Bands.{AreUnmarkedPairsStable}
 use Rattle.bbm_rule.specs.Rows.{cell_at, is_board_cell}
 use Rattle.lemmas.specs.Bounds.{max_side}
 
@@ -30,5 +30,6 @@ pub record IsGrid (g : Inside) : Type 0 where
       cell_at g.words.items (64 * g.stride * y + x) ≡ false
   pub even_room : g.height / 2 + 1 ≤ 64 * length g.even_marks.items
   pub odd_room : g.height / 2 + 1 ≤ 64 * length g.odd_marks.items
-  pub even_calm : AreRowPairsStable (64 * g.stride + 1) (64 * g.stride) (g.height / 2) g.even_marks.items g.words.items
-  pub odd_calm : AreRowPairsStable 0 (64 * g.stride) (g.height / 2 + 1) g.odd_marks.items g.words.items
+  pub even_calm : AreUnmarkedPairsStable (64 * g.stride + 1) (64 * g.stride)
+      (g.height / 2) g.even_marks.items g.words.items
+  pub odd_calm : AreUnmarkedPairsStable 0 (64 * g.stride) (g.height / 2 + 1) g.odd_marks.items g.words.items

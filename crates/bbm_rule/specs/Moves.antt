@@ -7,6 +7,6 @@ abbrev pub IsMoved : ℤ → ℤ → State → State → Type 0
 IsMoved dx dy s s' = (x y : ℤ) → s' (x +ℤ dx) (y +ℤ dy) ≡ s x y
 
 -- If both numbers are even, the blocks of each time move onto blocks of the same time, so a step moves along.
-abbrev pub StepCommutesWithMoves : Type 0
-StepCommutesWithMoves = (t : ℕ) (dx dy : ℤ) (s s' : State) → parity dx ≡ 0 → parity dy ≡ 0 → IsMoved dx dy s s' →
+abbrev pub StepCommutesWithEvenMoves : Type 0
+StepCommutesWithEvenMoves = (t : ℕ) (dx dy : ℤ) (s s' : State) → parity dx ≡ 0 → parity dy ≡ 0 → IsMoved dx dy s s' →
     IsMoved dx dy (step t s) (step t s')

@@ -31,14 +31,14 @@ AreTurnedAt k ul ur ll lr ul' ur' ll' lr' =
     (slice_index ur' k) (slice_index ll' k) (slice_index lr' k)
 
 -- the words at place k are as before (for this crate's own functions, as is what follows)
-pub record AreSameAt (k : ℕ) (ul ur ll lr ul' ur' ll' lr' : List ℕ) : Type 0 where
+pub record AreWordsUnchangedAt (k : ℕ) (ul ur ll lr ul' ur' ll' lr' : List ℕ) : Type 0 where
   pub upper_left : slice_index ul' k ≡ slice_index ul k
   pub upper_right : slice_index ur' k ≡ slice_index ur k
   pub lower_left : slice_index ll' k ≡ slice_index ll k
   pub lower_right : slice_index lr' k ≡ slice_index lr k
 
 -- at each place from low up to high the words are turned, and elsewhere they are as before
-pub record TurnsBetween (low high : ℕ) (ul ur ll lr ul' ur' ll' lr' : List ℕ) : Type 0 where
+pub record TurnsWordsBetween (low high : ℕ) (ul ur ll lr ul' ur' ll' lr' : List ℕ) : Type 0 where
   pub inside : (k : ℕ) → low ≤ k → k < high → AreTurnedAt k ul ur ll lr ul' ur' ll' lr'
-  pub below : (k : ℕ) → k < low → AreSameAt k ul ur ll lr ul' ur' ll' lr'
-  pub above : (k : ℕ) → high ≤ k → AreSameAt k ul ur ll lr ul' ur' ll' lr'
+  pub below : (k : ℕ) → k < low → AreWordsUnchangedAt k ul ur ll lr ul' ur' ll' lr'
+  pub above : (k : ℕ) → high ≤ k → AreWordsUnchangedAt k ul ur ll lr ul' ur' ll' lr'

@@ -57,15 +57,15 @@ fn is_in_or_beside_range(from: u32, n: u32, x: i32) -> bool
         ≡ (in_span from n (x -ℤ pos 1) || in_span from n x || in_span from n (x +ℤ pos 1)) }
 {
     let x = x as i64;
-    let before = is_among(from, n, x - 1);
-    let here = is_among(from, n, x);
-    let after = is_among(from, n, x + 1);
+    let before = is_in_range(from, n, x - 1);
+    let here = is_in_range(from, n, x);
+    let after = is_in_range(from, n, x + 1);
     before | here | after
 }
 
 // whether x is among the n numbers from `from` on.
 #[tactic(auto, unfolding(crate::specs::Spans::in_span))]
-fn is_among(from: u32, n: u32, x: i64) -> bool
+fn is_in_range(from: u32, n: u32, x: i64) -> bool
     ensures { result ≡ in_span from n x }
 {
     from as i64 <= x && x < from as i64 + n as i64

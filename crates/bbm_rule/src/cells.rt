@@ -111,8 +111,8 @@ pub(crate) fn has_live_margin(
     let pairs = height / 2 + 1;
     let mut pair = next_marked(marks, 0, pairs);
     while pair < pairs {
-        if is_row_margin_live(words, stride, width, height, 2 * pair)
-            || is_row_margin_live(words, stride, width, height, 2 * pair + 1)
+        if has_live_margin_in_row(words, stride, width, height, 2 * pair)
+            || has_live_margin_in_row(words, stride, width, height, 2 * pair + 1)
         {
             return true;
         }
@@ -123,7 +123,13 @@ pub(crate) fn has_live_margin(
 
 // Whether a cell of row y is live that belongs to the margin: the first, the one after the last of the board, and all
 // in the first and the last row.
-fn is_row_margin_live(words: &[u64], stride: usize, width: usize, height: usize, y: usize) -> bool
+fn has_live_margin_in_row(
+    words: &[u64],
+    stride: usize,
+    width: usize,
+    height: usize,
+    y: usize,
+) -> bool
     requires width { (width + 2 ≤ 64 * stride) × (stride ≤ max_stride) }
     requires height { height ≤ max_side }
     requires row { y < height + 2 }

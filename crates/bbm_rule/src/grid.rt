@@ -5,7 +5,7 @@
 
 ghost use Rattle.std.specs.Prelude.{◌≡◌, ◌≤◌, ◌%◌, ◌<◌, ◌+◌, ◌||◌, IsTrue, IfOk, OnOk, OnErr, true, false, pos, ℕ, ℤ};
 ghost use Rattle.bbm_rule.specs.Spans.{in_area};
-ghost use Rattle.bbm_rule.specs.Board.{Board, live, is_inside, HasSameSize, IsStep, Leaves, SetsCell};
+ghost use Rattle.bbm_rule.specs.Board.{Board, live, is_inside, HasSameSize, IsStep, LeavesBoard, SetsCell};
 ghost use Rattle.lemmas.specs.Bounds.{max_side};
 
 use crate::block::Cell;
@@ -99,7 +99,7 @@ impl Grid {
 
     /// Returns the first column from `from` on whose cell in row `y` is live, or `end` if all cells before `end` are
     /// dead. Columns are counted from 0; `end` is at most the width.
-    pub fn next_live(&self, y: u32, from: u32, end: u32) -> u32
+    pub fn next_live_column(&self, y: u32, from: u32, end: u32) -> u32
         requires row { y < self.now.height }
         requires columns { (from ≤ end) × (end ≤ self.now.width) }
         ensures range { (from ≤ result) × (result ≤ end) }
@@ -113,7 +113,7 @@ impl Grid {
 
     /// Returns the first column from `from` on whose cell in row `y` is dead, or `end` if all cells before `end` are
     /// live. Columns are counted from 0; `end` is at most the width.
-    pub fn next_dead(&self, y: u32, from: u32, end: u32) -> u32
+    pub fn next_dead_column(&self, y: u32, from: u32, end: u32) -> u32
         requires row { y < self.now.height }
         requires columns { (from ≤ end) × (end ≤ self.now.width) }
         ensures range { (from ≤ result) × (result ≤ end) }
@@ -161,7 +161,7 @@ impl Grid {
     #[tactic(auto, using(crate::proofs::GridLemmas::aligned_room, crate::proofs::GridLemmas::shifted_room))]
     pub fn step(&mut self, t: u32) -> Result<(), Left>
         ensures stepped { OnOk result (IsStep t self.old self.new) }
-        ensures cell_leaves_on_error { OnErr result (Leaves t self.old) }
+        ensures cell_leaves_on_error { OnErr result (LeavesBoard t self.old) }
         ensures unchanged_on_error { OnErr result (self.new ≡ self.old) }
         ensures size { HasSameSize self.old self.new }
     {

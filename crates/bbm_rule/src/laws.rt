@@ -1,7 +1,7 @@
 //! Laws on the definitions alone.
 
 ghost use Rattle.bbm_rule.specs.Laws.{TurnTable, TwoBallsCollide, TwoBallsLeaveAtRightAngles, StepUndoesItself};
-ghost use Rattle.bbm_rule.specs.Moves.{StepCommutesWithMoves};
+ghost use Rattle.bbm_rule.specs.Moves.{StepCommutesWithEvenMoves};
 
 /// States what each of the sixteen blocks becomes.
 #[tactic(auto, unfolding(crate::proofs::Imports::bit, crate::proofs::Imports::turn_of, crate::proofs::Imports::turned))]
@@ -29,6 +29,6 @@ pub fn step_undoes_itself()
 /// If a state is another one, moved by an even number of columns and of rows, so are the states after a step at any
 /// time.
 #[tactic(auto, using(crate::proofs::Moving::step_moved))]
-pub fn step_commutes_with_moves()
-    ensures { StepCommutesWithMoves }
+pub fn step_commutes_with_even_moves()
+    ensures { StepCommutesWithEvenMoves }
 {}

@@ -82,7 +82,7 @@ pub fn is_any_live_in(grid: &Grid, r: Box2) -> bool
     let end = r.x + r.w;
     let mut found = false;
     for y in r.y..r.y + r.h {
-        found |= grid.next_live(y, r.x, end) < end;
+        found |= grid.next_live_column(y, r.x, end) < end;
     }
     found
 }

@@ -2,7 +2,7 @@
 //! of word p / 64, and a row is `stride` words.
 
 ghost use Rattle.std.specs.Prelude.{◌≡◌, ◌+◌, ◌*◌, ◌<◌, ◌≤◌, ◌^◌, ◌-◌, length, false};
-ghost use Rattle.bbm_rule.specs.Bands.{AreRowPairsStable};
+ghost use Rattle.bbm_rule.specs.Bands.{AreUnmarkedPairsStable};
 ghost use Rattle.bbm_rule.specs.Bits.{AreSameBits, HasNoSetBit};
 ghost use Rattle.bbm_rule.specs.Rows.{AreFlips, ArePairsTurned, AreSameCells, HasWordAt, TurnsRowPart, TurnsRows, flip_carried_bits};
 
@@ -56,7 +56,7 @@ fn turn_word_pair(upper: u64, lower: u64) -> (u64, u64, u64)
 // the 64 cells from the second cell of word i on
 #[inline(always)]
 #[tactic(auto, using(crate::proofs::PairLemmas::window_is))]
-fn shifted_word(words: &[u64], i: usize) -> u64
+fn word_from_second_cell(words: &[u64], i: usize) -> u64
     requires { i + 1 < length words.now }
     ensures { HasWordAt words.now (64 * i + 1) result }
 {
@@ -107,9 +107,9 @@ fn turn_words_shifted(
     let (next_main, next_anti, changed) = block_flips(
         SECOND_OF_PAIR,
         upper,
-        shifted_word(words, i),
+        word_from_second_cell(words, i),
         lower,
-        shifted_word(words, i + stride),
+        word_from_second_cell(words, i + stride),
     );
     words[i] = upper ^ (anti >> 63) ^ (next_main | (next_anti << 1));
     words[i + stride] = lower ^ (main >> 63) ^ (next_anti | (next_main << 1));
@@ -159,13 +159,13 @@ pub(crate) fn turn_all_aligned(
     requires stride_positive { 0 < stride }
     requires word_count_fits_u32 { length words.old < 2 ^ 32 }
     requires marks { (pairs ≤ 64 * length own.old) × (pairs ≤ 64 * length others.old) }
-    requires own_calm { AreRowPairsStable 0 (64 * stride) pairs own.old words.old }
-    requires others_calm { AreRowPairsStable (64 * stride + 1) (64 * stride) (pairs - 1) others.old
-        words.old }
+    requires own_calm { AreUnmarkedPairsStable 0 (64 * stride) pairs own.old words.old }
+    requires others_calm { AreUnmarkedPairsStable (64 * stride + 1) (64 * stride) (pairs - 1)
+        others.old words.old }
     ensures turned { TurnsRows 0 (64 * stride) pairs words.old words.new }
-    ensures own_calm { AreRowPairsStable 0 (64 * stride) pairs own.new words.new }
-    ensures others_calm { AreRowPairsStable (64 * stride + 1) (64 * stride) (pairs - 1) others.new
-        words.new }
+    ensures own_calm { AreUnmarkedPairsStable 0 (64 * stride) pairs own.new words.new }
+    ensures others_calm { AreUnmarkedPairsStable (64 * stride + 1) (64 * stride) (pairs - 1)
+        others.new words.new }
 {
     let mut pair = next_marked(own, 0, pairs);
     while pair < pairs {
@@ -193,11 +193,13 @@ pub(crate) fn turn_all_shifted(
     requires stride_positive { 0 < stride }
     requires word_count_fits_u32 { length words.old < 2 ^ 32 }
     requires marks { (pairs ≤ 64 * length own.old) × (pairs + 1 ≤ 64 * length others.old) }
-    requires own_calm { AreRowPairsStable (64 * stride + 1) (64 * stride) pairs own.old words.old }
-    requires others_calm { AreRowPairsStable 0 (64 * stride) (pairs + 1) others.old words.old }
+    requires own_calm { AreUnmarkedPairsStable (64 * stride + 1) (64 * stride) pairs own.old
+        words.old }
+    requires others_calm { AreUnmarkedPairsStable 0 (64 * stride) (pairs + 1) others.old words.old }
     ensures turned { TurnsRows (64 * stride + 1) (64 * stride) pairs words.old words.new }
-    ensures own_calm { AreRowPairsStable (64 * stride + 1) (64 * stride) pairs own.new words.new }
-    ensures others_calm { AreRowPairsStable 0 (64 * stride) (pairs + 1) others.new words.new }
+    ensures own_calm { AreUnmarkedPairsStable (64 * stride + 1) (64 * stride) pairs own.new
+        words.new }
+    ensures others_calm { AreUnmarkedPairsStable 0 (64 * stride) (pairs + 1) others.new words.new }
 {
     let mut pair = next_marked(own, 0, pairs);
     while pair < pairs {

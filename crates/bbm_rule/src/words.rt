@@ -1,7 +1,7 @@
 //! Many blocks at a time, on words of bits.
 
 ghost use Rattle.std.specs.Prelude.{◌≡◌, ◌+◌, ◌<◌, ◌≤◌, ℕ, length};
-ghost use Rattle.bbm_rule.specs.Words.{AreTurned, AreTurnedAt, TurnsBetween};
+ghost use Rattle.bbm_rule.specs.Words.{AreTurned, AreTurnedAt, TurnsWordsBetween};
 
 use std::simd::prelude::*;
 
@@ -72,8 +72,8 @@ fn turn_four_words_at(
 )
     requires { (at + 4 ≤ length upper_left.old) × (at + 4 ≤ length upper_right.old)
         × (at + 4 ≤ length lower_left.old) × (at + 4 ≤ length lower_right.old) }
-    ensures { TurnsBetween at (at + 4) upper_left.old upper_right.old lower_left.old lower_right.old
-        upper_left.new upper_right.new lower_left.new lower_right.new }
+    ensures { TurnsWordsBetween at (at + 4) upper_left.old upper_right.old lower_left.old
+        lower_right.old upper_left.new upper_right.new lower_left.new lower_right.new }
 {
     let (a, b, c, d) = turn_vectors(
         u64x4::from_slice(&upper_left[at..]),
@@ -98,8 +98,8 @@ fn turn_word_at(
 )
     requires { (at < length upper_left.old) × (at < length upper_right.old)
         × (at < length lower_left.old) × (at < length lower_right.old) }
-    ensures { TurnsBetween at (at + 1) upper_left.old upper_right.old lower_left.old lower_right.old
-        upper_left.new upper_right.new lower_left.new lower_right.new }
+    ensures { TurnsWordsBetween at (at + 1) upper_left.old upper_right.old lower_left.old
+        lower_right.old upper_left.new upper_right.new lower_left.new lower_right.new }
 {
     let (a, b, c, d) = turn_words(
         upper_left[at],

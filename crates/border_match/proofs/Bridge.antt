@@ -3,7 +3,7 @@ use Rattle.border_match.proofs.Imports.{All, AreJobOwners, AreModules, BorderFau
 use Rattle.border_match.proofs.Imports.{IfSome, IsBorderFault, IsBorderFaultOfJob, IsLeast, IsLeastBorderFault}
 use Rattle.border_match.proofs.Imports.{IsListed, JobView, List, ModuleLines, None, Option, Ring, Signal, Signals, Some}
 use Rattle.border_match.proofs.Imports.{TimedSignal, ap, ap₂, areas, arith, circuit_wire, common_steps, edge_signal}
-use Rattle.border_match.proofs.Imports.{event_at, events_of_line, get_or_from_slice_get, halo_signal, in_box}
+use Rattle.border_match.proofs.Imports.{event_at, event_if_timed, get_or_from_slice_get, halo_signal, in_box}
 use Rattle.border_match.proofs.Imports.{line_signals, mapped_from, option_map, owner_of, rectangle_of, renumber_event}
 use Rattle.border_match.proofs.Imports.{renumber_signals, same_some, setting_of, slice_get, slice_get-map}
 use Rattle.border_match.proofs.Imports.{slice_get_within, some_at, subst, sym, true, whole, ℕ, ℤ, ◌%◌, ◌<◌, ◌∙◌, ◌≡◌}
@@ -40,7 +40,7 @@ module _ (cs : List CircuitLine) (p : Pattern) where
 
   -- what holds of the cells of lines holds of those of their events
   one_cell : (P : Cell → Type 0) (d : BorderLine) (t : Option ℕ) (s : Signal) → P d.cell →
-      All (λ (h : TimedSignal). P h.at.cell) (events_of_line d t s)
+      All (λ (h : TimedSignal). P h.at.cell) (event_if_timed d t s)
   one_cell P d t s h1 = grind (arith, common_steps)
 
   listed_cell : (P : Cell → Type 0) (j : JobView) (s : Signals) (es : List BorderLine) (e : TimedSignal) →
@@ -53,7 +53,7 @@ module _ (cs : List CircuitLine) (p : Pattern) where
       let got : slice_get by at.0 ≡ Some (f e) = ap (λ (r : Signals). slice_get r.events at.0) (sym same)
       ∙ slice_get-map f s.events at.0 ∙ ap (option_map f) at.1 in
       subst Q (get_or_from_slice_get by at.0 (f e) (f e) got)
-      (flat_all Q (λ d. events_of_line d d.time (one_or_named_wire (circuit_of cs) d.signal)) (λ d. P d.cell)
+      (flat_all Q (λ d. event_if_timed d d.time (one_or_named_wire (circuit_of cs) d.signal)) (λ d. P d.cell)
       (λ d here. one_cell P d d.time (one_or_named_wire (circuit_of cs) d.signal) here) es all at.0 (f e)
       (slice_get_within by at.0 (f e) got))
 
@@ -74,12 +74,12 @@ module _ (cs : List CircuitLine) (p : Pattern) where
     lines_of k j e = some_at ms k (let lt = slice_get_within js k j e in let n = made.count in omega (arith, lt, n))
 
     -- the module that has a cell of the rectangle
-    record IsHolder (x y : ℤ) : Type 0 where
+    record IsOnlyHolder (x y : ℤ) : Type 0 where
       lines : ModuleLines
       numbered : slice_get ms (owner_of o x y) ≡ Some lines
       has : in_box lines.area x y ≡ true
 
-    holder : (x y : ℤ) → in_box (whole p.size) x y ≡ true → IsHolder x y
+    holder : (x y : ℤ) → in_box (whole p.size) x y ≡ true → IsOnlyHolder x y
     holder x y inside = grind (arith, common_steps, same_rectangle, mapped_from)
 
     pub quiet_job : (k : ℕ) (j : JobView) → slice_get js k ≡ Some j → HasNoEventAtStart j

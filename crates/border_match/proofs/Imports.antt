@@ -9,8 +9,9 @@ pub use Rattle.border_match.specs.Boards.{IsAtUnmarkedEventBelow, IsBorderFaultO
 pub use Rattle.border_match.specs.Boards.{IsInOrAround, IsListed, KeepsAllNumbers, job_signals, jobs_of}
 pub use Rattle.border_match.specs.BorderFaults.{IsBorderFault, IsLeastBorderFault, edge_signal, halo_signal}
 unfoldable pub use Rattle.border_match.specs.BorderFaults.{border_cmp}
-pub use Rattle.border_match.specs.Candidates.{HasCandidateAtMost, IsLeast, IsNextBest}
-pub use Rattle.border_match.specs.Surroundings.{AreEventsFar, IsEdgeEventExtent, IsEventFarAt, IsExtent, IsInWindow}
+pub use Rattle.border_match.specs.Candidates.{HasCandidateAtMost, IsLeast, IsNextCandidate}
+pub use Rattle.border_match.specs.Surroundings.{AreEventsFarBetween, IsEdgeEventExtent, IsEventFarAt, IsExtent}
+pub use Rattle.border_match.specs.Surroundings.{IsInWindow}
 pub use Rattle.border_match.specs.Surroundings.{IsWindowAround}
 pub use Rattle.border_match.specs.declared.borders.Borders.{Borders}
 pub use Rattle.border_match.specs.declared.fault.BorderFault.{BorderFault}
@@ -19,7 +20,7 @@ pub use Rattle.border_match.specs.declared.window.Window.{Window}
 pub use Rattle.certificate.proofs.Imports.{All, All-head, All-tail, AreModules, Bool, Greater, IfSome, IsRising}
 pub use Rattle.certificate.proofs.Imports.{JobView, Less, List, ModuleLines, None, Option, Ordering, Setting, Signals}
 pub use Rattle.certificate.proofs.Imports.{Some, [], and_parts, ap, ap₂, arc_value, areas, arith, cases_Bool}
-pub use Rattle.certificate.proofs.Imports.{circuit_wire, common_steps, cond-false, cond-true, events_of_line, false}
+pub use Rattle.certificate.proofs.Imports.{circuit_wire, common_steps, cond-false, cond-true, event_if_timed, false}
 pub use Rattle.certificate.proofs.Imports.{get_or, get_or_from_slice_get, inl, inr, ints, is_among, is_at, length}
 pub use Rattle.certificate.proofs.Imports.{length-map, line_signals, map, mapped_from, nat_tests, option_map, pos, refl}
 pub use Rattle.certificate.proofs.Imports.{renumber_event, renumber_signal, renumber_signals, replicate, rules}

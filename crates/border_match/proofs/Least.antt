@@ -1,5 +1,6 @@
 -- Candidates for a least border fault
-use Rattle.border_match.proofs.Imports.{BorderFault, Greater, HasCandidateAtMost, IsLeast, IsNextBest, None, Option}
+use Rattle.border_match.proofs.Imports.{BorderFault, Greater, HasCandidateAtMost, IsLeast, IsNextCandidate, None}
+use Rattle.border_match.proofs.Imports.{Option}
 use Rattle.border_match.proofs.Imports.{Ordering, Some, arith, border_cmp, common_steps, false, tied_itself, ◌≡◌, ◌≢◌}
 use Rattle.border_match.proofs.Imports.{◌⊎◌}
 use Rattle.lemmas.proofs.Common.{is_gt, upto}
@@ -32,30 +33,30 @@ covers_after o m h h1 h2 = grind (arith, common_steps, at_most_trans)
 module _ (F : BorderFault → Type 0) where
   -- none of F has P
   pub better_same : (P : BorderFault → Type 0) (o : Option BorderFault) → ((h : BorderFault) → F h → P h → ⊥) →
-      IsNextBest F P o o
+      IsNextCandidate F P o o
   better_same P o none = record { sound = λ s. s; kept = λ h c. c; covers = λ h f p. absurd (none h f p) }
 
   -- the new candidate is at most m, which is one of F and at most each of F with P
   pub better_with : (P : BorderFault → Type 0) (o o' : Option BorderFault) (m : BorderFault) → F m →
       ((h : BorderFault) → F h → P h → border_cmp m h ≢ Greater) →
       ((h : BorderFault) → HasCandidateAtMost o h → HasCandidateAtMost o' h) → (o' ≡ o) ⊎ (o' ≡ Some m) →
-      HasCandidateAtMost o' m → IsNextBest F P o o'
+      HasCandidateAtMost o' m → IsNextCandidate F P o o'
   better_with P o o' m f least kept one covered = grind (arith, common_steps, covers_after)
 
-  pub better_then : (P Q R : BorderFault → Type 0) (a b c : Option BorderFault) → IsNextBest F P a b →
-      IsNextBest F Q b c →
-      ((h : BorderFault) → F h → R h → P h ⊎ Q h) → IsNextBest F R a c
+  pub better_then : (P Q R : BorderFault → Type 0) (a b c : Option BorderFault) → IsNextCandidate F P a b →
+      IsNextCandidate F Q b c →
+      ((h : BorderFault) → F h → R h → P h ⊎ Q h) → IsNextCandidate F R a c
   better_then P Q R a b c p q split = grind (arith, common_steps)
 
-  pub better_for : (P Q : BorderFault → Type 0) (a b : Option BorderFault) → IsNextBest F P a b →
-      ((h : BorderFault) → F h → Q h → P h) → IsNextBest F Q a b
+  pub better_for : (P Q : BorderFault → Type 0) (a b : Option BorderFault) → IsNextCandidate F P a b →
+      ((h : BorderFault) → F h → Q h → P h) → IsNextCandidate F Q a b
   better_for P Q a b better weaker = grind (arith, common_steps)
 
-  pub better_rest : (P Q : BorderFault → Type 0) (a b : Option BorderFault) → IsNextBest F P a b →
-      ((h : BorderFault) → Q h → P h ⊎ HasCandidateAtMost b h) → IsNextBest F Q a b
+  pub better_rest : (P Q : BorderFault → Type 0) (a b : Option BorderFault) → IsNextCandidate F P a b →
+      ((h : BorderFault) → Q h → P h ⊎ HasCandidateAtMost b h) → IsNextCandidate F Q a b
   better_rest P Q a b better split = grind (arith, common_steps)
 
-  pub least_by_three : (P Q R : BorderFault → Type 0) (a b c : Option BorderFault) → IsNextBest F P None a →
-      IsNextBest F Q a b → IsNextBest F R b c →
+  pub least_by_three : (P Q R : BorderFault → Type 0) (a b c : Option BorderFault) → IsNextCandidate F P None a →
+      IsNextCandidate F Q a b → IsNextCandidate F R b c →
       ((h : BorderFault) → F h → P h ⊎ (Q h ⊎ R h)) → IsLeast F c
   least_by_three P Q R a b c p q r all = grind (arith, common_steps)

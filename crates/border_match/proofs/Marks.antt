@@ -8,7 +8,7 @@ use Rattle.border_match.proofs.Imports.{moved_event, moved_signals, owner_of, po
 use Rattle.border_match.proofs.Imports.{slice_get, slice_get_within, some_at, sym, take, true, ℕ, ℤ, ◌++◌, ◌+◌, ◌∙◌}
 use Rattle.border_match.proofs.Imports.{◌≡◌, ◌≤◌, ◌⊎◌}
 use Rattle.lemmas.proofs.Common.{take-append_seam}
-use Rattle.border_match.specs.Boards.{AddsOnlyMarksAt, IsAtEvent, IsPlaceOf, IsAtUnmarkedEvent}
+use Rattle.border_match.specs.Boards.{AddsOnlyMarksAt, IsAtEvent, IsEventPlaceOf, IsAtUnmarkedEvent}
 use Rattle.border_match.proofs.Steps.{fault_covered, same_fault}
 
 -- ---- one mark more
@@ -17,7 +17,7 @@ use Rattle.border_match.proofs.Steps.{fault_covered, same_fault}
 pub local_place : (x y : ℕ) (dx dy : ℤ) (cell : Cell) (s moved : Signals) (es : List TimedSignal) (at : Moment)
     (place : ℕ) → dx ≡ shift_to_origin x → dy ≡ shift_to_origin y → cell ≡ moved_cell dx dy at.cell →
     es ≡ moved.events → moved ≡ moved_signals (shift_to_origin x) (shift_to_origin y) s →
-    IsPlaceOf es (record { time = at.time; cell = cell }) place → IsPlaceOf s.events at place
+    IsEventPlaceOf es (record { time = at.time; cell = cell }) place → IsEventPlaceOf s.events at place
 local_place x y dx dy cell s moved es at place ex ey by same are is =
     let sx = shift_to_origin x in let sy = shift_to_origin y in
     let some_at : slice_get (map (moved_event sx sy) s.events) place ≡ Some is.event =

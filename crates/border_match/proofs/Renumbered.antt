@@ -1,7 +1,7 @@
 -- Signals by other numbers of their wires, and times without an event
 use Rattle.border_match.proofs.Imports.{All, All-head, All-tail, AllTimesSignal, Bool, BorderLine, IfSome, List, None}
 use Rattle.border_match.proofs.Imports.{Option, Signal, Signals, TimedSignal, Zero, [], all_times_at, ap, arith}
-use Rattle.border_match.proofs.Imports.{cases_Bool, common_steps, cond-false, cond-true, event_at, events_of_line}
+use Rattle.border_match.proofs.Imports.{cases_Bool, common_steps, cond-false, cond-true, event_at, event_if_timed}
 use Rattle.border_match.proofs.Imports.{false, map, nat_tests, option_map, refl, renumber_event, renumber_signal}
 use Rattle.border_match.proofs.Imports.{renumber_signals, signal_at, sym, unwrap_or, ℕ, ℤ, ◌%◌, ◌&&◌, ◌++◌, ◌<◌, ◌==◌}
 use Rattle.border_match.proofs.Imports.{◌∙◌, ◌∷◌, ◌≡◌}
@@ -50,13 +50,13 @@ not_then t b h = ap (λ a. a && b) (not_zero t h)
 
 one_quiet : (n : ℕ) (e : BorderLine) (t : Option ℕ) (s : Signal) (rest : List TimedSignal) (x y : ℤ) →
     IfSome t (λ t. (t % 2 ≡ 1) × (t < n)) → event_at rest 0 x y ≡ None →
-    event_at (events_of_line e t s ++ rest) 0 x y ≡ None
+    event_at (event_if_timed e t s ++ rest) 0 x y ≡ None
 unfolding event_at
 one_quiet n e t s rest x y h1 h2 = grind (arith, common_steps, cond-false, not_then)
 
 pub lines_quiet : (n : ℕ) (signal : BorderLine → Signal) (es : List BorderLine) (x y : ℤ) →
     All (λ e. IfSome e.time (λ t. (t % 2 ≡ 1) × (t < n))) es →
-    event_at (flat_map (λ e. events_of_line e e.time (signal e)) es) 0 x y ≡ None
+    event_at (flat_map (λ e. event_if_timed e e.time (signal e)) es) 0 x y ≡ None
 unfolding event_at
 lines_quiet n signal [] x y all = refl
 lines_quiet n signal (e ∷ es) x y all =

@@ -5,7 +5,7 @@ use Rattle.border_match.proofs.Imports.{◌≢◌}
 use Rattle.circuit.specs.Meaning.{Valuation}
 use Rattle.module_box.proofs.EqualTests.{signal_decides}
 use Rattle.module_job.specs.Signals.{is_live}
-use Rattle.border_match.specs.Laws.{AreBeside, NoFaultMeansSameSignals}
+use Rattle.border_match.specs.Laws.{IsHaloMomentOwnedBy, NoFaultMeansSameSignals}
 use Rattle.certificate_lines.proofs.OddBlocks.{area_of}
 
 -- signals that do not differ are the same
@@ -15,7 +15,7 @@ not_different a b h = grind (arith, common_steps, cases_Bool, signal_decides, fa
 -- a fault at that time is enough
 pub same_at : (g : Setting) (ms : List ModuleLines) (i k : ℕ) (m owner : ModuleLines) (t : ℕ) (x y : ℤ)
     (v : Valuation) →
-    ((f : BorderFault) → f.time ≡ t → ¬ IsBorderFault g ms i f) → AreBeside g ms i k m owner t x y →
+    ((f : BorderFault) → f.time ≡ t → ¬ IsBorderFault g ms i f) → IsHaloMomentOwnedBy g ms i k m owner t x y →
     is_live v (halo_signal g.circuit m t x y) ≡ is_live v (edge_signal g.circuit owner t x y)
 same_at g ms i k m owner t x y v none beside =
     ap (is_live v) (not_different (halo_signal g.circuit m t x y) (edge_signal g.circuit owner t x y) (λ differ.

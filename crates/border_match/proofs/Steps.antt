@@ -1,5 +1,5 @@
 -- One more event, module or time
-use Rattle.border_match.proofs.Imports.{AreEventsFar, AreReadyBorders, Bool, BorderFault, Borders}
+use Rattle.border_match.proofs.Imports.{AreEventsFarBetween, AreReadyBorders, Bool, BorderFault, Borders}
 use Rattle.border_match.proofs.Imports.{Box2, Cell, CellDiffersWithoutEvent, Greater, HasCandidateAtMost}
 use Rattle.border_match.proofs.Imports.{IsAtOwnersEdgeEvent, IsAtSomeEventBelow}
 use Rattle.border_match.proofs.Imports.{IsFaultOfSearchedJob, IsInOrAround, IsRising, IsWindowAround, JobView, Less}
@@ -76,7 +76,7 @@ cornered_all dx dy es events k are le = grind (arith, common_steps, length-map)
 pub far_step : (b : Borders) (other : JobView) (a corner : Box2) (w : Window) (es : List TimedSignal) (i next : ℕ)
     (f : BorderFault) → a ≡ b.job.now.area → corner ≡ other.area → IsWindowAround a corner w →
     es ≡ map (moved_event (shift_to_origin other.area.x) (shift_to_origin other.area.y)) other.edges.events →
-    AreEventsFar w es i next → IsFaultOfSearchedJob b f → IsAtSomeEventBelow next other.edges.events f →
+    AreEventsFarBetween w es i next → IsFaultOfSearchedJob b f → IsAtSomeEventBelow next other.edges.events f →
     IsAtSomeEventBelow i other.edges.events f
 far_step b other a corner w es i next f same_area same_corner is are far g h =
     elim (below_or_from h.named.place i) [

@@ -168,7 +168,7 @@ DiffersAtStarOfAny ks b f = DiffersAtStar b b.job.now.halos.all_times f
 -- ---- marks of the halo events that edges name
 
 -- the event at a place of the list is at this time and cell
-pub record IsPlaceOf (events : List TimedSignal) (at : Moment) (place : ℕ) : Type 0 where
+pub record IsEventPlaceOf (events : List TimedSignal) (at : Moment) (place : ℕ) : Type 0 where
   pub event : TimedSignal
   pub got : slice_get events place ≡ Some event
   pub same : event.at ≡ at

@@ -16,7 +16,7 @@ LeastBorderFaultIsUnique = (g : Setting) (ms : List ModuleLines) (i : ℕ) (f h 
     IsLeastBorderFault g ms i f → IsLeastBorderFault g ms i h → f ≡ h
 
 -- (t, x, y) is an odd time below the steps and a cell of the halo of module i, and module k has the cell
-pub record AreBeside (g : Setting) (ms : List ModuleLines) (i k : ℕ) (m owner : ModuleLines) (t : ℕ)
+pub record IsHaloMomentOwnedBy (g : Setting) (ms : List ModuleLines) (i k : ℕ) (m owner : ModuleLines) (t : ℕ)
     (x y : ℤ) : Type 0 where
   pub tile : Tile (whole g.size) (areas ms)
   pub numbered : slice_get ms i ≡ Some m
@@ -30,7 +30,7 @@ pub record AreBeside (g : Setting) (ms : List ModuleLines) (i k : ℕ) (m owner 
 abbrev pub NoFaultMeansSameSignals : Type 0
 NoFaultMeansSameSignals = (g : Setting) (ms : List ModuleLines) (i k : ℕ) (m owner : ModuleLines) (t : ℕ) (x y : ℤ)
     (v : Valuation) →
-    IsLeastBorderFault g ms i None → AreBeside g ms i k m owner t x y →
+    IsLeastBorderFault g ms i None → IsHaloMomentOwnedBy g ms i k m owner t x y →
     is_live v (halo_signal g.circuit m t x y) ≡ is_live v (edge_signal g.circuit owner t x y)
 
 -- a module of version 2 has no border fault

@@ -54,12 +54,13 @@ abbrev pub IsEventFarAt : Window → List TimedSignal → ℕ → Type 0
 IsEventFarAt w events place = (e : TimedSignal) → slice_get events place ≡ Some e → ¬ IsInWindow w e.at.cell
 
 -- no event of the list from the first place on and before the second is at an odd time and at a cell of the window
-abbrev pub AreEventsFar : Window → List TimedSignal → ℕ → ℕ → Type 0
-AreEventsFar w events place next = (i : ℕ) (e : TimedSignal) → place ≤ i → i < next → slice_get events i ≡ Some e →
+abbrev pub AreEventsFarBetween : Window → List TimedSignal → ℕ → ℕ → Type 0
+AreEventsFarBetween w events place next =
+    (i : ℕ) (e : TimedSignal) → place ≤ i → i < next → slice_get events i ≡ Some e →
     e.at.time % 2 ≡ 1 → ¬ IsInWindow w e.at.cell
 
 -- the place of the first event from a place on that is not before the moment, or the end of the list
-pub record IsFirstNotBefore (events : List TimedSignal) (start : ℕ) (at : Moment) (place : ℕ) : Type 0 where
+pub record IsFirstEventNotBefore (events : List TimedSignal) (start : ℕ) (at : Moment) (place : ℕ) : Type 0 where
   pub after : start ≤ place
   pub within : place ≤ length events
   pub passed : (i : ℕ) (e : TimedSignal) → start ≤ i → i < place → slice_get events i ≡ Some e →

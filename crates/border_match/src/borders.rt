@@ -4,8 +4,8 @@ ghost use Rattle.std.specs.Prelude.{◌+◌, ◌≡◌, ◌<◌, ◌↔◌, ◌&
 ghost use Rattle.bbm_rule.specs.Boxes.{in_box, in_halo};
 ghost use Rattle.module_box.specs.Moves.{IsInShiftRange};
 ghost use Rattle.module_box.specs.Tiling.{owner_of};
-ghost use Rattle.border_match.specs.Boards.{AddsOnlyMarksAt, AreHaloMarks, AreModuleNumbers, AreHaloOwnersListed, SignalsDifferAt, IsFaultOfSearchedJob, IsAtOwnersEdgeEvent, IsAtEdgeEventOf, IsAtEvent, IsListed, IsAtSomeEvent, IsPlaceOf, IsAtUnmarkedEvent, AreReadyBorders, IsAtComparedMoment, job_signal, jobs_of};
-ghost use Rattle.border_match.specs.Candidates.{IsNextBest, IsLeast};
+ghost use Rattle.border_match.specs.Boards.{AddsOnlyMarksAt, AreHaloMarks, AreModuleNumbers, AreHaloOwnersListed, SignalsDifferAt, IsFaultOfSearchedJob, IsAtOwnersEdgeEvent, IsAtEdgeEventOf, IsAtEvent, IsListed, IsAtSomeEvent, IsEventPlaceOf, IsAtUnmarkedEvent, AreReadyBorders, IsAtComparedMoment, job_signal, jobs_of};
+ghost use Rattle.border_match.specs.Candidates.{IsNextCandidate, IsLeast};
 ghost use Rattle.border_match.specs.Surroundings.{AreEdgeEventExtents, IsEdgeEventExtent};
 ghost use Rattle.border_match.specs.declared.fault.BorderFault.{BorderFault};
 ghost use Rattle.border_match.specs.declared.signals.RingOrHalo.TheVariants.{Halo};
@@ -13,7 +13,7 @@ ghost use Rattle.border_match.specs.declared.signals.RingOrHalo.TheVariants.{Hal
 use crate::fault::{BorderFault, is_less, lesser};
 use crate::signals::{RingOrHalo, signal_at, signal_at_event};
 use crate::surroundings::{
-    EventWalk, LeapPlan, find_event_place, first_place_near, next_place_near,
+    EventWalk, LeapPlan, find_event_place, first_near_event_place, next_near_event_place,
 };
 use crate::window::Window;
 use bbm_rule::Cell;
@@ -138,10 +138,14 @@ impl<'a> Borders<'a> {
     }
 
     // The lesser of the candidate and the fault that an event of the module's halo names.
-    fn with_halo_event(&self, best: Option<BorderFault>, event: TimedSignal) -> Option<BorderFault>
+    fn least_with_halo_event(
+        &self,
+        best: Option<BorderFault>,
+        event: TimedSignal,
+    ) -> Option<BorderFault>
         requires borders_ready { AreReadyBorders self.now }
         requires event_listed { IsListed self.now.job.now.halos.events event }
-        ensures { IsNextBest (IsFaultOfSearchedJob self.now) (IsAtEvent event) best result }
+        ensures { IsNextCandidate (IsFaultOfSearchedJob self.now) (IsAtEvent event) best result }
     {
         let fault = possible_fault_at(event);
         if is_less(fault, best)
@@ -158,7 +162,7 @@ impl<'a> Borders<'a> {
     #[inline(always)]
     fn halo_event_place(&self, at: Moment, walk: &mut EventWalk) -> Option<usize>
         requires { IsInShiftRange at.cell }
-        ensures { IfSome result (IsPlaceOf self.now.job.now.halos.events at) }
+        ensures { IfSome result (IsEventPlaceOf self.now.job.now.halos.events at) }
     {
         let area = self.job.area();
         let shape: &Shape = self.job.shape();
@@ -172,7 +176,12 @@ impl<'a> Borders<'a> {
     // Returns what the module says of this time and cell of its halo. If an event says it, that event gets its mark,
     // and the walk goes on behind it.
     #[inline(always)]
-    fn read_and_mark_halo(&self, at: Moment, seen: &mut [bool], walk: &mut EventWalk) -> Signal
+    fn read_and_mark_halo_event(
+        &self,
+        at: Moment,
+        seen: &mut [bool],
+        walk: &mut EventWalk,
+    ) -> Signal
         requires cell_in_shift_range { IsInShiftRange at.cell }
         requires one_mark_per_event { length seen.old ≡ length self.now.job.now.halos.events }
         ensures signal { result ≡ job_signal Halo self.now.job.now at.time at.cell.x at.cell.y }
@@ -192,7 +201,7 @@ impl<'a> Borders<'a> {
     //
     // Most often the two modules say the same, so this test comes before all others.
     #[inline(always)]
-    fn with_edge_event(
+    fn least_with_edge_event(
         &self,
         best: Option<BorderFault>,
         owner: &Job,
@@ -206,11 +215,12 @@ impl<'a> Borders<'a> {
             (owner_of self.now.owners.now event.at.cell.x event.at.cell.y) ≡ Some owner.now }
         requires event_listed { IsListed owner.now.edges.events event }
         requires marked { AreHaloMarks self.now seen.old }
-        ensures better { IsNextBest (IsFaultOfSearchedJob self.now) (IsAtEvent event) best result }
+        ensures better { IsNextCandidate (IsFaultOfSearchedJob self.now) (IsAtEvent event) best
+            result }
         ensures marked { AreHaloMarks self.now seen.new }
     {
         owner.prove_valid();
-        let own = self.read_and_mark_halo(event.at, seen, walk);
+        let own = self.read_and_mark_halo_event(event.at, seen, walk);
         if !self.edge_event_differs(owner, event, own) {
             return best;
         }
@@ -222,24 +232,28 @@ impl<'a> Borders<'a> {
     }
 
     // The least of the candidate and the faults that the events of the module's halo without a mark name.
-    fn with_halo_events(&self, best: Option<BorderFault>, seen: &[bool]) -> Option<BorderFault>
+    fn least_with_unmarked_halo_events(
+        &self,
+        best: Option<BorderFault>,
+        seen: &[bool],
+    ) -> Option<BorderFault>
         requires borders_ready { AreReadyBorders self.now }
         requires one_mark_per_event { length seen.now ≡ length self.now.job.now.halos.events }
-        ensures { IsNextBest (IsFaultOfSearchedJob self.now)
+        ensures { IsNextCandidate (IsFaultOfSearchedJob self.now)
             (IsAtUnmarkedEvent seen.now self.now.job.now.halos.events) best result }
     {
         let mut least = best;
-        for place in 0..self.job.halo_events() {
+        for place in 0..self.job.halo_event_count() {
             if seen[place] {
                 continue;
             }
-            least = self.with_halo_event(least, self.job.halo_event(place));
+            least = self.least_with_halo_event(least, self.job.halo_event(place));
         }
         least
     }
 
     // The least of the candidate and the faults that the events of a module's ring name.
-    fn with_edge_events(
+    fn least_with_edge_events(
         &self,
         best: Option<BorderFault>,
         number: usize,
@@ -251,7 +265,7 @@ impl<'a> Borders<'a> {
         requires extent { IsEdgeEventExtent other.now extent.now }
         requires numbered { slice_get (jobs_of self.now) number ≡ Some other.now }
         requires marked { AreHaloMarks self.now seen.old }
-        ensures better { IsNextBest (IsFaultOfSearchedJob self.now)
+        ensures better { IsNextCandidate (IsFaultOfSearchedJob self.now)
             (IsAtSomeEvent other.now.edges.events) best result }
         ensures marked { AreHaloMarks self.now seen.new }
     {
@@ -262,21 +276,21 @@ impl<'a> Borders<'a> {
         let mut leaps = LeapPlan::new();
         let mut least = best;
         // Most events of a long side are far from this module, so this test comes before all others.
-        let mut place = first_place_near(&window, extent, events, &mut leaps);
+        let mut place = first_near_event_place(&window, extent, events, &mut leaps);
         while place < events.len() {
             let event = other.edge_event(place);
             // The events rise, so no fault of the rest is less either.
             if !is_less(possible_fault_at(event), least) {
                 return least;
             }
-            least = self.with_edge_event(least, other, event, seen, &mut walk);
-            place = next_place_near(&window, events, place + 1, &mut leaps);
+            least = self.least_with_edge_event(least, other, event, seen, &mut walk);
+            place = next_near_event_place(&window, events, place + 1, &mut leaps);
         }
         least
     }
 
     // The least of the candidate and the faults that the edges of one module name.
-    fn with_edges_of(
+    fn least_with_edges_of_module(
         &self,
         best: Option<BorderFault>,
         number: usize,
@@ -287,17 +301,17 @@ impl<'a> Borders<'a> {
         requires extents { AreEdgeEventExtents (jobs_of self.now) extents.now }
         requires number { number < length self.now.jobs.now }
         requires marked { AreHaloMarks self.now seen.old }
-        ensures better { IsNextBest (IsFaultOfSearchedJob self.now)
+        ensures better { IsNextCandidate (IsFaultOfSearchedJob self.now)
             (IsAtEdgeEventOf number self.now) best result }
         ensures marked { AreHaloMarks self.now seen.new }
     {
-        self.with_edge_events(best, number, &self.jobs[number], &extents[number], seen)
+        self.least_with_edge_events(best, number, &self.jobs[number], &extents[number], seen)
     }
 
     // The least of the candidate and the faults that the edges of the modules name, where these are the numbers of the
     // modules that have cells of the module's halo. An event of the halo gets its mark if an edge has its time and
     // cell.
-    fn with_edges(
+    fn least_with_edges_of_modules(
         &self,
         best: Option<BorderFault>,
         near: &[usize],
@@ -309,13 +323,13 @@ impl<'a> Borders<'a> {
         requires owners_listed { AreHaloOwnersListed self.now near.now }
         requires numbers_exist { AreModuleNumbers self.now near.now }
         requires marked { AreHaloMarks self.now seen.old }
-        ensures better { IsNextBest (IsFaultOfSearchedJob self.now) (IsAtOwnersEdgeEvent self.now)
-            best result }
+        ensures better { IsNextCandidate (IsFaultOfSearchedJob self.now)
+            (IsAtOwnersEdgeEvent self.now) best result }
         ensures marked { AreHaloMarks self.now seen.new }
     {
         let mut least = best;
         for number in near {
-            least = self.with_edges_of(least, *number, extents, seen);
+            least = self.least_with_edges_of_module(least, *number, extents, seen);
         }
         least
     }
@@ -331,9 +345,9 @@ impl<'a> Borders<'a> {
         ensures { IfOk result (IsLeast (IsFaultOfSearchedJob self.now)) }
     {
         let near = self.near_modules(alloc)?;
-        let mut seen = vec![in alloc; false; self.job.halo_events()]?;
-        let by_edges = self.with_edges(None, &near, extents, &mut seen);
-        let by_halo = self.with_halo_events(by_edges, &seen);
-        Ok(self.with_star_faults(by_halo, &near))
+        let mut seen = vec![in alloc; false; self.job.halo_event_count()]?;
+        let by_edges = self.least_with_edges_of_modules(None, &near, extents, &mut seen);
+        let by_halo = self.least_with_unmarked_halo_events(by_edges, &seen);
+        Ok(self.least_with_star_faults(by_halo, &near))
     }
 }

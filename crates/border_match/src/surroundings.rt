@@ -5,8 +5,8 @@ ghost use Rattle.std.specs.Prelude.{pos, ◌+◌, ◌≤◌, ◌+ℤ◌, ◌≤�
 ghost use Rattle.module_box.specs.Moments.{moment_cmp};
 ghost use Rattle.module_box.specs.Moves.{moved_cell};
 ghost use Rattle.module_box.specs.Schedules.{IsRising, moment_of};
-ghost use Rattle.border_match.specs.Boards.{IsPlaceOf};
-ghost use Rattle.border_match.specs.Surroundings.{AreEventsFar, IsInOrAroundFromCorner, IsEventFarAt, IsExtent, IsFirstNotBefore};
+ghost use Rattle.border_match.specs.Boards.{IsEventPlaceOf};
+ghost use Rattle.border_match.specs.Surroundings.{AreEventsFarBetween, IsInOrAroundFromCorner, IsEventFarAt, IsExtent, IsFirstEventNotBefore};
 ghost use Rattle.lemmas.specs.Bounds.{max_side};
 
 use crate::window::Window;
@@ -135,7 +135,7 @@ pub(crate) fn plane_cell_if_near(area: Box2, corner: Box2, cell: Cell) -> Option
 ///
 /// It looks first at the place `guess`, then at places ever further behind, and then between the last two.
 #[tactic(auto, using(crate::proofs::FarEvents::not_less, crate::proofs::FarEvents::passed_to, crate::proofs::FarEvents::rest_from, crate::proofs::FarEvents::rest_none))]
-pub(crate) fn find_first_not_before(
+pub(crate) fn find_first_event_not_before(
     events: &[TimedSignal],
     from: usize,
     guess: usize,
@@ -143,7 +143,7 @@ pub(crate) fn find_first_not_before(
 ) -> usize
     requires start_within_events { from ≤ length events.now }
     requires rising_moments { IsRising moment_cmp moment_of events.now }
-    ensures { IsFirstNotBefore events.now from at result }
+    ensures { IsFirstEventNotBefore events.now from at result }
 {
     let mut low = from;
     let mut high = guess.max(from).min(events.len());
@@ -175,10 +175,15 @@ fn leap(window: &Window, events: &[TimedSignal], place: usize, leaps: &mut LeapP
     requires rising_moments { IsRising moment_cmp moment_of events.now }
     requires event_far { IsEventFarAt window.now events.now place }
     ensures place_moves_on { place < result }
-    ensures passed_events_far { AreEventsFar window.now events.now place result }
+    ensures passed_events_far { AreEventsFarBetween window.now events.now place result }
 {
     let target = window.next_moment_near(events[place].at);
-    let next = find_first_not_before(events, place + 1, leaps.last_place_of_leap(place), target);
+    let next = find_first_event_not_before(
+        events,
+        place + 1,
+        leaps.last_place_of_leap(place),
+        target,
+    );
     *leaps = leaps.after_leap(place, next);
     next
 }
@@ -186,7 +191,7 @@ fn leap(window: &Window, events: &[TimedSignal], place: usize, leaps: &mut LeapP
 /// Returns the first place from `from` on of an event at a cell of the window, or the end of the list. It may pass over
 /// events at even times.
 #[inline(always)]
-pub(crate) fn next_place_near(
+pub(crate) fn next_near_event_place(
     window: &Window,
     events: &[TimedSignal],
     from: usize,
@@ -194,7 +199,7 @@ pub(crate) fn next_place_near(
 ) -> usize
     requires rising_moments { IsRising moment_cmp moment_of events.now }
     ensures place_moves_on { from ≤ result }
-    ensures passed_events_far { AreEventsFar window.now events.now from result }
+    ensures passed_events_far { AreEventsFarBetween window.now events.now from result }
 {
     let mut place = from;
     while place < events.len() {
@@ -211,9 +216,9 @@ pub(crate) fn next_place_near(
     place
 }
 
-/// Returns the first place of an event at a cell of the window, as [`next_place_near`] does, where the cells of all
-/// events are in the columns and rows of `extent`.
-pub(crate) fn first_place_near(
+/// Returns the first place of an event at a cell of the window, as [`next_near_event_place`] does, where the cells of
+/// all events are in the columns and rows of `extent`.
+pub(crate) fn first_near_event_place(
     window: &Window,
     extent: &Window,
     events: &[TimedSignal],
@@ -221,18 +226,18 @@ pub(crate) fn first_place_near(
 ) -> usize
     requires rising_moments { IsRising moment_cmp moment_of events.now }
     requires extent { IsExtent events.now extent.now }
-    ensures { AreEventsFar window.now events.now 0 result }
+    ensures { AreEventsFarBetween window.now events.now 0 result }
 {
     if extent.misses(*window) {
         return events.len();
     }
-    next_place_near(window, events, 0, leaps)
+    next_near_event_place(window, events, 0, leaps)
 }
 
 // Returns whether the event at a place is at a moment.
 #[inline(always)]
 fn is_event_at(events: &[TimedSignal], place: usize, at: Moment) -> bool
-    ensures { IsTrue result → IsPlaceOf events.now at place }
+    ensures { IsTrue result → IsEventPlaceOf events.now at place }
 {
     if place >= events.len() {
         return false;
@@ -273,12 +278,12 @@ impl EventWalk {
 #[inline(never)]
 fn search_event_place(events: &[TimedSignal], walk: &mut EventWalk, at: Moment) -> Option<usize>
     requires { IsRising moment_cmp moment_of events.now }
-    ensures found { IfSome result (IsPlaceOf events.now at) }
+    ensures found { IfSome result (IsEventPlaceOf events.now at) }
     ensures passed { IfSome result (λ place. walk.new.passed ≡ place - walk.old.next) }
 {
     let start = walk.next.min(events.len());
     let guess = start.saturating_add(walk.passed).saturating_sub(1);
-    let place = find_first_not_before(events, start, guess, at);
+    let place = find_first_event_not_before(events, start, guess, at);
     if is_event_at(events, place, at) {
         walk.passed = place.saturating_sub(walk.next);
         return Some(place);
@@ -296,7 +301,7 @@ pub(crate) fn find_event_place(
     at: Moment,
 ) -> Option<usize>
     requires { IsRising moment_cmp moment_of events.now }
-    ensures { IfSome result (IsPlaceOf events.now at) }
+    ensures { IfSome result (IsEventPlaceOf events.now at) }
 {
     if is_event_at(events, walk.next, at) {
         return Some(walk.next);

@@ -2,17 +2,19 @@
 use Rattle.certificate.proofs.Imports.{All, All-append, All-cons, All-head, All-nil, All-tail, Circuit, Contains, Gate}
 use Rattle.certificate.proofs.Imports.{List, None, Option, Some, StopLine, TimeLine, [], all_stops, and_parts, ap}
 use Rattle.certificate.proofs.Imports.{arith, common_steps, delay_line, earlier, eqb-true, fold, if◌then◌else◌}
-use Rattle.certificate.proofs.Imports.{last_times, later, length, lines_by_number, list_all, max, meet_line, min}
+use Rattle.certificate.proofs.Imports.{last_times, later, length, list_all, max, meet_line, min, time_lines_by_number}
 use Rattle.certificate.proofs.Imports.{nat_le, nat_tests, option_to_list, refl, same_Some, slice_get}
 use Rattle.certificate.proofs.Imports.{stop_times_of_wire, subst, suc, sym, true, zero, ℕ, ◌+◌, ◌-◌, ◌<◌, ◌==◌, ◌∙◌}
 use Rattle.certificate.proofs.Imports.{◌∷◌, ◌≡◌, ◌≤◌, ◌++◌}
 use Rattle.lemmas.proofs.Common.{All-contains, Contains-append_left, Contains-append_right, list_all-append, eq_test}
 use Rattle.circuit.specs.declared.circuit_line.GateKind.{GateKind}
 use Rattle.circuit.specs.declared.circuit_line.GateKind.TheVariants.{Delay}
-use Rattle.certificate.specs.Arrivals.{IsFirstTime, IsLastTime, LastStopsMeetAt, TakesSteps, IsTimeLineTrue}
+use Rattle.certificate.specs.Arrivals.{IsFirstStopTime, IsLastStopTime, LastStopsMeetAt, TakesStepsBetweenStops}
+use Rattle.certificate.specs.Arrivals.{IsTimeLineTrue}
 use Rattle.certificate.specs.Arrivals.{IsDelayGapTrue, IsMeetingTimeTrue}
 use Rattle.certificate.specs.Laws.{ObeyedLinesAreOnTime, TimeLinesAreTrue}
-use Rattle.certificate.specs.Times.{common_time, delay_line_of_kind, first_seen, gap_between, is_obeyed, last_seen}
+use Rattle.certificate.specs.Times.{common_time, delay_line_of_kind, first_seen_time, gap_between, is_obeyed}
+use Rattle.certificate.specs.Times.{last_seen_time}
 use Rattle.certificate.specs.Times.{meet_line_of_times, first_wire_time}
 use Rattle.certificate.specs.declared.times.StopGap.{StopGap}
 use Rattle.certificate.specs.declared.times.StopGap.TheVariants.{Steps, Missing, Before}
@@ -21,10 +23,10 @@ use Rattle.certificate.specs.declared.times.TimeLine.TheVariants as line
 
 -- ---- the first and the last time of a wire
 
-is_first : (c : Circuit) (ss : List StopLine) (w t : ℕ) → first_seen c ss w ≡ Some t → IsFirstTime c ss w t
+is_first : (c : Circuit) (ss : List StopLine) (w t : ℕ) → first_seen_time c ss w ≡ Some t → IsFirstStopTime c ss w t
 is_first c ss w t e = let h = first_is_least c ss w t e in record { seen = h.0; least = h.1 }
 
-is_last : (c : Circuit) (ss : List StopLine) (w t : ℕ) → last_seen c ss w ≡ Some t → IsLastTime c ss w t
+is_last : (c : Circuit) (ss : List StopLine) (w t : ℕ) → last_seen_time c ss w ≡ Some t → IsLastStopTime c ss w t
 is_last c ss w t e = let h = last_is_greatest c ss w t e in record { seen = h.0; greatest = h.1 }
 
 nothing_there : (t : ℕ) → Contains [] t → ⊥
@@ -47,7 +49,7 @@ has_last : (ts : List ℕ) (t : ℕ) → Contains ts t → (u : ℕ) × (fold la
 has_last [] t h = absurd (nothing_there t h)
 has_last (a ∷ ts) t h = some_later a ts
 
-first_is : (c : Circuit) (ss : List StopLine) (w t : ℕ) → IsFirstTime c ss w t → first_seen c ss w ≡ Some t
+first_is : (c : Circuit) (ss : List StopLine) (w t : ℕ) → IsFirstStopTime c ss w t → first_seen_time c ss w ≡ Some t
 first_is c ss w t h =
     let f = has_first (stop_times_of_wire c ss w) t h.seen in
     let g = is_first c ss w f.0 f.1 in
@@ -55,7 +57,7 @@ first_is c ss w t h =
     let down = All-contains (λ u. f.0 ≤ u) (stop_times_of_wire c ss w) t g.least h.seen in
     f.1 ∙ ap Some (omega (arith, up, down))
 
-last_is : (c : Circuit) (ss : List StopLine) (w t : ℕ) → IsLastTime c ss w t → last_seen c ss w ≡ Some t
+last_is : (c : Circuit) (ss : List StopLine) (w t : ℕ) → IsLastStopTime c ss w t → last_seen_time c ss w ≡ Some t
 last_is c ss w t h =
     let f = has_last (stop_times_of_wire c ss w) t h.seen in
     let g = is_last c ss w f.0 f.1 in
@@ -68,12 +70,13 @@ last_is c ss w t h =
 gap_missing : (last first : Option ℕ) (l f : ℕ) → gap_between last first ≡ Missing → last ≡ Some l → first ≡ Some f → ⊥
 gap_missing last first l f h1 h2 h3 = grind (arith, common_steps)
 
-takes : (c : Circuit) (ss : List StopLine) (m a b : ℕ) → gap_between (last_seen c ss a) (first_seen c ss b) ≡ Steps m →
-    TakesSteps c ss m a b
+takes : (c : Circuit) (ss : List StopLine) (m a b : ℕ) →
+    gap_between (last_seen_time c ss a) (first_seen_time c ss b) ≡ Steps m →
+    TakesStepsBetweenStops c ss m a b
 takes c ss m a b e = grind (arith, common_steps, is_last, is_first)
 
 gap_tells : (c : Circuit) (ss : List StopLine) (a b : ℕ) (gap : StopGap) →
-    gap_between (last_seen c ss a) (first_seen c ss b) ≡ gap → IsDelayGapTrue c ss gap a b
+    gap_between (last_seen_time c ss a) (first_seen_time c ss b) ≡ gap → IsDelayGapTrue c ss gap a b
 gap_tells c ss a b (Steps m) e = takes c ss m a b e
 gap_tells c ss a b Missing e = λ s t last first. gap_missing _ _ s t e (last_is c ss a s last) (first_is c ss b t first)
 gap_tells c ss a b Before e = grind (arith, common_steps, is_last, is_first)
@@ -127,18 +130,19 @@ all_times P last (v ∷ ws) h =
     later_there : (w : ℕ) → Contains ws w → Contains (v ∷ ws) w
     later_there w there = (suc there.0, (let lt = there.1 in omega (arith, lt)), there.2)
 
-meet_at : (c : Circuit) (ss : List StopLine) (ws : List ℕ) (t : ℕ) → All (λ u. u ≡ t) (last_times (last_seen c ss) ws) →
+meet_at : (c : Circuit) (ss : List StopLine) (ws : List ℕ) (t : ℕ) →
+    All (λ u. u ≡ t) (last_times (last_seen_time c ss) ws) →
     LastStopsMeetAt c ss ws t
 meet_at c ss ws t h w s there last =
-    All-contains (λ u. u ≡ t) (last_times (last_seen c ss) ws) s h
-    (listed (last_seen c ss) ws w s there (last_is c ss w s last))
+    All-contains (λ u. u ≡ t) (last_times (last_seen_time c ss) ws) s h
+    (listed (last_seen_time c ss) ws w s there (last_is c ss w s last))
 
 all_meet : (c : Circuit) (ss : List StopLine) (ws : List ℕ) (t : ℕ) → LastStopsMeetAt c ss ws t →
-    All (λ u. u ≡ t) (last_times (last_seen c ss) ws)
-all_meet c ss ws t h = all_times (λ u. u ≡ t) (last_seen c ss) ws (λ w s there e. h w s there (is_last c ss w s e))
+    All (λ u. u ≡ t) (last_times (last_seen_time c ss) ws)
+all_meet c ss ws t h = all_times (λ u. u ≡ t) (last_seen_time c ss) ws (λ w s there e. h w s there (is_last c ss w s e))
 
 meet_tells : (c : Circuit) (ss : List StopLine) (ws : List ℕ) (o : Option ℕ) →
-    0 < length (last_times (last_seen c ss) ws) → common_time (last_times (last_seen c ss) ws) ≡ o →
+    0 < length (last_times (last_seen_time c ss) ws) → common_time (last_times (last_seen_time c ss) ws) ≡ o →
     IsMeetingTimeTrue c ss o ws
 meet_tells c ss ws (Some t) some e = meet_at c ss ws t (agreed_all _ t e)
 meet_tells c ss ws None some e = λ t meet. none_agreed _ t some e (all_meet c ss ws t meet)
@@ -148,22 +152,22 @@ meet_tells c ss ws None some e = λ t meet. none_agreed _ t some e (all_meet c s
 delay_lines_tell : (c : Circuit) (ss : List StopLine) (k : ℕ) (r : GateKind) (g : Gate) →
     slice_get c.netlist.gates k ≡ Some g → g.kind ≡ r →
     All (IsTimeLineTrue c ss) (delay_line_of_kind k r
-    (gap_between (first_wire_time (last_seen c ss) g.ins) (first_wire_time (first_seen c ss) g.outs)))
+    (gap_between (first_wire_time (last_seen_time c ss) g.ins) (first_wire_time (first_seen_time c ss) g.outs)))
 delay_lines_tell c ss k (Delay n) g at is = grind (arith, common_steps, gap_tells)
 delay_lines_tell c ss k _ g at is = All-nil (IsTimeLineTrue c ss)
 
 meet_lines_tell : (c : Circuit) (ss : List StopLine) (k : ℕ) (g : Gate) → slice_get c.netlist.gates k ≡ Some g →
-    All (IsTimeLineTrue c ss) (meet_line (last_seen c ss) k g)
+    All (IsTimeLineTrue c ss) (meet_line (last_seen_time c ss) k g)
 meet_lines_tell c ss k g at = grind (arith, common_steps, nat_tests, meet_tells)
 
 all_numbered : (P : TimeLine → Type 0) (f : ℕ → Gate → List TimeLine) (all : List Gate) →
     ((k : ℕ) (g : Gate) → slice_get all k ≡ Some g → All P (f k g)) →
     (j : ℕ) (gates : List Gate) → ((i : ℕ) → slice_get gates i ≡ slice_get all (j + i)) →
-    All P (lines_by_number f j gates)
-unfolding lines_by_number
+    All P (time_lines_by_number f j gates)
+unfolding time_lines_by_number
 all_numbered P f all each j [] at = All-nil P
 all_numbered P f all each j (g ∷ gates) at =
-    All-append P (f j g) (lines_by_number f (j + 1) gates)
+    All-append P (f j g) (time_lines_by_number f (j + 1) gates)
     (each j g (ap (slice_get all) (omega arith) ∙ sym (at 0)))
     (all_numbered P f all each (j + 1) gates (λ i. at (suc i) ∙ ap (slice_get all) (omega arith)))
 
@@ -174,9 +178,9 @@ pub lines_tell : TimeLinesAreTrue
 lines_tell c ms =
     let ss = all_stops ms in
     All-append (IsTimeLineTrue c ss) _ _
-    (all_numbered (IsTimeLineTrue c ss) (delay_line (first_seen c ss) (last_seen c ss)) c.netlist.gates
+    (all_numbered (IsTimeLineTrue c ss) (delay_line (first_seen_time c ss) (last_seen_time c ss)) c.netlist.gates
     (λ k g at. delay_lines_tell c ss k g.kind g at refl) 0 c.netlist.gates (from_none c.netlist.gates))
-    (all_numbered (IsTimeLineTrue c ss) (meet_line (last_seen c ss)) c.netlist.gates
+    (all_numbered (IsTimeLineTrue c ss) (meet_line (last_seen_time c ss)) c.netlist.gates
     (meet_lines_tell c ss) 0 c.netlist.gates
     (from_none c.netlist.gates))
 
@@ -187,14 +191,14 @@ obeyed_parts : (xs ys : List TimeLine) → list_all is_obeyed (xs ++ ys) ≡ tru
 obeyed_parts xs ys e = and_parts _ _ (sym (list_all-append is_obeyed xs ys) ∙ e)
 
 kept_at : (f : ℕ → Gate → List TimeLine) (j : ℕ) (gates : List Gate) (i : ℕ) (g : Gate) →
-    list_all is_obeyed (lines_by_number f j gates) ≡ true → slice_get gates i ≡ Some g →
+    list_all is_obeyed (time_lines_by_number f j gates) ≡ true → slice_get gates i ≡ Some g →
     list_all is_obeyed (f (j + i) g) ≡ true
-unfolding lines_by_number
+unfolding time_lines_by_number
 kept_at f j [] i g e at = absurd cc
 kept_at f j (h ∷ gates) zero g e at =
     grind (arith, common_steps, obeyed_parts, same_Some)
 kept_at f j (h ∷ gates) (suc i) g e at =
-    let p = obeyed_parts (f j h) (lines_by_number f (j + 1) gates) e in
+    let p = obeyed_parts (f j h) (time_lines_by_number f (j + 1) gates) e in
     subst (λ n. list_all is_obeyed (f n g) ≡ true) (omega arith) (kept_at f (j + 1) gates i g p.1 at)
 
 kept_gap : (k n : ℕ) (gap : StopGap) → list_all is_obeyed (line.Delay k n gap ∷ []) ≡ true → gap ≡ Steps n
@@ -218,14 +222,15 @@ meeting_of k (a ∷ b ∷ ts) e =
 pub kept_is_on_time : ObeyedLinesAreOnTime
 kept_is_on_time c ms kept =
     let ss = all_stops ms in
-    let delays = lines_by_number (delay_line (first_seen c ss) (last_seen c ss)) 0 c.netlist.gates in
-    let meetings = lines_by_number (meet_line (last_seen c ss)) 0 c.netlist.gates in
+    let delays = time_lines_by_number (delay_line (first_seen_time c ss) (last_seen_time c ss)) 0 c.netlist.gates in
+    let meetings = time_lines_by_number (meet_line (last_seen_time c ss)) 0 c.netlist.gates in
     let p = obeyed_parts delays meetings kept in
     record {
       delays = λ k n a b is. takes c ss n a b
-          (kept_gap (0 + k) n _ (kept_at (delay_line (first_seen c ss) (last_seen c ss)) 0 c.netlist.gates k _ p.0 is));
+          (kept_gap (0 + k) n _ (kept_at
+          (delay_line (first_seen_time c ss) (last_seen_time c ss)) 0 c.netlist.gates k _ p.0 is));
       meetings = λ k g at.
-          let m = meeting_of (0 + k) (last_times (last_seen c ss) g.ins)
-          (kept_at (meet_line (last_seen c ss)) 0 c.netlist.gates k g p.1 at) in
+          let m = meeting_of (0 + k) (last_times (last_seen_time c ss) g.ins)
+          (kept_at (meet_line (last_seen_time c ss)) 0 c.netlist.gates k g p.1 at) in
           (m.0, meet_at c ss g.ins m.0 m.1);
     }

@@ -1,7 +1,7 @@
 -- The edge and halo lines of a module rise, those with a `*` by their cells, the others by time and cell.
 use Rattle.certificate.proofs.Imports.{AllTimesSignal, AreInOrder, Bool, BorderLine, CertificateLine, Each, Less, List}
-use Rattle.certificate.proofs.Imports.{Option, Ordering, Pairs, Signal, TimedSignal, [], all_times_of_line, and_parts}
-use Rattle.certificate.proofs.Imports.{arith, cell_cmp, cell_of, common_steps, edge_in, events_of_line, false, halo_in}
+use Rattle.certificate.proofs.Imports.{Option, Ordering, Pairs, Signal, TimedSignal, [], and_parts, signal_if_starred}
+use Rattle.certificate.proofs.Imports.{arith, cell_cmp, cell_of, common_steps, edge_in, event_if_timed, false, halo_in}
 use Rattle.certificate.proofs.Imports.{is_cut, line_cmp, list_all, may_precede, moment_cmp, ordering_then, pairs_flat}
 use Rattle.certificate.proofs.Imports.{rank_of, sort_number_of, time_rank, true, ℕ, ◌||◌, ◌∷◌, ◌≡◌}
 use Rattle.std.specs.List.{flat_map}
@@ -57,20 +57,20 @@ EventBefore a b = moment_cmp a.at b.at ≡ Less
 
 pub all_times_first : (s s' : Signal) (d e : BorderLine) (t u : Option ℕ) →
     ordering_then (nat_cmp (time_rank t) (time_rank u)) (cell_cmp d.cell e.cell) ≡ Less →
-    Each (λ a. Each (HeldBefore a) (all_times_of_line e u s')) (all_times_of_line d t s)
+    Each (λ a. Each (HeldBefore a) (signal_if_starred e u s')) (signal_if_starred d t s)
 unfolding Each
 all_times_first s s' d e t u h1 = grind (arith, common_steps)
 
 pub event_first : (s s' : Signal) (d e : BorderLine) (t u : Option ℕ) →
     ordering_then (nat_cmp (time_rank t) (time_rank u)) (cell_cmp d.cell e.cell) ≡ Less →
-    Each (λ a. Each (EventBefore a) (events_of_line e u s')) (events_of_line d t s)
+    Each (λ a. Each (EventBefore a) (event_if_timed e u s')) (event_if_timed d t s)
 unfolding Each moment_cmp
 event_first s s' d e t u h1 = grind (arith, common_steps)
 
-pub all_times_alone : (s : Signal) (d : BorderLine) (t : Option ℕ) → Pairs HeldBefore (all_times_of_line d t s)
+pub all_times_alone : (s : Signal) (d : BorderLine) (t : Option ℕ) → Pairs HeldBefore (signal_if_starred d t s)
 unfolding Each Pairs
 all_times_alone s d t = grind (arith, common_steps)
 
-pub event_alone : (s : Signal) (d : BorderLine) (t : Option ℕ) → Pairs EventBefore (events_of_line d t s)
+pub event_alone : (s : Signal) (d : BorderLine) (t : Option ℕ) → Pairs EventBefore (event_if_timed d t s)
 unfolding Each Pairs
 event_alone s d t = grind (arith, common_steps)

@@ -1,5 +1,5 @@
 -- Lists of what cells carry and must be, that grow row by row.
-use Rattle.certificate.proofs.Imports.{AddsCells, All, Box2, Cell, Circuit, Demand, IsDemandWireBelow}
+use Rattle.certificate.proofs.Imports.{AddsStartsAndDemands, All, Box2, Cell, Circuit, Demand, IsDemandWireBelow}
 use Rattle.certificate.proofs.Imports.{IsSignalWireBelow, List, LocalNet, Pattern, Signal, [], ap, arith}
 use Rattle.certificate.proofs.Imports.{circuit_wire, common_steps, end_demand, flat_map, in_box, map, map-append, pos}
 use Rattle.certificate.proofs.Imports.{range_with_len, refl, renumber_demand, renumber_signal, replicate, row_cells}
@@ -74,7 +74,7 @@ all_same P old new n v pushed own all = grind (arith, common_steps, get_or-repli
 -- ---- the lists of a row
 
 module _ (c : Circuit) (p : Pattern) (l : LocalNet) (first old new : CellLists) (x k y : ℕ) (from : x ≤ k)
-    (was : AddsCells c p l (row_cells x (k - x) y) first old) where
+    (was : AddsStartsAndDemands c p l (row_cells x (k - x) y) first old) where
   abbrev starts_at : Cell → Signal
   starts_at d = start_signal c p d.x d.y
 
@@ -87,7 +87,7 @@ module _ (c : Circuit) (p : Pattern) (l : LocalNet) (first old new : CellLists) 
       ((j : ℕ) → k ≤ j → j < n → start_signal c p (pos j) (pos y) ≡ renumber_signal (circuit_wire l) start) →
       ((j : ℕ) → k ≤ j → j < n → end_demand c p (pos j) (pos y) ≡ renumber_demand (circuit_wire l) demand) →
       IsSignalWireBelow (wires l.netlist) start → IsDemandWireBelow (wires l.netlist) demand →
-      AddsCells c p l (row_cells x (n - x) y) first new
+      AddsStartsAndDemands c p l (row_cells x (n - x) y) first new
   add_same start demand n le starts demands starts_are demands_are start_below demand_below =
       grind (arith, common_steps, grow_same, starts_at, all_same, demands_at)
 
@@ -96,7 +96,7 @@ module _ (c : Circuit) (p : Pattern) (l : LocalNet) (first old new : CellLists) 
       renumber_signal (circuit_wire l) start ≡ start_signal c p (to_z w32 k) (to_z w32 y) →
       IsSignalWireBelow (wires l.netlist) start →
       renumber_demand (circuit_wire l) demand ≡ end_demand c p (to_z w32 k) (to_z w32 y) →
-      IsDemandWireBelow (wires l.netlist) demand → AddsCells c p l (row_cells x (k + 1 - x) y) first new
+      IsDemandWireBelow (wires l.netlist) demand → AddsStartsAndDemands c p l (row_cells x (k + 1 - x) y) first new
   add_cell start demand low row starts demands own_start start_below own_demand demand_below =
       grind (arith, common_steps, grow_cell, starts_at, demands_at)
 

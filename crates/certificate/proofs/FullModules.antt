@@ -16,7 +16,7 @@ use Rattle.certificate.proofs.Imports.{true, true≢false, whole, wire_of, with_
 use Rattle.certificate.proofs.Imports.{◌++◌, ◌<◌, ◌||◌, ◌∙◌, ◌∷◌, ◌≡◌, ◌≢◌, ◌≤◌, get_or, slice_get-get_or}
 use Rattle.std.proofs.lemmas.Simd.{map-map}
 use Rattle.bbm_rule.proofs.CellOrder.{cell_exact}
-use Rattle.certificate_lines.specs.Modules.{IsEdge, IsHalo, IsStop}
+use Rattle.certificate_lines.specs.Modules.{IsAllowedEdge, IsAllowedHalo, IsAllowedStop}
 use Rattle.certificate_lines.proofs.LineOrder.{pairs_each, rising_distinct}
 use Rattle.certificate_lines.proofs.Pairs.{each_append, each_at, pairs_append}
 use Rattle.certificate.proofs.BorderOrder.{edges_rise, pairs_of_order}
@@ -210,8 +210,9 @@ module _ (g : Setting) (ms : List ModuleLines) (good : AreModules g ms) where
   module_of : (m : ModuleLines) → In m ms → IsModule g m
   module_of m i = let p = placed m ms i in good.each p.0 m p.1
 
-  pub edge_of : (m : ModuleLines) (e : BorderLine) → In m ms → In e (edges m) → IsEdge g m.area (known g.circuit m) e
-  edge_of m e i j = all_in (IsEdge g m.area (known g.circuit m)) (edges m) (module_of m i).edge_lines e j
+  pub edge_of : (m : ModuleLines) (e : BorderLine) → In m ms → In e (edges m) →
+      IsAllowedEdge g m.area (known g.circuit m) e
+  edge_of m e i j = all_in (IsAllowedEdge g m.area (known g.circuit m)) (edges m) (module_of m i).edge_lines e j
 
   pub edge_cell : (m : ModuleLines) (e : BorderLine) → In m ms → In e (edges m) → in_box m.area e.cell.x e.cell.y ≡ true
   edge_cell m e i j = ring_in_box m.area e.cell.x e.cell.y (edge_of m e i j).ring
@@ -306,7 +307,7 @@ module _ (g : Setting) (ms : List ModuleLines) (good : AreModules g ms) where
     -- the edge lines beside it may be its halo lines
     halo_here : (e : BorderLine) → In e (edge_lines_beside g ms m.area) →
         is_nonlocal_signal g.circuit (known g.circuit m) e.signal ≡ false →
-        IsHalo g m.area (known g.circuit m) e
+        IsAllowedHalo g m.area (known g.circuit m) e
     halo_here e i known_there =
         let b = in_beside m.area e i in
         let n = in_flat edges e ms b.2 in
@@ -335,12 +336,12 @@ module _ (g : Setting) (ms : List ModuleLines) (good : AreModules g ms) where
           keep_lines = grind (arith, common_steps, full, full_gates, full_keeps);
           unstarred = subst StarsExcludeLaterTimes (sym full_edges) is.unstarred;
           edge_lines = grind (arith, common_steps, full, full_known, full_edges);
-          halo_lines = subst (λ ws. All (IsHalo g m.area ws) (halos full)) (sym full_known)
-              (subst (All (IsHalo g m.area (known g.circuit m))) (sym full_halos)
-              (in_all (IsHalo g m.area (known g.circuit m)) (sorted_border_lines (edge_lines_beside g ms m.area))
+          halo_lines = subst (λ ws. All (IsAllowedHalo g m.area ws) (halos full)) (sym full_known)
+              (subst (All (IsAllowedHalo g m.area (known g.circuit m))) (sym full_halos)
+              (in_all (IsAllowedHalo g m.area (known g.circuit m)) (sorted_border_lines (edge_lines_beside g ms m.area))
               (λ e i. let j = in_ordered e (edge_lines_beside g ms m.area) i in halo_here e j (known_there e j))));
-          stop_lines = subst (λ ws. All (IsStop g m.area ws) (stops full)) (sym full_known)
-              (subst (All (IsStop g m.area (known g.circuit m))) (sym full_stops) is.stop_lines);
+          stop_lines = subst (λ ws. All (IsAllowedStop g m.area ws) (stops full)) (sym full_known)
+              (subst (All (IsAllowedStop g m.area (known g.circuit m))) (sym full_stops) is.stop_lines);
         }
 
     pub full_ports : HasLocalPorts g m → HasLocalPorts g full

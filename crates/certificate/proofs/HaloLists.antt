@@ -1,5 +1,6 @@
 -- Lists of the places of edge lines, as places are added
-use Rattle.certificate.proofs.Imports.{AddsEdgePlaces, AreReady, Bool, Box2, Cell, EdgePlace, IsEven, IsInnerCell, List}
+use Rattle.certificate.proofs.Imports.{AddsEdgePlaces, AreBoxListsReady, Bool, Box2, Cell, EdgePlace, IsEvenBox}
+use Rattle.certificate.proofs.Imports.{IsInnerCell, List}
 use Rattle.certificate.proofs.Imports.{Some, StoredBorder, StoredModule, [], and_from, and_parts, ap, append-nil}
 use Rattle.certificate.proofs.Imports.{append_assoc, arith, cases_Bool, common_steps, cond-false, cond-true}
 use Rattle.certificate.proofs.Imports.{edge_lines_at, edge_lines_at_place, eqb-true, false, filter, flat_map-append}
@@ -110,7 +111,7 @@ module _ (x y : ℤ) where
   corner b = in_box b x' y' && not (in_box b x y || (in_box b x' y || (in_box b x y' || false)))
 
   pub beside_places : (boxes : List Box2) (place : EdgePlace) (old l m new : List (List EdgePlace)) →
-      ((k : ℕ) (b : Box2) → slice_get boxes k ≡ Some b → IsEven b) →
+      ((k : ℕ) (b : Box2) → slice_get boxes k ≡ Some b → IsEvenBox b) →
       AddsPlaceWhere boxes side place old l → AddsPlaceWhere boxes above place l m →
       AddsPlaceWhere boxes corner place m new →
       AddsPlaceWhere boxes (λ b. in_halo b x y) place old new
@@ -184,8 +185,9 @@ module _ (ms : List StoredModule) (boxes : List Box2) where
 
 -- ---- tables and lists
 
-pub still_ready : (boxes : List Box2) (o : OwnersView) (old new : List (List EdgePlace)) → AreReady boxes o old →
-    length new ≡ length old → AreReady boxes o new
+pub still_ready : (boxes : List Box2) (o : OwnersView) (old new : List (List EdgePlace)) →
+    AreBoxListsReady boxes o old →
+    length new ≡ length old → AreBoxListsReady boxes o new
 still_ready boxes o old new h same = grind (arith, common_steps)
 
 pub taken_one : {X : Type 0} (xs : List X) (i : ℕ) (x : X) → i < length xs → x ≡ get_or xs i x →

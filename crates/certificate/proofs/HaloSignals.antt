@@ -1,9 +1,9 @@
 -- The signals of a halo's cells by the edge lines beside a module
 use Rattle.certificate.proofs.Imports.{AllTimesSignal, AreModules, BorderLine, Box2, Cell, Circuit, In, Less, List}
 use Rattle.certificate.proofs.Imports.{ModuleLines, Option, Setting, Signal, Some, TimedSignal, Zero, [], all_times_at}
-use Rattle.certificate.proofs.Imports.{all_times_of_line, ap, ap₂, arith, border_line_cmp, cases_Bool, cell_same}
+use Rattle.certificate.proofs.Imports.{ap, ap₂, arith, border_line_cmp, cases_Bool, cell_same, signal_if_starred}
 use Rattle.certificate.proofs.Imports.{common_steps, cond-false, cond-true, edge_lines_beside, edges, event_at}
-use Rattle.certificate.proofs.Imports.{events_of_line, false, filter, filter_in, flat_map, in_box, in_filter, in_flat}
+use Rattle.certificate.proofs.Imports.{event_if_timed, false, filter, filter_in, flat_map, in_box, in_filter, in_flat}
 use Rattle.certificate.proofs.Imports.{in_halo, in_ordered, inl, inr, is_at, line_signals, mapped_at, nat_lt, nat_tests}
 use Rattle.certificate.proofs.Imports.{one_or_named_wire, ordered_in, pairs_filter, placed, refl, rising_same}
 use Rattle.certificate.proofs.Imports.{signal_at, slice_get, some_is, sorted_border_lines, subst, sym, true, unwrap_or}
@@ -21,24 +21,24 @@ at_cell x y es = filter (λ e. is_at e.cell x y) es
 
 pub all_times_past : (e : BorderLine) (time : Option ℕ) (s : Signal) (rest : List AllTimesSignal) (x y : ℤ) →
     is_at e.cell x y ≡ false →
-    all_times_at (all_times_of_line e time s ++ rest) x y ≡ all_times_at rest x y
+    all_times_at (signal_if_starred e time s ++ rest) x y ≡ all_times_at rest x y
 unfolding all_times_at
 all_times_past e time s rest x y h1 = grind (arith, common_steps, cond-false)
 
 pub event_past : (e : BorderLine) (time : Option ℕ) (s : Signal) (rest : List TimedSignal) (t : ℕ) (x y : ℤ) →
-    is_at e.cell x y ≡ false → event_at (events_of_line e time s ++ rest) t x y ≡ event_at rest t x y
+    is_at e.cell x y ≡ false → event_at (event_if_timed e time s ++ rest) t x y ≡ event_at rest t x y
 unfolding event_at
 event_past e time s rest t x y h1 = grind (arith, common_steps, cond-false, and-false)
 
 all_times_on : (e : BorderLine) (time : Option ℕ) (s : Signal) (rest other : List AllTimesSignal) (x y : ℤ) →
     all_times_at rest x y ≡ all_times_at other x y →
-    all_times_at (all_times_of_line e time s ++ rest) x y ≡ all_times_at (all_times_of_line e time s ++ other) x y
+    all_times_at (signal_if_starred e time s ++ rest) x y ≡ all_times_at (signal_if_starred e time s ++ other) x y
 unfolding all_times_at
 all_times_on e time s rest other x y h1 = grind (arith, common_steps)
 
 event_on : (e : BorderLine) (time : Option ℕ) (s : Signal) (rest other : List TimedSignal) (t : ℕ) (x y : ℤ) →
     event_at rest t x y ≡ event_at other t x y →
-    event_at (events_of_line e time s ++ rest) t x y ≡ event_at (events_of_line e time s ++ other) t x y
+    event_at (event_if_timed e time s ++ rest) t x y ≡ event_at (event_if_timed e time s ++ other) t x y
 unfolding event_at
 event_on e time s rest other t x y h1 = grind (arith, common_steps)
 
@@ -60,9 +60,9 @@ module _ (c : Circuit) (x y : ℤ) where
       signal_at (line_signals c es) t x y ≡ signal_at (line_signals c (at_cell x y es)) t x y
   unfolding signal_at
   signal_there t es = ap₂ (λ h e. unwrap_or h (unwrap_or e Zero))
-      (there (λ e. all_times_of_line e e.time (one_or_named_wire c e.signal)) (λ l. all_times_at l x y) x y
+      (there (λ e. signal_if_starred e e.time (one_or_named_wire c e.signal)) (λ l. all_times_at l x y) x y
       (λ e rest. all_times_past e e.time _ rest x y) (λ e rest other. all_times_on e e.time _ rest other x y) es)
-      (there (λ e. events_of_line e e.time (one_or_named_wire c e.signal)) (λ l. event_at l t x y) x y
+      (there (λ e. event_if_timed e e.time (one_or_named_wire c e.signal)) (λ l. event_at l t x y) x y
       (λ e rest. event_past e e.time _ rest t x y) (λ e rest other. event_on e e.time _ rest other t x y) es)
 
   same_there : (t : ℕ) (es ds : List BorderLine) → at_cell x y es ≡ at_cell x y ds →

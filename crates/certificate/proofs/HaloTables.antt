@@ -1,13 +1,15 @@
 -- The lists of the edge lines beside each module, from the modules of a certificate
 use Rattle.certificate.proofs.Imports.{AddsEdgePlaces, All, AreModules, BorderLine, Box2, Circuit, EdgePlace}
-use Rattle.certificate.proofs.Imports.{HaveListsFrom, HasOwnWires, IsEven, IsInnerCell, IsModule, List, ModuleLines}
+use Rattle.certificate.proofs.Imports.{HaveEdgePlacesFrom, HasCircuitWires, IsEvenBox, IsInnerCell, IsModule, List}
+use Rattle.certificate.proofs.Imports.{ModuleLines}
 use Rattle.certificate.proofs.Imports.{Setting, Some, StoredBorder, StoredModule, [], ap, areas, arith, border_line}
 use Rattle.certificate.proofs.Imports.{cases_Bool, common_steps, cond-false, cond-true, edge_lines_at}
 use Rattle.certificate.proofs.Imports.{edge_lines_beside, edges, false, filter, flat_map, get_or, in_halo, length}
 use Rattle.certificate.proofs.Imports.{length-map, line_cell, list_at_or_empty, map, map-append, mapped_at, mapped_from}
 use Rattle.certificate.proofs.Imports.{module_lines, nat_lt, nat_tests, refl, slice_get, slice_get-get_or, subst, sym}
 use Rattle.certificate.proofs.Imports.{true, whole, ℕ, ◌++◌, ◌<◌, ◌∙◌, ◌∷◌, ◌≡◌, ◌≤◌, ap₂, All-append, All-cons}
-use Rattle.certificate.proofs.Imports.{All-nil, HasOwnWire, None, Option, edge_lines_at_place, get_or_from_slice_get}
+use Rattle.certificate.proofs.Imports.{All-nil, HasCircuitWire, None, Option, edge_lines_at_place}
+use Rattle.certificate.proofs.Imports.{get_or_from_slice_get}
 use Rattle.certificate.proofs.Imports.{option_to_list, slice_get_within}
 use Rattle.lemmas.proofs.Common.{all_unmapped}
 use Rattle.certificate_lines.specs.Modules.{IsWithinLineLimit}
@@ -54,10 +56,10 @@ module _ (g : Setting) (ms : List StoredModule) where
       let same = ap length (edges_with g.circuit m m.halos.items) ∙ length-map m.edges.items (border_line g.circuit) in
       omega (arith, within, same)
 
-  pub even_areas : AreModules g lines → (k : ℕ) (b : Box2) → slice_get (areas lines) k ≡ Some b → IsEven b
+  pub even_areas : AreModules g lines → (k : ℕ) (b : Box2) → slice_get (areas lines) k ≡ Some b → IsEvenBox b
   even_areas good k b at =
       let m = mapped_from (λ (n : ModuleLines). n.area) lines k b at in
-      let P : Box2 → Type 0 = IsEven in
+      let P : Box2 → Type 0 = IsEvenBox in
       subst P m.2 (good.each k m.0 m.1).even
 
 -- ---- the edge lines beside a box
@@ -84,14 +86,14 @@ short steps le = grind (arith, nat_tests)
 module _ (g : Setting) (ms : List StoredModule) where
   -- without odd times the lists are empty
   pub none_placed : (lists : List (List EdgePlace)) → g.size.steps ≤ 1 → length lists ≡ length ms →
-      ((i : ℕ) → list_at_or_empty lists i ≡ []) → HaveListsFrom g ms 0 lists
+      ((i : ℕ) → list_at_or_empty lists i ≡ []) → HaveEdgePlacesFrom g ms 0 lists
   unfolding edge_lines_beside
   none_placed lists few count empty = grind (arith, common_steps, cond-false, short)
 
   pub all_placed : (boxes : List Box2) (old new : List (List EdgePlace)) → 1 < g.size.steps →
       boxes ≡ map (λ m. m.area) ms →
       length old ≡ length ms → ((i : ℕ) → list_at_or_empty old i ≡ []) →
-      AddsEdgePlaces ms boxes (flat_map (λ m. m.edges.items) ms) old new → HaveListsFrom g ms 0 new
+      AddsEdgePlaces ms boxes (flat_map (λ m. m.edges.items) ms) old new → HaveEdgePlacesFrom g ms 0 new
   unfolding edge_lines_beside
   all_placed boxes old new many are count empty h = record {
     count = h.count ∙ count;
@@ -108,29 +110,30 @@ module _ (g : Setting) (ms : List StoredModule) where
 
 -- ---- the wires of edge lines
 
-own_at_place : (c : Circuit) (ms : List StoredModule) → All (HasOwnWires c) ms → (p : EdgePlace) →
-    All (HasOwnWire c) (edge_lines_at_place ms p)
+own_at_place : (c : Circuit) (ms : List StoredModule) → All (HasCircuitWires c) ms → (p : EdgePlace) →
+    All (HasCircuitWire c) (edge_lines_at_place ms p)
 own_at_place c ms own p = of_module (slice_get ms p.number) (λ m at. at_own m at)
   where
-    at_own : (m : StoredModule) → slice_get ms p.number ≡ Some m → HasOwnWires c m
-    at_own m at = subst (HasOwnWires c) (get_or_from_slice_get ms p.number m m at)
+    at_own : (m : StoredModule) → slice_get ms p.number ≡ Some m → HasCircuitWires c m
+    at_own m at = subst (HasCircuitWires c) (get_or_from_slice_get ms p.number m m at)
         (own p.number m (slice_get_within ms p.number m at))
 
-    of_line : (es : List StoredBorder) → All (HasOwnWire c) es → (o : Option StoredBorder) →
-        slice_get es p.line ≡ o → All (HasOwnWire c) (option_to_list o)
-    of_line es all None at = All-nil (HasOwnWire c)
-    of_line es all (Some e) at = All-cons (HasOwnWire c) e []
-        (subst (HasOwnWire c) (get_or_from_slice_get es p.line e e at) (all p.line e (slice_get_within es p.line e at)))
-        (All-nil (HasOwnWire c))
+    of_line : (es : List StoredBorder) → All (HasCircuitWire c) es → (o : Option StoredBorder) →
+        slice_get es p.line ≡ o → All (HasCircuitWire c) (option_to_list o)
+    of_line es all None at = All-nil (HasCircuitWire c)
+    of_line es all (Some e) at = All-cons (HasCircuitWire c) e []
+        (subst (HasCircuitWire c) (get_or_from_slice_get es p.line e e at)
+        (all p.line e (slice_get_within es p.line e at)))
+        (All-nil (HasCircuitWire c))
 
-    of_module : (o : Option StoredModule) → ((m : StoredModule) → o ≡ Some m → HasOwnWires c m) →
-        All (HasOwnWire c) (flat_map (λ (m : StoredModule). option_to_list (slice_get m.edges.items p.line))
+    of_module : (o : Option StoredModule) → ((m : StoredModule) → o ≡ Some m → HasCircuitWires c m) →
+        All (HasCircuitWire c) (flat_map (λ (m : StoredModule). option_to_list (slice_get m.edges.items p.line))
         (option_to_list o))
     of_module o h1 = grind (arith, common_steps, option_to_list, slice_get, of_line)
 
-pub own_edges_at : (c : Circuit) (ms : List StoredModule) (places : List EdgePlace) → All (HasOwnWires c) ms →
-    All (HasOwnWire c) (edge_lines_at ms places)
-own_edges_at c ms [] own = All-nil (HasOwnWire c)
+pub own_edges_at : (c : Circuit) (ms : List StoredModule) (places : List EdgePlace) → All (HasCircuitWires c) ms →
+    All (HasCircuitWire c) (edge_lines_at ms places)
+own_edges_at c ms [] own = All-nil (HasCircuitWire c)
 own_edges_at c ms (p ∷ places) own =
-    All-append (HasOwnWire c) (edge_lines_at_place ms p) (edge_lines_at ms places) (own_at_place c ms own p)
+    All-append (HasCircuitWire c) (edge_lines_at_place ms p) (edge_lines_at ms places) (own_at_place c ms own p)
     (own_edges_at c ms places own)

@@ -4,30 +4,32 @@ pub use Rattle.section_text.proofs.Codes.{both_none}
 pub use Rattle.bbm_rule.specs.declared.block.Box2.{Box2}
 pub use Rattle.bbm_rule.specs.declared.block.Cell.{Cell}
 pub use Rattle.certificate.specs.Grammars.{CertView, certificate_grammar}
-pub use Rattle.certificate.specs.GoodModules.{AreGoodModules, IsGoodModule, with_lines}
-pub use Rattle.certificate.specs.HaloPlaces.{AddsEdgePlaces, AreReady, HaveListsFrom, IsInnerCell, edge_lines_at}
+pub use Rattle.certificate.specs.GoodModules.{AreGoodModules, IsGoodModule, all_module_lines}
+pub use Rattle.certificate.specs.HaloPlaces.{AddsEdgePlaces, AreBoxListsReady, HaveEdgePlacesFrom, IsInnerCell}
+pub use Rattle.certificate.specs.HaloPlaces.{edge_lines_at}
 pub use Rattle.certificate.specs.HaloPlaces.{edge_lines_at_place, line_cell, list_at_or_empty}
-pub use Rattle.certificate.specs.Jobs.{IsJobOf, all_times_of_line, demand_outside_mirrors, events_of_line, line_signals}
+pub use Rattle.certificate.specs.Jobs.{IsJobOf, demand_outside_mirrors, event_if_timed, line_signals, signal_if_starred}
 pub use Rattle.certificate.specs.Jobs.{one_or_named_wire, stops_of_lines, wire_or_zero}
 unfoldable pub use Rattle.certificate.specs.Jobs.{end_demand, start_signal}
 pub use Rattle.certificate.specs.Keeps.{is_kept, unkept}
 unfoldable pub use Rattle.certificate.specs.Keeps.{unkept_from}
-pub use Rattle.certificate.specs.LayoutTablesView.{AddsCells, IsPortWireLocalAt, LayoutTablesView}
+pub use Rattle.certificate.specs.LayoutTablesView.{AddsStartsAndDemands, IsPortWireLocalAt, LayoutTablesView}
 pub use Rattle.certificate.specs.SeenTimes.{IsStopTimeTable, time_in_table}
 pub use Rattle.certificate.specs.StopLists.{AreStops, stored_stop}
 pub use Rattle.certificate.specs.Text.{entry_text, form_text}
 unfoldable pub use Rattle.certificate.specs.Text.{certificate_text}
 pub use Rattle.certificate.specs.Times.{all_stops, delay_and_meet_lines, delay_line, earlier, last_times, later}
 pub use Rattle.certificate.specs.Times.{meet_line, stop_times_of_wire, time_lines_of_gates}
-unfoldable pub use Rattle.certificate.specs.Times.{lines_by_number}
-pub use Rattle.certificate.specs.Timetables.{AreRising, AreSignalLists, HasLocalWire, one_or_wire, stored_signals}
+unfoldable pub use Rattle.certificate.specs.Times.{time_lines_by_number}
+pub use Rattle.certificate.specs.Timetables.{AreBorderLinesRising, AreSignalLists, HasLocalWire, one_or_wire}
+pub use Rattle.certificate.specs.Timetables.{stored_signals}
 pub use Rattle.certificate.specs.Timetables.{unnamed_line}
 pub use Rattle.certificate_lines.specs.BuilderView.{IsWithinMaxSize}
 pub use Rattle.certificate.specs.declared.neighbour_edges.EdgePlace.{EdgePlace}
 pub use Rattle.certificate.specs.declared.times.TimeLine.{TimeLine}
 pub use Rattle.certificate_lines.proofs.FlatParts.{flat_all}
 pub use Rattle.certificate_lines.proofs.Imports.{All, All-append, All-nil, All-tail, AreLocalLines, Bool, Circuit}
-pub use Rattle.certificate_lines.proofs.Imports.{CircuitAndPorts, Equal, Gate, Greater, IfSome, IsEven, IsModule}
+pub use Rattle.certificate_lines.proofs.Imports.{CircuitAndPorts, Equal, Gate, Greater, IfSome, IsEvenBox, IsModule}
 pub use Rattle.certificate_lines.proofs.Imports.{IsTrue, Less, List, ModuleLines, Netlist, None, Option, Ordering}
 pub use Rattle.certificate_lines.proofs.Imports.{Setting, Some, [], and_from, and_parts, ap, append-nil, append_assoc}
 pub use Rattle.certificate_lines.proofs.Imports.{ap₂, areas, arith, cases_Bool, cell_same, circuit_of, codes}
@@ -65,7 +67,8 @@ pub use Rattle.certificate_lines.specs.Orders.{time_rank}
 pub use Rattle.certificate_lines.specs.Rules.{leaves_gap}
 unfoldable pub use Rattle.certificate_lines.specs.Rules.{entry_fault}
 pub use Rattle.certificate_lines.specs.Settings.{setting_of}
-pub use Rattle.certificate_lines.specs.StoredModules.{HasOwnWire, HasOwnWires, IsOwnWire, body_lines_with, border_line}
+pub use Rattle.certificate_lines.specs.StoredModules.{HasCircuitWire, HasCircuitWires, IsCircuitWire, body_lines_with}
+pub use Rattle.certificate_lines.specs.StoredModules.{border_line}
 pub use Rattle.certificate_lines.specs.StoredModules.{cell_at, lines_of_modules, module_lines, module_lines_with}
 pub use Rattle.certificate_lines.specs.StoredModules.{stop_line, wire_name}
 pub use Rattle.certificate_lines.specs.Versions.{is_haloless_version}

@@ -1,15 +1,15 @@
 -- The halo lines of modules of version 2, and the jobs of the modules before a module
 use Rattle.certificate.proofs.Imports.{AreModules, Box2, Circuit, Cut, Edge, EdgePlace, Halo, HasLocalPorts}
-use Rattle.certificate.proofs.Imports.{HaveListsFrom, IsJobOf, IsModule, JobView, Keep, List, ModuleLines, Pattern}
+use Rattle.certificate.proofs.Imports.{HaveEdgePlacesFrom, IsJobOf, IsModule, JobView, Keep, List, ModuleLines, Pattern}
 use Rattle.certificate.proofs.Imports.{Setting, Some, Stop, StoredBorder, StoredModule, Use, [], ap, append-nil}
 use Rattle.certificate.proofs.Imports.{append_assoc, arith, body_lines_with, border_line, common_steps, edge_lines_at}
 use Rattle.certificate.proofs.Imports.{edge_lines_beside, false, filter, get_or, inl, inr, lacks_edge_wire_beside}
 use Rattle.certificate.proofs.Imports.{length, length-map, list_at_or_empty, map, mapped_at, mapped_from, module_lines}
 use Rattle.certificate.proofs.Imports.{module_lines_with, precedes_halos, refl, slice_get, slice_get_within, some_is}
 use Rattle.certificate.proofs.Imports.{sorted_border_lines, stop_line, subst, sym, wire_name, with_halos, ℕ, ◌++◌, ◌+◌}
-use Rattle.certificate.proofs.Imports.{◌<◌, ◌∙◌, ◌∷◌, ◌≡◌, ◌≤◌, All, AreGoodModules, CircuitLine, HasOwnWire}
-use Rattle.certificate.proofs.Imports.{HasOwnWires, IsGoodModule, circuit_of, get_or_from_slice_get, setting_of}
-use Rattle.certificate.proofs.Imports.{with_lines}
+use Rattle.certificate.proofs.Imports.{◌<◌, ◌∙◌, ◌∷◌, ◌≡◌, ◌≤◌, All, AreGoodModules, CircuitLine, HasCircuitWire}
+use Rattle.certificate.proofs.Imports.{HasCircuitWires, IsGoodModule, circuit_of, get_or_from_slice_get, setting_of}
+use Rattle.certificate.proofs.Imports.{all_module_lines}
 use Rattle.lemmas.proofs.Common.{Bool, filter-append, length_push, slice_get_read, true}
 use Rattle.module_box.proofs.Rising.{pushed}
 use Rattle.certificate.specs.Jobs.{AreJobsOf}
@@ -63,14 +63,14 @@ element_at xs i x lt is = slice_get_read xs (length xs) i x refl lt is
 module _ (g : Setting) (ms : List StoredModule) where
   pub one_list_less : {X : Type 0} (f : X → List EdgePlace) (done : ℕ) (old new : List X) → length new ≡ length old →
       ((i : ℕ) → (i ≡ done → ⊥) → list_at_or_empty (map f new) i ≡ list_at_or_empty (map f old) i) →
-      HaveListsFrom g ms done (map f old) → HaveListsFrom g ms (done + 1) (map f new)
+      HaveEdgePlacesFrom g ms done (map f old) → HaveEdgePlacesFrom g ms (done + 1) (map f new)
   one_list_less f done old new count others h = grind (arith, common_steps, length-map)
 
 -- a module as it is written is good
 pub good_at : {cs : List CircuitLine} {p : Pattern} {ms : List StoredModule} {m : StoredModule} (k : ℕ) →
     AreGoodModules cs p ms → slice_get ms k ≡ Some m → IsGoodModule cs p m m.halos.items
 good_at {cs} {p} {ms} {m} k good at =
-    let own = all_at (HasOwnWires (circuit_of cs)) ms good.wires k m (slice_get_within ms k m at)
+    let own = all_at (HasCircuitWires (circuit_of cs)) ms good.wires k m (slice_get_within ms k m at)
     (sym (get_or_from_slice_get ms k m m at)) in
     let there = mapped_at (module_lines (circuit_of cs)) ms k m at in
     record {
@@ -84,23 +84,23 @@ good_at {cs} {p} {ms} {m} k good at =
 pub record IsFullModule (cs : List CircuitLine) (p : Pattern) (ms : List StoredModule) (m : StoredModule)
     (hs : List StoredBorder) : Type 0 where
   pub full : module_lines_with (circuit_of cs) m hs
-      ≡ with_halos (setting_of cs p) (with_lines cs ms) (module_lines (circuit_of cs) m)
+      ≡ with_halos (setting_of cs p) (all_module_lines cs ms) (module_lines (circuit_of cs) m)
   pub good : IsGoodModule cs p m hs
 
 -- by the places of these lines
 pub full_module : {cs : List CircuitLine} {p : Pattern} {ms : List StoredModule} {lists : List (List EdgePlace)}
     {k : ℕ} {m : StoredModule} {places : List EdgePlace} {hs : List StoredBorder} →
-    AreGoodModules cs p ms → lacks_edge_wire_beside (setting_of cs p) (with_lines cs ms) ≡ false →
-    HaveListsFrom (setting_of cs p) ms k lists → slice_get ms k ≡ Some m → list_at_or_empty lists k ≡ places →
+    AreGoodModules cs p ms → lacks_edge_wire_beside (setting_of cs p) (all_module_lines cs ms) ≡ false →
+    HaveEdgePlacesFrom (setting_of cs p) ms k lists → slice_get ms k ≡ Some m → list_at_or_empty lists k ≡ places →
     ((g : Setting) (area : Box2) → AreModules g (map (module_lines g.circuit) ms) →
     map (border_line g.circuit) (edge_lines_at ms places)
     ≡ edge_lines_beside g (map (module_lines g.circuit) ms) area →
     map (border_line g.circuit) hs
     ≡ sorted_border_lines (edge_lines_beside g (map (module_lines g.circuit) ms) area)) →
-    All (HasOwnWire (circuit_of cs)) hs → IsFullModule cs p ms m hs
+    All (HasCircuitWire (circuit_of cs)) hs → IsFullModule cs p ms m hs
 full_module {cs} {p} {ms} {lists} {k} {m} {places} {hs} good complete left at taken sorted own =
     let g = setting_of cs p in
-    let all = with_lines cs ms in
+    let all = all_module_lines cs ms in
     let there = mapped_at (with_halos g all) all k _ (mapped_at (module_lines (circuit_of cs)) ms k m at) in
     let each = full_modules g all good.modules complete in
     let full = with_halos_stored g all m hs (sorted g m.area good.modules

@@ -15,10 +15,10 @@ use Rattle.pattern.specs.Lines.{AreGoodAfter, is_inside}
 use Rattle.pattern.proofs.InsideLemmas.{begins_inside}
 use Rattle.pattern.proofs.TakenLemmas.{mirror_fits}
 use Rattle.pattern.specs.declared.layout_line.LayoutLine.TheVariants.{Mirror}
-use Rattle.certificate_lines.specs.PortTables.{AreOnBoard}
+use Rattle.certificate_lines.specs.PortTables.{ArePortsInLayout}
 use Rattle.certificate.specs.Jobs.{wire_of_optional_name, wire_or_dead}
 use Rattle.bbm_rule.specs.Board.{Board}
-use Rattle.certificate.specs.LayoutTablesView.{ArePortWiresLocalIn, HasNothing, IsOnGrid, non_mirror_cells}
+use Rattle.certificate.specs.LayoutTablesView.{ArePortWiresLocalIn, HasNothingAt, IsOnGrid, non_mirror_cells}
 use Rattle.certificate_lines.proofs.BoxPlaces.{skipped}
 use Rattle.certificate_lines.proofs.Lists.{kept}
 use Rattle.certificate_lines.proofs.LayoutPorts.{AllInLayout, port_stands, ports_on_layout}
@@ -97,10 +97,10 @@ demand_of_port c o w waste h1 = grind (arith, common_steps, some_is)
 
 -- ---- a cell without anything
 
-pub start_dead : (c : Circuit) (p : Pattern) (x y : ℤ) → HasNothing p x y → start_signal c p x y ≡ Zero
+pub start_dead : (c : Circuit) (p : Pattern) (x y : ℤ) → HasNothingAt p x y → start_signal c p x y ≡ Zero
 start_dead c p x y h = sym (start_port c p x y false false (sym h.mirrors) (sym h.balls) refl None (sym h.ins))
 
-pub end_dead : (c : Circuit) (p : Pattern) (x y : ℤ) → HasNothing p x y → end_demand c p x y ≡ Demanded.Dead
+pub end_dead : (c : Circuit) (p : Pattern) (x y : ℤ) → HasNothingAt p x y → end_demand c p x y ≡ Demanded.Dead
 end_dead c p x y h = sym (ap (demand_outside_mirrors c None) (sym h.wastes)
     ∙ end_port c p x y false (sym h.mirrors) refl None (sym h.outs))
 
@@ -121,7 +121,7 @@ no_port [] x y e = refl
 no_port (q ∷ ports) x y e = no_port_here (is_at q.cell x y) (in_cells (map (λ (q : Port). q.cell) ports) x y) q.name
     (port_at ports x y) e (no_port ports x y)
 
-port_cells_inside : (s : LayoutHeader) (ports : List Port) → AreOnBoard s ports →
+port_cells_inside : (s : LayoutHeader) (ports : List Port) → ArePortsInLayout s ports →
     AllInLayout s (map (λ (q : Port). q.cell) ports)
 port_cells_inside s ports on k d lt = grind (arith, common_steps, slice_get-get_or, slice_get-map)
 
@@ -145,7 +145,7 @@ apart xs ys x y e = grind (arith, common_steps, or_parts, list_any-append)
 
 pub nothing_here : (p : Pattern) (x y : ℤ) →
     (in_cells (non_mirror_cells p) x y || in_rectangles p.mirrors x y) ≡ false →
-    HasNothing p x y
+    HasNothingAt p x y
 nothing_here p x y e = grind (arith, common_steps, or_parts, apart, no_port)
 
 -- ---- the mirrors of a layout

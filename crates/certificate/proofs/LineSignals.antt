@@ -1,9 +1,9 @@
 -- The signal of one line for its cell at its time
 use Rattle.certificate.proofs.Imports.{AllTimesSignal, Bool, BorderLine, Circuit, Each, Greater, In, Less, List, None}
 use Rattle.certificate.proofs.Imports.{Option, Ordering, Pairs, Rises, Signal, Some, StarsExcludeLaterTimes}
-use Rattle.certificate.proofs.Imports.{TimedSignal, Zero, [], all_times_at, all_times_of_line, ap, arith}
+use Rattle.certificate.proofs.Imports.{TimedSignal, Zero, [], all_times_at, ap, arith, signal_if_starred}
 use Rattle.certificate.proofs.Imports.{border_line_cmp, cases_Bool, cell_same, common_steps, cond-false, cond-true}
-use Rattle.certificate.proofs.Imports.{each_in, eqb-true, event_at, events_of_line, false, flat_map, inl, inr, is_at}
+use Rattle.certificate.proofs.Imports.{each_in, eqb-true, event_at, event_if_timed, false, flat_map, inl, inr, is_at}
 use Rattle.certificate.proofs.Imports.{line_signals, nat_cmp, not, one_or_named_wire, ordering_then, refl, signal_at}
 use Rattle.certificate.proofs.Imports.{subst, sym, true, unwrap_or, ℕ, ◌&&◌, ◌++◌, ◌+◌, ◌||◌, ◌∙◌, ◌∷◌, ◌≡◌}
 use Rattle.certificate_lines.specs.Rules.{is_star, is_starred_line_at, same_cell}
@@ -37,21 +37,21 @@ timed_first d e t dt et less = grind (arith, common_steps, ranked, nat_cmp)
 
 module _ (c : Circuit) where
   abbrev all_times_of : List BorderLine → List AllTimesSignal
-  all_times_of es = flat_map (λ e. all_times_of_line e e.time (one_or_named_wire c e.signal)) es
+  all_times_of es = flat_map (λ e. signal_if_starred e e.time (one_or_named_wire c e.signal)) es
 
   abbrev events_of : List BorderLine → List TimedSignal
-  events_of es = flat_map (λ e. events_of_line e e.time (one_or_named_wire c e.signal)) es
+  events_of es = flat_map (λ e. event_if_timed e e.time (one_or_named_wire c e.signal)) es
 
   -- ---- a line with a `*`
 
   all_times_first : (e : BorderLine) (time : Option ℕ) (s : Signal) (rest : List AllTimesSignal) → time ≡ None →
-      all_times_at (all_times_of_line e time s ++ rest) e.cell.x e.cell.y ≡ Some s
+      all_times_at (signal_if_starred e time s ++ rest) e.cell.x e.cell.y ≡ Some s
   unfolding all_times_at
   all_times_first e time s rest h1 = grind (arith, common_steps, cond-true, cell_itself)
 
   all_times_skips : (d e : BorderLine) (time : Option ℕ) → d.time ≡ time → e.time ≡ None → border_line_cmp d e ≡ Less →
       (s : Signal) (rest : List AllTimesSignal) →
-      all_times_at (all_times_of_line d time s ++ rest) e.cell.x e.cell.y ≡ all_times_at rest e.cell.x e.cell.y
+      all_times_at (signal_if_starred d time s ++ rest) e.cell.x e.cell.y ≡ all_times_at rest e.cell.x e.cell.y
   all_times_skips d e time h1 h2 h3 s rest = grind (arith, common_steps, all_times_past, other_cell)
 
   -- a list that is read from its front says what a line says, if the lines before it say nothing
@@ -71,7 +71,7 @@ module _ (c : Circuit) where
 
   not_starred : (e d : BorderLine) (time : Option ℕ) → d.time ≡ time → is_starred_line_at e.cell d ≡ false →
       (s : Signal) (rest : List AllTimesSignal) →
-      all_times_at (all_times_of_line d time s ++ rest) e.cell.x e.cell.y ≡ all_times_at rest e.cell.x e.cell.y
+      all_times_at (signal_if_starred d time s ++ rest) e.cell.x e.cell.y ≡ all_times_at rest e.cell.x e.cell.y
   not_starred e d time h1 h2 s rest = grind (arith, common_steps, all_times_past, same_truth, cell_same, cell_itself)
 
   free_head : (star here : Bool) → star ≡ false → (star || not here) ≡ true → here ≡ false
@@ -111,14 +111,14 @@ module _ (c : Circuit) where
       ∙ none_all_times e t es et r.1 u.1 later
 
   event_first : (e : BorderLine) (time : Option ℕ) (t : ℕ) (s : Signal) (rest : List TimedSignal) → time ≡ Some t →
-      event_at (events_of_line e time s ++ rest) t e.cell.x e.cell.y ≡ Some s
+      event_at (event_if_timed e time s ++ rest) t e.cell.x e.cell.y ≡ Some s
   unfolding event_at
   event_first e time t s rest h1 = grind (arith, common_steps, cond-true, cell_itself)
 
   event_skips : (d e : BorderLine) (time : Option ℕ) (t : ℕ) → d.time ≡ time → e.time ≡ Some t →
       border_line_cmp d e ≡ Less →
       (s : Signal) (rest : List TimedSignal) →
-      event_at (events_of_line d time s ++ rest) t e.cell.x e.cell.y ≡ event_at rest t e.cell.x e.cell.y
+      event_at (event_if_timed d time s ++ rest) t e.cell.x e.cell.y ≡ event_at rest t e.cell.x e.cell.y
   unfolding event_at
   event_skips d e time t h1 h2 h3 s rest =
       grind (arith, common_steps, cases_Bool, event_past, other_cell, eqb-true, cond-false)
@@ -132,7 +132,7 @@ module _ (c : Circuit) where
   unfolding signal_at
   said_by e None t es et says r u i =
       ap (λ o. unwrap_or o (unwrap_or (event_at (events_of es) t e.cell.x e.cell.y) Zero))
-      (found (λ d. all_times_of_line d d.time (one_or_named_wire c d.signal)) (λ l. all_times_at l e.cell.x e.cell.y) e
+      (found (λ d. signal_if_starred d d.time (one_or_named_wire c d.signal)) (λ l. all_times_at l e.cell.x e.cell.y) e
       (one_or_named_wire c e.signal) (λ rest. all_times_first e e.time _ rest et)
       (λ d rest less. all_times_skips d e d.time refl et less _ rest) es r i)
   said_by e (Some v) t es et says r u i =
@@ -140,7 +140,7 @@ module _ (c : Circuit) where
       ap (λ o. unwrap_or o (unwrap_or (event_at (events_of es) t e.cell.x e.cell.y) Zero))
       (none_all_times e t es time r u i)
       ∙ ap (λ (o : Option Signal). unwrap_or o Zero)
-      (found (λ d. events_of_line d d.time (one_or_named_wire c d.signal)) (λ l. event_at l t e.cell.x e.cell.y) e
+      (found (λ d. event_if_timed d d.time (one_or_named_wire c d.signal)) (λ l. event_at l t e.cell.x e.cell.y) e
       (one_or_named_wire c e.signal) (λ rest. event_first e e.time t _ rest time)
       (λ d rest less. event_skips d e d.time t refl time less _ rest) es r i)
 

@@ -16,8 +16,8 @@ use Rattle.section_text.specs.Codes.{code_if}
 use Rattle.certificate.specs.Laws.{AreFaultlessLines, GoodWithoutHalos, IsSectionOf, SectionWithoutHalos}
 use Rattle.certificate_lines.specs.Orders.{may_follow}
 use Rattle.certificate_lines.specs.Rules.{cut_line_code, use_line_code, keep_line_code, timed_line_count}
-use Rattle.certificate_lines.specs.Rules.{border_line_code, body_line_code, line_fault, module_line_code}
-use Rattle.certificate_lines.specs.Rules.{module_box_code, module_limit_fault, content_code}
+use Rattle.certificate_lines.specs.Rules.{border_or_stop_line_code, body_line_code, line_fault, module_line_code}
+use Rattle.certificate_lines.specs.Rules.{module_box_code, module_limit_fault, code_but_for_order}
 use Rattle.certificate_lines.specs.Versions.{AreGoodLines, haloless_module}
 use Rattle.certificate_lines.proofs.Growing.{last_mapped, map_changed, unchanged}
 use Rattle.section_text.specs.declared.code.RefusalCode.{RefusalCode}
@@ -142,12 +142,13 @@ smaller : (limit n k : ℕ) → n ≤ k → nat_le limit k ≡ false → nat_le 
 smaller limit n k le h = grind (arith, nat_tests)
 
 border_less : (c : Circuit) (n k : ℕ) (local : List ℕ) (placed : Bool) (s : Option (List ℕ)) → n ≤ k →
-    border_line_code c k local placed s ≡ None → border_line_code c n local placed s ≡ None
-unfolding border_line_code
+    border_or_stop_line_code c k local placed s ≡ None → border_or_stop_line_code c n local placed s ≡ None
+unfolding border_or_stop_line_code
 border_less c n k local placed s le h = grind (arith, common_steps, both_none, none_both, coded, smaller, no_code)
 
-words_kept : (g : Setting) (m : ModuleLines) (i : CertificateLine) → is_halo i ≡ false → content_code g m i ≡ None →
-    content_code g (haloless_module m) i ≡ None
+words_kept : (g : Setting) (m : ModuleLines) (i : CertificateLine) → is_halo i ≡ false →
+    code_but_for_order g m i ≡ None →
+    code_but_for_order g (haloless_module m) i ≡ None
 unfolding is_halo haloless_module
 words_kept g m (Module b) o h = refl
 words_kept g m (Cut n) o h = ap₂ (λ cs ws. cut_line_code g.circuit (length cs) ws n) (cuts_kept g m) (known_kept g m)

@@ -1,8 +1,8 @@
 -- The cells of a module's edge and halo lines lie within 4096 columns and rows.
 use Rattle.certificate.proofs.Imports.{All, AllTimesSignal, BorderLine, Box2, Cell, IsInShiftRange, IsModule}
 use Rattle.certificate.proofs.Imports.{IsSmallShift, IsWithinMaxSize, LayoutHeader, List, ModuleLines, None, Option}
-use Rattle.certificate.proofs.Imports.{Setting, Signal, Signals, StoredBorder, TimedSignal, all_times_of_line, ap}
-use Rattle.certificate.proofs.Imports.{arith, common_steps, edges, events_of_line, flat_all, get_or, halos, in_box}
+use Rattle.certificate.proofs.Imports.{Setting, Signal, Signals, StoredBorder, TimedSignal, ap, signal_if_starred}
+use Rattle.certificate.proofs.Imports.{arith, common_steps, edges, event_if_timed, flat_all, get_or, halos, in_box}
 use Rattle.certificate.proofs.Imports.{ints, is_sized, map, moved_stop, one_or_wire, pos, renumber_all_times}
 use Rattle.certificate.proofs.Imports.{renumber_event, renumber_signals, shift_to_origin, size_fault, stops}
 use Rattle.certificate.proofs.Imports.{stored_signals, subst, sym, true, unnamed_line, ℕ, ℤ, ◌+ℤ◌, ◌+◌, ◌≡◌, ◌≤◌}
@@ -43,11 +43,11 @@ low_stops g m s is limits h k d lt = grind (arith, common_steps, within_512, low
 
 -- ---- what holds of the cells of lines holds of those of their signals
 all_times_low : (e : BorderLine) (t : Option ℕ) (s : Signal) → IsWithinMaxSize e.cell →
-    All (λ (h : AllTimesSignal). IsWithinMaxSize h.cell) (all_times_of_line e t s)
+    All (λ (h : AllTimesSignal). IsWithinMaxSize h.cell) (signal_if_starred e t s)
 all_times_low e t s h1 = grind (arith, common_steps)
 
 event_low : (e : BorderLine) (t : Option ℕ) (s : Signal) → IsWithinMaxSize e.cell →
-    All (λ (h : TimedSignal). IsWithinMaxSize h.at.cell) (events_of_line e t s)
+    All (λ (h : TimedSignal). IsWithinMaxSize h.at.cell) (event_if_timed e t s)
 event_low e t s h1 = grind (arith, common_steps)
 
 pub low_all_times : (f : ℕ → ℕ) (bs : List StoredBorder) (s : Signals) → renumber_signals f s ≡ stored_signals bs →
@@ -58,7 +58,7 @@ low_all_times f bs s same all =
     (subst (λ (hs : List AllTimesSignal). All (λ (h : AllTimesSignal). IsWithinMaxSize h.cell) hs)
     (sym (ap (λ (r : Signals). r.all_times) same))
     (flat_all (λ (h : AllTimesSignal). IsWithinMaxSize h.cell)
-    (λ b. all_times_of_line (unnamed_line b) b.time (one_or_wire b.wire))
+    (λ b. signal_if_starred (unnamed_line b) b.time (one_or_wire b.wire))
     (λ b. IsWithinMaxSize (unnamed_line b).cell)
     (λ b low. all_times_low (unnamed_line b) b.time (one_or_wire b.wire) low) bs all))
 
@@ -70,7 +70,7 @@ low_events f bs s same all =
     (subst (λ (hs : List TimedSignal). All (λ (h : TimedSignal). IsWithinMaxSize h.at.cell) hs)
     (sym (ap (λ (r : Signals). r.events) same))
     (flat_all (λ (h : TimedSignal). IsWithinMaxSize h.at.cell)
-    (λ b. events_of_line (unnamed_line b) b.time (one_or_wire b.wire))
+    (λ b. event_if_timed (unnamed_line b) b.time (one_or_wire b.wire))
     (λ b. IsWithinMaxSize (unnamed_line b).cell)
     (λ b low. event_low (unnamed_line b) b.time (one_or_wire b.wire) low) bs all))
 

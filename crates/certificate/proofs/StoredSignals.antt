@@ -1,9 +1,11 @@
 -- What the lines of a module that is kept ask for, by the numbers of its wires
-use Rattle.certificate.proofs.Imports.{All, All-head, All-tail, AreLocalLines, AreRising, BorderLine, Circuit}
-use Rattle.certificate.proofs.Imports.{CircuitLine, HasLocalWire, HasOwnWire, IfSome, IsOwnWire, IsTrue, List, LocalNet}
+use Rattle.certificate.proofs.Imports.{All, All-head, All-tail, AreBorderLinesRising, AreLocalLines, BorderLine}
+use Rattle.certificate.proofs.Imports.{Circuit}
+use Rattle.certificate.proofs.Imports.{CircuitLine, HasCircuitWire, HasLocalWire, IfSome, IsCircuitWire, IsTrue, List}
+use Rattle.certificate.proofs.Imports.{LocalNet}
 use Rattle.certificate.proofs.Imports.{ModuleLines, None, Option, Pairs, Pattern, Setting, Signal, Some, StopLine}
-use Rattle.certificate.proofs.Imports.{StoredBorder, StoredModule, StoredStop, [], all_times_of_line, ap, ap₂, arith}
-use Rattle.certificate.proofs.Imports.{border_line, border_line_cmp, circuit_of, cuts, edges, events_of_line, get_or}
+use Rattle.certificate.proofs.Imports.{StoredBorder, StoredModule, StoredStop, [], ap, ap₂, arith, signal_if_starred}
+use Rattle.certificate.proofs.Imports.{border_line, border_line_cmp, circuit_of, cuts, edges, event_if_timed, get_or}
 use Rattle.certificate.proofs.Imports.{halos, is_among, is_local, keeps, known, length, length-map, line_signals}
 use Rattle.certificate.proofs.Imports.{local_wires, map, mapped_at, module_lines_with, netlist_of, one_or_named_wire}
 use Rattle.certificate.proofs.Imports.{one_or_wire, option_map, refl, setting_of, stop_line, stops, stops_of_lines}
@@ -11,7 +13,7 @@ use Rattle.certificate.proofs.Imports.{stored_signals, stored_stop, subst, sym, 
 use Rattle.certificate.proofs.Imports.{◌∙◌, ◌∷◌, ◌≡◌, IsGoodModule, IsWithinMaxSize, LayoutHeader, cell_at, size_fault}
 use Rattle.certificate.proofs.Imports.{suc, zero, ◌+◌, ◌≤◌, flat_map, common_steps}
 use Rattle.lemmas.proofs.Common.{all_unmapped}
-use Rattle.certificate_lines.specs.Modules.{IsEdge, IsHalo, IsKeep, IsStop}
+use Rattle.certificate_lines.specs.Modules.{IsAllowedEdge, IsAllowedHalo, IsAllowedStop, MayBeKept}
 use Rattle.certificate_lines.proofs.Pairs.{pairs_at}
 use Rattle.certificate_lines.proofs.StoredLemmas.{cut_wires_with, cuts_with, edges_with, gates_with, halos_with}
 use Rattle.certificate_lines.proofs.StoredLemmas.{keeps_with, stops_with}
@@ -32,50 +34,51 @@ item_is (x ∷ xs) (suc i) d lt = item_is xs i d (omega (arith, lt))
 
 -- ---- signals and stops
 
-own_signal : (c : Circuit) (w : Option ℕ) → IfSome w (IsOwnWire c) →
+own_signal : (c : Circuit) (w : Option ℕ) → IfSome w (IsCircuitWire c) →
     one_or_wire w ≡ one_or_named_wire c (option_map (wire_name c) w)
 own_signal c w h1 = grind (arith, common_steps)
 
 same_all_times : (d e : BorderLine) (t : Option ℕ) (s : Signal) → d.cell ≡ e.cell →
-    all_times_of_line d t s ≡ all_times_of_line e t s
+    signal_if_starred d t s ≡ signal_if_starred e t s
 same_all_times d e t s h1 = grind (arith, common_steps)
 
 same_events : (d e : BorderLine) (t : Option ℕ) (s : Signal) → d.cell ≡ e.cell →
-    events_of_line d t s ≡ events_of_line e t s
+    event_if_timed d t s ≡ event_if_timed e t s
 same_events d e t s h1 = grind (arith, common_steps)
 
 module _ (c : Circuit) where
   said_flat : {X : Type 0} (f : BorderLine → Option ℕ → Signal → List X) → ((d e : BorderLine) (t : Option ℕ)
-      (s : Signal) → d.cell ≡ e.cell → f d t s ≡ f e t s) → (bs : List StoredBorder) → All (HasOwnWire c) bs →
+      (s : Signal) → d.cell ≡ e.cell → f d t s ≡ f e t s) → (bs : List StoredBorder) → All (HasCircuitWire c) bs →
       flat_map (λ b. f (unnamed_line b) b.time (one_or_wire b.wire)) bs
       ≡ flat_map (λ e. f e e.time (one_or_named_wire c e.signal)) (map (border_line c) bs)
   said_flat f same [] own = refl
   said_flat f same (b ∷ bs) own =
       ap₂ (λ xs ys. xs ++ ys)
       (same (unnamed_line b) (border_line c b) b.time (one_or_wire b.wire) refl
-      ∙ ap (f (border_line c b) b.time) (own_signal c b.wire (All-head (HasOwnWire c) b bs own)))
-      (said_flat f same bs (All-tail (HasOwnWire c) b bs own))
+      ∙ ap (f (border_line c b) b.time) (own_signal c b.wire (All-head (HasCircuitWire c) b bs own)))
+      (said_flat f same bs (All-tail (HasCircuitWire c) b bs own))
 
-  said_signals : (bs : List StoredBorder) → All (HasOwnWire c) bs →
+  said_signals : (bs : List StoredBorder) → All (HasCircuitWire c) bs →
       stored_signals bs ≡ line_signals c (map (border_line c) bs)
   said_signals bs own = λ i. record {
-    all_times = said_flat all_times_of_line same_all_times bs own i;
-    events = said_flat events_of_line same_events bs own i;
+    all_times = said_flat signal_if_starred same_all_times bs own i;
+    events = said_flat event_if_timed same_events bs own i;
   }
 
-  said_stops : (ss : List StoredStop) → All (λ s. IsOwnWire c s.wire) ss →
+  said_stops : (ss : List StoredStop) → All (λ s. IsCircuitWire c s.wire) ss →
       map stored_stop ss ≡ stops_of_lines c (map (stop_line c) ss)
   said_stops [] own = refl
   said_stops (s ∷ ss) own =
       ap₂ (λ xs ys. xs ++ ys)
-      (sym (ap (stop_with_wire_number (stop_line c s)) (All-head (λ (q : StoredStop). IsOwnWire c q.wire) s ss own)))
-      (said_stops ss (All-tail (λ (q : StoredStop). IsOwnWire c q.wire) s ss own))
+      (sym (ap (stop_with_wire_number (stop_line c s))
+      (All-head (λ (q : StoredStop). IsCircuitWire c q.wire) s ss own)))
+      (said_stops ss (All-tail (λ (q : StoredStop). IsCircuitWire c q.wire) s ss own))
 
-  known_wire : (ws : List ℕ) (w : Option ℕ) → IfSome w (IsOwnWire c) →
+  known_wire : (ws : List ℕ) (w : Option ℕ) → IfSome w (IsCircuitWire c) →
       IfSome (option_map (wire_name c) w) (λ name. IsTrue (is_local c ws name)) → IfSome w (λ v. IsTrue (is_among ws v))
   known_wire ws w h1 h2 = grind (arith, common_steps)
 
-  rising : (bs : List StoredBorder) → Pairs Before (map (border_line c) bs) → AreRising bs
+  rising : (bs : List StoredBorder) → Pairs Before (map (border_line c) bs) → AreBorderLinesRising bs
   unfolding border_line_cmp
   rising bs p = record {
     rises = λ i j a b lt ea eb. pairs_at Before (map (border_line c) bs) p i j (border_line c a) (border_line c b) lt
@@ -109,13 +112,13 @@ module _ {cs : List CircuitLine} {p : Pattern} {m : StoredModule} {hs : List Sto
 
   pub keeps_used : All (λ k. IsTrue (is_among m.gates.items k)) m.keeps.items
   keeps_used k d lt =
-      (subst (All (IsKeep g m.gates.items)) (keeps_with c m hs)
-      (subst (λ us. All (IsKeep g us) (keeps lines)) (gates_with c m hs) good.lines.keep_lines) k d lt).among
+      (subst (All (MayBeKept g m.gates.items)) (keeps_with c m hs)
+      (subst (λ us. All (MayBeKept g us) (keeps lines)) (gates_with c m hs) good.lines.keep_lines) k d lt).among
 
-  pub edges_rising : AreRising m.edges.items
+  pub edges_rising : AreBorderLinesRising m.edges.items
   edges_rising = grind (arith, common_steps, rising, edges_with, edges_rise)
 
-  pub halos_rising : AreRising hs
+  pub halos_rising : AreBorderLinesRising hs
   halos_rising = rising c hs (subst (Pairs Before) (halos_with c m hs) (halos_rise lines.lines good.lines.order))
 
   pub edges_say : stored_signals m.edges.items ≡ line_signals c (edges lines)
@@ -146,18 +149,18 @@ module _ {cs : List CircuitLine} {p : Pattern} {m : StoredModule} {hs : List Sto
     pub edges_local : All (HasLocalWire l) m.edges.items
     edges_local k d lt =
         known_wire c l.circuit_wires (get_or m.edges.items k d).wire (good.wires.edges k d lt)
-        (named _ (of_edges (IsEdge g m.area (known c lines)) good.lines.edge_lines k d lt).border.signal)
+        (named _ (of_edges (IsAllowedEdge g m.area (known c lines)) good.lines.edge_lines k d lt).border.signal)
 
     pub halos_local : All (HasLocalWire l) hs
     halos_local k d lt =
         known_wire c l.circuit_wires (get_or hs k d).wire (good.halo_wires k d lt)
-        (named _ (of_halos (IsHalo g m.area (known c lines)) good.lines.halo_lines k d lt).border.signal)
+        (named _ (of_halos (IsAllowedHalo g m.area (known c lines)) good.lines.halo_lines k d lt).border.signal)
 
     pub stops_local : All (λ s. IsTrue (is_among l.circuit_wires s.wire)) m.stops.items
     stops_local k d lt =
         known_wire c l.circuit_wires (Some (get_or m.stops.items k d).wire) (good.wires.stops k d lt)
         (named (Some (wire_name c (get_or m.stops.items k d).wire))
-        (of_stops (IsStop g m.area (known c lines)) good.lines.stop_lines k d lt).wire)
+        (of_stops (IsAllowedStop g m.area (known c lines)) good.lines.stop_lines k d lt).wire)
 
   -- and their cells lie within 4096 columns and rows
   module _ {s : LayoutHeader} (is : s ≡ p.size) (limits : size_fault s ≡ None) where

@@ -3,7 +3,7 @@ use Rattle.certificate.proofs.Imports.{AreFaultless, CertificateLine, Circuit, G
 use Rattle.certificate.proofs.Imports.{Module, ModuleLines, Option, Setting, Some, StopLine, TimeLine, [], all_stops}
 use Rattle.certificate.proofs.Imports.{ap, arith, body_lines, certificate_grammar, common_steps, delay_and_meet_lines}
 use Rattle.certificate.proofs.Imports.{drop, drop_all, entry_fault, false, flat_map, get_or, is_module, last_of, length}
-use Rattle.certificate.proofs.Imports.{lines_by_number, modules_of, refl, same_Some, slice_get, slice_get-get_or}
+use Rattle.certificate.proofs.Imports.{modules_of, refl, same_Some, slice_get, slice_get-get_or, time_lines_by_number}
 use Rattle.certificate.proofs.Imports.{slice_get_within, split_module, split_other, stop_in, sym, time_in_table}
 use Rattle.certificate.proofs.Imports.{time_lines_of_gates, ℕ, ◌++◌, ◌+◌, ◌<◌, ◌∙◌, ◌∷◌, ◌≡◌, ◌≤◌, StoredModule}
 use Rattle.certificate.proofs.Imports.{StoredStop, append_assoc, map, map-append, module_lines, stop_line, stops, take}
@@ -55,8 +55,8 @@ all_in_modules l g v es good = grind (arith, common_steps, splits, starts_with_m
 -- ---- the lines of gates, one after the other
 
 numbered_step : (f : ℕ → Gate → List TimeLine) (n : ℕ) (gates : List Gate) (g : Gate) → slice_get gates n ≡ Some g →
-    lines_by_number f n (drop n gates) ≡ f n g ++ lines_by_number f (n + 1) (drop (n + 1) gates)
-unfolding lines_by_number
+    time_lines_by_number f n (drop n gates) ≡ f n g ++ time_lines_by_number f (n + 1) (drop (n + 1) gates)
+unfolding time_lines_by_number
 numbered_step f n gates g at =
     let inside : n < length gates = slice_get_within gates n g at in
     let here : get_or gates n g ≡ g = same_Some _ _ (sym (slice_get-get_or gates n g inside) ∙ at) in
@@ -64,15 +64,16 @@ numbered_step f n gates g at =
 
 pub one_gate_more : (f : ℕ → Gate → List TimeLine) (all lines more : List TimeLine) (n : ℕ) (gates : List Gate)
     (g : Gate) → slice_get gates n ≡ Some g → more ≡ lines ++ f n g →
-    lines ++ lines_by_number f n (drop n gates) ≡ all → more ++ lines_by_number f (n + 1) (drop (n + 1) gates) ≡ all
+    lines ++ time_lines_by_number f n (drop n gates) ≡ all →
+    more ++ time_lines_by_number f (n + 1) (drop (n + 1) gates) ≡ all
 one_gate_more f all lines more n gates g at grown so_far = grind (arith, common_steps, numbered_step)
 
-numbered_none : (f : ℕ → Gate → List TimeLine) (n : ℕ) → lines_by_number f n [] ≡ []
-unfolding lines_by_number
+numbered_none : (f : ℕ → Gate → List TimeLine) (n : ℕ) → time_lines_by_number f n [] ≡ []
+unfolding time_lines_by_number
 numbered_none f n = refl
 
 pub all_gates : (f : ℕ → Gate → List TimeLine) (all lines : List TimeLine) (n : ℕ) (gates : List Gate) →
-    length gates ≤ n → lines ++ lines_by_number f n (drop n gates) ≡ all → lines ≡ all
+    length gates ≤ n → lines ++ time_lines_by_number f n (drop n gates) ≡ all → lines ≡ all
 all_gates f all lines n gates past so_far = grind (arith, common_steps, drop_all, numbered_none)
 
 -- ---- tables

@@ -1,7 +1,7 @@
 -- The fields of a certificate, and its view
 use Rattle.std.specs.Prelude.{◌≡◌, ◌&&◌, false}
 use Rattle.circuit.specs.Bridge.{circuit_of}
-use Rattle.certificate.specs.GoodModules.{AreGoodModules, AreOwnersOf, with_lines}
+use Rattle.certificate.specs.GoodModules.{AreGoodModules, AreOwnersOf, all_module_lines}
 use Rattle.certificate.specs.Grammars.{CertView, version_number}
 use Rattle.certificate_lines.specs.Entries.{areas}
 use Rattle.certificate_lines.specs.PortTables.{ArePortTables}
@@ -23,7 +23,8 @@ cert_view a = record {
 pub record IsCert (a : Inside) : Type 0 where
   pub good : AreGoodModules a.circuit.now a.layout.now a.modules.items
   pub complete : (is_haloless_version (version_number a.version)
-      && lacks_edge_wire_beside (setting_of a.circuit.now a.layout.now) (with_lines a.circuit.now a.modules.items))
+      && lacks_edge_wire_beside (setting_of a.circuit.now a.layout.now)
+      (all_module_lines a.circuit.now a.modules.items))
       ≡ false
-  pub owners : AreOwnersOf a.layout.now (areas (with_lines a.circuit.now a.modules.items)) a.owners
+  pub owners : AreOwnersOf a.layout.now (areas (all_module_lines a.circuit.now a.modules.items)) a.owners
   pub ports : ArePortTables a.circuit.now a.layout.now a.ports.ins a.ports.outs

@@ -9,24 +9,24 @@ use Rattle.pattern.specs.Layout.{Pattern}
 use Rattle.certificate_lines.specs.Entries.{ModuleLines}
 use Rattle.certificate_lines.specs.Modules.{AreModules, HasLocalPorts, IsModule, IsWithinLineLimit}
 use Rattle.certificate_lines.specs.Settings.{setting_of}
-use Rattle.certificate_lines.specs.StoredModules.{HasOwnWire, HasOwnWires, module_lines, module_lines_with}
+use Rattle.certificate_lines.specs.StoredModules.{HasCircuitWire, HasCircuitWires, module_lines, module_lines_with}
 use Rattle.certificate_lines.specs.declared.stored_module.StoredBorder.{StoredBorder}
 use Rattle.certificate_lines.specs.declared.stored_module.StoredModule.{StoredModule}
 
 -- the modules of a circuit with their lines
-abbrev pub with_lines : List CircuitLine → List StoredModule → List ModuleLines
-with_lines cs ms = map (module_lines (circuit_of cs)) ms
+abbrev pub all_module_lines : List CircuitLine → List StoredModule → List ModuleLines
+all_module_lines cs ms = map (module_lines (circuit_of cs)) ms
 
 -- their wires are those of the circuit, and they are the modules of a certificate
 pub record AreGoodModules (cs : List CircuitLine) (p : Pattern) (ms : List StoredModule) : Type 0 where
-  pub wires : All (HasOwnWires (circuit_of cs)) ms
-  pub modules : AreModules (setting_of cs p) (with_lines cs ms)
-  pub few_lines : All IsWithinLineLimit (with_lines cs ms)
+  pub wires : All (HasCircuitWires (circuit_of cs)) ms
+  pub modules : AreModules (setting_of cs p) (all_module_lines cs ms)
+  pub few_lines : All IsWithinLineLimit (all_module_lines cs ms)
 
 -- the same of one module, which has these halo lines in place of its own
 pub record IsGoodModule (cs : List CircuitLine) (p : Pattern) (m : StoredModule) (hs : List StoredBorder) : Type 0 where
-  pub wires : HasOwnWires (circuit_of cs) m
-  pub halo_wires : All (HasOwnWire (circuit_of cs)) hs
+  pub wires : HasCircuitWires (circuit_of cs) m
+  pub halo_wires : All (HasCircuitWire (circuit_of cs)) hs
   pub lines : IsModule (setting_of cs p) (module_lines_with (circuit_of cs) m hs)
   pub ports : HasLocalPorts (setting_of cs p) (module_lines_with (circuit_of cs) m hs)
 

@@ -65,20 +65,20 @@ one_or_named_wire c None = One
 one_or_named_wire c (Some n) = wire_or_zero (wire_of c n)
 
 -- a line with a `*` holds for all odd times
-abbrev pub all_times_of_line : BorderLine → Option ℕ → Signal → List AllTimesSignal
-all_times_of_line e None signal = record { cell = e.cell; signal = signal } ∷ []
-all_times_of_line e (Some t) signal = []
+abbrev pub signal_if_starred : BorderLine → Option ℕ → Signal → List AllTimesSignal
+signal_if_starred e None signal = record { cell = e.cell; signal = signal } ∷ []
+signal_if_starred e (Some t) signal = []
 
 -- and a line with a time for that time
-abbrev pub events_of_line : BorderLine → Option ℕ → Signal → List TimedSignal
-events_of_line e None signal = []
-events_of_line e (Some t) signal = record { at = record { time = t; cell = e.cell }; signal = signal } ∷ []
+abbrev pub event_if_timed : BorderLine → Option ℕ → Signal → List TimedSignal
+event_if_timed e None signal = []
+event_if_timed e (Some t) signal = record { at = record { time = t; cell = e.cell }; signal = signal } ∷ []
 
 -- what edge or halo lines say, one after the other
 abbrev pub line_signals : Circuit → List BorderLine → Signals
 line_signals c es = record {
-  all_times = flat_map (λ e. all_times_of_line e e.time (one_or_named_wire c e.signal)) es;
-  events = flat_map (λ e. events_of_line e e.time (one_or_named_wire c e.signal)) es;
+  all_times = flat_map (λ e. signal_if_starred e e.time (one_or_named_wire c e.signal)) es;
+  events = flat_map (λ e. event_if_timed e e.time (one_or_named_wire c e.signal)) es;
 }
 
 -- a stop line, if its wire has this number
@@ -122,7 +122,7 @@ pub record AreJobsOf (c : Circuit) (p : Pattern) (ms : List ModuleLines) (js : L
       IsJobOf c p m j
 
 -- the groups of the modules by the shapes of their jobs: for each module the first whose job has the same shape
-pub record HasGroups (c : Circuit) (p : Pattern) (ms : List ModuleLines) (groups : List ℕ) : Type 0 where
+pub record HasShapeGroups (c : Circuit) (p : Pattern) (ms : List ModuleLines) (groups : List ℕ) : Type 0 where
   pub jobs : List JobView
   pub are_jobs : AreJobsOf c p ms jobs
   pub are_groups : AreGroups (map shape_of jobs) groups

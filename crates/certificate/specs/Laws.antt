@@ -25,7 +25,8 @@ use Rattle.certificate_lines.specs.Versions.{modules_by_version, with_halos, wit
 use Rattle.certificate_lines.specs.declared.certificate_line.CertificateLine.{CertificateLine}
 use Rattle.certificate.specs.Text.{certificate_text}
 use Rattle.certificate.specs.Arrivals.{AreOnTime, IsTimeLineTrue}
-use Rattle.certificate.specs.Times.{all_stops, are_all_obeyed, first_seen, last_seen, delay_and_meet_lines}
+use Rattle.certificate.specs.Times.{all_stops, are_all_timings_obeyed, first_seen_time, last_seen_time}
+use Rattle.certificate.specs.Times.{delay_and_meet_lines}
 use Rattle.certificate.specs.Times.{stop_times_of_wire}
 use Rattle.certificate_lines.specs.declared.certificate_line.StopLine.{StopLine}
 use Rattle.circuit.specs.Meaning.{Circuit}
@@ -44,12 +45,12 @@ ReadsWhatIsPrinted = (l : Limits) (g : Setting) (text : List ℕ) (from n m : �
 
 -- the first time of a wire is the least of the times of its stops
 abbrev pub FirstSeenTimeIsLeast : Type 0
-FirstSeenTimeIsLeast = (c : Circuit) (ss : List StopLine) (w t : ℕ) → first_seen c ss w ≡ Some t →
+FirstSeenTimeIsLeast = (c : Circuit) (ss : List StopLine) (w t : ℕ) → first_seen_time c ss w ≡ Some t →
     Contains (stop_times_of_wire c ss w) t × All (λ u. t ≤ u) (stop_times_of_wire c ss w)
 
 -- the last one is the greatest
 abbrev pub LastSeenTimeIsGreatest : Type 0
-LastSeenTimeIsGreatest = (c : Circuit) (ss : List StopLine) (w t : ℕ) → last_seen c ss w ≡ Some t →
+LastSeenTimeIsGreatest = (c : Circuit) (ss : List StopLine) (w t : ℕ) → last_seen_time c ss w ≡ Some t →
     Contains (stop_times_of_wire c ss w) t × All (λ u. u ≤ t) (stop_times_of_wire c ss w)
 
 -- what each line says of its gate is right
@@ -60,7 +61,8 @@ TimeLinesAreTrue = (c : Circuit) (ms : List ModuleLines) →
 -- if all rules are kept, each delay takes as many steps as it says, and for each gate there is a time at which its
 -- inputs meet
 abbrev pub ObeyedLinesAreOnTime : Type 0
-ObeyedLinesAreOnTime = (c : Circuit) (ms : List ModuleLines) → IsTrue (are_all_obeyed (delay_and_meet_lines c ms)) →
+ObeyedLinesAreOnTime = (c : Circuit) (ms : List ModuleLines) →
+    IsTrue (are_all_timings_obeyed (delay_and_meet_lines c ms)) →
     AreOnTime c (all_stops ms)
 
 -- if no edge line names a wire that a module beside it lacks, the modules of either version are modules of version 1
@@ -111,8 +113,8 @@ SectionWithoutHalos = (l : Limits) (g : Setting) (es : List CertificateLine) →
 -- ---- limits
 
 -- With the first limits, the code of a `module` line after these lines: at most 1024 modules.
-abbrev pub first_module_code : Setting → List CertificateLine → Box2 → Option RefusalCode
-first_module_code g before b =
+abbrev pub first_limits_module_code : Setting → List CertificateLine → Box2 → Option RefusalCode
+first_limits_module_code g before b =
     or_else (code_if (is_last_module_incomplete g (last_module before)) SomethingMissing)
     (or_else (code_if (is_bad_box_side b.w || is_bad_box_side b.h || nat_le 1024 (length (modules_of before)))
     PastLimit)
@@ -120,15 +122,15 @@ first_module_code g before b =
     (code_if (overlaps (areas (modules_of before)) b) MisplacedBox)))
 
 -- and of any line
-abbrev pub first_entry_fault : Setting → List CertificateLine → CertificateLine → Option RefusalCode
-first_entry_fault g before (Module b) = first_module_code g before b
-first_entry_fault g before i = entry_fault g before i
+abbrev pub first_limits_entry_fault : Setting → List CertificateLine → CertificateLine → Option RefusalCode
+first_limits_entry_fault g before (Module b) = first_limits_module_code g before b
+first_limits_entry_fault g before i = entry_fault g before i
 
 -- with the first limits a line is tested as in a text without the line `limits 2`
 abbrev pub FirstLimitsAreKept : Type 0
 FirstLimitsAreKept = (g : Setting) (version : ℕ) (before : List CertificateLine) (i : CertificateLine) →
     (certificate_grammar First g).item_fault version before i
-    ≡ or_else (code_if (is_haloless_version version && is_halo i) NoForm) (first_entry_fault g before i)
+    ≡ or_else (code_if (is_haloless_version version && is_halo i) NoForm) (first_limits_entry_fault g before i)
 
 -- a line that passes the first limits passes the second ones
 abbrev pub SecondLimitsAreWider : Type 0

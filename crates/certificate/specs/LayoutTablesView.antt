@@ -33,7 +33,7 @@ abbrev pub non_mirror_cells : Pattern → List Cell
 non_mirror_cells p = ((p.balls ++ p.wastes) ++ map (λ q. q.cell) p.ins) ++ map (λ q. q.cell) p.outs
 
 -- the layout has no mirror, ball, waste cell or port at the cell (x, y)
-pub record HasNothing (p : Pattern) (x y : ℤ) : Type 0 where
+pub record HasNothingAt (p : Pattern) (x y : ℤ) : Type 0 where
   pub mirrors : in_rectangles p.mirrors x y ≡ false
   pub balls : in_cells p.balls x y ≡ false
   pub wastes : in_cells p.wastes x y ≡ false
@@ -57,7 +57,7 @@ pub record AreLayoutTables (a : Inside) : Type 0 where
   pub mirrors : (x y : ℤ) → live a.mirrors x y ≡ in_rectangles a.layout.now.mirrors x y
   pub balls : (x y : ℤ) → live a.balls x y ≡ in_cells a.layout.now.balls x y
   pub wastes : (x y : ℤ) → live a.wastes x y ≡ in_cells a.layout.now.wastes x y
-  pub named : (x y : ℤ) → live a.named x y ≡ false → HasNothing a.layout.now x y
+  pub named : (x y : ℤ) → live a.named x y ≡ false → HasNothingAt a.layout.now x y
   pub ports : ArePortTables a.circuit.now a.layout.now a.ports.now.ins a.ports.now.outs
 
 -- the wire of the port at the cell (x, y) is local, if there is a port
@@ -70,7 +70,8 @@ ArePortWiresLocalIn c local ports b = (x y : ℤ) → IsTrue (in_box b x y) → 
 
 -- The lists get what the cells carry at time 0, and what they must be at the last time. The signals and demands
 -- name wires by the module's own numbers.
-pub record AddsCells (c : Circuit) (p : Pattern) (l : LocalNet) (cells : List Cell) (old new : CellLists) : Type 0 where
+pub record AddsStartsAndDemands (c : Circuit) (p : Pattern) (l : LocalNet) (cells : List Cell)
+    (old new : CellLists) : Type 0 where
   pub starts : map (renumber_signal (circuit_wire l)) new.starts
       ≡ map (renumber_signal (circuit_wire l)) old.starts ++ map (λ d. start_signal c p d.x d.y) cells
   pub starts_own : All (IsSignalWireBelow (wires l.netlist)) old.starts →

@@ -38,12 +38,12 @@ later None t = Some t
 later (Some s) t = Some (max s t)
 
 -- the least and the greatest time among the stops of a wire, if it has any
-abbrev pub first_seen : Circuit → List StopLine → ℕ → Option ℕ
-first_seen c ss w = fold earlier None (stop_times_of_wire c ss w)
+abbrev pub first_seen_time : Circuit → List StopLine → ℕ → Option ℕ
+first_seen_time c ss w = fold earlier None (stop_times_of_wire c ss w)
 
 -- the last time at which stops see a wire, if one does
-abbrev pub last_seen : Circuit → List StopLine → ℕ → Option ℕ
-last_seen c ss w = fold later None (stop_times_of_wire c ss w)
+abbrev pub last_seen_time : Circuit → List StopLine → ℕ → Option ℕ
+last_seen_time c ss w = fold later None (stop_times_of_wire c ss w)
 
 -- ---- delays
 
@@ -92,19 +92,19 @@ meet_line last k g = meet_line_of_times k (last_times last g.ins)
 -- ---- all lines
 
 -- the lines of gates, which are numbered from k on
-unfoldable pub lines_by_number : (ℕ → Gate → List TimeLine) → ℕ → List Gate → List TimeLine
-lines_by_number f k [] = []
-lines_by_number f k (g ∷ gs) = f k g ++ lines_by_number f (k + 1) gs
+unfoldable pub time_lines_by_number : (ℕ → Gate → List TimeLine) → ℕ → List Gate → List TimeLine
+time_lines_by_number f k [] = []
+time_lines_by_number f k (g ∷ gs) = f k g ++ time_lines_by_number f (k + 1) gs
 
 -- those of all delays, and then those of all meetings
 abbrev pub time_lines_of_gates : (first last : ℕ → Option ℕ) → List Gate → List TimeLine
 time_lines_of_gates first last gates =
-    lines_by_number (delay_line first last) 0 gates ++ lines_by_number (meet_line last) 0 gates
+    time_lines_by_number (delay_line first last) 0 gates ++ time_lines_by_number (meet_line last) 0 gates
 
 -- by the stops of all modules
 abbrev pub delay_and_meet_lines : Circuit → List ModuleLines → List TimeLine
-delay_and_meet_lines c ms = time_lines_of_gates (first_seen c (all_stops ms))
-    (last_seen c (all_stops ms)) c.netlist.gates
+delay_and_meet_lines c ms = time_lines_of_gates (first_seen_time c (all_stops ms))
+    (last_seen_time c (all_stops ms)) c.netlist.gates
 
 -- ---- the rules
 
@@ -117,5 +117,5 @@ is_obeyed (line.Meet k (Some t)) = true
 is_obeyed (line.Meet k None) = false
 
 -- each line of a certificate says so
-abbrev pub are_all_obeyed : List TimeLine → Bool
-are_all_obeyed lines = list_all is_obeyed lines
+abbrev pub are_all_timings_obeyed : List TimeLine → Bool
+are_all_timings_obeyed lines = list_all is_obeyed lines

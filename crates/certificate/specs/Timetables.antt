@@ -8,7 +8,7 @@ use Rattle.module_box.specs.declared.schedules.Signal.{Signal}
 use Rattle.module_box.specs.declared.schedules.Signal.TheVariants.{One, Wire}
 use Rattle.certificate_lines.specs.StoredModules.{cell_at}
 use Rattle.certificate_lines.specs.Versions.{border_line_cmp}
-use Rattle.certificate.specs.Jobs.{all_times_of_line, events_of_line}
+use Rattle.certificate.specs.Jobs.{event_if_timed, signal_if_starred}
 use Rattle.module_job.specs.Signals.{IsSignalWireBelow, renumber_all_times, renumber_event}
 use Rattle.certificate_lines.specs.declared.certificate_line.BorderLine.{BorderLine}
 use Rattle.certificate_lines.specs.declared.stored_module.StoredBorder.{StoredBorder}
@@ -26,13 +26,13 @@ one_or_wire (Some w) = Wire w
 -- what lines say, one after the other
 abbrev pub stored_signals : List StoredBorder → Signals
 stored_signals bs = record {
-  all_times = flat_map (λ b. all_times_of_line (unnamed_line b) b.time (one_or_wire b.wire)) bs;
-  events = flat_map (λ b. events_of_line (unnamed_line b) b.time (one_or_wire b.wire)) bs;
+  all_times = flat_map (λ b. signal_if_starred (unnamed_line b) b.time (one_or_wire b.wire)) bs;
+  events = flat_map (λ b. event_if_timed (unnamed_line b) b.time (one_or_wire b.wire)) bs;
 }
 
 -- the lines are in the order of edge and halo lines
-abbrev pub AreRising : List StoredBorder → Type 0
-AreRising bs = IsRising border_line_cmp unnamed_line bs
+abbrev pub AreBorderLinesRising : List StoredBorder → Type 0
+AreBorderLinesRising bs = IsRising border_line_cmp unnamed_line bs
 
 -- the wire of the line, if it has one, is one of the module's
 abbrev pub HasLocalWire : LocalNet → StoredBorder → Type 0

@@ -5,7 +5,7 @@ ghost use Rattle.sha2.specs.Hashers.{Holds256};
 ghost use Rattle.sha2.specs.Sha256.{sha256};
 ghost use Rattle.circuit.specs.Bridge.{circuit_of};
 ghost use Rattle.certificate.specs.Text.{certificate_text, entry_text};
-ghost use Rattle.certificate_lines.specs.StoredModules.{HasOwnWires, lines_of_modules};
+ghost use Rattle.certificate_lines.specs.StoredModules.{HasCircuitWires, lines_of_modules};
 
 use crate::cert::Cert;
 use crate::printing::{print_header, print_module_lines};
@@ -21,7 +21,7 @@ fn hash_modules(
     circuit: &Circuit,
     modules: &[StoredModule],
 ) -> Result<(), AllocError>
-    requires { All (HasOwnWires (circuit_of circuit.now)) modules.now }
+    requires { All (HasCircuitWires (circuit_of circuit.now)) modules.now }
     ensures { OnOk result ((m : List ℕ) → Holds256 hasher.old m → Holds256 hasher.new
         (m ++ flat_map entry_text (lines_of_modules (circuit_of circuit.now) modules.now))) }
 {

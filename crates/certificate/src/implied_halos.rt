@@ -5,7 +5,7 @@ ghost use Rattle.std.specs.Option.{option_to_list};
 ghost use Rattle.bbm_rule.specs.declared.block.Box2.{Box2};
 ghost use Rattle.certificate_lines.specs.Entries.{Setting};
 ghost use Rattle.certificate_lines.specs.Modules.{AreModules};
-ghost use Rattle.certificate_lines.specs.StoredModules.{HasOwnWire, HasOwnWires, border_line, module_lines};
+ghost use Rattle.certificate_lines.specs.StoredModules.{HasCircuitWire, HasCircuitWires, border_line, module_lines};
 ghost use Rattle.certificate.specs.HaloPlaces.{edge_lines_at, edge_lines_at_place};
 ghost use Rattle.certificate_lines.specs.Versions.{edge_lines_beside, sorted_border_lines};
 
@@ -73,7 +73,7 @@ pub(crate) fn implied_halos(
         ≡ sorted_border_lines (edge_lines_beside g (map (module_lines g.circuit) modules.now)
         area)) }
     ensures wires { IfOk result (λ halos. (g : Setting) →
-        All (HasOwnWires g.circuit) modules.now → All (HasOwnWire g.circuit) halos.items) }
+        All (HasCircuitWires g.circuit) modules.now → All (HasCircuitWire g.circuit) halos.items) }
 {
     let mut halos = edge_lines_at(alloc, modules, places)?;
     halos.sort_by(|a, b| compare_borders(a, b))?;

@@ -9,14 +9,14 @@ ghost use Rattle.module_box.specs.Moves.{IsInShiftRange};
 ghost use Rattle.certificate.specs.Grammars.{modules_in, version_number};
 ghost use Rattle.certificate_lines.specs.Entries.{areas};
 ghost use Rattle.certificate_lines.specs.Settings.{setting_of};
-ghost use Rattle.certificate.specs.GoodModules.{AreGoodModules, AreOwnersOf, IsGoodModule, with_lines};
-ghost use Rattle.certificate.specs.Jobs.{AreJobsOf, HasGroups, IsJobOf};
+ghost use Rattle.certificate.specs.GoodModules.{AreGoodModules, AreOwnersOf, IsGoodModule, all_module_lines};
+ghost use Rattle.certificate.specs.Jobs.{AreJobsOf, HasShapeGroups, IsJobOf};
 ghost use Rattle.certificate_lines.specs.BuilderView.{IsWithinMaxSize};
 ghost use Rattle.certificate_lines.specs.StoredModules.{cell_at, module_lines_with};
 ghost use Rattle.module_job.specs.Shapes.{signals_in_plane, stops_in_plane};
 ghost use Rattle.module_job.specs.Signals.{IsSignalWireBelow, renumber_signals, renumber_stop};
 ghost use Rattle.certificate.specs.StopLists.{stored_stop};
-ghost use Rattle.certificate.specs.Timetables.{AreRising, HasLocalWire, stored_signals};
+ghost use Rattle.certificate.specs.Timetables.{AreBorderLinesRising, HasLocalWire, stored_signals};
 ghost use Rattle.certificate_lines.specs.Versions.{is_haloless_version, lacks_edge_wire_beside, modules_by_version, with_halos};
 ghost use Rattle.lemmas.specs.Bounds.{max_side};
 
@@ -41,7 +41,7 @@ fn schedule_from_corner(
     area: Box2,
     lines: &[StoredBorder],
 ) -> Result<Schedule, AllocError>
-    requires order { AreRising lines.now }
+    requires order { AreBorderLinesRising lines.now }
     requires local { All (HasLocalWire locals.now) lines.now }
     requires low { All (λ e. IsWithinMaxSize (cell_at e.column e.row)) lines.now }
     requires corner { (area.x ≤ max_side) × (area.y ≤ max_side) }
@@ -101,7 +101,7 @@ fn make_job(
     let size = tables.layout().size();
     let kept = kept_places(alloc, &stored.gates, &stored.keeps)?;
     let locals = Locals::new(alloc, tables.circuit(), &stored.cuts, &stored.gates)?;
-    let (starts, demands) = tables.cell_lists(alloc, area, &locals)?;
+    let (starts, demands) = tables.start_and_demand_lists(alloc, area, &locals)?;
     let edges = schedule_from_corner(alloc, &locals, area, &stored.edges)?;
     let halos = schedule_from_corner(alloc, &locals, area, halos)?;
     let stops = stops_from_corner(alloc, &locals, area, &stored.stops)?;
@@ -136,7 +136,7 @@ fn jobs_as_written(
 ) -> Result<Vec<Arc<Job>>, AllocError>
     requires { AreGoodModules tables.now.circuit tables.now.layout modules.now }
     ensures { IfOk result (λ js. AreJobsOf (circuit_of tables.now.circuit) tables.now.layout
-        (with_lines tables.now.circuit modules.now) (map arc_value js.items)) }
+        (all_module_lines tables.now.circuit modules.now) (map arc_value js.items)) }
 {
     let mut jobs = Vec::with_capacity(alloc, modules.len())?;
     for module in modules {
@@ -155,13 +155,13 @@ fn jobs_with_implied_halos(
 ) -> Result<Vec<Arc<Job>>, AllocError>
     requires good { AreGoodModules tables.now.circuit tables.now.layout modules.now }
     requires owners { AreOwnersOf tables.now.layout
-        (areas (with_lines tables.now.circuit modules.now)) owners.now }
+        (areas (all_module_lines tables.now.circuit modules.now)) owners.now }
     requires complete { lacks_edge_wire_beside (setting_of tables.now.circuit tables.now.layout)
-        (with_lines tables.now.circuit modules.now) ≡ false }
+        (all_module_lines tables.now.circuit modules.now) ≡ false }
     ensures { IfOk result (λ js. AreJobsOf (circuit_of tables.now.circuit) tables.now.layout
         (map (with_halos (setting_of tables.now.circuit tables.now.layout)
-        (with_lines tables.now.circuit modules.now))
-        (with_lines tables.now.circuit modules.now))
+        (all_module_lines tables.now.circuit modules.now))
+        (all_module_lines tables.now.circuit modules.now))
         (map arc_value js.items)) }
 {
     let mut places = neighbour_edge_places(alloc, tables, owners, modules)?;
@@ -189,14 +189,14 @@ fn jobs_of_version(
 ) -> Result<Vec<Arc<Job>>, AllocError>
     requires good { AreGoodModules tables.now.circuit tables.now.layout modules.now }
     requires owners { AreOwnersOf tables.now.layout
-        (areas (with_lines tables.now.circuit modules.now)) owners.now }
+        (areas (all_module_lines tables.now.circuit modules.now)) owners.now }
     requires complete { (is_haloless_version (version_number version)
         && lacks_edge_wire_beside (setting_of tables.now.circuit tables.now.layout)
-        (with_lines tables.now.circuit modules.now)) ≡ false }
+        (all_module_lines tables.now.circuit modules.now)) ≡ false }
     ensures { IfOk result (λ js. AreJobsOf (circuit_of tables.now.circuit) tables.now.layout
         (modules_by_version (version_number version)
         (setting_of tables.now.circuit tables.now.layout)
-        (with_lines tables.now.circuit modules.now))
+        (all_module_lines tables.now.circuit modules.now))
         (map arc_value js.items)) }
 {
     if version.is_haloless() {
@@ -222,8 +222,8 @@ impl<'a> Cert<'a> {
     ///
     /// It makes the jobs for it. If you have them, [`job_groups`] is cheaper.
     pub fn groups(&self, alloc: Global) -> Result<Vec<usize>, AllocError>
-        ensures { IfOk result (λ groups. HasGroups (circuit_of self.now.circuit) self.now.layout
-            (modules_in self.now) groups.items) }
+        ensures { IfOk result (λ groups. HasShapeGroups (circuit_of self.now.circuit)
+            self.now.layout (modules_in self.now) groups.items) }
     {
         let jobs = self.jobs(alloc)?;
         job_groups(alloc, &jobs)

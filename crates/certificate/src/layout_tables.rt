@@ -11,7 +11,7 @@ ghost use Rattle.module_box.specs.Locals.{circuit_wire, is_among};
 ghost use Rattle.certificate_lines.specs.PortTables.{ArePortTables};
 ghost use Rattle.certificate.specs.Jobs.{end_demand, start_signal};
 ghost use Rattle.module_box.specs.Places.{place_in};
-ghost use Rattle.certificate.specs.LayoutTablesView.{AddsCells, HasLayoutSize, HasNothing, IsOnGrid, IsPortWireLocalAt, ArePortWiresLocalIn, non_mirror_cells};
+ghost use Rattle.certificate.specs.LayoutTablesView.{AddsStartsAndDemands, HasLayoutSize, HasNothingAt, IsOnGrid, IsPortWireLocalAt, ArePortWiresLocalIn, non_mirror_cells};
 ghost use Rattle.module_job.specs.Signals.{IsSignalWireBelow, IsDemandWireBelow, renumber_demand, renumber_signal};
 ghost use Rattle.lemmas.specs.Bounds.{max_side};
 
@@ -169,7 +169,7 @@ fn grid_with_mirrors(alloc: Global, layout: &Layout, cells: &[Cell]) -> Result<G
 #[tactic(auto, using(crate::proofs::LayoutTableLemmas::nothing_here, crate::proofs::LayoutTableLemmas::others_inside))]
 fn occupied_grid(alloc: Global, layout: &Layout) -> Result<Grid, AllocError>
     ensures cells { IfOk result (λ grid. (x y : ℤ) →
-        live grid x y ≡ false → HasNothing layout.now x y) }
+        live grid x y ≡ false → HasNothingAt layout.now x y) }
     ensures size { IfOk result (HasLayoutSize layout.now) }
 {
     layout.prove_valid();
@@ -197,13 +197,13 @@ fn mirror_ball_waste_grids(alloc: Global, layout: &Layout) -> Result<(Grid, Grid
 }
 
 /// Returns the number among a module's wires of a wire of the circuit that the module knows.
-pub(crate) fn local_wire(locals: &Locals, wire: WireNo) -> u16
+pub(crate) fn local_wire_number(locals: &Locals, wire: WireNo) -> u16
     requires { IsTrue (is_among locals.now.circuit_wires wire) }
     ensures same_wire { circuit_wire locals.now result ≡ wire }
     ensures below { result < wires locals.now.netlist }
 {
     let count = locals.wires();
-    match locals.module_number(wire) {
+    match locals.number_in_module(wire) {
         Some(number) => {
             prove!((number as usize) < count);
             number
@@ -265,7 +265,7 @@ impl<'a> LayoutTables<'a> {
             return Signal::One;
         }
         match self.ports.ins.get(cell) {
-            Some(Some(wire)) => Signal::Wire(local_wire(locals, wire)),
+            Some(Some(wire)) => Signal::Wire(local_wire_number(locals, wire)),
             Some(None) => Signal::Zero,
             None => Signal::Zero,
         }
@@ -284,7 +284,7 @@ impl<'a> LayoutTables<'a> {
         }
         if let Some(port) = self.ports.outs.get(cell) {
             return match port {
-                Some(wire) => Demand::Wire(local_wire(locals, wire)),
+                Some(wire) => Demand::Wire(local_wire_number(locals, wire)),
                 None => Demand::Dead,
             };
         }
@@ -297,7 +297,7 @@ impl<'a> LayoutTables<'a> {
 
     // The first column from `from` on whose cell in row `y` the layout may name, or `end` if it names none before it.
     #[tactic(auto, using(crate::proofs::LayoutTableLemmas::end_dead, crate::proofs::LayoutTableLemmas::start_dead))]
-    fn next_occupied(&self, y: u32, from: u32, end: u32) -> u32
+    fn next_occupied_column(&self, y: u32, from: u32, end: u32) -> u32
         requires row { y < self.now.layout.size.h }
         requires columns { (from ≤ end) × (end ≤ self.now.layout.size.w) }
         ensures range { (from ≤ result) × (result ≤ end) }
@@ -308,12 +308,12 @@ impl<'a> LayoutTables<'a> {
             end_demand (circuit_of self.now.circuit) self.now.layout (pos x) (pos y)
             ≡ Demand.Dead }
     {
-        self.named.next_live(y, from, end)
+        self.named.next_live_column(y, from, end)
     }
 
     // The first column from `from` on whose cell in row `y` has no mirror, or `end` if all cells before it have one.
     #[tactic(auto, using(crate::proofs::LayoutTableLemmas::end_live, crate::proofs::LayoutTableLemmas::start_mirror))]
-    fn next_nonmirror(&self, y: u32, from: u32, end: u32) -> u32
+    fn next_nonmirror_column(&self, y: u32, from: u32, end: u32) -> u32
         requires row { y < self.now.layout.size.h }
         requires columns { (from ≤ end) × (end ≤ self.now.layout.size.w) }
         ensures range { (from ≤ result) × (result ≤ end) }
@@ -324,11 +324,11 @@ impl<'a> LayoutTables<'a> {
             end_demand (circuit_of self.now.circuit) self.now.layout (pos x) (pos y)
             ≡ Demand.Live }
     {
-        self.mirrors.next_dead(y, from, end)
+        self.mirrors.next_dead_column(y, from, end)
     }
 
     // Adds what the cells of a row of a box carry and must be.
-    fn push_row(
+    fn push_starts_and_demands_of_row(
         &self,
         locals: &Locals,
         area: Box2,
@@ -343,18 +343,18 @@ impl<'a> LayoutTables<'a> {
             self.now.layout.ins area }
         requires outs { ArePortWiresLocalIn (circuit_of self.now.circuit) locals.now.circuit_wires
             self.now.layout.outs area }
-        ensures { OnOk result (AddsCells (circuit_of self.now.circuit) self.now.layout locals.now
-            (row_cells area.x area.w y) lists.old lists.new) }
+        ensures { OnOk result (AddsStartsAndDemands (circuit_of self.now.circuit) self.now.layout
+            locals.now (row_cells area.x area.w y) lists.old lists.new) }
     {
         let end = area.x + area.w;
         let mut x = area.x;
         while x < end {
-            let named = self.next_occupied(y, x, end);
+            let named = self.next_occupied_column(y, x, end);
             lists.push_dead(named - x)?;
             if named == end {
                 return Ok(());
             }
-            x = self.next_nonmirror(y, named, end);
+            x = self.next_nonmirror_column(y, named, end);
             lists.push_live(x - named)?;
             if x == named {
                 let cell = Cell {
@@ -371,7 +371,7 @@ impl<'a> LayoutTables<'a> {
     /// Returns what the cells of a box carry at time 0, and what they must be at the last time, row by row.
     ///
     /// The module knows the wires of the ports there.
-    pub(crate) fn cell_lists(
+    pub(crate) fn start_and_demand_lists(
         &self,
         alloc: Global,
         area: Box2,
@@ -401,7 +401,7 @@ impl<'a> LayoutTables<'a> {
     {
         let mut lists = CellLists::new(alloc, area.w as usize * area.h as usize)?;
         for y in area.y..area.y + area.h {
-            self.push_row(locals, area, y, &mut lists)?;
+            self.push_starts_and_demands_of_row(locals, area, y, &mut lists)?;
         }
         let CellLists { starts, demands } = lists;
         Ok((starts, demands))

@@ -8,8 +8,8 @@ ghost use Rattle.bbm_rule.specs.declared.block.Box2.{Box2};
 ghost use Rattle.certificate_lines.specs.Entries.{areas};
 ghost use Rattle.certificate_lines.specs.Settings.{setting_of};
 ghost use Rattle.certificate_lines.specs.declared.stored_module.StoredModule.{StoredModule};
-ghost use Rattle.certificate.specs.GoodModules.{AreGoodModules, AreOwnersOf, with_lines};
-ghost use Rattle.certificate.specs.HaloPlaces.{AddsEdgePlaces, AddsPlaceWhere, AreReady, HaveListsFrom, IsInnerCell, line_cell, list_at_or_empty};
+ghost use Rattle.certificate.specs.GoodModules.{AreGoodModules, AreOwnersOf, all_module_lines};
+ghost use Rattle.certificate.specs.HaloPlaces.{AddsEdgePlaces, AddsPlaceWhere, AreBoxListsReady, HaveEdgePlacesFrom, IsInnerCell, line_cell, list_at_or_empty};
 ghost use Rattle.lemmas.specs.Bounds.{last_place, max_modules};
 
 use crate::layout_tables::LayoutTables;
@@ -74,14 +74,14 @@ fn box_at(boxes: &[Box2], number: usize) -> Box2
     boxes[number]
 }
 
-fn holds_any(area: Box2, cells: &[Cell]) -> bool
+fn is_any_cell_in_box(area: Box2, cells: &[Cell]) -> bool
     ensures { result ≡ list_any (λ c. in_box area c.x c.y) cells.now }
 {
     cells.iter().any(|cell| area.holds(*cell))
 }
 
 // Adds the place to the list of the box that has the cell, if the box has none of the other cells.
-fn push_place_for_owner(
+fn push_place_if_owner_lacks_others(
     lists: &mut Vec<Vec<EdgePlace>>,
     owners: &Owners,
     boxes: &[Box2],
@@ -89,7 +89,7 @@ fn push_place_for_owner(
     cell: Cell,
     others: &[Cell],
 ) -> Result<(), AllocError>
-    requires table { AreReady boxes.now owners.now (map (λ l. l.items) lists.old.items) }
+    requires table { AreBoxListsReady boxes.now owners.now (map (λ l. l.items) lists.old.items) }
     requires inside { IsTrue (in_box (rectangle owners.now) cell.x cell.y) }
     ensures { OnOk result (AddsPlaceWhere boxes.now
         (λ b. in_box b cell.x cell.y && not (list_any (λ c. in_box b c.x c.y) others.now)) place
@@ -97,7 +97,7 @@ fn push_place_for_owner(
 {
     let number = owners.owner(cell);
     let area = box_at(boxes, number);
-    if holds_any(area, others) {
+    if is_any_cell_in_box(area, others) {
         return Ok(());
     }
     push_place(lists, number, place)?;
@@ -105,7 +105,7 @@ fn push_place_for_owner(
 }
 
 // The other cells of a block at odd times: in the cell's row, in its column, and the opposite one.
-fn odd_block_others(cell: Cell) -> (Cell, Cell, Cell)
+fn other_cells_of_odd_block(cell: Cell) -> (Cell, Cell, Cell)
     requires column { (pos 0 ≤ℤ cell.x) × (cell.x ≤ℤ pos last_place) }
     requires row { (pos 0 ≤ℤ cell.y) × (cell.y ≤ℤ pos last_place) }
     ensures side { (result.0.x ≡ partner 1 cell.x) × (result.0.y ≡ cell.y) }
@@ -130,28 +130,28 @@ fn push_place_for_halo_boxes(
     place: EdgePlace,
     cell: Cell,
 ) -> Result<(), AllocError>
-    requires table { AreReady boxes.now owners.now (map (λ l. l.items) lists.old.items) }
+    requires table { AreBoxListsReady boxes.now owners.now (map (λ l. l.items) lists.old.items) }
     requires inner { IsInnerCell (rectangle owners.now) cell }
     ensures { OnOk result (AddsPlaceWhere boxes.now (λ b. in_halo b cell.x cell.y) place
         (map (λ l. l.items) lists.old.items) (map (λ l. l.items) lists.new.items)) }
 {
     // Corners and sides are even, so a box with a neighbour of the cell has it or one of these.
-    let (side, above, corner) = odd_block_others(cell);
-    push_place_for_owner(lists, owners, boxes, place, side, &[cell])?;
-    push_place_for_owner(lists, owners, boxes, place, above, &[cell, side])?;
-    push_place_for_owner(lists, owners, boxes, place, corner, &[cell, side, above])?;
+    let (side, above, corner) = other_cells_of_odd_block(cell);
+    push_place_if_owner_lacks_others(lists, owners, boxes, place, side, &[cell])?;
+    push_place_if_owner_lacks_others(lists, owners, boxes, place, above, &[cell, side])?;
+    push_place_if_owner_lacks_others(lists, owners, boxes, place, corner, &[cell, side, above])?;
     Ok(())
 }
 
 // Adds the places of the edge lines of the module of this number.
-fn push_module_places(
+fn push_edge_places_of_module(
     lists: &mut Vec<Vec<EdgePlace>>,
     owners: &Owners,
     boxes: &[Box2],
     number: u16,
     edges: &[StoredBorder],
 ) -> Result<(), AllocError>
-    requires table { AreReady boxes.now owners.now (map (λ l. l.items) lists.old.items) }
+    requires table { AreBoxListsReady boxes.now owners.now (map (λ l. l.items) lists.old.items) }
     requires inner { All (λ e. IsInnerCell (rectangle owners.now) (line_cell e)) edges.now }
     requires few { length edges.now ≤ 65536 }
     ensures count { OnOk result (length lists.new.items ≡ length lists.old.items) }
@@ -177,7 +177,7 @@ fn push_edge_places(
     boxes: &[Box2],
     modules: &[StoredModule],
 ) -> Result<(), AllocError>
-    requires table { AreReady boxes.now owners.now (map (λ l. l.items) lists.old.items) }
+    requires table { AreBoxListsReady boxes.now owners.now (map (λ l. l.items) lists.old.items) }
     requires inner { All (λ m. All (λ e. IsInnerCell (rectangle owners.now) (line_cell e))
         m.edges.items) modules.now }
     requires few_modules { length modules.now ≤ max_modules }
@@ -187,7 +187,7 @@ fn push_edge_places(
         (map (λ l. l.items) lists.new.items)) }
 {
     for (number, module) in modules.iter().enumerate() {
-        push_module_places(lists, owners, boxes, number as u16, &module.edges)?;
+        push_edge_places_of_module(lists, owners, boxes, number as u16, &module.edges)?;
     }
     Ok(())
 }
@@ -217,8 +217,8 @@ pub(crate) fn neighbour_edge_places(
 ) -> Result<Vec<Vec<EdgePlace>>, AllocError>
     requires good { AreGoodModules tables.now.circuit tables.now.layout modules.now }
     requires owners { AreOwnersOf tables.now.layout
-        (areas (with_lines tables.now.circuit modules.now)) owners.now }
-    ensures { IfOk result (λ lists. HaveListsFrom
+        (areas (all_module_lines tables.now.circuit modules.now)) owners.now }
+    ensures { IfOk result (λ lists. HaveEdgePlacesFrom
         (setting_of tables.now.circuit tables.now.layout) modules.now 0
         (map (λ l. l.items) lists.items)) }
 {

@@ -8,7 +8,7 @@ ghost use Rattle.pattern.specs.Text.{box_words};
 ghost use Rattle.circuit.specs.Bridge.{circuit_of};
 ghost use Rattle.certificate.specs.Grammars.{version_number};
 ghost use Rattle.certificate.specs.Text.{star_or_time_word, one_or_name_word, border_words, entry_text, stop_words, certificate_text};
-ghost use Rattle.certificate_lines.specs.StoredModules.{HasOwnWire, HasOwnWires, IsOwnWire, body_lines_with, border_line, lines_of_modules, stop_line, wire_name};
+ghost use Rattle.certificate_lines.specs.StoredModules.{HasCircuitWire, HasCircuitWires, IsCircuitWire, body_lines_with, border_line, lines_of_modules, stop_line, wire_name};
 ghost use Rattle.certificate_lines.specs.declared.certificate_line.CertificateLine.TheVariants.{Module};
 
 use crate::cert::Cert;
@@ -44,7 +44,7 @@ fn print_module(out: &mut Vec<u8>, area: Box2) -> Result<(), AllocError>
 
 // The name of a wire.
 fn print_wire(out: &mut Vec<u8>, circuit: &Circuit, wire: WireNo) -> Result<(), AllocError>
-    requires { IsOwnWire (circuit_of circuit.now) wire }
+    requires { IsCircuitWire (circuit_of circuit.now) wire }
     ensures { OnOk result (out.new.items
         ≡ out.old.items ++ space_and_word (wire_name (circuit_of circuit.now) wire)) }
 {
@@ -54,7 +54,7 @@ fn print_wire(out: &mut Vec<u8>, circuit: &Circuit, wire: WireNo) -> Result<(), 
 
 // The lines that cut wires.
 fn print_cuts(out: &mut Vec<u8>, circuit: &Circuit, cuts: &[WireNo]) -> Result<(), AllocError>
-    requires { All (IsOwnWire (circuit_of circuit.now)) cuts.now }
+    requires { All (IsCircuitWire (circuit_of circuit.now)) cuts.now }
     ensures { OnOk result (out.new.items ≡ out.old.items
         ++ flat_map (λ w. line_text (codes "cut") (wire_name (circuit_of circuit.now) w ∷ []))
         cuts.now) }
@@ -97,7 +97,7 @@ fn print_one_or_wire(
     circuit: &Circuit,
     wire: Option<u16>,
 ) -> Result<(), AllocError>
-    requires { IfSome wire (IsOwnWire (circuit_of circuit.now)) }
+    requires { IfSome wire (IsCircuitWire (circuit_of circuit.now)) }
     ensures { OnOk result (out.new.items ≡ out.old.items
         ++ space_and_word (one_or_name_word
         (option_map (wire_name (circuit_of circuit.now)) wire))) }
@@ -115,7 +115,7 @@ fn print_borders(
     circuit: &Circuit,
     borders: &[StoredBorder],
 ) -> Result<(), AllocError>
-    requires { All (HasOwnWire (circuit_of circuit.now)) borders.now }
+    requires { All (HasCircuitWire (circuit_of circuit.now)) borders.now }
     ensures { OnOk result (out.new.items ≡ out.old.items
         ++ flat_map (λ b. line_text word.now
         (border_words (border_line (circuit_of circuit.now) b))) borders.now) }
@@ -131,7 +131,7 @@ fn print_borders(
 }
 
 fn print_stops(out: &mut Vec<u8>, circuit: &Circuit, stops: &[StoredStop]) -> Result<(), AllocError>
-    requires { All (λ s. IsOwnWire (circuit_of circuit.now) s.wire) stops.now }
+    requires { All (λ s. IsCircuitWire (circuit_of circuit.now) s.wire) stops.now }
     ensures { OnOk result (out.new.items ≡ out.old.items
         ++ flat_map (λ s. line_text (codes "stop")
         (stop_words (stop_line (circuit_of circuit.now) s))) stops.now) }
@@ -153,8 +153,8 @@ pub(crate) fn print_module_lines(
     stored: &StoredModule,
     halos: &[StoredBorder],
 ) -> Result<(), AllocError>
-    requires wires { HasOwnWires (circuit_of circuit.now) stored.now }
-    requires halo_wires { All (HasOwnWire (circuit_of circuit.now)) halos.now }
+    requires wires { HasCircuitWires (circuit_of circuit.now) stored.now }
+    requires halo_wires { All (HasCircuitWire (circuit_of circuit.now)) halos.now }
     ensures { OnOk result (out.new.items ≡ out.old.items
         ++ flat_map entry_text (Module stored.now.area
         ∷ body_lines_with (circuit_of circuit.now) stored.now halos.now)) }
@@ -176,7 +176,7 @@ fn print_modules(
     circuit: &Circuit,
     modules: &[StoredModule],
 ) -> Result<(), AllocError>
-    requires { All (HasOwnWires (circuit_of circuit.now)) modules.now }
+    requires { All (HasCircuitWires (circuit_of circuit.now)) modules.now }
     ensures { OnOk result (out.new.items ≡ out.old.items
         ++ flat_map entry_text (lines_of_modules (circuit_of circuit.now) modules.now)) }
 {

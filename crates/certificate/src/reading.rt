@@ -18,13 +18,13 @@ use std::alloc::Global;
 use std::marker::{Brand, PhantomData};
 
 // The circuit and the layout that a section is read for. No line changes them.
-trait ReadFor {
+trait CertificateSetting {
     ghost use Rattle.certificate_lines.specs.Entries.{Setting};
 
     ghost setting: { Setting };
 }
 
-impl ReadFor for Brand {
+impl CertificateSetting for Brand {
     ghost use Rattle.std.specs.Prelude.{[]};
 
     ghost setting = { record {
@@ -36,7 +36,7 @@ impl ReadFor for Brand {
 
 // A certificate that is read: its version, and its lines so far.
 #[derive(Drop)]
-struct Reading<'a, S: ReadFor> {
+struct Reading<'a, S: CertificateSetting> {
     alloc: Global,
     limits: Limits,
     version: Version,
@@ -53,7 +53,7 @@ fn is_halo(line: &CertificateLine) -> bool
     matches!(line, CertificateLine::Halo(_))
 }
 
-impl<'a, S: ReadFor> Section for Reading<'a, S> {
+impl<'a, S: CertificateSetting> Section for Reading<'a, S> {
     type Header = u32;
 
     type Item = CertificateLine;
@@ -100,7 +100,7 @@ impl<'a, S: ReadFor> Section for Reading<'a, S> {
 }
 
 // Reads the lines of a section into a builder without lines.
-fn read_lines<'a, S: ReadFor>(
+fn read_lines<'a, S: CertificateSetting>(
     alloc: Global,
     feed: &mut Feed,
     limits: Limits,

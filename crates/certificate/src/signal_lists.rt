@@ -3,11 +3,11 @@ ghost use Rattle.std.specs.Prelude.{◌≡◌, ◌++◌, IfOk, IfSome, IsTrue, O
 ghost use Rattle.std.specs.List.{All};
 ghost use Rattle.circuit.specs.Meaning.{wires};
 ghost use Rattle.module_box.specs.Locals.{circuit_wire, is_among};
-ghost use Rattle.certificate.specs.Jobs.{all_times_of_line, events_of_line};
+ghost use Rattle.certificate.specs.Jobs.{event_if_timed, signal_if_starred};
 ghost use Rattle.module_job.specs.Signals.{IsSignalWireBelow, renumber_signal, renumber_signals};
-ghost use Rattle.certificate.specs.Timetables.{AreRising, HasLocalWire, one_or_wire, stored_signals, unnamed_line};
+ghost use Rattle.certificate.specs.Timetables.{AreBorderLinesRising, HasLocalWire, one_or_wire, stored_signals, unnamed_line};
 
-use crate::layout_tables::local_wire;
+use crate::layout_tables::local_wire_number;
 use certificate_lines::StoredBorder;
 use circuit::WireNo;
 use module_box::{AllTimesSignal, Locals, Moment, Schedule, Signal, TimedSignal};
@@ -29,7 +29,7 @@ fn one_or_local_wire(locals: &Locals, wire: Option<u16>) -> Signal
 {
     match wire {
         None => Signal::One,
-        Some(number) => Signal::Wire(local_wire(locals, WireNo::of(number))),
+        Some(number) => Signal::Wire(local_wire_number(locals, WireNo::of(number))),
     }
 }
 
@@ -39,10 +39,10 @@ impl SignalLists {
     fn push(&mut self, border: &StoredBorder, signal: Signal) -> Result<(), AllocError>
         ensures all_times { OnOk result (self.new.all_times.items
             ≡ self.old.all_times.items
-            ++ all_times_of_line (unnamed_line border.now) border.now.time signal) }
+            ++ signal_if_starred (unnamed_line border.now) border.now.time signal) }
         ensures events { OnOk result (self.new.events.items
             ≡ self.old.events.items
-            ++ events_of_line (unnamed_line border.now) border.now.time signal) }
+            ++ event_if_timed (unnamed_line border.now) border.now.time signal) }
     {
         let cell = border.cell();
         match border.time {
@@ -62,7 +62,7 @@ pub(crate) fn signals_of(
     locals: &Locals,
     lines: &[StoredBorder],
 ) -> Result<Schedule, AllocError>
-    requires order { AreRising lines.now }
+    requires order { AreBorderLinesRising lines.now }
     requires local { All (HasLocalWire locals.now) lines.now }
     ensures same_signals { IfOk result (λ s. renumber_signals (circuit_wire locals.now) s
         ≡ stored_signals lines.now) }

@@ -6,7 +6,7 @@ ghost use Rattle.module_box.specs.Locals.{circuit_wire, is_among};
 ghost use Rattle.module_job.specs.Signals.{renumber_stop};
 ghost use Rattle.certificate.specs.StopLists.{stored_stop};
 
-use crate::layout_tables::local_wire;
+use crate::layout_tables::local_wire_number;
 use certificate_lines::StoredStop;
 use circuit::WireNo;
 use module_box::{Locals, Moment};
@@ -24,7 +24,7 @@ fn local_stop(locals: &Locals, stop: &StoredStop) -> Stop
             time: stop.time,
             cell: stop.cell(),
         },
-        wire: local_wire(locals, WireNo::of(stop.wire)),
+        wire: local_wire_number(locals, WireNo::of(stop.wire)),
     }
 }
 

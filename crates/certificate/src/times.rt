@@ -4,7 +4,7 @@ ghost use Rattle.std.specs.List.{All, list_all};
 ghost use Rattle.circuit.specs.Bridge.{circuit_of, netlist_of};
 ghost use Rattle.circuit.specs.Meaning.{Circuit as Meant, wires};
 ghost use Rattle.circuit.specs.Wiring.{gate_of};
-ghost use Rattle.certificate_lines.specs.StoredModules.{HasOwnWires, IsOwnWire, module_lines, stop_line};
+ghost use Rattle.certificate_lines.specs.StoredModules.{HasCircuitWires, IsCircuitWire, module_lines, stop_line};
 ghost use Rattle.certificate.specs.Grammars.{modules_in};
 ghost use Rattle.certificate.specs.Times.{common_time, all_stops, delay_line, gap_between, is_obeyed, last_times, time_lines_of_gates, meet_line, first_wire_time, delay_and_meet_lines};
 ghost use Rattle.certificate.specs.SeenTimes.{IsStopTimeTable, chosen_time, time_in_table};
@@ -80,7 +80,7 @@ fn chosen_time(choice: FirstOrLast, before: Option<u32>, time: u32) -> Option<u3
 // Notes the time of a stop in a table of the wires.
 fn note_stop(table: &mut [Option<u32>], choice: FirstOrLast, stop: &StoredStop)
     requires { stop.now.wire < length table.old }
-    ensures table { (c : Meant) (ss : List Line) → IsOwnWire c stop.now.wire →
+    ensures table { (c : Meant) (ss : List Line) → IsCircuitWire c stop.now.wire →
         IsStopTimeTable choice c ss table.old →
         IsStopTimeTable choice c (ss ++ stop_line c stop.now ∷ []) table.new }
     ensures long { length table.new ≡ length table.old }
@@ -92,7 +92,7 @@ fn note_stop(table: &mut [Option<u32>], choice: FirstOrLast, stop: &StoredStop)
 // Notes the times of stops in a table of the wires.
 fn note_times_of_stops(table: &mut [Option<u32>], choice: FirstOrLast, stops: &[StoredStop])
     requires { All (λ s. s.wire < length table.old) stops.now }
-    ensures table { (c : Meant) (ss : List Line) → All (λ s. IsOwnWire c s.wire) stops.now →
+    ensures table { (c : Meant) (ss : List Line) → All (λ s. IsCircuitWire c s.wire) stops.now →
         IsStopTimeTable choice c ss table.old →
         IsStopTimeTable choice c (ss ++ map (stop_line c) stops.now) table.new }
     ensures long { length table.new ≡ length table.old }
@@ -109,7 +109,7 @@ fn stop_time_table(
     choice: FirstOrLast,
     modules: &[StoredModule],
 ) -> Result<Vec<Option<u32>>, AllocError>
-    requires { All (HasOwnWires (circuit_of circuit.now)) modules.now }
+    requires { All (HasCircuitWires (circuit_of circuit.now)) modules.now }
     ensures { IfOk result (λ table. IsStopTimeTable choice (circuit_of circuit.now)
         (all_stops (map (module_lines (circuit_of circuit.now)) modules.now)) table.items) }
 {
@@ -255,7 +255,7 @@ fn timing_lines_of(
     circuit: &Circuit,
     modules: &[StoredModule],
 ) -> Result<Vec<TimeLine>, AllocError>
-    requires { All (HasOwnWires (circuit_of circuit.now)) modules.now }
+    requires { All (HasCircuitWires (circuit_of circuit.now)) modules.now }
     ensures { IfOk result (λ lines. lines.items ≡ delay_and_meet_lines (circuit_of circuit.now)
         (map (module_lines (circuit_of circuit.now)) modules.now)) }
 {

@@ -1,6 +1,6 @@
 -- The modules so far, after one more module and after one more line.
 use Rattle.certificate_lines.proofs.Imports.{AreApart, AreBuilt, AreGoodModulesSoFar, AreInOrder, Box2, Cell}
-use Rattle.certificate_lines.proofs.Imports.{CertificateLine, IsEven, IsInside, IsModule, IsModuleInLimits}
+use Rattle.certificate_lines.proofs.Imports.{CertificateLine, IsEvenBox, IsInside, IsModule, IsModuleInLimits}
 use Rattle.certificate_lines.proofs.Imports.{LayoutHeader, List, ModuleLines, None, Option, RefusalCode, Setting, Some}
 use Rattle.certificate_lines.proofs.Imports.{StarsExcludeLaterTimes, [], ap, areas, arith, module_box_code, change_last}
 use Rattle.certificate_lines.proofs.Imports.{common_steps, false, has_nonlocal_port, in_box, inl, inr}
@@ -22,7 +22,7 @@ use Rattle.section_text.proofs.Codes.{both_none}
 -- ---- a box that is good
 
 pub record IsGoodBox (s : LayoutHeader) (b : Box2) : Type 0 where
-  pub even : IsEven b
+  pub even : IsEvenBox b
   pub wide : (2 ≤ b.w) × (b.w ≤ 64)
   pub high : (2 ≤ b.h) × (b.h ≤ 64)
   pub inside : IsInside s.w s.h b

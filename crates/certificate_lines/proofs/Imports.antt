@@ -19,10 +19,10 @@ pub use Rattle.certificate_lines.specs.Modules.{IsModule}
 unfoldable pub use Rattle.certificate_lines.specs.Modules.{StarsExcludeLaterTimes}
 unfoldable pub use Rattle.certificate_lines.specs.Orders.{AreInOrder, cell_of, is_cut, line_cmp, may_follow}
 unfoldable pub use Rattle.certificate_lines.specs.Orders.{may_precede, rank_of, sort_number_of}
-pub use Rattle.certificate_lines.specs.PortTables.{AreNumberedRows, AreOnBoard, CircuitAndPorts, IsPortTable}
+pub use Rattle.certificate_lines.specs.PortTables.{AreNumberedRows, ArePortsInLayout, CircuitAndPorts, IsPortTable}
 pub use Rattle.certificate_lines.specs.PortTables.{entry_place}
 unfoldable pub use Rattle.certificate_lines.specs.PortTables.{entry_place_by_row_number, number_at, port_at}
-pub use Rattle.certificate_lines.specs.Rules.{body_line_code, content_code, is_last_module_incomplete, is_local}
+pub use Rattle.certificate_lines.specs.Rules.{body_line_code, code_but_for_order, is_last_module_incomplete, is_local}
 pub use Rattle.certificate_lines.specs.Rules.{is_local_wire, is_odd, is_star, is_starred_line_at, same_cell, whole}
 unfoldable pub use Rattle.certificate_lines.specs.Rules.{are_new_and_distinct, module_box_code, end_fault}
 unfoldable pub use Rattle.certificate_lines.specs.Rules.{has_nonlocal_port, module_line_code}
@@ -45,7 +45,8 @@ pub use Rattle.lemmas.proofs.Common.{option_to_list}
 pub use Rattle.lemmas.proofs.Common.{or_right, positive, replicate, take-suc, then_total, to_z, true_from_not}
 pub use Rattle.module_box.proofs.BoxCells.{in_box_nats}
 pub use Rattle.module_box.proofs.FromCorner.{abs_from}
-pub use Rattle.module_box.proofs.Imports.{All, All-tail, Bool, Equal, Gate, Greater, IfSome, IsEven, IsTrue, Less, List}
+pub use Rattle.module_box.proofs.Imports.{All, All-tail, Bool, Equal, Gate, Greater, IfSome, IsEvenBox, IsTrue, Less}
+pub use Rattle.module_box.proofs.Imports.{List}
 pub use Rattle.module_box.proofs.Imports.{Netlist, None, Option, Ordering, SFits, Some, [], and_from, and_parts, ap}
 pub use Rattle.module_box.proofs.Imports.{append_assoc, ap₂, arith, cases_Bool, common_steps, drop, eqb-true, false}
 pub use Rattle.module_box.proofs.Imports.{false≢true, flat_map, get_or, get_or_default, get_or_from_slice_get, inl, inr}

@@ -3,7 +3,8 @@ use Rattle.certificate_lines.proofs.Imports.{AreBuilt, AreInOrder, AreLocalWires
 use Rattle.certificate_lines.proofs.Imports.{CertificateLine, Circuit, Cut, IsBodyLine, IsModule, IsModuleInLimits}
 use Rattle.certificate_lines.proofs.Imports.{LineKey, List, Module, ModuleLines, None, Option, OutOfOrder, Port}
 use Rattle.certificate_lines.proofs.Imports.{RefusalCode, Setting, Some, Use, [], add_line, ap, append-nil, arith}
-use Rattle.certificate_lines.proofs.Imports.{body_line_code, change_last, code_if, common_steps, content_code, edge_in}
+use Rattle.certificate_lines.proofs.Imports.{body_line_code, change_last, code_but_for_order, code_if, common_steps}
+use Rattle.certificate_lines.proofs.Imports.{edge_in}
 use Rattle.certificate_lines.proofs.Imports.{false, halo_in, has_nonlocal_port, in_box, is_last_module_incomplete}
 use Rattle.certificate_lines.proofs.Imports.{is_local, is_starred_line_at, key_of, key_or_first, known, last_body_line}
 use Rattle.certificate_lines.proofs.Imports.{last_module, last_of, list_any, may_follow, module_line_code}
@@ -12,7 +13,7 @@ use Rattle.certificate_lines.proofs.Imports.{or_else, refl, same_cell, size_faul
 use Rattle.certificate_lines.proofs.Imports.{true_from_not, ℕ, ◌&&◌, ◌++◌, ◌+◌, ◌||◌, ◌∙◌, ◌∷◌, ◌≡◌, ◌≤◌, length}
 use Rattle.certificate_lines.specs.Modules.{IsWithinLineLimit}
 use Rattle.certificate_lines.specs.Rules.{line_fault}
-use Rattle.certificate_lines.specs.BuilderView.{IsEdgeHaloOrStopLine, IsLastModule, IsTracked, IsTrackedWith}
+use Rattle.certificate_lines.specs.BuilderView.{IsEdgeHaloOrStopLine, IsLastModuleTracked, IsTracked, IsTrackedWith}
 use Rattle.certificate_lines.specs.BuilderView.{wires_made_local}
 use Rattle.certificate_lines.proofs.BuiltLemmas.{module_built, line_built, good_module}
 use Rattle.certificate_lines.proofs.Growing.{modules_push, last_at, last_pushed, last_changed, body_step}
@@ -37,7 +38,7 @@ pub record IsGoodLine (g : Setting) (es : List CertificateLine) (i : Certificate
   pub module_lines : ModuleLines
   pub last : last_module es ≡ Some module_lines
   pub follows : may_follow module_lines.lines i ≡ true
-  pub words : content_code g module_lines i ≡ None
+  pub words : code_but_for_order g module_lines i ≡ None
 
 good_by : (g : Setting) (es : List CertificateLine) (i : CertificateLine) (o : Option ModuleLines) →
     last_module es ≡ o →
@@ -51,7 +52,7 @@ good_line g es i e = good_by g es i (last_module es) refl e
 
 -- it makes wires local
 made_local : (g : Setting) (m : ModuleLines) → IsModule g m → (i : CertificateLine) → IsBodyLine i →
-    may_follow m.lines i ≡ true → content_code g m i ≡ None →
+    may_follow m.lines i ≡ true → code_but_for_order g m i ≡ None →
     known g.circuit (module_with_line i m) ≡ known g.circuit m ++ wires_made_local g.circuit i
 made_local g m is (Module b) inner follows good = absurd inner
 made_local g m is (Cut n) inner follows good =
@@ -118,12 +119,12 @@ module _ (g : Setting) (es : List CertificateLine) (owners : OwnersView) (last :
       Some OutOfOrder ≡ body_line_code g (last_module es) i
   too_late m i b some f late =
       let not_after : may_follow m.lines i ≡ false = sym (follows_by m i b some f) ∙ late in
-      ap (λ a. or_else (code_if (not a) OutOfOrder) (content_code g m i)) (sym not_after) ∙ inner_is m i some
+      ap (λ a. or_else (code_if (not a) OutOfOrder) (code_but_for_order g m i)) (sym not_after) ∙ inner_is m i some
 
   pub in_place : (m : ModuleLines) (i : CertificateLine) (b : Bool) (code : Option RefusalCode) →
       last_module es ≡ Some m →
       ((lines : List CertificateLine) → AreInOrder lines → last_of lines ≡ last → b ≡ may_follow lines i) → b ≡ true
-      → code ≡ content_code g m i → code ≡ body_line_code g (last_module es) i
+      → code ≡ code_but_for_order g m i → code ≡ body_line_code g (last_module es) i
   in_place m i b code some f good words =
       let after : may_follow m.lines i ≡ true = sym (follows_by m i b some f) ∙ good in
       grind (arith, common_steps, inner_is)
@@ -142,8 +143,9 @@ module _ (g : Setting) (es : List CertificateLine) (owners : OwnersView) (last :
     the_same m some = some_is good.module_lines m (sym good.last ∙ some)
 
     last_after : (e' h' : List Cell) → AreStarsWith edge_in i e e' → AreStarsWith halo_in i h h' →
-        IsLastModule g good.module_lines last local e h →
-        IsLastModule g (module_with_line i good.module_lines) (Some i) (local ++ wires_made_local g.circuit i) e' h'
+        IsLastModuleTracked g good.module_lines last local e h →
+        IsLastModuleTracked g (module_with_line i good.module_lines) (Some i)
+        (local ++ wires_made_local g.circuit i) e' h'
     last_after e' h' stars halo_stars p = grind (arith, common_steps, last_pushed, wires_after)
 
     pub kept_inner : (e' h' : List Cell) → AreStarsWith edge_in i e e' → AreStarsWith halo_in i h h' →
@@ -157,7 +159,7 @@ module _ (g : Setting) (es : List CertificateLine) (owners : OwnersView) (last :
           let r = mapped_some (module_with_line i) (last_module es) m'
           (sym (ap last_of after_line ∙ last_changed (module_with_line i) (modules_of es)) ∙ some) in
           let here = last_after e' h' stars halo_stars (kept.last_module good.module_lines good.last) in
-          subst (λ k. IsLastModule g k (Some i) (local ++ wires_made_local g.circuit i) e' h')
+          subst (λ k. IsLastModuleTracked g k (Some i) (local ++ wires_made_local g.circuit i) e' h')
           (ap (module_with_line i) (the_same r.0 r.1) ∙ sym r.2) here;
     }
 
@@ -167,7 +169,7 @@ module _ (g : Setting) (es : List CertificateLine) (owners : OwnersView) (last :
     begun_lines : ModuleLines
     begun_lines = record { area = b; lines = [] }
 
-    begun_present : IsLastModule g begun_lines None [] [] []
+    begun_present : IsLastModuleTracked g begun_lines None [] [] []
     unfolding begun_lines last_of
     begun_present = grind (arith, common_steps)
 

@@ -1,5 +1,6 @@
 -- The ports of a layout by their cells, and its parts, which lie inside it
-use Rattle.certificate_lines.proofs.Imports.{AreOnBoard, Bool, Cell, LayoutHeader, List, None, Option, Port, Some, []}
+use Rattle.certificate_lines.proofs.Imports.{ArePortsInLayout, Bool, Cell, LayoutHeader, List, None, Option, Port, Some}
+use Rattle.certificate_lines.proofs.Imports.{[]}
 use Rattle.certificate_lines.proofs.Imports.{and_parts, ap, arith, common_steps, false, get_or, if◌then◌else◌}
 use Rattle.certificate_lines.proofs.Imports.{is_at, length, list_all, list_all-append, port_at, refl, slice_get}
 use Rattle.certificate_lines.proofs.Imports.{subst, suc, sym, true, zero, ℕ, ℤ, ◌<◌, ◌∙◌, ◌∷◌, ◌≡◌}
@@ -64,7 +65,7 @@ unfolding is_inside
 lie_inside p h = grind (arith, common_steps, and_parts, list_all-append, parts_inside, list_all-map)
 
 ports_on_board : (s : LayoutHeader) (ports : List Port) → list_all (λ q. in_layout s q.cell.x q.cell.y) ports ≡ true →
-    AreOnBoard s ports
+    ArePortsInLayout s ports
 ports_on_board s [] h i p e = absurd cc
 ports_on_board s (q ∷ ports) h zero p e =
     ap (λ (r : Port). in_layout s r.cell.x r.cell.y) (sym (some_is q p e)) ∙ (and_parts _ _ h).0
@@ -84,8 +85,8 @@ module _ (p : Pattern) (s : LayoutHeader) (is : s ≡ p.size) (good : AreGoodAft
   all_inside : LieInside p
   all_inside = lie_inside p (subst (λ (t : LayoutHeader). AreGoodAfter t [] (parts_of p)) is good)
 
-  pub ports_on_layout : AreOnBoard s p.ins × AreOnBoard s p.outs
-  ports_on_layout = subst (λ (t : LayoutHeader). AreOnBoard t p.ins × AreOnBoard t p.outs) (sym is)
+  pub ports_on_layout : ArePortsInLayout s p.ins × ArePortsInLayout s p.outs
+  ports_on_layout = subst (λ (t : LayoutHeader). ArePortsInLayout t p.ins × ArePortsInLayout t p.outs) (sym is)
       (ports_on_board p.size p.ins all_inside.ins, ports_on_board p.size p.outs all_inside.outs)
 
   pub balls_on_layout : AllInLayout s p.balls

@@ -1,5 +1,6 @@
 -- The boxes of modules in a table of their owners
-use Rattle.certificate_lines.proofs.Imports.{Bool, Box2, Cell, CertificateLine, IsEven, List, ModuleLines, None, Option}
+use Rattle.certificate_lines.proofs.Imports.{Bool, Box2, Cell, CertificateLine, IsEvenBox, List, ModuleLines, None}
+use Rattle.certificate_lines.proofs.Imports.{Option}
 use Rattle.certificate_lines.proofs.Imports.{Setting, SomethingMissing, ap, ap₂, areas, arith, cases_Bool, code_if}
 use Rattle.certificate_lines.proofs.Imports.{common_steps, end_fault, eqb-true, false, false≢true, in_box, inl, inr}
 use Rattle.certificate_lines.proofs.Imports.{is_last_module_incomplete, last_module, length, list_all, module_box_code}
@@ -10,7 +11,8 @@ use Rattle.std.specs.Prelude.{◌/◌, ◌↔◌}
 use Rattle.bbm_rule.proofs.RectangleLemmas.{in_box_cells}
 use Rattle.module_box.proofs.BoxCells.{owner_in_table}
 use Rattle.module_box.proofs.PartOwners.{corner_inside, has_block, named_cell, none_by_number, place_of, stays}
-use Rattle.module_box.specs.Tiling.{AreAllTaken, ArePartOwners, Holds, IsFreeBox, MayPut, OwnersView, block_corner_x}
+use Rattle.module_box.specs.Tiling.{AreAllBlocksTaken, ArePartOwners, Holds, IsFreeBox, MayAddBox, OwnersView}
+use Rattle.module_box.specs.Tiling.{block_corner_x}
 use Rattle.module_box.specs.Tiling.{block_corner_y}
 use Rattle.module_box.specs.Tiling.{no_owner, owner_of}
 use Rattle.section_text.specs.declared.code.RefusalCode.TheVariants.{MisplacedBox}
@@ -36,7 +38,7 @@ module _ (o : OwnersView) (boxes : List Box2) (part : ArePartOwners o boxes) whe
         (in_box_cells b _ _ ∙ here) (any_at _ boxes _ h.area h.numbered h.has))))
   ]
 
-  pub free_test : (b : Box2) → IsEven b → (r : Bool) → ((r ≡ true) ↔ IsFreeBox o b) → overlaps boxes b ≡ not r
+  pub free_test : (b : Box2) → IsEvenBox b → (r : Bool) → ((r ≡ true) ↔ IsFreeBox o b) → overlaps boxes b ≡ not r
   unfolding owner_of
   free_test b even r is = elim (cases_Bool (overlaps boxes b)) [
     | inl over ↦ over ∙ ap not (sym (false_from_ne_true r (λ e.
@@ -50,7 +52,7 @@ module _ (o : OwnersView) (boxes : List Box2) (part : ArePartOwners o boxes) whe
     | inr apart ↦ apart ∙ ap not (sym (is.1 (free_box b apart)))
   ]
 
-  pub full_test : (r : Bool) → ((r ≡ true) ↔ AreAllTaken o) →
+  pub full_test : (r : Bool) → ((r ≡ true) ↔ AreAllBlocksTaken o) →
       list_all (λ c. in_boxes boxes c.x c.y) (rectangle_cells (rectangle o)) ≡ r
   unfolding owner_of
   full_test r is = same_truth _ _
@@ -77,12 +79,12 @@ module _ (g : Setting) (ms : List ModuleLines) (o : OwnersView) (owners : AreMod
       rw (e) (ap (λ t. code_if t MisplacedBox) (free_test o (areas ms) owners.boxes b
       (passes_alone g (length ms) before b e).box.even r is))
 
-  pub may_put : (before : Option ModuleLines) (b : Box2) → IsGoodModule g ms before b → MayPut o b
+  pub may_put : (before : Option ModuleLines) (b : Box2) → IsGoodModule g ms before b → MayAddBox o b
   may_put before b good = grind (arith, common_steps, free_box)
 
 pub end_by : (g : Setting) (entries : List CertificateLine) (o : OwnersView) →
     AreModuleOwners g (modules_of entries) o → (lacks r : Bool) →
-    lacks ≡ is_last_module_incomplete g (last_module entries) → ((r ≡ true) ↔ AreAllTaken o) →
+    lacks ≡ is_last_module_incomplete g (last_module entries) → ((r ≡ true) ↔ AreAllBlocksTaken o) →
     end_fault g entries ≡ code_if (lacks || not r) SomethingMissing
 unfolding end_fault
 end_by g entries o owners lacks r is full =

@@ -10,15 +10,15 @@ use Rattle.certificate_lines.proofs.Imports.{known, length, length_push, list_al
 use Rattle.certificate_lines.proofs.Imports.{module_with_line, rank_of, nat_tests, not, option_to_list, refl, slice_get}
 use Rattle.certificate_lines.proofs.Imports.{stop_in, subst, sym, true, true_from_not, used_gate_in, wire_of, ℕ, ◌%◌}
 use Rattle.certificate_lines.proofs.Imports.{◌++◌, ◌<◌, ◌||◌, ◌∙◌, ◌∷◌, ◌≡◌, IsBodyLine, Module, append-nil}
-use Rattle.certificate_lines.proofs.Imports.{content_code, ◌+◌, ◌≤◌}
+use Rattle.certificate_lines.proofs.Imports.{code_but_for_order, ◌+◌, ◌≤◌}
 use Rattle.lemmas.proofs.Common.{nat_le, at_most_by_test, below_by_test, All-append, All-cons, ◌≢◌}
 use Rattle.certificate_lines.specs.Entries.{keeps, halos, stops, cut_wires}
 use Rattle.certificate_lines.specs.Rules.{cut_line_code, used_gate_fault, use_line_code, keep_line_code}
 use Rattle.certificate_lines.specs.Rules.{is_line_time_allowed, is_edge_place_and_time, is_halo_place_and_time}
-use Rattle.certificate_lines.specs.Rules.{is_stop_place_and_time, signal_fault, wire_fault, border_line_code}
+use Rattle.certificate_lines.specs.Rules.{is_stop_place_and_time, signal_fault, wire_fault, border_or_stop_line_code}
 use Rattle.certificate_lines.specs.Rules.{timed_line_count, timed_line_limit, edge_line_code, halo_line_code}
 use Rattle.certificate_lines.specs.Rules.{stop_line_code}
-use Rattle.certificate_lines.specs.Modules.{IsEdge, IsHalo, IsKeep, IsStop}
+use Rattle.certificate_lines.specs.Modules.{IsAllowedEdge, IsAllowedHalo, IsAllowedStop, MayBeKept}
 use Rattle.std.proofs.Common.{length-append}
 pub use Rattle.pattern.proofs.Added.{no_code}
 use Rattle.certificate_lines.proofs.Growing.{flat_push, flat_same}
@@ -107,11 +107,11 @@ module _ (g : Setting) (m : ModuleLines) (is : IsModule g m) (i : CertificateLin
           named = named;
           local = local;
           order = order_push m.lines i is.order follows;
-          keep_lines = at_nil (IsKeep g (gates more)) (keeps more) (none_yet kept_gate_in 3 only_keeps low);
+          keep_lines = at_nil (MayBeKept g (gates more)) (keeps more) (none_yet kept_gate_in 3 only_keeps low);
           unstarred = subst StarsExcludeLaterTimes (sym edges_are) tt;
-          edge_lines = at_nil (IsEdge g m.area (known g.circuit more)) (edges more) edges_are;
-          halo_lines = at_nil (IsHalo g m.area (known g.circuit more)) (halos more) halos_are;
-          stop_lines = at_nil (IsStop g m.area (known g.circuit more)) (stops more) stops_are;
+          edge_lines = at_nil (IsAllowedEdge g m.area (known g.circuit more)) (edges more) edges_are;
+          halo_lines = at_nil (IsAllowedHalo g m.area (known g.circuit more)) (halos more) halos_are;
+          stop_lines = at_nil (IsAllowedStop g m.area (known g.circuit more)) (stops more) stops_are;
         };
         few_borders = grind (arith, common_steps, edges_are, halos_are, stops_are);
       }
@@ -215,23 +215,26 @@ pub record IsGoodBorder (c : Circuit) (count : ℕ) (local : List ℕ) (placed :
   pub names : signal_fault c local signal ≡ None
 
 pub good_border : (c : Circuit) (count : ℕ) (local : List ℕ) (placed : Bool) (signal : Option (List ℕ)) →
-    border_line_code c count local placed signal ≡ None → IsGoodBorder c count local placed signal
-unfolding border_line_code
+    border_or_stop_line_code c count local placed signal ≡ None → IsGoodBorder c count local placed signal
+unfolding border_or_stop_line_code
 good_border c count local placed signal e = grind (arith, common_steps, both_none, less, no_code, true_from_not)
 
 edge_good : (g : Setting) (area : Box2) (local : List ℕ) (count : ℕ) (starred : Bool) (e : BorderLine) →
-    IsGoodBorder g.circuit count local (is_edge_place_and_time g.size area starred e) e.signal → IsEdge g area local e
+    IsGoodBorder g.circuit count local (is_edge_place_and_time g.size area starred e) e.signal →
+    IsAllowedEdge g area local e
 unfolding is_edge_place_and_time
 edge_good g area local count starred e good =
     grind (arith, common_steps, and_parts, false_from_not, time_good, signal_good)
 
 halo_good : (g : Setting) (area : Box2) (local : List ℕ) (count : ℕ) (starred : Bool) (e : BorderLine) →
-    IsGoodBorder g.circuit count local (is_halo_place_and_time g.size area starred e) e.signal → IsHalo g area local e
+    IsGoodBorder g.circuit count local (is_halo_place_and_time g.size area starred e) e.signal →
+    IsAllowedHalo g area local e
 unfolding is_halo_place_and_time
 halo_good g area local count starred e good = grind (arith, common_steps, and_parts, time_good, signal_good)
 
 stop_good : (g : Setting) (area : Box2) (local : List ℕ) (count : ℕ) (s : StopLine) →
-    IsGoodBorder g.circuit count local (is_stop_place_and_time g.size area s) (Some s.wire) → IsStop g area local s
+    IsGoodBorder g.circuit count local (is_stop_place_and_time g.size area s) (Some s.wire) →
+    IsAllowedStop g area local s
 unfolding is_stop_place_and_time
 stop_good g area local count s good =
     let parts = and_parts (in_box area s.cell.x s.cell.y) (nat_le s.time g.size.steps) good.place in
@@ -242,18 +245,18 @@ stop_good g area local count s good =
     }
 
 module _ (g : Setting) (m : ModuleLines) where
-  pub good_edge : (e : BorderLine) → edge_line_code g m e ≡ None → IsEdge g m.area (known g.circuit m) e
+  pub good_edge : (e : BorderLine) → edge_line_code g m e ≡ None → IsAllowedEdge g m.area (known g.circuit m) e
   good_edge e code = edge_good g m.area _ _ _ e (good_border _ _ _ _ _ code)
 
-  pub good_halo : (e : BorderLine) → halo_line_code g m e ≡ None → IsHalo g m.area (known g.circuit m) e
+  pub good_halo : (e : BorderLine) → halo_line_code g m e ≡ None → IsAllowedHalo g m.area (known g.circuit m) e
   good_halo e code = halo_good g m.area _ _ _ e (good_border _ _ _ _ _ code)
 
-  pub good_stop : (s : StopLine) → stop_line_code g m s ≡ None → IsStop g m.area (known g.circuit m) s
+  pub good_stop : (s : StopLine) → stop_line_code g m s ≡ None → IsAllowedStop g m.area (known g.circuit m) s
   good_stop s code = stop_good g m.area _ _ s (good_border _ _ _ _ _ code)
 
 -- ---- a kept gate
 
-pub keep_good : (g : Setting) (used : List ℕ) (k : ℕ) → keep_line_code g.circuit used k ≡ None → IsKeep g used k
+pub keep_good : (g : Setting) (used : List ℕ) (k : ℕ) → keep_line_code g.circuit used k ≡ None → MayBeKept g used k
 unfolding keep_line_code
 keep_good g mine k e = grind (arith, common_steps, both_none, true_from_not, no_code)
 
@@ -261,27 +264,30 @@ keep_good g mine k e = grind (arith, common_steps, both_none, true_from_not, no_
 
 -- what such a line adds is good
 module _ (g : Setting) (m : ModuleLines) where
-  keeps_in : (i : CertificateLine) → content_code g m i ≡ None → All (IsKeep g (gates m)) (kept_gate_in i)
-  keeps_in (Keep k) good = all_one (IsKeep g (gates m)) k (keep_good g (gates m) k good)
-  keeps_in i good = All-nil (IsKeep g (gates m))
+  keeps_in : (i : CertificateLine) → code_but_for_order g m i ≡ None → All (MayBeKept g (gates m)) (kept_gate_in i)
+  keeps_in (Keep k) good = all_one (MayBeKept g (gates m)) k (keep_good g (gates m) k good)
+  keeps_in i good = All-nil (MayBeKept g (gates m))
 
-  edges_in : (i : CertificateLine) → content_code g m i ≡ None → All (IsEdge g m.area (known g.circuit m)) (edge_in i)
-  edges_in (Edge e) good = all_one (IsEdge g m.area (known g.circuit m)) e (good_edge g m e good)
-  edges_in i good = All-nil (IsEdge g m.area (known g.circuit m))
+  edges_in : (i : CertificateLine) → code_but_for_order g m i ≡ None →
+      All (IsAllowedEdge g m.area (known g.circuit m)) (edge_in i)
+  edges_in (Edge e) good = all_one (IsAllowedEdge g m.area (known g.circuit m)) e (good_edge g m e good)
+  edges_in i good = All-nil (IsAllowedEdge g m.area (known g.circuit m))
 
-  halos_in : (i : CertificateLine) → content_code g m i ≡ None → All (IsHalo g m.area (known g.circuit m)) (halo_in i)
-  halos_in (Halo e) good = all_one (IsHalo g m.area (known g.circuit m)) e (good_halo g m e good)
-  halos_in i good = All-nil (IsHalo g m.area (known g.circuit m))
+  halos_in : (i : CertificateLine) → code_but_for_order g m i ≡ None →
+      All (IsAllowedHalo g m.area (known g.circuit m)) (halo_in i)
+  halos_in (Halo e) good = all_one (IsAllowedHalo g m.area (known g.circuit m)) e (good_halo g m e good)
+  halos_in i good = All-nil (IsAllowedHalo g m.area (known g.circuit m))
 
-  stops_in : (i : CertificateLine) → content_code g m i ≡ None → All (IsStop g m.area (known g.circuit m)) (stop_in i)
-  stops_in (Stop s) good = all_one (IsStop g m.area (known g.circuit m)) s (good_stop g m s good)
-  stops_in i good = All-nil (IsStop g m.area (known g.circuit m))
+  stops_in : (i : CertificateLine) → code_but_for_order g m i ≡ None →
+      All (IsAllowedStop g m.area (known g.circuit m)) (stop_in i)
+  stops_in (Stop s) good = all_one (IsAllowedStop g m.area (known g.circuit m)) s (good_stop g m s good)
+  stops_in i good = All-nil (IsAllowedStop g m.area (known g.circuit m))
 
-  stars_in : (i : CertificateLine) → content_code g m i ≡ None → StarsExcludeLaterTimes (edges m) →
+  stars_in : (i : CertificateLine) → code_but_for_order g m i ≡ None → StarsExcludeLaterTimes (edges m) →
       StarsExcludeLaterTimes (edges m ++ edge_in i)
   stars_in i h1 h2 = grind (arith, common_steps, unstarred_push, free_of_star, good_border, append-nil)
 
-  few_in : (i : CertificateLine) → content_code g m i ≡ None → timed_line_count m ≤ timed_line_limit →
+  few_in : (i : CertificateLine) → code_but_for_order g m i ≡ None → timed_line_count m ≤ timed_line_limit →
       timed_line_count m + length (edge_in i) + length (halo_in i) + length (stop_in i) ≤ timed_line_limit
   few_in i h1 h2 = grind (arith, common_steps, less, good_border)
 
@@ -305,7 +311,7 @@ module _ (g : Setting) (m : ModuleLines) (i : CertificateLine) (no_cut : cut_nam
   all_more f P before new =
       subst (All P) (sym (flat_push f m.lines i)) (All-append P (flat_map f m.lines) (f i) before new)
 
-  late_pushed : IsModuleInLimits g m → may_follow m.lines i ≡ true → content_code g m i ≡ None →
+  late_pushed : IsModuleInLimits g m → may_follow m.lines i ≡ true → code_but_for_order g m i ≡ None →
       IsModuleInLimits g (module_with_line i m)
   late_pushed written follows good =
       let is = written.good in
@@ -319,16 +325,16 @@ module _ (g : Setting) (m : ModuleLines) (i : CertificateLine) (no_cut : cut_nam
           named = grind (arith, common_steps, cut_wires_same, cuts_same);
           local = grind (arith, common_steps, cut_wires_same, gates_same);
           order = order_push m.lines i is.order follows;
-          keep_lines = subst (λ gs. All (IsKeep g gs) (keeps more)) (sym gates_same)
-              (all_more kept_gate_in (IsKeep g (gates m)) is.keep_lines (keeps_in g m i good));
+          keep_lines = subst (λ gs. All (MayBeKept g gs) (keeps more)) (sym gates_same)
+              (all_more kept_gate_in (MayBeKept g (gates m)) is.keep_lines (keeps_in g m i good));
           unstarred = subst StarsExcludeLaterTimes (sym (flat_push edge_in m.lines i))
               (stars_in g m i good is.unstarred);
-          edge_lines = subst (λ ws. All (IsEdge g m.area ws) (edges more)) (sym known_same)
-              (all_more edge_in (IsEdge g m.area (known g.circuit m)) is.edge_lines (edges_in g m i good));
-          halo_lines = subst (λ ws. All (IsHalo g m.area ws) (halos more)) (sym known_same)
-              (all_more halo_in (IsHalo g m.area (known g.circuit m)) is.halo_lines (halos_in g m i good));
-          stop_lines = subst (λ ws. All (IsStop g m.area ws) (stops more)) (sym known_same)
-              (all_more stop_in (IsStop g m.area (known g.circuit m)) is.stop_lines (stops_in g m i good));
+          edge_lines = subst (λ ws. All (IsAllowedEdge g m.area ws) (edges more)) (sym known_same)
+              (all_more edge_in (IsAllowedEdge g m.area (known g.circuit m)) is.edge_lines (edges_in g m i good));
+          halo_lines = subst (λ ws. All (IsAllowedHalo g m.area ws) (halos more)) (sym known_same)
+              (all_more halo_in (IsAllowedHalo g m.area (known g.circuit m)) is.halo_lines (halos_in g m i good));
+          stop_lines = subst (λ ws. All (IsAllowedStop g m.area ws) (stops more)) (sym known_same)
+              (all_more stop_in (IsAllowedStop g m.area (known g.circuit m)) is.stop_lines (stops_in g m i good));
         };
         few_borders = simp (flat_push, length-append)
             (let few = few_in g m i good written.few_borders in omega (arith, few));
@@ -337,7 +343,7 @@ module _ (g : Setting) (m : ModuleLines) (i : CertificateLine) (no_cut : cut_nam
 -- ---- any line of a module
 
 pub pushed : (g : Setting) (m : ModuleLines) → IsModuleInLimits g m → (i : CertificateLine) → IsBodyLine i →
-    may_follow m.lines i ≡ true → content_code g m i ≡ None → IsModuleInLimits g (module_with_line i m)
+    may_follow m.lines i ≡ true → code_but_for_order g m i ≡ None → IsModuleInLimits g (module_with_line i m)
 pushed g m is (Module b) body follows good = absurd body
 pushed g m is (Cut n) body follows good =
     let words = new_wire g.circuit _ _ n good in

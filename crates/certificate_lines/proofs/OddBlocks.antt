@@ -1,5 +1,5 @@
 -- The modules beside the cell of an edge line, by the cells of its block at odd times
-use Rattle.certificate_lines.proofs.Imports.{AreApart, Bool, BorderLine, Box2, Cell, Circuit, IsEven}
+use Rattle.certificate_lines.proofs.Imports.{AreApart, Bool, BorderLine, Box2, Cell, Circuit, IsEvenBox}
 use Rattle.certificate_lines.proofs.Imports.{List, ModuleLines, None, Option, Some, [], and-false, ap, ap₂, areas}
 use Rattle.certificate_lines.proofs.Imports.{arith, cases_Bool, common_steps, cond-false, cond-true}
 use Rattle.certificate_lines.proofs.Imports.{does_neighbour_lack_wire, eqb-true, false, in_box, in_box_nats}
@@ -70,14 +70,14 @@ three_cells : (a a' b b' s : Bool) →
     ≡ ((not (a && b) && ((a || a') && (b || b'))) && s)
 three_cells a a' b b' s = grind arith
 
-pub halo_either : (b : Box2) (x y : ℤ) → IsEven b →
+pub halo_either : (b : Box2) (x y : ℤ) → IsEvenBox b →
     (not (in_box b x y) && ((in_span b.x b.w x || in_span b.x b.w (partner 1 x))
     && (in_span b.y b.h y || in_span b.y b.h (partner 1 y))))
     ≡ in_halo b x y
 halo_either b x y even = grind (arith, common_steps, halo_read, near_either)
 
 -- a cell is in the halo of a box if it is outside, and the box has one of the other cells of its block
-pub odd_halo : (b : Box2) (x y : ℤ) (s : Bool) → IsEven b →
+pub odd_halo : (b : Box2) (x y : ℤ) (s : Bool) → IsEvenBox b →
     ((in_box b (partner 1 x) y && (not (in_box b x y) && s)) || (in_box b x (partner 1 y) && (not (in_box b x y) && s))
     || (in_box b (partner 1 x) (partner 1 y) && (not (in_box b x y) && s)))
     ≡ (in_halo b x y && s)
@@ -153,7 +153,7 @@ owner_within ms x y k h = grind (arith, common_steps, mapped_from, slice_get_wit
 
 module _ (c : Circuit) (ms : List ModuleLines) where
   pub lacked_beside : (cell : Cell) (wire : Option ℕ) →
-      ((k : ℕ) (m : ModuleLines) → slice_get ms k ≡ Some m → IsEven m.area) →
+      ((k : ℕ) (m : ModuleLines) → slice_get ms k ≡ Some m → IsEvenBox m.area) →
       (list_any (λ (m : ModuleLines). in_box m.area (partner 1 cell.x) cell.y && is_outside_and_nonlocal c cell wire m)
       ms
       || list_any (λ (m : ModuleLines).

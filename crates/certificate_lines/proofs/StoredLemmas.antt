@@ -24,7 +24,7 @@ use Rattle.std.proofs.lemmas.List.Quantifiers.{position-Some}
 use Rattle.std.proofs.lemmas.List.Elements.{All-set}
 use Rattle.std.proofs.lemmas.List.Folds.{flat_map-map}
 use Rattle.certificate_lines.specs.Entries.{cut_wires, halos, keeps, stops}
-use Rattle.certificate_lines.specs.StoredModules.{HasOwnWires, IsOwnWire, border_line, body_lines_with}
+use Rattle.certificate_lines.specs.StoredModules.{HasCircuitWires, IsCircuitWire, border_line, body_lines_with}
 use Rattle.certificate_lines.specs.StoredModules.{lines_of_modules, module_lines, module_lines_with, stop_line}
 use Rattle.certificate_lines.specs.StoredModules.{wire_name}
 use Rattle.certificate_lines.specs.declared.stored_module.StoredBorder.{StoredBorder}
@@ -84,20 +84,20 @@ counts_stored c m = simp (cuts_with, gates_with, edges_with, halos_with, stops_w
 
 -- ---- the wires of the circuit
 
-all_named : (c : Circuit) (ws : List ℕ) → All (IsOwnWire c) ws →
+all_named : (c : Circuit) (ws : List ℕ) → All (IsCircuitWire c) ws →
     flat_map (λ n. option_to_list (wire_of c n)) (map (wire_name c) ws) ≡ ws
 all_named c [] own = refl
 all_named c (w ∷ ws) own =
     ap (λ o. option_to_list o ++ flat_map (λ n. option_to_list (wire_of c n)) (map (wire_name c) ws))
-    (All-head (IsOwnWire c) w ws own)
-    ∙ ap (λ l. w ∷ l) (all_named c ws (All-tail (IsOwnWire c) w ws own))
+    (All-head (IsCircuitWire c) w ws own)
+    ∙ ap (λ l. w ∷ l) (all_named c ws (All-tail (IsCircuitWire c) w ws own))
 
-pub cut_wires_with : (c : Circuit) (m : StoredModule) (hs : List StoredBorder) → All (IsOwnWire c) m.cuts.items →
+pub cut_wires_with : (c : Circuit) (m : StoredModule) (hs : List StoredBorder) → All (IsCircuitWire c) m.cuts.items →
     cut_wires c (module_lines_with c m hs) ≡ m.cuts.items
 cut_wires_with c m hs own =
     ap (flat_map (λ n. option_to_list (wire_of c n))) (cuts_with c m hs) ∙ all_named c m.cuts.items own
 
-pub wire_within : (c : Circuit) (w : ℕ) → IsOwnWire c w → w < length c.names
+pub wire_within : (c : Circuit) (w : ℕ) → IsCircuitWire c w → w < length c.names
 wire_within c w own = grind (arith, common_steps, position-Some, place_position)
 
 -- ---- the modules of the lines of modules
@@ -257,10 +257,10 @@ lines_left c ms at m n is some got same =
     ∙ append-nil (lines_of_modules c ms)
 
 pub wires_kept : (c : Circuit) (ms : List StoredModule) (at : ℕ) (m n : StoredModule) → at < length ms →
-    m ≡ get_or ms at m → (HasOwnWires c m → HasOwnWires c n) → All (HasOwnWires c) ms →
-    All (HasOwnWires c) (slice_set ms at n)
+    m ≡ get_or ms at m → (HasCircuitWires c m → HasCircuitWires c n) → All (HasCircuitWires c) ms →
+    All (HasCircuitWires c) (slice_set ms at n)
 wires_kept c ms at m n within is keeps own =
-    All-set (HasOwnWires c) ms at n (keeps (subst (HasOwnWires c) (sym is) (own at m within))) own
+    All-set (HasCircuitWires c) ms at n (keeps (subst (HasCircuitWires c) (sym is) (own at m within))) own
 
 -- ---- what the modules tell of the lines
 

@@ -2,7 +2,8 @@
 use Rattle.certificate_lines.proofs.Imports.{Box2, Cell, CertificateLine, Circuit, Cut, Edge, Gate, Halo, IfSome}
 use Rattle.certificate_lines.proofs.Imports.{IsBodyLine, IsModule, IsTrue, Keep, LayoutHeader, List, Module}
 use Rattle.certificate_lines.proofs.Imports.{ModuleLines, None, Option, Setting, Some, Stop, Use, [], arith}
-use Rattle.certificate_lines.proofs.Imports.{bytes_eq-Decides, common_steps, content_code, false≢true, gates, in_box}
+use Rattle.certificate_lines.proofs.Imports.{bytes_eq-Decides, code_but_for_order, common_steps, false≢true, gates}
+use Rattle.certificate_lines.proofs.Imports.{in_box}
 use Rattle.certificate_lines.proofs.Imports.{in_box_nats, is_local, is_local_wire, is_some, known, last_module, last_of}
 use Rattle.certificate_lines.proofs.Imports.{length, may_follow, option_map, refl, size_fault, size_sides, slice_get}
 use Rattle.certificate_lines.proofs.Imports.{slice_get_within, subst, sym, true, whole, wire_of, ℕ, ℤ, ◌<◌, ◌∙◌, ◌∷◌}
@@ -16,7 +17,8 @@ use Rattle.certificate_lines.specs.BuilderView.{IsEdgeHaloOrStopLine, IsTrackedW
 use Rattle.certificate_lines.specs.BuilderView.{AreTrackedModules, IsWireOfLine, IsWithinMaxSize, MayBeStored}
 use Rattle.certificate_lines.specs.Entries.{name_in}
 use Rattle.certificate_lines.specs.Rules.{is_inverse_gate}
-use Rattle.certificate_lines.specs.StoredModules.{HasOwnWires, IsOwnWire, lines_of_modules, module_lines, wire_name}
+use Rattle.certificate_lines.specs.StoredModules.{HasCircuitWires, IsCircuitWire, lines_of_modules, module_lines}
+use Rattle.certificate_lines.specs.StoredModules.{wire_name}
 use Rattle.certificate_lines.specs.declared.stored_module.StoredModule.{StoredModule}
 use Rattle.certificate_lines.proofs.Keeping.{AreStarsWith, IsGoodLine, with_border, with_inner, with_module}
 use Rattle.module_box.proofs.BoxCells.{in_rectangle}
@@ -39,7 +41,7 @@ signal_named : (c : Circuit) (local : List ℕ) (signal : Option (List ℕ)) →
 signal_named c local signal h1 = grind (arith, common_steps, local_is_some)
 
 -- the name in a line whose words are good
-named_words : (g : Setting) (m : ModuleLines) (i : CertificateLine) → content_code g m i ≡ None →
+named_words : (g : Setting) (m : ModuleLines) (i : CertificateLine) → code_but_for_order g m i ≡ None →
     IfSome (name_in i) (λ n. IsTrue (is_some (wire_of g.circuit n)))
 named_words g m (Cut n) e = subst (λ o. IsTrue (is_some o)) (sym (new_wire _ _ _ n e).1.named) refl
 named_words g m (Edge b) e = signal_named g.circuit (known g.circuit m) b.signal (good_edge g m b e).border.signal
@@ -48,17 +50,18 @@ named_words g m (Stop s) e = local_is_some (known g.circuit m) (wire_of g.circui
 named_words g m _ e = tt
 
 found_by : (c : Circuit) (n : List ℕ) (found : Option ℕ) → wire_of c n ≡ found → IsTrue (is_some found) →
-    (option_map (wire_name c) found ≡ Some n) × IfSome found (IsOwnWire c)
+    (option_map (wire_name c) found ≡ Some n) × IfSome found (IsCircuitWire c)
 found_by c n found h1 h2 = grind (arith, common_steps, false≢true, wire_named)
 
 found : (c : Circuit) (name : Option (List ℕ)) → IfSome name (λ n. IsTrue (is_some (wire_of c n))) →
     (option_map (wire_name c) (option_and_then (wire_of c) name) ≡ name)
-    × IfSome (option_and_then (wire_of c) name) (IsOwnWire c)
+    × IfSome (option_and_then (wire_of c) name) (IsCircuitWire c)
 found c None named = (refl, tt)
 found c (Some n) named = found_by c n (wire_of c n) refl named
 
 -- so the wire that was found for it is that of the line
-pub named_line : (g : Setting) (m : ModuleLines) (i : CertificateLine) (wire : Option ℕ) → content_code g m i ≡ None →
+pub named_line : (g : Setting) (m : ModuleLines) (i : CertificateLine) (wire : Option ℕ) →
+    code_but_for_order g m i ≡ None →
     wire ≡ option_and_then (wire_of g.circuit) (name_in i) → IsWireOfLine g.circuit i wire
 named_line g m i wire good is =
     let all = found g.circuit (name_in i) (named_words g m i good) in
@@ -80,7 +83,8 @@ gate_there : (gates : List Gate) (k : ℕ) (found : Option Gate) → slice_get g
 gate_there gates k found h1 h2 = grind (arith, common_steps, false≢true, slice_get_within)
 
 pub may_store : (g : Setting) (m : ModuleLines) (i : CertificateLine) (wire : Option ℕ) → IsModule g m →
-    size_fault g.size ≡ None → length g.circuit.netlist.gates ≤ max_gates → IsBodyLine i → content_code g m i ≡ None →
+    size_fault g.size ≡ None → length g.circuit.netlist.gates ≤ max_gates → IsBodyLine i →
+    code_but_for_order g m i ≡ None →
     IsWireOfLine g.circuit i wire → MayBeStored i wire
 may_store g m (Module b) wire is sized few body good own = absurd body
 may_store g m (Cut n) wire is sized few body good own = wire_there (wire_name g.circuit) wire n own.name
@@ -127,7 +131,7 @@ follows_last c ms m i last h = follows_by c (last_of ms) m i (last_stored c ms �
 
 module _ (g : Setting) (ms new : List StoredModule) (owners : OwnersView) (key : LineKey) (earlier : List (List ℕ))
     (local : List ℕ) (e h : List Cell) (was : AreTrackedModules g ms owners key earlier local e h)
-    (own : All (HasOwnWires g.circuit) new) where
+    (own : All (HasCircuitWires g.circuit) new) where
   pub kept_left : lines_of_modules g.circuit new ≡ lines_of_modules g.circuit ms →
       AreTrackedModules g new owners key earlier local e h
   kept_left same = record {
@@ -166,7 +170,7 @@ pub kept_module : (g : Setting) (ms new : List StoredModule) (owners : OwnersVie
     (earlier : List (List ℕ)) (local : List ℕ) (e h : List Cell) →
     AreTrackedModules g ms owners key earlier local e h →
     (n : StoredModule) → new ≡ ms ++ n ∷ [] → (b : Box2) → module_lines g.circuit n ≡ record { area = b; lines = [] } →
-    HasOwnWires g.circuit n → (new_owners : OwnersView) →
+    HasCircuitWires g.circuit n → (new_owners : OwnersView) →
     module_line_code g (modules_of (lines_of_modules g.circuit ms)) (last_module (lines_of_modules g.circuit ms)) b
     ≡ None → (number : ℕ) → number ≡ length ms → PutsBox b number owners new_owners →
     AreTrackedModules g new new_owners (key_or_first None) (earlier ++ local ∷ []) [] [] []
@@ -177,5 +181,5 @@ kept_module g ms new owners key earlier local e h was n are b empty own new_owne
           (earlier ++ local ∷ []) [] [] []) (sym (begun_lines g.circuit ms n b empty))
           (with_module g _ owners _ key earlier local e h was.tracked new_owners b good number
           (is ∙ count_stored g.circuit ms) puts);
-      wires = All-push (HasOwnWires g.circuit) ms n was.wires own;
+      wires = All-push (HasCircuitWires g.circuit) ms n was.wires own;
     })

@@ -1,5 +1,6 @@
 -- The tables of ports, and the ports in a box.
-use Rattle.certificate_lines.proofs.Imports.{AreNumberedRows, AreOnBoard, Bool, Box2, Cell, Circuit, HaveDistinctCells}
+use Rattle.certificate_lines.proofs.Imports.{AreNumberedRows, ArePortsInLayout, Bool, Box2, Cell, Circuit}
+use Rattle.certificate_lines.proofs.Imports.{HaveDistinctCells}
 use Rattle.certificate_lines.proofs.Imports.{LayoutHeader, List, None, Option, Port, Some, [], and_parts, ap, arith}
 use Rattle.certificate_lines.proofs.Imports.{cell, cell_itself, cell_same, common_steps, drop, entry_place, eqb-true}
 use Rattle.certificate_lines.proofs.Imports.{false, flat_map, get_or, get_or-set_same, get_or_default}
@@ -257,7 +258,8 @@ pub no_ports : (b : Box2) (ports : List Port) (rows : List ℕ) (count n : ℕ) 
 unfolding number_at
 no_ports b ports rows count n is = grind (arith, common_steps, length-replicate, numbered, no_entry, filled_none)
 
-pub in_whole : (s : LayoutHeader) (b : Box2) → b ≡ whole s → (ports : List Port) → AreOnBoard s ports → AreInBox b ports
+pub in_whole : (s : LayoutHeader) (b : Box2) → b ≡ whole s → (ports : List Port) → ArePortsInLayout s ports →
+    AreInBox b ports
 unfolding in_box
 in_whole s b is ports on_board i p at = ap (λ (a : Box2). in_box a p.cell.x p.cell.y) is ∙ on_board i p at
 

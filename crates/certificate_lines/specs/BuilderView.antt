@@ -15,7 +15,7 @@ use Rattle.certificate_lines.specs.Rules.{has_nonlocal_port}
 use Rattle.certificate_lines.specs.LineKeys.{key_or_first}
 use Rattle.certificate_lines.specs.declared.order.LineKey.{LineKey}
 use Rattle.certificate_lines.specs.Modules.{IsWithinLineLimit, IsModule}
-use Rattle.certificate_lines.specs.StoredModules.{HasOwnWires, IsOwnWire, lines_of_modules, wire_name}
+use Rattle.certificate_lines.specs.StoredModules.{HasCircuitWires, IsCircuitWire, lines_of_modules, wire_name}
 use Rattle.certificate_lines.specs.Versions.{is_nonlocal_signal}
 use Rattle.certificate_lines.specs.declared.certificate_line.BorderLine.{BorderLine}
 use Rattle.certificate_lines.specs.declared.certificate_line.CertificateLine.{CertificateLine}
@@ -39,7 +39,7 @@ abbrev pub builder_view : Inside → BuilderView
 builder_view a = record { setting = a.tables; entries = builder_lines a }
 
 -- what is kept of the last module is what its lines say
-pub record IsLastModule (g : Setting) (m : ModuleLines) (last : Option CertificateLine) (local : List ℕ)
+pub record IsLastModuleTracked (g : Setting) (m : ModuleLines) (last : Option CertificateLine) (local : List ℕ)
     (e h : List Cell) : Type 0 where
   pub final : last_of m.lines ≡ last
   pub wires : local ≡ known g.circuit m
@@ -80,7 +80,7 @@ pub record AreBuilt (g : Setting) (ms : List ModuleLines) (o : OwnersView) : Typ
 pub record IsTracked (g : Setting) (es : List CertificateLine) (o : OwnersView) (last : Option CertificateLine)
     (local : List ℕ) (e h : List Cell) : Type 0 where
   pub built : AreBuilt g (modules_of es) o
-  pub last_module : (m : ModuleLines) → last_of (modules_of es) ≡ Some m → IsLastModule g m last local e h
+  pub last_module : (m : ModuleLines) → last_of (modules_of es) ≡ Some m → IsLastModuleTracked g m last local e h
 
 -- one of these edge lines is for a cell in the halo of the module, and names a wire that is not local there
 abbrev pub lacks_edge_wire : Circuit → List BorderLine → ModuleLines → Bool
@@ -128,7 +128,7 @@ pub record AreTrackedModules (g : Setting) (ms : List StoredModule) (o : OwnersV
     (local : List ℕ) (e h : List Cell) : Type 0 where
   pub tracked : IsTrackedWith g (lines_of_modules g.circuit ms) o (last_body_line (lines_of_modules g.circuit ms))
       key earlier local e h
-  pub wires : All (HasOwnWires g.circuit) ms
+  pub wires : All (HasCircuitWires g.circuit) ms
 
 -- the fields of every builder: its tables are those of its lines, and the wires of its modules are the circuit's
 abbrev pub AreBuilderFields : Inside → Type 0
@@ -160,7 +160,7 @@ MayBeStored (Stop s) wire = IsWithinMaxSize s.cell × IsTrue (is_some wire)
 -- the wire is the circuit's wire of the name in a line, if the line has a name
 pub record IsWireOfLine (c : Circuit) (i : CertificateLine) (wire : Option ℕ) : Type 0 where
   pub name : option_map (wire_name c) wire ≡ name_in i
-  pub own : IfSome wire (IsOwnWire c)
+  pub own : IfSome wire (IsCircuitWire c)
 
 -- the line is no `module` line
 abbrev pub IsBodyLine : CertificateLine → Type 0

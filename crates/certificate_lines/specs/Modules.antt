@@ -2,7 +2,7 @@
 use Rattle.std.specs.Prelude.{◌≡◌, ℕ, ◌<◌, ◌≤◌, ◌%◌, ◌||◌, not, true, List, [], ◌∷◌, length, Some, slice_get, IsTrue}
 use Rattle.std.specs.Prelude.{IsFalse, IfSome}
 use Rattle.std.specs.List.{All, list_all}
-use Rattle.bbm_rule.specs.Boxes.{in_box, in_ring, in_halo, IsEven, Tile}
+use Rattle.bbm_rule.specs.Boxes.{in_box, in_ring, in_halo, IsEvenBox, Tile}
 use Rattle.module_box.specs.Locals.{AreLocalLines, is_among}
 use Rattle.module_box.specs.Tiling.{IsInside}
 use Rattle.bbm_rule.specs.declared.block.Box2.{Box2}
@@ -17,30 +17,30 @@ use Rattle.certificate_lines.specs.declared.certificate_line.StopLine.{StopLine}
 use Rattle.lemmas.specs.Bounds.{max_modules}
 
 -- the time of an edge or halo line is odd and below the steps, and its signal is `1` or a local wire
-pub record IsBorder (g : Setting) (local : List ℕ) (e : BorderLine) : Type 0 where
+pub record IsAllowedBorder (g : Setting) (local : List ℕ) (e : BorderLine) : Type 0 where
   pub time : IfSome e.time (λ t. (t % 2 ≡ 1) × (t < g.size.steps))
   pub signal : IfSome e.signal (λ name. IsTrue (is_local g.circuit local name))
 
 -- an edge is in the ring of the box, and not on the rim of the rectangle
-pub record IsEdge (g : Setting) (area : Box2) (local : List ℕ) (e : BorderLine) : Type 0 where
+pub record IsAllowedEdge (g : Setting) (area : Box2) (local : List ℕ) (e : BorderLine) : Type 0 where
   pub ring : IsTrue (in_ring area e.cell.x e.cell.y)
   pub rim : IsFalse (in_ring (whole g.size) e.cell.x e.cell.y)
-  pub border : IsBorder g local e
+  pub border : IsAllowedBorder g local e
 
 -- a halo line is in the halo of the box, and inside the rectangle
-pub record IsHalo (g : Setting) (area : Box2) (local : List ℕ) (e : BorderLine) : Type 0 where
+pub record IsAllowedHalo (g : Setting) (area : Box2) (local : List ℕ) (e : BorderLine) : Type 0 where
   pub halo : IsTrue (in_halo area e.cell.x e.cell.y)
   pub inside : IsTrue (in_box (whole g.size) e.cell.x e.cell.y)
-  pub border : IsBorder g local e
+  pub border : IsAllowedBorder g local e
 
 -- a stop is at a time up to the last one and at a cell of the box, and its wire is local
-pub record IsStop (g : Setting) (area : Box2) (local : List ℕ) (s : StopLine) : Type 0 where
+pub record IsAllowedStop (g : Setting) (area : Box2) (local : List ℕ) (s : StopLine) : Type 0 where
   pub time : s.time ≤ g.size.steps
   pub inside : IsTrue (in_box area s.cell.x s.cell.y)
   pub wire : IsTrue (is_local g.circuit local s.wire)
 
 -- a kept gate is an inverse gate, and it is one of those that are used
-pub record IsKeep (g : Setting) (used : List ℕ) (k : ℕ) : Type 0 where
+pub record MayBeKept (g : Setting) (used : List ℕ) (k : ℕ) : Type 0 where
   pub inverse : IsTrue (is_inverse_gate (slice_get g.circuit.netlist.gates k))
   pub among : IsTrue (is_among used k)
 
@@ -55,7 +55,7 @@ StarsExcludeLaterTimes (d ∷ es) =
 -- lines have places that they may have, and name local wires. No edge line has a time for a cell that one has a `*`
 -- for.
 pub record IsModule (g : Setting) (m : ModuleLines) : Type 0 where
-  pub even : IsEven m.area
+  pub even : IsEvenBox m.area
   pub wide : (2 ≤ m.area.w) × (m.area.w ≤ 64)
   pub high : (2 ≤ m.area.h) × (m.area.h ≤ 64)
   pub inside : IsInside g.size.w g.size.h m.area
@@ -63,11 +63,11 @@ pub record IsModule (g : Setting) (m : ModuleLines) : Type 0 where
   pub named : length (cut_wires g.circuit m) ≡ length (cuts m)
   pub local : AreLocalLines g.circuit.netlist (cut_wires g.circuit m) (gates m)
   pub order : AreInOrder m.lines
-  pub keep_lines : All (IsKeep g (gates m)) (keeps m)
+  pub keep_lines : All (MayBeKept g (gates m)) (keeps m)
   pub unstarred : StarsExcludeLaterTimes (edges m)
-  pub edge_lines : All (IsEdge g m.area (known g.circuit m)) (edges m)
-  pub halo_lines : All (IsHalo g m.area (known g.circuit m)) (halos m)
-  pub stop_lines : All (IsStop g m.area (known g.circuit m)) (stops m)
+  pub edge_lines : All (IsAllowedEdge g m.area (known g.circuit m)) (edges m)
+  pub halo_lines : All (IsAllowedHalo g m.area (known g.circuit m)) (halos m)
+  pub stop_lines : All (IsAllowedStop g m.area (known g.circuit m)) (stops m)
 
 -- the wires of the ports in the module's box are local
 pub record HasLocalPorts (g : Setting) (m : ModuleLines) : Type 0 where

@@ -20,8 +20,8 @@ port_at [] x y = None
 port_at (p ∷ ps) x y = if is_at p.cell x y then Some p.name else port_at ps x y
 
 -- the ports are inside the layout
-abbrev pub AreOnBoard : LayoutHeader → List Port → Type 0
-AreOnBoard s ports = (i : ℕ) (p : Port) → slice_get ports i ≡ Some p → in_layout s p.cell.x p.cell.y ≡ true
+abbrev pub ArePortsInLayout : LayoutHeader → List Port → Type 0
+ArePortsInLayout s ports = (i : ℕ) (p : Port) → slice_get ports i ≡ Some p → in_layout s p.cell.x p.cell.y ≡ true
 
 -- the number of a port in a list with one port more in front, and 0 for no port
 abbrev pub number_with_port_in_front : ℕ → ℕ

@@ -183,8 +183,8 @@ abbrev pub timed_line_limit : ℕ
 timed_line_limit = 65536
 
 -- the code of such a line after `count` of these lines; `placed` says whether it may have its cell and time
-unfoldable pub border_line_code : Circuit → ℕ → List ℕ → Bool → Option (List ℕ) → Option RefusalCode
-border_line_code c count local placed signal =
+unfoldable pub border_or_stop_line_code : Circuit → ℕ → List ℕ → Bool → Option (List ℕ) → Option RefusalCode
+border_or_stop_line_code c count local placed signal =
     or_else (code_if (nat_le timed_line_limit count) PastLimit)
     (or_else (code_if (not placed) NoPlace) (signal_fault c local signal))
 
@@ -196,33 +196,33 @@ timed_line_count m = length (edges m) + length (halos m) + length (stops m)
 
 -- the code of an edge line of a module
 abbrev pub edge_line_code : Setting → ModuleLines → BorderLine → Option RefusalCode
-edge_line_code g m e = border_line_code g.circuit (timed_line_count m) (known g.circuit m)
+edge_line_code g m e = border_or_stop_line_code g.circuit (timed_line_count m) (known g.circuit m)
     (is_edge_place_and_time g.size m.area (list_any (is_starred_line_at e.cell) (edges m)) e) e.signal
 
 -- the code of a halo line of a module
 abbrev pub halo_line_code : Setting → ModuleLines → BorderLine → Option RefusalCode
-halo_line_code g m e = border_line_code g.circuit (timed_line_count m) (known g.circuit m)
+halo_line_code g m e = border_or_stop_line_code g.circuit (timed_line_count m) (known g.circuit m)
     (is_halo_place_and_time g.size m.area (list_any (is_starred_line_at e.cell) (halos m)) e) e.signal
 
 -- the code of a stop line of a module
 abbrev pub stop_line_code : Setting → ModuleLines → StopLine → Option RefusalCode
-stop_line_code g m s = border_line_code g.circuit (timed_line_count m) (known g.circuit m)
+stop_line_code g m s = border_or_stop_line_code g.circuit (timed_line_count m) (known g.circuit m)
     (is_stop_place_and_time g.size m.area s)
     (Some s.wire)
 
 -- the code of a line of a module, but for its order
-abbrev pub content_code : Setting → ModuleLines → CertificateLine → Option RefusalCode
-content_code g m (Module b) = None
-content_code g m (Cut n) = cut_line_code g.circuit (length (cuts m)) (known g.circuit m) n
-content_code g m (Use k) = use_line_code g.circuit (length (gates m)) (known g.circuit m) k
-content_code g m (Keep k) = keep_line_code g.circuit (gates m) k
-content_code g m (Edge e) = edge_line_code g m e
-content_code g m (Halo e) = halo_line_code g m e
-content_code g m (Stop s) = stop_line_code g m s
+abbrev pub code_but_for_order : Setting → ModuleLines → CertificateLine → Option RefusalCode
+code_but_for_order g m (Module b) = None
+code_but_for_order g m (Cut n) = cut_line_code g.circuit (length (cuts m)) (known g.circuit m) n
+code_but_for_order g m (Use k) = use_line_code g.circuit (length (gates m)) (known g.circuit m) k
+code_but_for_order g m (Keep k) = keep_line_code g.circuit (gates m) k
+code_but_for_order g m (Edge e) = edge_line_code g m e
+code_but_for_order g m (Halo e) = halo_line_code g m e
+code_but_for_order g m (Stop s) = stop_line_code g m s
 
 -- a line of a module after those before it: its order first, 6
 abbrev pub line_fault : Setting → ModuleLines → CertificateLine → Option RefusalCode
-line_fault g m i = or_else (code_if (not (may_follow m.lines i)) OutOfOrder) (content_code g m i)
+line_fault g m i = or_else (code_if (not (may_follow m.lines i)) OutOfOrder) (code_but_for_order g m i)
 
 -- a line that is no `module` line belongs to a module
 abbrev pub body_line_code : Setting → Option ModuleLines → CertificateLine → Option RefusalCode

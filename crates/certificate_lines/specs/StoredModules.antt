@@ -58,16 +58,16 @@ abbrev pub IsWithin : LayoutHeader → StoredBorder → Type 0
 IsWithin size b = IsTrue (in_box (whole size) (pos b.column) (pos b.row))
 
 -- the number is that of the wire of its name
-abbrev pub IsOwnWire : Circuit → ℕ → Type 0
-IsOwnWire c w = wire_of c (wire_name c w) ≡ Some w
+abbrev pub IsCircuitWire : Circuit → ℕ → Type 0
+IsCircuitWire c w = wire_of c (wire_name c w) ≡ Some w
 
 -- the wire of an edge or halo line, if it has one, is one of the circuit
-abbrev pub HasOwnWire : Circuit → StoredBorder → Type 0
-HasOwnWire c b = IfSome b.wire (IsOwnWire c)
+abbrev pub HasCircuitWire : Circuit → StoredBorder → Type 0
+HasCircuitWire c b = IfSome b.wire (IsCircuitWire c)
 
 -- all wires of a module are wires of the circuit
-pub record HasOwnWires (c : Circuit) (m : StoredModule) : Type 0 where
-  pub cuts : All (IsOwnWire c) m.cuts.items
-  pub edges : All (HasOwnWire c) m.edges.items
-  pub halos : All (HasOwnWire c) m.halos.items
-  pub stops : All (λ s. IsOwnWire c s.wire) m.stops.items
+pub record HasCircuitWires (c : Circuit) (m : StoredModule) : Type 0 where
+  pub cuts : All (IsCircuitWire c) m.cuts.items
+  pub edges : All (HasCircuitWire c) m.edges.items
+  pub halos : All (HasCircuitWire c) m.halos.items
+  pub stops : All (λ s. IsCircuitWire c s.wire) m.stops.items

@@ -6,21 +6,22 @@ ghost use Rattle.std.specs.Option.{is_some, option_and_then, option_map};
 ghost use Rattle.circuit.specs.Meaning.{wire_of};
 ghost use Rattle.certificate_lines.specs.Entries.{ModuleLines, known, modules_of, last_module, name_in};
 ghost use Rattle.certificate_lines.specs.Modules.{IsWithinLineLimit};
-ghost use Rattle.certificate_lines.specs.StoredModules.{HasOwnWires, lines_of_modules, module_lines};
-ghost use Rattle.certificate_lines.specs.Rules.{timed_line_count, border_line_code, entry_fault, end_fault, module_box_code, module_line_code, body_line_code, content_code, is_last_module_incomplete, module_limit_fault};
+ghost use Rattle.certificate_lines.specs.StoredModules.{HasCircuitWires, lines_of_modules, module_lines};
+ghost use Rattle.certificate_lines.specs.Rules.{timed_line_count, border_or_stop_line_code, entry_fault, end_fault, module_box_code, module_line_code, body_line_code, code_but_for_order, is_last_module_incomplete, module_limit_fault};
 ghost use Rattle.certificate_lines.specs.BuilderView.{AreModuleOwners, BuilderView, IsEdgeHaloOrStopLine, IsBodyLine};
 ghost use Rattle.certificate_lines.specs.declared.certificate_line.CertificateLine.TheVariants.{Module};
 
 use crate::certificate_line::CertificateLine;
 use crate::line_tables::LineTables;
 use crate::local_wires::{make_room_for_wires, move_wires_to_earlier, push_line_wires};
-use crate::order::{LineKey, first_key, key_of, may_follow};
+use crate::order::{LineKey, key_of, may_follow, module_line_key};
 use crate::rules::{
-    border_code, cut_code, is_bad_box_side, is_misplaced_box, keep_code, may_edge_be_there,
-    may_halo_be_there, may_stop_be_there, use_code,
+    border_or_stop_code, cut_code, is_bad_box_side, is_misplaced_box, keep_code,
+    may_edge_have_place_and_time, may_halo_have_place_and_time, may_stop_have_place_and_time,
+    use_code,
 };
-use crate::stars::{has_star, make_room_for_stars, note_stars};
-use crate::stored_module::{StoredModule, push_in_last};
+use crate::stars::{has_star, make_room_if_starred_border_line, note_if_starred_border_line};
+use crate::stored_module::{StoredModule, push_line_in_last_module};
 use crate::wire_list::WireList;
 use bbm_rule::Cell;
 use indexmap::IndexSet;
@@ -80,7 +81,7 @@ impl<'a> Builder<'a> {
             modules: Vec::new(alloc),
             owners,
             earlier: Vec::new(alloc),
-            last: first_key(),
+            last: module_line_key(),
             known: WireList::new(alloc),
             edges: IndexSet::new(alloc),
             halos: IndexSet::new(alloc),
@@ -110,10 +111,10 @@ impl<'a> Builder<'a> {
         }
     }
 
-    // The code of an edge, halo or stop line, by `border_code` with the wires of the last module.
+    // The code of an edge, halo or stop line, by `border_or_stop_code` with the wires of the last module.
     #[inline(always)]
     #[tactic(auto, using(crate::proofs::StoredLemmas::timed_count))]
-    fn border_code(
+    fn border_or_stop_code(
         &self,
         last: &StoredModule,
         placed: bool,
@@ -126,17 +127,17 @@ impl<'a> Builder<'a> {
             m ≡ module_lines self.now.setting.circuit last.now →
             named ≡ is_some signal →
             wire ≡ option_and_then (wire_of self.now.setting.circuit) signal →
-            result ≡ border_line_code self.now.setting.circuit (timed_line_count m)
+            result ≡ border_or_stop_line_code self.now.setting.circuit (timed_line_count m)
             (known self.now.setting.circuit m) placed signal }
     {
         let borders = last.edges.len() + last.halos.len() + last.stops.len();
-        border_code(borders, &self.known, placed, named, wire)
+        border_or_stop_code(borders, &self.known, placed, named, wire)
     }
 
     // The code of the tests that come after that of the order, for a line of the last module.
     #[inline(always)]
     #[tactic(auto, using(crate::proofs::StoredLemmas::cut_count, crate::proofs::StoredLemmas::used_gates))]
-    fn content_code(
+    fn code_but_for_order(
         &self,
         last: &StoredModule,
         entry: &CertificateLine,
@@ -148,7 +149,7 @@ impl<'a> Builder<'a> {
             ≡ option_and_then (wire_of self.now.setting.circuit) (name_in entry.now) }
         ensures { (m : ModuleLines) → last_module self.now.entries ≡ Some m →
             m ≡ module_lines self.now.setting.circuit last.now →
-            result ≡ content_code self.now.setting m entry.now }
+            result ≡ code_but_for_order self.now.setting m entry.now }
     {
         let size = self.tables.size();
         match entry {
@@ -167,17 +168,17 @@ impl<'a> Builder<'a> {
             ),
             CertificateLine::Edge(border) => {
                 let starred = has_star(&self.edges, border.cell);
-                let placed = may_edge_be_there(size, last.area, starred, border);
-                self.border_code(last, placed, border.signal.is_some(), wire)
+                let placed = may_edge_have_place_and_time(size, last.area, starred, border);
+                self.border_or_stop_code(last, placed, border.signal.is_some(), wire)
             }
             CertificateLine::Halo(border) => {
                 let starred = has_star(&self.halos, border.cell);
-                let placed = may_halo_be_there(size, last.area, starred, border);
-                self.border_code(last, placed, border.signal.is_some(), wire)
+                let placed = may_halo_have_place_and_time(size, last.area, starred, border);
+                self.border_or_stop_code(last, placed, border.signal.is_some(), wire)
             }
             CertificateLine::Stop(stop) => {
-                let placed = may_stop_be_there(size, last.area, stop);
-                self.border_code(last, placed, true, wire)
+                let placed = may_stop_have_place_and_time(size, last.area, stop);
+                self.border_or_stop_code(last, placed, true, wire)
             }
         }
     }
@@ -197,7 +198,7 @@ impl<'a> Builder<'a> {
         if !may_follow(self.last, entry) {
             return Some(RefusalCode::OutOfOrder);
         }
-        self.content_code(last, entry, wire)
+        self.code_but_for_order(last, entry, wire)
     }
 }
 
@@ -220,11 +221,11 @@ impl<'a> Builder<'a> {
         if let Some(code) = self.body_line_code(entry, wire) {
             return Err(LineFault::Code(code));
         }
-        if make_room_for_stars(&mut self.edges, &mut self.halos, entry).is_err() {
+        if make_room_if_starred_border_line(&mut self.edges, &mut self.halos, entry).is_err() {
             return Err(LineFault::Memory);
         }
-        push_in_last(&mut self.modules, entry, wire)?;
-        note_stars(&mut self.edges, &mut self.halos, entry);
+        push_line_in_last_module(&mut self.modules, entry, wire)?;
+        note_if_starred_border_line(&mut self.edges, &mut self.halos, entry);
         self.last = key_of(entry);
         Ok(())
     }
@@ -248,12 +249,12 @@ impl<'a> Builder<'a> {
         if make_room_for_wires(&mut self.known, &self.tables, &entry).is_err() {
             return Err(LineFault::Memory);
         }
-        if make_room_for_stars(&mut self.edges, &mut self.halos, &entry).is_err() {
+        if make_room_if_starred_border_line(&mut self.edges, &mut self.halos, &entry).is_err() {
             return Err(LineFault::Memory);
         }
-        push_in_last(&mut self.modules, &entry, wire)?;
+        push_line_in_last_module(&mut self.modules, &entry, wire)?;
         push_line_wires(&mut self.known, &self.tables, &entry, wire);
-        note_stars(&mut self.edges, &mut self.halos, &entry);
+        note_if_starred_border_line(&mut self.edges, &mut self.halos, &entry);
         self.last = key_of(&entry);
         Ok(())
     }
@@ -326,7 +327,7 @@ impl<'a> Builder<'a> {
             return Err(LineFault::Memory);
         };
         self.owners.put(area, before);
-        self.last = first_key();
+        self.last = module_line_key();
         self.edges.truncate(0);
         self.halos.truncate(0);
         Ok(())
@@ -382,7 +383,7 @@ impl<'a> Builder<'a> {
         ensures { result ≡ end_fault self.now.setting self.now.entries }
     {
         let lacks = self.has_nonlocal_port();
-        let full = self.owners.are_all_taken();
+        let full = self.owners.are_all_blocks_taken();
         if lacks | !full {
             Some(RefusalCode::SomethingMissing)
         } else {
@@ -394,7 +395,7 @@ impl<'a> Builder<'a> {
     pub fn into_parts(self) -> BuiltParts
         ensures entries { lines_of_modules self.entry.setting.circuit result.modules.items
             ≡ self.entry.entries }
-        ensures wires { All (HasOwnWires self.entry.setting.circuit) result.modules.items }
+        ensures wires { All (HasCircuitWires self.entry.setting.circuit) result.modules.items }
         ensures owners { AreModuleOwners self.entry.setting (modules_of self.entry.entries)
             result.owners }
     {

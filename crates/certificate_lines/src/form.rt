@@ -87,7 +87,7 @@ fn end_form(feed: &Feed, line: &Line) -> Option<Form<u32, CertificateLine>>
 }
 
 // Whether a line begins with `edge` and a space. A pattern is compared in place, without a call.
-fn is_edge_line(line: &[u8]) -> bool
+fn begins_as_edge(line: &[u8]) -> bool
     ensures { result ≡ bytes_eq (take 5 line.now) (codes "edge ") }
 {
     match line {
@@ -97,7 +97,7 @@ fn is_edge_line(line: &[u8]) -> bool
 }
 
 // Whether a line begins with `halo` and a space.
-fn is_halo_line(line: &[u8]) -> bool
+fn begins_as_halo(line: &[u8]) -> bool
     ensures { result ≡ bytes_eq (take 5 line.now) (codes "halo ") }
 {
     match line {
@@ -107,7 +107,7 @@ fn is_halo_line(line: &[u8]) -> bool
 }
 
 // Whether a line begins with `stop` and a space.
-fn is_stop_line(line: &[u8]) -> bool
+fn begins_as_stop(line: &[u8]) -> bool
     ensures { result ≡ bytes_eq (take 5 line.now) (codes "stop ") }
 {
     match line {
@@ -118,7 +118,7 @@ fn is_stop_line(line: &[u8]) -> bool
 
 // The form of a line of five words that is no edge, halo or stop line.
 #[tactic(auto, using(crate::proofs::BorderLines::no_long_form), unfolding(crate::specs::Forms::form_of, section_text::specs::Words::is_word_at))]
-fn five_word_line_form(words: FiveWords) -> Option<Form<u32, CertificateLine>>
+fn other_five_word_line_form(words: FiveWords) -> Option<Form<u32, CertificateLine>>
     requires no_edge { bytes_eq words.first.now (codes "edge") ≡ false }
     requires no_halo { bytes_eq words.first.now (codes "halo") ≡ false }
     requires no_stop { bytes_eq words.first.now (codes "stop") ≡ false }
@@ -164,13 +164,13 @@ fn line_form_by_words(feed: &Feed, line: &Line) -> Option<Form<u32, CertificateL
     ensures { result ≡ form_of (words_of (line_bytes feed.now line.now)) }
 {
     match feed.five_words(line) {
-        Some(words) => five_word_line_form(words),
+        Some(words) => other_five_word_line_form(words),
         None => not_five_words_line_form(feed, line),
     }
 }
 
 // Whether a line begins with `cut` and a space.
-fn is_cut_line(line: &[u8]) -> bool
+fn begins_as_cut(line: &[u8]) -> bool
     ensures { result ≡ bytes_eq (take 4 line.now) (codes "cut ") }
 {
     match line {
@@ -180,7 +180,7 @@ fn is_cut_line(line: &[u8]) -> bool
 }
 
 // Whether a line begins with `use` and a space.
-fn is_use_line(line: &[u8]) -> bool
+fn begins_as_use(line: &[u8]) -> bool
     ensures { result ≡ bytes_eq (take 4 line.now) (codes "use ") }
 {
     match line {
@@ -200,11 +200,11 @@ fn other_line_form(feed: &Feed, line: &Line) -> Option<Form<u32, CertificateLine
     ensures { result ≡ form_of (words_of (line_bytes feed.now line.now)) }
 {
     let bytes = feed.line(line);
-    if is_use_line(bytes) {
+    if begins_as_use(bytes) {
         let number = read_number(&bytes[4..])?;
         return Some(Form::Item(CertificateLine::Use(number)));
     }
-    if is_cut_line(bytes) {
+    if begins_as_cut(bytes) {
         let name = Name::of(&bytes[4..])?;
         return Some(Form::Item(CertificateLine::Cut(name)));
     }
@@ -230,7 +230,7 @@ fn stop_or_other_line_form(feed: &Feed, line: &Line) -> Option<Form<u32, Certifi
     requires no_halo { bytes_eq (take 5 (line_bytes feed.now line.now)) (codes "halo ") ≡ false }
     ensures { result ≡ form_of (words_of (line_bytes feed.now line.now)) }
 {
-    if !is_stop_line(feed.line(line)) {
+    if !begins_as_stop(feed.line(line)) {
         return other_line_form(feed, line);
     }
     let stop = stop_in(feed, line)?;
@@ -247,8 +247,8 @@ pub fn line_form(feed: &Feed, line: &Line) -> Option<Form<u32, CertificateLine>>
     ensures { result ≡ form_of (words_of (line_bytes feed.now line.now)) }
 {
     let bytes = feed.line(line);
-    let is_edge = is_edge_line(bytes);
-    if !is_edge && !is_halo_line(bytes) {
+    let is_edge = begins_as_edge(bytes);
+    if !is_edge && !begins_as_halo(bytes) {
         return stop_or_other_line_form(feed, line);
     }
     let border = border_after_keyword(&bytes[5..])?;

@@ -15,7 +15,7 @@ use circuit::WireNo;
 use std::alloc::{AllocError, Global};
 
 /// Returns whether all these wires are local.
-pub(crate) fn knows_all(known: &WireList, wires: &[WireNo]) -> bool
+pub(crate) fn knows_all_wires(known: &WireList, wires: &[WireNo]) -> bool
     ensures { result ≡ list_all (is_among known.now.wires) wires.now }
 {
     for wire in wires {
@@ -78,7 +78,7 @@ pub(crate) fn make_room_for_wires(
         },
         _ => 0,
     };
-    known.reserve(count, tables.wire_count())
+    known.reserve_for_numbers_below(count, tables.wire_count())
 }
 
 /// Makes the wires local that a line of a module makes local, where there is room for them.

@@ -2,7 +2,7 @@
 ghost use Rattle.std.specs.Prelude.{◌≡◌, ◌<◌, List, map, ◌&&◌, Some, length, slice_get, IsTrue};
 ghost use Rattle.std.specs.List.{All, flat_map, list_any};
 ghost use Rattle.certificate_lines.specs.Entries.{ModuleLines, edges, known, modules_of};
-ghost use Rattle.certificate_lines.specs.StoredModules.{HasOwnWire, IsWithin, border_line};
+ghost use Rattle.certificate_lines.specs.StoredModules.{HasCircuitWire, IsWithin, border_line};
 ghost use Rattle.certificate_lines.specs.Rules.{is_local_wire, whole};
 ghost use Rattle.bbm_rule.specs.Boxes.{in_box};
 ghost use Rattle.module_box.specs.Locals.{is_among};
@@ -21,7 +21,7 @@ fn is_among(wires: &[u16], wire: u16) -> bool
 }
 
 // Whether the wire is known, and one of these.
-fn is_one_of(wires: &[u16], wire: Option<u16>) -> bool
+fn is_some_and_among(wires: &[u16], wire: Option<u16>) -> bool
     ensures { result ≡ is_local_wire wires.now wire }
 {
     match wire {
@@ -57,7 +57,7 @@ impl<'a> Builder<'a> {
         if self.modules[number].area.holds(cell) {
             return false;
         }
-        !is_one_of(self.local_wires_of_module(number), wire)
+        !is_some_and_among(self.local_wires_of_module(number), wire)
     }
 
     // Whether some module has the cell `beside` and not the cell, and the wire is unknown or not local in it.
@@ -96,7 +96,7 @@ impl<'a> Builder<'a> {
 
     // Whether some module has the cell of an edge line in its halo, and lacks its wire.
     fn does_neighbour_lack_wire(&self, border: &StoredBorder) -> bool
-        requires own { HasOwnWire self.now.setting.circuit border.now }
+        requires own { HasCircuitWire self.now.setting.circuit border.now }
         requires inside { IsWithin self.now.setting.size border.now }
         ensures { result
             ≡ does_neighbour_lack_wire self.now.setting.circuit (modules_of self.now.entries)
@@ -111,7 +111,7 @@ impl<'a> Builder<'a> {
     // Whether some module lacks the wire of one of these edge lines, by the modules beside each of them.
     #[tactic(auto, using(lemmas::proofs::Common::list_any_at))]
     fn do_neighbours_lack_a_wire(&self, lines: &[StoredBorder]) -> bool
-        requires own { All (HasOwnWire self.now.setting.circuit) lines.now }
+        requires own { All (HasCircuitWire self.now.setting.circuit) lines.now }
         requires inside { All (IsWithin self.now.setting.size) lines.now }
         ensures { result
             ≡ list_any (λ b. does_neighbour_lack_wire self.now.setting.circuit

@@ -86,7 +86,7 @@ pub(crate) struct LineKey {
 }
 
 /// Returns the key of a `module` line, and of no line.
-pub(crate) fn first_key() -> LineKey
+pub(crate) fn module_line_key() -> LineKey
     ensures { result ≡ key_or_first None }
 {
     LineKey {

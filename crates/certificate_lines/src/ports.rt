@@ -7,7 +7,7 @@ ghost use Rattle.circuit.specs.Meaning.{wire_of};
 ghost use Rattle.pattern.specs.Layout.{HaveDistinctCells};
 ghost use Rattle.pattern.specs.Lines.{size_fault};
 ghost use Rattle.bbm_rule.specs.Boxes.{in_box};
-ghost use Rattle.certificate_lines.specs.PortTables.{port_at, entry_place, AreInBox, ArePortTables, AreNumberedRows, AreOnBoard};
+ghost use Rattle.certificate_lines.specs.PortTables.{port_at, entry_place, AreInBox, ArePortTables, AreNumberedRows, ArePortsInLayout};
 ghost use Rattle.lemmas.specs.Bounds.{max_side, max_wires};
 
 use crate::rules::whole_of;
@@ -154,7 +154,7 @@ fn index_ports<'a>(
 ) -> Result<PortTable<'a>, AllocError>
     requires limits { size_fault size ≡ None }
     requires cells_distinct { HaveDistinctCells ports.now }
-    requires inside { AreOnBoard size ports.now }
+    requires inside { ArePortsInLayout size ports.now }
     ensures { IfOk result (λ table. table
         ≡ record { circuit = circuit_of circuit.now; ports = ports.now }) }
 {

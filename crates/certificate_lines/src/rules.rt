@@ -3,11 +3,11 @@ ghost use Rattle.std.specs.Prelude.{◌≡◌, ◌+◌, ℕ, List, Option};
 ghost use Rattle.std.specs.Option.{is_some, option_and_then};
 ghost use Rattle.circuit.specs.Meaning.{Circuit, wire_of};
 ghost use Rattle.module_box.specs.Locals.{is_among};
-ghost use Rattle.certificate_lines.specs.Rules.{whole, is_bad_box_side, is_misplaced, is_odd, is_local_wire, cut_line_code, use_line_code, keep_line_code, is_line_time_allowed, is_edge_place_and_time, is_halo_place_and_time, is_stop_place_and_time, border_line_code};
+ghost use Rattle.certificate_lines.specs.Rules.{whole, is_bad_box_side, is_misplaced, is_odd, is_local_wire, cut_line_code, use_line_code, keep_line_code, is_line_time_allowed, is_edge_place_and_time, is_halo_place_and_time, is_stop_place_and_time, border_or_stop_line_code};
 
 use crate::certificate_line::{BorderLine, StopLine};
 use crate::line_tables::LineTables;
-use crate::local_wires::{are_all_new_and_distinct, knows_all};
+use crate::local_wires::{are_all_new_and_distinct, knows_all_wires};
 use crate::wire_list::WireList;
 use circuit::GateNo;
 use module_box::Box2;
@@ -101,7 +101,7 @@ pub(crate) fn use_code(
     let Some(gate) = tables.gate(number) else {
         return Some(RefusalCode::UnknownName);
     };
-    if !knows_all(known, gate.ins()) {
+    if !knows_all_wires(known, gate.ins()) {
         return Some(RefusalCode::NotLocal);
     }
     if !are_all_new_and_distinct(known, gate.outs()) {
@@ -136,8 +136,8 @@ pub(crate) fn keep_code(tables: &LineTables, used: &[GateNo], number: u32) -> Op
 /// `placed` says whether the line may have its cell and time, and `named` whether its signal is a wire's name. The
 /// circuit has no wire of that name if `wire` is `None`.
 #[inline(always)]
-#[tactic(auto, unfolding(crate::specs::Rules::border_line_code, crate::specs::Rules::signal_fault))]
-pub(crate) fn border_code(
+#[tactic(auto, unfolding(crate::specs::Rules::border_or_stop_line_code, crate::specs::Rules::signal_fault))]
+pub(crate) fn border_or_stop_code(
     count: usize,
     known: &WireList,
     placed: bool,
@@ -146,7 +146,7 @@ pub(crate) fn border_code(
 ) -> Option<RefusalCode>
     ensures { (c : Circuit) (signal : Option (List ℕ)) → named ≡ is_some signal →
         wire ≡ option_and_then (wire_of c) signal →
-        result ≡ border_line_code c count known.now.wires placed signal }
+        result ≡ border_or_stop_line_code c count known.now.wires placed signal }
 {
     if count >= MAX_TIMED_LINES {
         return Some(RefusalCode::PastLimit);
@@ -178,7 +178,7 @@ fn may_line_have_time(steps: u32, starred: bool, time: Option<u32>) -> bool
 /// Returns whether an edge line may have its cell and time.
 #[inline(always)]
 #[tactic(auto, unfolding(crate::specs::Rules::is_edge_place_and_time))]
-pub(crate) fn may_edge_be_there(
+pub(crate) fn may_edge_have_place_and_time(
     size: LayoutHeader,
     area: Box2,
     starred: bool,
@@ -198,7 +198,7 @@ pub(crate) fn may_edge_be_there(
 /// Returns whether a halo line may have its cell and time.
 #[inline(always)]
 #[tactic(auto, unfolding(crate::specs::Rules::is_halo_place_and_time))]
-pub(crate) fn may_halo_be_there(
+pub(crate) fn may_halo_have_place_and_time(
     size: LayoutHeader,
     area: Box2,
     starred: bool,
@@ -217,7 +217,7 @@ pub(crate) fn may_halo_be_there(
 
 /// Returns whether a stop may have its cell and time.
 #[tactic(auto, unfolding(crate::specs::Rules::is_stop_place_and_time))]
-pub(crate) fn may_stop_be_there(size: LayoutHeader, area: Box2, stop: &StopLine) -> bool
+pub(crate) fn may_stop_have_place_and_time(size: LayoutHeader, area: Box2, stop: &StopLine) -> bool
     ensures { result ≡ is_stop_place_and_time size area stop.now }
 {
     let inside = area.holds(stop.cell);

@@ -40,7 +40,7 @@ fn insert_star(stars: &mut IndexSet<Cell>, cell: Cell)
 // Notes the cell of a line that has a `*`, where there is room.
 #[inline(always)]
 #[tactic(auto, using(crate::proofs::StarLemmas::star_noted, crate::proofs::StarLemmas::no_star))]
-fn note_star(stars: &mut IndexSet<Cell>, border: &BorderLine)
+fn note_if_starred(stars: &mut IndexSet<Cell>, border: &BorderLine)
     requires { length (starred_lines (border.now ∷ [])) ≤ spare stars.old }
     ensures { (c : Cell) →
         list_any (same_cell c) stars.new.keys
@@ -54,7 +54,7 @@ fn note_star(stars: &mut IndexSet<Cell>, border: &BorderLine)
 
 // Makes room for the cell of a line that has a `*`.
 #[inline(always)]
-fn make_room_for_star(stars: &mut IndexSet<Cell>, border: &BorderLine) -> Result<(), AllocError>
+fn make_room_if_starred(stars: &mut IndexSet<Cell>, border: &BorderLine) -> Result<(), AllocError>
     ensures keys { stars.new.keys ≡ stars.old.keys }
     ensures room { OnOk result (length (starred_lines (border.now ∷ [])) ≤ spare stars.new) }
 {
@@ -66,7 +66,7 @@ fn make_room_for_star(stars: &mut IndexSet<Cell>, border: &BorderLine) -> Result
 
 /// Makes room for the cell of an edge or halo line that has a `*`.
 #[inline(always)]
-pub(crate) fn make_room_for_stars(
+pub(crate) fn make_room_if_starred_border_line(
     edges: &mut IndexSet<Cell>,
     halos: &mut IndexSet<Cell>,
     entry: &CertificateLine,
@@ -77,15 +77,15 @@ pub(crate) fn make_room_for_stars(
     ensures halo_room { OnOk result (length (starred_lines (halo_in entry.now)) ≤ spare halos.new) }
 {
     match entry {
-        CertificateLine::Edge(border) => make_room_for_star(edges, border),
-        CertificateLine::Halo(border) => make_room_for_star(halos, border),
+        CertificateLine::Edge(border) => make_room_if_starred(edges, border),
+        CertificateLine::Halo(border) => make_room_if_starred(halos, border),
         _ => Ok(()),
     }
 }
 
 /// Notes the cell of an edge or halo line that has a `*`, if there is room.
 #[inline(always)]
-pub(crate) fn note_stars(
+pub(crate) fn note_if_starred_border_line(
     edges: &mut IndexSet<Cell>,
     halos: &mut IndexSet<Cell>,
     entry: &CertificateLine,
@@ -102,8 +102,8 @@ pub(crate) fn note_stars(
         (halo_in entry.now)) }
 {
     match entry {
-        CertificateLine::Edge(border) => note_star(edges, border),
-        CertificateLine::Halo(border) => note_star(halos, border),
+        CertificateLine::Edge(border) => note_if_starred(edges, border),
+        CertificateLine::Halo(border) => note_if_starred(halos, border),
         _ => {}
     }
 }

@@ -7,7 +7,7 @@ ghost use Rattle.section_text.specs.declared.section.LineFault.TheVariants.{Memo
 ghost use Rattle.certificate_lines.specs.BuilderView.{IsWireOfLine, IsWithinMaxSize, MayBeStored};
 ghost use Rattle.certificate_lines.specs.Entries.{counts_of, last_of, module_with_line};
 ghost use Rattle.certificate_lines.specs.Orders.{may_follow};
-ghost use Rattle.certificate_lines.specs.StoredModules.{HasOwnWires, cell_at, lines_of_modules, module_lines};
+ghost use Rattle.certificate_lines.specs.StoredModules.{HasCircuitWires, cell_at, lines_of_modules, module_lines};
 
 use crate::certificate_line::{BorderLine, CertificateLine, Counts, StopLine};
 use bbm_rule::Cell;
@@ -126,7 +126,7 @@ impl StoredModule {
     pub(crate) fn new(alloc: Global, area: Box2) -> StoredModule
         ensures lines { (c : Circuit) → module_lines c result
             ≡ record { area = area; lines = [] } }
-        ensures wires { (c : Circuit) → HasOwnWires c result }
+        ensures wires { (c : Circuit) → HasCircuitWires c result }
     {
         StoredModule {
             area,
@@ -163,8 +163,8 @@ impl StoredModule {
             module_lines c self.new ≡ module_with_line entry.now (module_lines c self.old)) }
         ensures lines_on_error { OnErr result ((c : Circuit) →
             module_lines c self.new ≡ module_lines c self.old) }
-        ensures wires { (c : Circuit) → IsWireOfLine c entry.now wire → HasOwnWires c self.old →
-            HasOwnWires c self.new }
+        ensures wires { (c : Circuit) → IsWireOfLine c entry.now wire → HasCircuitWires c self.old →
+            HasCircuitWires c self.new }
     {
         match (entry, wire) {
             (CertificateLine::Cut(_), Some(wire)) => self.cuts.push(WireNo::of(wire))?,
@@ -186,7 +186,7 @@ impl StoredModule {
 /// Adds a line to the last module, behind the lines of its kind.
 #[inline(always)]
 #[tactic(auto, using(crate::proofs::StoredLemmas::line_added, crate::proofs::StoredLemmas::lines_left, crate::proofs::StoredLemmas::last_is_at))]
-pub(crate) fn push_in_last(
+pub(crate) fn push_line_in_last_module(
     modules: &mut Vec<StoredModule>,
     entry: &CertificateLine,
     wire: Option<u16>,
@@ -201,7 +201,7 @@ pub(crate) fn push_in_last(
     ensures lines_on_error { OnErr result ((c : Circuit) →
         lines_of_modules c modules.new.items ≡ lines_of_modules c modules.old.items) }
     ensures wires { (c : Circuit) → IsWireOfLine c entry.now wire →
-        All (HasOwnWires c) modules.old.items → All (HasOwnWires c) modules.new.items }
+        All (HasCircuitWires c) modules.old.items → All (HasCircuitWires c) modules.new.items }
     ensures memory { IfErr result (λ e. e ≡ Memory) }
 {
     let at = modules.len() - 1;

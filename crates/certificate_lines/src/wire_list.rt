@@ -114,16 +114,20 @@ impl WireList {
         is_marked(self.marks.as_slice(), wire as usize)
     }
 
-    /// Makes room for `count` more wires, with numbers below `limit`.
+    /// Makes room for `count` more wires, with numbers below `number_bound`.
     #[tactic(auto, using(crate::proofs::WireListLemmas::same_marks_truncated))]
-    pub(crate) fn reserve(&mut self, count: usize, limit: usize) -> Result<(), AllocError>
+    pub(crate) fn reserve_for_numbers_below(
+        &mut self,
+        count: usize,
+        number_bound: usize,
+    ) -> Result<(), AllocError>
         ensures wires { self.new.wires ≡ self.old.wires }
         ensures room { OnOk result (count ≤ self.new.spare) }
-        ensures room_for_numbers { OnOk result (limit ≤ self.new.limit) }
+        ensures room_for_numbers { OnOk result (number_bound ≤ self.new.limit) }
         ensures unchanged_on_error { OnErr result (self.new ≡ self.old) }
     {
         let before = self.marks.len();
-        if grow_marks(&mut self.marks, limit).is_err() {
+        if grow_marks(&mut self.marks, number_bound).is_err() {
             self.marks.truncate(before);
             return Err(AllocError);
         }

@@ -17,7 +17,7 @@ use Rattle.certificate_lines.specs.Settings.{setting_of}
 use Rattle.certificate.specs.Grammars.{certificate_grammar, certificate_section}
 use Rattle.certificate.specs.Laws.{PrintsWhatIsRead}
 use Rattle.answers.proofs.SectionLines.{more_taken, read as section_read}
-use Rattle.check_main.specs.Preparing.{IsRest, taken_bytes}
+use Rattle.check_main.specs.Preparing.{FollowsTakenLines, taken_bytes}
 
 pub text_taken : PrintsWhatIsRead → (l : Limits) (g : Setting) (old new : FeedView) (c : CertView) →
     Reads (certificate_grammar l g) (λ (d : CertView). certificate_section d) old new (Ok c) →
@@ -42,7 +42,7 @@ read_to_end f none over =
 -- so the certificate's text is what stood behind the lines that were taken before it
 pub section_is_rest : PrintsWhatIsRead → (l : Limits) (g : Setting) (old new : FeedView) (c : CertView) →
     Reads (certificate_grammar l g) (λ (d : CertView). certificate_section d) old new (Ok c) → ahead new ≡ [] →
-    bytes_after_last_line_feed new.text ≡ [] → IsRest old (certificate_text c)
+    bytes_after_last_line_feed new.text ≡ [] → FollowsTakenLines old (certificate_text c)
 section_is_rest printed l g old new c r none over =
     sym (text_taken printed l g old new c r) ∙ read_to_end new none over
     ∙ ap (λ (f : FeedView). f.text)

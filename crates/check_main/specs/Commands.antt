@@ -5,14 +5,14 @@ use Rattle.command_line.specs.declared.Request.TheVariants.{Check, Run, Value, M
 use Rattle.answers.specs.declared.outcome.Outcome.{Outcome}
 use Rattle.answers.specs.CheckText.{IsReportOf}
 use Rattle.answers.specs.MigrateText.{IsMigrationOf}
-use Rattle.answers.specs.ModulesText.{IsModulesOf}
-use Rattle.answers.specs.RunText.{IsRunOf}
-use Rattle.answers.specs.ValueText.{IsValueOf}
+use Rattle.answers.specs.ModulesText.{IsModulesAnswerOf}
+use Rattle.answers.specs.RunText.{IsRunAnswerOf}
+use Rattle.answers.specs.ValueText.{IsValueAnswerOf}
 
 -- the output is right for the text, and so is the outcome
 abbrev pub IsAnswerTo : Request → List ℕ → List ℕ → Outcome → Type 0
 IsAnswerTo Check = IsReportOf
-IsAnswerTo Run = IsRunOf
-IsAnswerTo Value = IsValueOf
-IsAnswerTo Modules = IsModulesOf
+IsAnswerTo Run = IsRunAnswerOf
+IsAnswerTo Value = IsValueAnswerOf
+IsAnswerTo Modules = IsModulesAnswerOf
 IsAnswerTo Migrate = IsMigrationOf

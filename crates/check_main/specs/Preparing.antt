@@ -17,8 +17,8 @@ abbrev pub taken_bytes : FeedView → List ℕ
 taken_bytes f = flat_map with_line_feed (take f.taken (lines_of f.text))
 
 -- these bytes follow the lines that were taken
-abbrev pub IsRest : FeedView → List ℕ → Type 0
-IsRest f rest = taken_bytes f ++ rest ≡ f.text
+abbrev pub FollowsTakenLines : FeedView → List ℕ → Type 0
+FollowsTakenLines f rest = taken_bytes f ++ rest ≡ f.text
 
 -- the lines that were taken are the text of the certificate, from this byte on
 pub record IsSectionOf (f : FeedView) (from : ℕ) (c : CertView) : Type 0 where

@@ -46,8 +46,8 @@ pub record Ran {R W E : Type 0} (source : Source R) (sink : Sink W) (messages : 
   pub quiet : OnOk ended (new.errors ≡ old.errors)
 
 -- an error of this kind is the help that was asked for, or the version
-abbrev pub IsHelp : ErrorKind → Type 0
-IsHelp kind = (kind ≡ DisplayHelp) ⊎ (kind ≡ DisplayVersion)
+abbrev pub IsHelpOrVersion : ErrorKind → Type 0
+IsHelpOrVersion kind = (kind ≡ DisplayHelp) ⊎ (kind ≡ DisplayVersion)
 
 -- The effect of words that are not accepted on the writer and on `errors`, by the status. `AskForHelp` says that the
 -- words ask for help or for the version, and `AskForHelpAlone` that nothing else is to be said of them.

@@ -60,7 +60,7 @@ pub fn audit<G: Gate + Sync, R: Threads + Wait + Sync>(
 {
     let digest = cert.digest(alloc)?;
     let jobs = cert.jobs(alloc)?;
-    audit_opening(
+    audit_with_digest_and_jobs(
         rt,
         alloc,
         cert,
@@ -78,7 +78,7 @@ pub(crate) struct DigestAndJobs {
 }
 
 /// Runs the modules of a certificate as `audit` does, with the certificate's digest and jobs.
-pub(crate) fn audit_opening<G: Gate + Sync, R: Threads + Wait + Sync>(
+pub(crate) fn audit_with_digest_and_jobs<G: Gate + Sync, R: Threads + Wait + Sync>(
     rt: &R,
     alloc: Global,
     cert: &Cert<'_>,

@@ -1,7 +1,7 @@
 //! Reads a bundle, and answers with its report.
 ghost use Rattle.std.specs.Prelude.{◌≡◌, ◌<◌, ◌≤◌, ◌↔◌, true, None, IfOk};
 ghost use Rattle.answers.specs.Answers.{AnswersOrRefuses};
-ghost use Rattle.answers.specs.BundleText.{bundle_with};
+ghost use Rattle.answers.specs.BundleText.{bundle_with_limits};
 ghost use Rattle.answers.specs.CheckText.{IsReportOf, SaysReport};
 ghost use Rattle.section_text.specs.Limits.{front_lines};
 ghost use Rattle.meaning.specs.Headline.{IsRight};
@@ -13,7 +13,7 @@ ghost use Rattle.headline.specs.RightInFull.{IsRightInFull};
 ghost use Rattle.headline.specs.SmallDesigns.{IsNoSmallDesignText};
 
 use crate::check::report_on;
-use crate::digesting::read_with_digest;
+use crate::digesting::read_certificate_and_digest;
 use crate::preparing::prepare;
 use answers::{Answered, Outcome, read_design, refusal_answer};
 use certificate::laws::text_round_trips;
@@ -119,7 +119,7 @@ fn report_after_front<G: Gate + Sync, R: Threads + Wait + Sync>(
     requires front_taken { feed.taken ≡ front_lines limits }
     requires feed_not_stopped { feed.stop ≡ None }
     ensures answered { IfOk result (λ answered. AnswersOrRefuses SaysReport
-        (bundle_with limits feed.text) answered.output.items answered.outcome) }
+        (bundle_with_limits limits feed.text) answered.output.items answered.outcome) }
 {
     let mut feed = feed;
     let design = match read_design(alloc, &mut feed, limits) {
@@ -127,7 +127,9 @@ fn report_after_front<G: Gate + Sync, R: Threads + Wait + Sync>(
         Ok(design) => design,
     };
     let from = feed.taken_text().len();
-    let (digest, read) = read_with_digest(rt, alloc, &mut feed, limits, &design, workers);
+    let (digest, read) = read_certificate_and_digest(
+        rt, alloc, &mut feed, limits, &design, workers,
+    );
     let cert = match read {
         Err(fault) => return refusal_answer(alloc, fault),
         Ok(cert) => cert,

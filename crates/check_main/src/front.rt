@@ -9,7 +9,7 @@ ghost use Rattle.headline.specs.Plain.{IsWrongIfPlain};
 ghost use Rattle.headline.specs.SmallDesigns.{IsNoSmallDesignText};
 ghost use Rattle.headline.specs.ReportLines.{LinesHaveMeaning, RelatesReadToWritten};
 ghost use Rattle.check_main.specs.Commands.{IsAnswerTo};
-ghost use Rattle.check_main.specs.Program.{AsksForCheck, Explained, Explains, IsHelp, Ran, YesPromises};
+ghost use Rattle.check_main.specs.Program.{AsksForCheck, Explained, Explains, IsHelpOrVersion, Ran, YesPromises};
 ghost use Rattle.check_main.specs.Status.{status_for, WritesFaultLine};
 ghost use Rattle.check_main.specs.Stream.{Serves};
 
@@ -113,7 +113,7 @@ where
                 &mut streams.writer,
                 gate,
             );
-            status_of(ended, &mut streams.errors)
+            write_fault_and_get_status(ended, &mut streams.errors)
         }
         Err(error) => write_help_or_fault(alloc, &error, &mut streams.writer, &mut streams.errors),
     }
@@ -159,7 +159,7 @@ where
 }
 
 /// Returns the status for the end of a command, and writes its fault to `errors`.
-pub fn status_of<E: Sink>(ended: Result<Outcome, CheckFault>, errors: &mut E) -> u8
+pub fn write_fault_and_get_status<E: Sink>(ended: Result<Outcome, CheckFault>, errors: &mut E) -> u8
     ensures status { result ≡ status_for ended }
     ensures errors_unchanged { OnOk ended (errors.new ≡ errors.old) }
     ensures fault_line_written { IfErr ended (WritesFaultLine E.Sink errors.old errors.new) }
@@ -186,8 +186,8 @@ fn write_help_or_fault<W: Sink, E: Sink>(
     errors: &mut E,
 ) -> u8
     requires { W.has_failed writer.old ≡ false }
-    ensures explains { Explains W.Sink E.Sink (IsHelp (kind_of error.now))
-        (IsHelp (kind_of error.now)) writer.old writer.new errors.old errors.new result }
+    ensures explains { Explains W.Sink E.Sink (IsHelpOrVersion (kind_of error.now))
+        (IsHelpOrVersion (kind_of error.now)) writer.old writer.new errors.old errors.new result }
     ensures memory { kind_of error.now ≡ ErrorKind.OutOfMemory → result ≡ 5 }
 {
     if matches!(error.kind(), ErrorKind::OutOfMemory) {

@@ -15,7 +15,7 @@ pub use answers::{Answered, Outcome};
 pub use auditing::{Audited, audit};
 pub use bundle::check_text;
 pub use fault::CheckFault;
-pub use front::{Streams, WORDS_REFUSED, program, status_of};
+pub use front::{Streams, WORDS_REFUSED, program, write_fault_and_get_status};
 pub use job_pool::{Gate, OpenGate};
 pub use section_text::{Feed, PushFault};
 pub use stream::{check_stream, migrate_stream, modules_stream, run_stream, value_stream};

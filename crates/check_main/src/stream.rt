@@ -8,9 +8,9 @@ ghost use Rattle.headline.specs.Plain.{IsWrongIfPlain};
 ghost use Rattle.headline.specs.SmallDesigns.{IsNoSmallDesignText};
 ghost use Rattle.headline.specs.ReportLines.{LinesHaveMeaning, RelatesReadToWritten};
 ghost use Rattle.answers.specs.MigrateText.{IsMigrationOf};
-ghost use Rattle.answers.specs.ModulesText.{IsModulesOf};
-ghost use Rattle.answers.specs.RunText.{IsRunOf};
-ghost use Rattle.answers.specs.ValueText.{IsValueOf};
+ghost use Rattle.answers.specs.ModulesText.{IsModulesAnswerOf};
+ghost use Rattle.answers.specs.RunText.{IsRunAnswerOf};
+ghost use Rattle.answers.specs.ValueText.{IsValueAnswerOf};
 ghost use Rattle.check_main.specs.Program.{YesPromises};
 ghost use Rattle.check_main.specs.Stream.{ReadsAll, Serves, GivesTooMuch, AppendsProperPrefix, closed_feed_of};
 
@@ -90,8 +90,8 @@ pub fn run_stream<T: RandomSource, R: Source, W: Sink>(
 ) -> Result<Outcome, CheckFault>
     requires reader_works { R.has_failed reader.old ≡ false }
     requires writer_works { W.has_failed writer.old ≡ false }
-    ensures serves { Serves IsRunOf R.Source W.Sink reader.old reader.new writer.old writer.new
-        result }
+    ensures serves { Serves IsRunAnswerOf R.Source W.Sink reader.old reader.new writer.old
+        writer.new result }
 {
     let mut feed = read_text(rt, alloc, reader)?;
     let answered = run_text(alloc, &mut feed).map_err(|_| CheckFault::Memory)?;
@@ -110,8 +110,8 @@ pub fn value_stream<T: RandomSource, R: Source, W: Sink>(
 ) -> Result<Outcome, CheckFault>
     requires reader_works { R.has_failed reader.old ≡ false }
     requires writer_works { W.has_failed writer.old ≡ false }
-    ensures serves { Serves IsValueOf R.Source W.Sink reader.old reader.new writer.old writer.new
-        result }
+    ensures serves { Serves IsValueAnswerOf R.Source W.Sink reader.old reader.new writer.old
+        writer.new result }
 {
     let mut feed = read_text(rt, alloc, reader)?;
     let answered = value_text(alloc, &mut feed).map_err(|_| CheckFault::Memory)?;
@@ -130,8 +130,8 @@ pub fn modules_stream<T: RandomSource, R: Source, W: Sink>(
 ) -> Result<Outcome, CheckFault>
     requires reader_works { R.has_failed reader.old ≡ false }
     requires writer_works { W.has_failed writer.old ≡ false }
-    ensures serves { Serves IsModulesOf R.Source W.Sink reader.old reader.new writer.old writer.new
-        result }
+    ensures serves { Serves IsModulesAnswerOf R.Source W.Sink reader.old reader.new writer.old
+        writer.new result }
 {
     let mut feed = read_text(rt, alloc, reader)?;
     let answered = modules_text(alloc, &mut feed).map_err(|_| CheckFault::Memory)?;

@@ -1,24 +1,25 @@
 -- The gates of good lines are ordered.
 use Rattle.circuit.proofs.Imports.{AreGoodAfter, AreGoodCircuitLines, AreOrdered, Bool, CircuitLine, Gate, GateKind}
-use Rattle.circuit.proofs.Imports.{Kind, List, None, [], added_line_code, ap, append-nil, append_assoc, ap₂, arith}
+use Rattle.circuit.proofs.Imports.{CircuitLineKind, List, None, [], ap, append-nil, append_assoc, ap₂, arith}
+use Rattle.circuit.proofs.Imports.{limit_or_name_code}
 use Rattle.circuit.proofs.Imports.{cases_Bool, common_steps, cond, consume_fault, consumed, define_fault, defined}
 use Rattle.circuit.proofs.Imports.{false, flat_map-append, gate_count, gate_of_line_kind, gate_with_outs_from, gates_of}
 use Rattle.circuit.proofs.Imports.{has, input_count, is_gate, is_input, length, length-append, length-map, map, number}
 use Rattle.circuit.proofs.Imports.{range_with_len, refl, subst, sum_by-cons, sym, take, true≢false, ℕ, ◌++◌, ◌+◌, ◌<◌}
 use Rattle.circuit.proofs.Imports.{◌∙◌, ◌∷◌, ◌≡◌}
 use Rattle.lemmas.proofs.Common.{count_by, sum_by-append}
-use Rattle.circuit.specs.Rules.{limit_fault, name_fault}
+use Rattle.circuit.specs.Rules.{largest_limit_code, name_fault}
 use Rattle.circuit.specs.Bridge.{IsGoodAfter}
 use Rattle.circuit.specs.Laws.{GatesAreOrdered}
 use Rattle.circuit.proofs.Places.{Have, number_new, numbers_left, numbers_below, consume_have, bytes_same}
-use Rattle.circuit.specs.declared.circuit_line.Kind.TheVariants.{Input, Gate as GateLine}
+use Rattle.circuit.specs.declared.circuit_line.CircuitLineKind.TheVariants.{Input, Gate as GateLine}
 use Rattle.section_text.proofs.Codes.{both_none}
 
 -- ---- what the tests of a line say
-pub names_pass : (before : List CircuitLine) (r : CircuitLine) → added_line_code before r ≡ None →
+pub names_pass : (before : List CircuitLine) (r : CircuitLine) → limit_or_name_code before r ≡ None →
     (consume_fault (defined before) (consumed before) r.ins ≡ None) × (define_fault (defined before) r.outs ≡ None)
-unfolding added_line_code
-names_pass before r e = both_none _ _ (both_none (limit_fault before r) (name_fault before r) e).1
+unfolding limit_or_name_code
+names_pass before r e = both_none _ _ (both_none (largest_limit_code before r) (name_fault before r) e).1
 
 -- ---- names that are newly defined
 pub define_first : (d : List (List ℕ)) (n : List ℕ) (ns : List (List ℕ)) → define_fault d (n ∷ ns) ≡ None →
@@ -67,7 +68,8 @@ no_inputs before (r ∷ rest) good some =
     grind (arith, common_steps, cases_Bool, input_cons)
 
 -- lines without inputs
-ordered_line : (names : List (List ℕ)) (before rest : List CircuitLine) (kind : Kind) (ins outs : List (List ℕ)) →
+ordered_line : (names : List (List ℕ)) (before rest : List CircuitLine) (kind : CircuitLineKind)
+    (ins outs : List (List ℕ)) →
     IsGoodAfter before (record { kind = kind; ins = ins; outs = outs }) →
     AreOrdered (length (defined before ++ outs)) (gates_of names rest) →
     names ≡ defined before ++ (outs ++ defined rest) → is_input kind ≡ false →
@@ -107,7 +109,8 @@ record Far (names : List (List ℕ)) (before : List CircuitLine) (rest : List Ci
   no_gate : gate_count before ≡ 0
   only_inputs : length (defined before) ≡ input_count before
 
-far_next : (names : List (List ℕ)) (before rest : List CircuitLine) (kind : Kind) (ins outs : List (List ℕ)) →
+far_next : (names : List (List ℕ)) (before rest : List CircuitLine) (kind : CircuitLineKind)
+    (ins outs : List (List ℕ)) →
     Far names before (record { kind = kind; ins = ins; outs = outs } ∷ rest) → length outs ≡ cond (is_input kind) 1 0 →
     is_gate kind ≡ false →
     Far names (before ++ record { kind = kind; ins = ins; outs = outs } ∷ []) rest
@@ -131,7 +134,8 @@ gate_first names before rest k ins outs good far =
     subst (λ m. AreOrdered m (gates_of names (r ∷ rest))) same
     (ordered_gates names before (r ∷ rest) good far.all zero_inputs)
 
-ordered_rest : (names : List (List ℕ)) (before rest : List CircuitLine) (kind : Kind) (ins outs : List (List ℕ)) →
+ordered_rest : (names : List (List ℕ)) (before rest : List CircuitLine) (kind : CircuitLineKind)
+    (ins outs : List (List ℕ)) →
     AreGoodAfter before (record { kind = kind; ins = ins; outs = outs } ∷ rest) →
     Far names before (record { kind = kind; ins = ins; outs = outs } ∷ rest) →
     (AreGoodAfter (before ++ record { kind = kind; ins = ins; outs = outs } ∷ []) rest →
@@ -169,7 +173,7 @@ good_push before (a ∷ rest) r good next = (
 )
 
 -- more names leave the gates as they are
-line_keeps : (before rest : List CircuitLine) (e : List (List ℕ)) (kind : Kind) (ins outs : List (List ℕ)) →
+line_keeps : (before rest : List CircuitLine) (e : List (List ℕ)) (kind : CircuitLineKind) (ins outs : List (List ℕ)) →
     IsGoodAfter before (record { kind = kind; ins = ins; outs = outs }) →
     gate_of_line_kind ((defined before ++ (outs ++ defined rest)) ++ e) ins outs kind
     ≡ gate_of_line_kind (defined before ++ (outs ++ defined rest)) ins outs kind
@@ -202,7 +206,7 @@ gates_keep names e before (r ∷ rest) good is =
     (gates_keep names e (before ++ r ∷ []) rest good.1 (is ∙ ap defined (sym (push_cons before r rest))))
 
 -- the gate that is added
-line_added : (entries : List CircuitLine) (numbers : List ℕ) (kind : Kind) (ins outs : List (List ℕ)) →
+line_added : (entries : List CircuitLine) (numbers : List ℕ) (kind : CircuitLineKind) (ins outs : List (List ℕ)) →
     IsGoodAfter entries (record { kind = kind; ins = ins; outs = outs }) →
     take (length ins) numbers ≡ map (number (defined entries)) ins →
     gate_of_line_kind (defined entries ++ outs) ins outs kind

@@ -1,8 +1,9 @@
 -- A draft with one more line.
 use Rattle.circuit.proofs.Imports.{Bool, CircuitLine, FitsKind, IsNoInputAfterGate, List, None, Some, []}
-use Rattle.circuit.proofs.Imports.{added_line_code}
+use Rattle.circuit.proofs.Imports.{limit_or_name_code}
 use Rattle.circuit.proofs.Imports.{arith, bytes_eq, common_steps, cond, consume_fault, consumed, define_fault, defined}
-use Rattle.circuit.proofs.Imports.{exceeds_limit, false, gate_count, gate_of, gate_with_outs_from, get_or, has, is_gate}
+use Rattle.circuit.proofs.Imports.{exceeds_largest_limit, false, gate_count, gate_of, gate_with_outs_from, get_or, has}
+use Rattle.circuit.proofs.Imports.{is_gate}
 use Rattle.circuit.proofs.Imports.{length, map, number, position, take, true, with_marks_set, ℕ, ◌++◌, ◌+◌, ◌∷◌, ◌≡◌}
 use Rattle.circuit.proofs.Imports.{◌≤◌}
 use Rattle.lemmas.proofs.Common.{◌&&◌, nat_le, leb-false, ltb-false, or_parts}
@@ -13,10 +14,10 @@ use Rattle.circuit.proofs.Places.{found_number}
 use Rattle.circuit.proofs.WireMarks.{mark_read, marks_push}
 use Rattle.lemmas.specs.Bounds.{max_gates, max_wires}
 
-no_fault : (entries : List CircuitLine) (r : CircuitLine) → exceeds_limit entries r ≡ false →
+no_fault : (entries : List CircuitLine) (r : CircuitLine) → exceeds_largest_limit entries r ≡ false →
     consume_fault (defined entries) (consumed entries) r.ins ≡ None → define_fault (defined entries) r.outs ≡ None →
-    added_line_code entries r ≡ None
-unfolding added_line_code
+    limit_or_name_code entries r ≡ None
+unfolding limit_or_name_code
 no_fault entries r limit ins outs = rw (limit, ins) outs
 
 -- what is known of the new fields
@@ -25,7 +26,7 @@ pub record Added (a b : Inside) (r : CircuitLine) (numbers : List ℕ) : Type 0 
   pub wires : b.wires.keys ≡ a.wires.keys ++ r.outs
   pub used : b.consumed.items ≡ with_marks_set (take (length r.ins) numbers)
       (a.consumed.items ++ map (λ _. false) r.outs)
-  pub limit : exceeds_limit a.entries.items r ≡ false
+  pub limit : exceeds_largest_limit a.entries.items r ≡ false
   pub ins_pass : consume_fault (defined a.entries.items) (consumed a.entries.items) r.ins ≡ None
   pub outs_pass : define_fault a.wires.keys r.outs ≡ None
   pub fits : FitsKind r
@@ -35,7 +36,7 @@ pub record Added (a b : Inside) (r : CircuitLine) (numbers : List ℕ) : Type 0 
       ≡ map gate_of a.wired.items ++ gate_with_outs_from r.kind numbers (length a.wires.keys)
   pub gates : b.gates ≡ a.gates + cond (is_gate r.kind) 1 0
 
-few : (entries : List CircuitLine) (r : CircuitLine) → exceeds_limit entries r ≡ false →
+few : (entries : List CircuitLine) (r : CircuitLine) → exceeds_largest_limit entries r ≡ false →
     (length (defined entries) + length r.outs ≤ max_wires)
     × ((is_gate r.kind && nat_le max_gates (gate_count entries)) ≡ false)
 few entries r e = grind (arith, common_steps, or_parts, ltb-false)

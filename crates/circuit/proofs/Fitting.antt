@@ -1,12 +1,13 @@
 -- A line that is read has as many names as its kind.
-use Rattle.circuit.proofs.Imports.{CircuitLine, FitsKind, Header, Input, Item, Kind, Line, List, None, Some, [], ap}
+use Rattle.circuit.proofs.Imports.{CircuitLine, CircuitLineKind, FitsKind, Header, Input, Item, Line, List, None, Some}
+use Rattle.circuit.proofs.Imports.{[], ap}
 use Rattle.circuit.proofs.Imports.{arith, chosen, codes, common_steps, cond, cond_some, defines, entry, eqb, form_of}
 use Rattle.circuit.proofs.Imports.{gate_entry, gate_kind, gate_line_of_kind, if_one_word, inl, inr, is_gate, is_input}
 use Rattle.circuit.proofs.Imports.{is_word_at, length, names_at, option_and_then_some, passed, rank_of, refl, same_Some}
 use Rattle.circuit.proofs.Imports.{subst, suc, sym, true, uses, words_before_names, zero, ℕ, ◌+◌, ◌>>=◌, ◌∙◌, ◌∷◌, ◌≡◌}
 use Rattle.circuit.proofs.Imports.{◌≤◌}
 use Rattle.section_text.specs.Words.{name_at}
-use Rattle.circuit.specs.declared.circuit_line.Kind.TheVariants.{Gate}
+use Rattle.circuit.specs.declared.circuit_line.CircuitLineKind.TheVariants.{Gate}
 
 names_length : (ws : List (List ℕ)) (i n : ℕ) (ns : List (List ℕ)) → names_at ws i n ≡ Some ns → length ns ≡ n
 unfolding names_at
@@ -60,10 +61,11 @@ unfolding OfForm
 entry_fits ws r e = form_fits ws (Item r) e
 
 -- ---- inputs come before gates, by the rank of the last line
-pub no_gate_yet : (k : Kind) (rank g : ℕ) → rank ≤ rank_of k → cond (eqb rank 0) g 0 ≡ 0 → is_input k ≡ true → g ≡ 0
+pub no_gate_yet : (k : CircuitLineKind) (rank g : ℕ) → rank ≤ rank_of k → cond (eqb rank 0) g 0 ≡ 0 →
+    is_input k ≡ true → g ≡ 0
 no_gate_yet k rank g h1 h2 h3 = grind (arith, common_steps)
 
-pub no_gate_still : (k : Kind) (rank g : ℕ) → rank ≤ rank_of k → cond (eqb rank 0) g 0 ≡ 0 →
+pub no_gate_still : (k : CircuitLineKind) (rank g : ℕ) → rank ≤ rank_of k → cond (eqb rank 0) g 0 ≡ 0 →
     cond (eqb (rank_of k) 0) (g + cond (is_gate k) 1 0) 0 ≡ 0
 no_gate_still Input zero g h e = omega (arith, e)
 no_gate_still Input (suc n) g h e = absurd (omega arith)

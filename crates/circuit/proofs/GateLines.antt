@@ -4,7 +4,7 @@ use Rattle.circuit.proofs.Imports.{defines, entry, gate_entry, gate_kind, gate_l
 use Rattle.circuit.proofs.Imports.{words_before_names, ℕ, ◌+◌, ◌>>=◌, ◌≡◌}
 use Rattle.lemmas.proofs.Common.{◌==◌, if◌then◌else◌}
 use Rattle.section_text.specs.Words.{names_beside_arrow}
-use Rattle.circuit.specs.declared.circuit_line.Kind.TheVariants.{Gate}
+use Rattle.circuit.specs.declared.circuit_line.CircuitLineKind.TheVariants.{Gate}
 
 abbrev pub Sides : Type 0
 Sides = List (List ℕ) × List (List ℕ)

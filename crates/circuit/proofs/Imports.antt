@@ -10,10 +10,10 @@ pub use Rattle.circuit.specs.Forms.{words_before_names}
 unfoldable pub use Rattle.circuit.specs.Forms.{form_of, gate_entry, gate_kind, gate_line_of_kind}
 pub use Rattle.circuit.specs.Gates.{defines, is_inverse, uses}
 unfoldable pub use Rattle.circuit.specs.Gates.{row}
-pub use Rattle.circuit.specs.Meaning.{Gate, HasRow, Netlist, Satisfies, Valuation, wires}
+pub use Rattle.circuit.specs.Meaning.{FollowsRow, Gate, Netlist, Satisfies, Valuation, wires}
 unfoldable pub use Rattle.circuit.specs.Meaning.{AreOrdered, number, wires_after}
-pub use Rattle.circuit.specs.Rules.{consume_fault, consumed, define_fault, exceeds_limit, gate_count, is_gate}
-unfoldable pub use Rattle.circuit.specs.Rules.{added_line_code}
+pub use Rattle.circuit.specs.Rules.{consume_fault, consumed, define_fault, exceeds_largest_limit, gate_count, is_gate}
+unfoldable pub use Rattle.circuit.specs.Rules.{limit_or_name_code}
 pub use Rattle.circuit.specs.Text.{Line, form_text}
 unfoldable pub use Rattle.circuit.specs.Text.{entry_text, value_lines}
 pub use Rattle.circuit.specs.Wiring.{gate_of, gate_with_outs_from, with_marks_set}
@@ -21,8 +21,8 @@ pub use Rattle.circuit.specs.declared.circuit_line.CircuitLine.{CircuitLine}
 pub use Rattle.circuit.specs.declared.circuit_line.GateKind.{GateKind}
 pub use Rattle.circuit.specs.declared.circuit_line.GateKind.TheVariants.{Cswap, Delay, Fredkin, Interact, Source}
 pub use Rattle.circuit.specs.declared.circuit_line.GateKind.TheVariants.{Switch, Uninteract, Unswitch}
-pub use Rattle.circuit.specs.declared.circuit_line.Kind.{Kind}
-pub use Rattle.circuit.specs.declared.circuit_line.Kind.TheVariants.{Input, Output, Spill}
+pub use Rattle.circuit.specs.declared.circuit_line.CircuitLineKind.{CircuitLineKind}
+pub use Rattle.circuit.specs.declared.circuit_line.CircuitLineKind.TheVariants.{Input, Output, Spill}
 pub use Rattle.circuit.specs.declared.wiring.GateWires.{GateWires}
 pub use Rattle.lemmas.proofs.Common.{All, All-head, All-tail, cases_lt, eqb, eqb-true, flat_map-append}
 pub use Rattle.lemmas.proofs.Common.{get_or-append-add, get_or-map-range_with_len, get_or_append_left}

@@ -1,5 +1,5 @@
 -- The first limits are those of old, and the second ones let in more.
-use Rattle.circuit.proofs.Imports.{Bool, None, Option, RefusalCode, added_line_code, arith, common_steps, false}
+use Rattle.circuit.proofs.Imports.{Bool, None, Option, RefusalCode, arith, common_steps, false, limit_or_name_code}
 use Rattle.circuit.proofs.Imports.{or_else, true, ℕ, ◌≡◌}
 use Rattle.lemmas.proofs.Common.{false≢true, nat_le, nat_lt, ◌&&◌, ◌||◌}
 use Rattle.section_text.specs.Codes.{code_if}
@@ -19,7 +19,7 @@ past_first : (g : Bool) (x y : ℕ) → (nat_lt 65000 x || (g && nat_le 16384 y)
 past_first g x y e = grind (arith, common_steps)
 
 pub first_limits_are_kept : FirstLimitsAreKept
-unfolding added_line_code
+unfolding limit_or_name_code
 first_limits_are_kept entries r = grind (arith, common_steps, nested, past_first)
 
 -- a test that is made twice
@@ -28,5 +28,5 @@ twice : (d b : Bool) (rest : Option RefusalCode) → or_else (code_if (d || b) P
 twice d b rest h1 = grind (arith, common_steps)
 
 pub second_limits_are_wider : SecondLimitsAreWider
-unfolding added_line_code
+unfolding limit_or_name_code
 second_limits_are_wider entries r e = grind (arith, common_steps, twice, no_code_second)

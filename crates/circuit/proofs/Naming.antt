@@ -1,5 +1,6 @@
 -- The names of wires.
-use Rattle.circuit.proofs.Imports.{AreGoodAfter, AreGoodCircuitLines, CircuitLine, FitsKind, Gate, Kind, List, None}
+use Rattle.circuit.proofs.Imports.{AreGoodAfter, AreGoodCircuitLines, CircuitLine, CircuitLineKind, FitsKind, Gate}
+use Rattle.circuit.proofs.Imports.{List, None}
 use Rattle.circuit.proofs.Imports.{Some, [], append-nil, append_assoc, arith, bytes_eq, cases_Bool, cases_lt}
 use Rattle.circuit.proofs.Imports.{common_steps, cond, define_fault, defined, false, gate_count, gate_of_line_kind}
 use Rattle.circuit.proofs.Imports.{gates_of, has, inl, input_count, input_names, inr, is_gate, is_input, le-ltb, length}
@@ -11,7 +12,7 @@ use Rattle.circuit.specs.Laws.{WiresAreNamed, WireNamesAreDistinct, InputsAreFir
 use Rattle.circuit.proofs.Places.{has_front, has_left, number_left, number_new, bytes_same, position_number, look_up}
 use Rattle.circuit.proofs.Bridging.{names_pass, define_first, defined_push, push_cons, input_cons, count_append}
 use Rattle.circuit.proofs.Bridging.{no_inputs}
-use Rattle.circuit.specs.declared.circuit_line.Kind.TheVariants.{Input}
+use Rattle.circuit.specs.declared.circuit_line.CircuitLineKind.TheVariants.{Input}
 
 -- ---- the place of a name, and its number
 
@@ -36,7 +37,8 @@ place_position d n =
 
 -- ---- each wire has a name
 
-wires_line : (names : List (List ℕ)) (n : ℕ) (kind : Kind) (ins outs : List (List ℕ)) (rest : List CircuitLine) →
+wires_line : (names : List (List ℕ)) (n : ℕ) (kind : CircuitLineKind) (ins outs : List (List ℕ))
+    (rest : List CircuitLine) →
     FitsKind (record { kind = kind; ins = ins; outs = outs }) →
     ((m : ℕ) → wires_after m (gates_of names rest) + input_count rest ≡ m + length (defined rest)) →
     wires_after n (gate_of_line_kind names ins outs kind ++ gates_of names rest) + input_count
@@ -57,7 +59,7 @@ wires_are_named entries good = grind (arith, common_steps, wires_more)
 
 -- ---- each gate's line has a gate
 
-counted_line : (names : List (List ℕ)) (kind : Kind) (ins outs : List (List ℕ)) (gates : List Gate) →
+counted_line : (names : List (List ℕ)) (kind : CircuitLineKind) (ins outs : List (List ℕ)) (gates : List Gate) →
     length (gate_of_line_kind names ins outs kind ++ gates) ≡ cond (is_gate kind) 1 0 + length gates
 counted_line names Input ins outs gates = omega arith
 counted_line names _ ins outs gates = omega arith
@@ -74,7 +76,7 @@ no_names [] e = refl
 no_names (r ∷ rest) e =
     grind (arith, common_steps, no_names rest (omega (arith, sym (input_cons r rest) ∙ e)), cases_Bool, input_cons)
 
-inputs_line : (before rest : List CircuitLine) (kind : Kind) (ins outs : List (List ℕ)) →
+inputs_line : (before rest : List CircuitLine) (kind : CircuitLineKind) (ins outs : List (List ℕ)) →
     AreGoodAfter before (record { kind = kind; ins = ins; outs = outs } ∷ rest) →
     take (input_count rest) (defined rest) ≡ input_names rest →
     take (input_count (record { kind = kind; ins = ins; outs = outs } ∷ rest)) (outs ++ defined rest)

@@ -10,7 +10,7 @@ use Rattle.lemmas.proofs.Common.{decimal}
 use Rattle.section_text.specs.Words.{number_at}
 use Rattle.section_text.specs.Section.{with_line_feed}
 use Rattle.section_text.proofs.WordPlaces.{is_at_is, name_at_is, names_at_are, assembled, line_from_words}
-use Rattle.circuit.specs.declared.circuit_line.Kind.TheVariants.{Gate}
+use Rattle.circuit.specs.declared.circuit_line.CircuitLineKind.TheVariants.{Gate}
 use Rattle.section_text.proofs.Spellings.{one_word, two_words, number_at_spelled}
 use Rattle.circuit.specs.Forms.{bit_at}
 use Rattle.circuit.specs.Text.{bit_word, gate_word, gate_parameter_words, first_word, words_after_first}

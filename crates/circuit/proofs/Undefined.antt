@@ -1,5 +1,5 @@
 -- The first gate that has no row, if there is one; else the gates have a valuation
-use Rattle.circuit.proofs.Imports.{All, All-head, All-tail, AreOrdered, Bool, EvaluatesUpTo, Gate, HasRow}
+use Rattle.circuit.proofs.Imports.{All, All-head, All-tail, AreOrdered, Bool, EvaluatesUpTo, FollowsRow, Gate}
 use Rattle.circuit.proofs.Imports.{IsGateEvaluationError, IsValuesFault, List, Netlist, None, Option, Satisfies, Some}
 use Rattle.circuit.proofs.Imports.{Valuation, [], ap, arith, as_values, cases_Bool, cases_lt, common_steps, defines}
 use Rattle.circuit.proofs.Imports.{evaluate, false, get_or-append-add, get_or-map-range_with_len, get_or_append_left}
@@ -9,7 +9,7 @@ use Rattle.circuit.proofs.Imports.{suc, sym, take, true, uses, wires, wires_afte
 use Rattle.circuit.proofs.Imports.{◌∷◌, ◌≡◌, ◌≤◌}
 use Rattle.lemmas.proofs.Common.{length-range_with_len, slice_get_within}
 use Rattle.circuit.specs.declared.netlist.ValuesFault.{ValuesFault}
-use Rattle.circuit.specs.Meaning.{FirstGatesHaveRows, AreNonInverse, IsUndefined, first_gates}
+use Rattle.circuit.specs.Meaning.{FirstGatesFollowRows, AreNonInverse, IsFirstGateWithoutRow, first_gates}
 use Rattle.circuit.specs.Bridge.{ValuesStopAt}
 use Rattle.circuit.specs.Evaluate.{first_undefined_gate, this_or_later_undefined}
 use Rattle.circuit.specs.Laws.{HasValuationIfDefined, UndefinedHasNoValuation, OnlyInverseGatesAreUndefined}
@@ -71,7 +71,7 @@ record IsNext (vs : List Bool) (g : Gate) (v : Valuation) : Type 0 where
   agree : (w : ℕ) → w < length (vs ++ map v g.outs) → v w ≡ as_values (vs ++ map v g.outs) w
 
 next : (vs : List Bool) (g : Gate) (gs : List Gate) (v : Valuation) → AreOrdered (length vs) (g ∷ gs) →
-    ((w : ℕ) → w < length vs → v w ≡ as_values vs w) → HasRow v g → IsNext vs g v
+    ((w : ℕ) → w < length vs → v w ≡ as_values vs w) → FollowsRow v g → IsNext vs g v
 unfolding AreOrdered
 next vs g gs v ordered agree here =
     let r : List Bool = map v g.outs in
@@ -87,7 +87,7 @@ next vs g gs v ordered agree here =
 
 -- where they do up to a gate that has none, that is the first one
 pub undefined_from : (vs : List Bool) (gs : List Gate) (v : Valuation) (k : ℕ) (g : Gate) → AreOrdered (length vs) gs →
-    ((w : ℕ) → w < length vs → v w ≡ as_values vs w) → FirstGatesHaveRows k gs v →
+    ((w : ℕ) → w < length vs → v w ≡ as_values vs w) → FirstGatesFollowRows k gs v →
     slice_get gs k ≡ Some g → row g.kind (map v g.ins) ≡ None → first_undefined_gate vs gs ≡ Some k
 unfolding first_undefined_gate AreOrdered
 undefined_from vs [] v k g ordered agree rows at none = absurd (clash g at)
@@ -109,13 +109,13 @@ undefined_from vs (h ∷ gs) v (suc k) g ordered agree rows at none =
 
 -- where they all do, there is none
 pub defined_from : (vs : List Bool) (gs : List Gate) (v : Valuation) → AreOrdered (length vs) gs →
-    ((w : ℕ) → w < length vs → v w ≡ as_values vs w) → All (HasRow v) gs → first_undefined_gate vs gs ≡ None
+    ((w : ℕ) → w < length vs → v w ≡ as_values vs w) → All (FollowsRow v) gs → first_undefined_gate vs gs ≡ None
 unfolding first_undefined_gate AreOrdered
 defined_from vs [] v ordered agree rows = refl
 defined_from vs (h ∷ gs) v ordered agree rows =
-    let n : IsNext vs h v = next vs h gs v ordered agree (All-head (HasRow v) h gs rows) in
+    let n : IsNext vs h v = next vs h gs v ordered agree (All-head (FollowsRow v) h gs rows) in
     let rest = defined_from (vs ++ map v h.outs) gs v (subst (λ n. AreOrdered n gs) n.long ordered.3) n.agree
-    (All-tail (HasRow v) h gs rows) in
+    (All-tail (FollowsRow v) h gs rows) in
     ap (this_or_later_undefined (λ r. first_undefined_gate (vs ++ r) gs)) n.is ∙ ap (option_map (λ k. k + 1)) rest
 
 -- ---- a netlist
@@ -132,7 +132,7 @@ ordered_given : (n : Netlist) (given : List Bool) → length given ≡ n.given �
 ordered_given n given long ordered = subst (λ m. AreOrdered m n.gates) (sym long) ordered
 
 pub undefined_at : (n : Netlist) (a : Valuation) (given : List Bool) (k : ℕ) → AreOrdered n.given n.gates →
-    length given ≡ n.given → ((i : ℕ) → i < n.given → as_values given i ≡ a i) → IsUndefined n a k →
+    length given ≡ n.given → ((i : ℕ) → i < n.given → as_values given i ≡ a i) → IsFirstGateWithoutRow n a k →
     first_undefined_gate given n.gates ≡ Some k
 undefined_at n a given k ordered long same u = grind (arith, common_steps, undefined_from, ordered_given)
 
@@ -157,10 +157,10 @@ slice_get_take [] (suc k) j h = refl
 slice_get_take (g ∷ gs) (suc k) zero h = refl
 slice_get_take (g ∷ gs) (suc k) (suc j) h = slice_get_take gs k j (omega arith)
 
-pub row_at : (v : Valuation) (gates : List Gate) (k : ℕ) (g : Gate) → All (HasRow v) gates →
+pub row_at : (v : Valuation) (gates : List Gate) (k : ℕ) (g : Gate) → All (FollowsRow v) gates →
     slice_get gates k ≡ Some g →
-    HasRow v g
-row_at v gates k g all e = subst (HasRow v) (get_or_from_slice_get gates k g g e)
+    FollowsRow v g
+row_at v gates k g all e = subst (FollowsRow v) (get_or_from_slice_get gates k g g e)
     (all k g (slice_get_within gates k g e))
 
 pub stopped : ValuesStopAtUndefinedGate
@@ -183,13 +183,13 @@ fault_stops n a given e h1 h2 h3 h4 = grind (arith, common_steps, stops)
 
 pub undefined_is : (n : Netlist) (a : Valuation) (given : List Bool) (k : ℕ) → AreOrdered n.given n.gates →
     length given ≡ n.given → ((i : ℕ) → i < n.given → as_values given i ≡ a i) →
-    first_undefined_gate given n.gates ≡ Some k → IsUndefined n a k
+    first_undefined_gate given n.gates ≡ Some k → IsFirstGateWithoutRow n a k
 undefined_is n a given k ordered long same e =
     let found = up_to given n.gates k (ordered_given n given long ordered) e in
     stopped n a k found.0 (stops n a given k found.0 ordered long same found.1)
 
 by_answer : (n : Netlist) (a : Valuation) (given : List Bool) (o : Option ℕ) → first_undefined_gate given n.gates ≡ o →
-    AreOrdered n.given n.gates → IsGiven n a given → ((k : ℕ) → ¬ IsUndefined n a k) →
+    AreOrdered n.given n.gates → IsGiven n a given → ((k : ℕ) → ¬ IsFirstGateWithoutRow n a k) →
     (v : Valuation) × Satisfies n a v
 by_answer n a given None e ordered is none =
     let found = all_evaluated given n.gates (ordered_given n given is.long ordered) e in

@@ -1,6 +1,6 @@
 -- Gates that are ordered have at most one valuation, and what `evaluate` finds is one.
 use Rattle.circuit.proofs.Imports.{All, All-head, All-tail, AreOrdered, AreValues, Bool, Cswap, Delay, Fredkin, Gate}
-use Rattle.circuit.proofs.Imports.{GateKind, HasRow, Interact, List, Netlist, None, Option, Satisfies, Some, Source}
+use Rattle.circuit.proofs.Imports.{FollowsRow, GateKind, Interact, List, Netlist, None, Option, Satisfies, Some, Source}
 use Rattle.circuit.proofs.Imports.{Switch, Uninteract, Unswitch, Valuation, [], ap, ap₂, arith, as_values, cases_lt}
 use Rattle.circuit.proofs.Imports.{common_steps, defines, evaluate, false, get_or, get_or-append-add}
 use Rattle.circuit.proofs.Imports.{get_or-map-range_with_len, get_or_append_left, inl, inr, is_inverse, length}
@@ -96,7 +96,7 @@ record Found (vs : List Bool) (gs : List Gate) (out : List Bool) : Type 0 where
   all : length out ≡ wires_after (length vs) gs
   longer : length vs ≤ length out
   same : (w : ℕ) → w < length vs → as_values out w ≡ as_values vs w
-  rows : All (HasRow (as_values out)) gs
+  rows : All (FollowsRow (as_values out)) gs
 
 -- one gate more in front
 found_more : (vs out r : List Bool) (g : Gate) (gs : List Gate) → AreOrdered (length vs) (g ∷ gs) →
@@ -107,7 +107,7 @@ found_more vs out r g gs ordered is many rest =
     let total : length (vs ++ r) ≡ length vs + defines g.kind = length-append vs r ∙ ap (λ n. length vs + n) many in
     let below : (w : ℕ) → w < length vs → as_values out w ≡ as_values vs w =
     λ w h. rest.same w (omega (arith, total)) ∙ get_or_append_left vs r false w h in
-    let here : HasRow (as_values out) g =
+    let here : FollowsRow (as_values out) g =
     ap (row g.kind) (map_below (length vs) (as_values out) (as_values vs) g.ins ordered.0 below) ∙ is
     ∙ ap Some (sym (ap (map (as_values out)) ordered.2 ∙ map_range r (length vs) (defines g.kind) (as_values out) many
     (λ i h. rest.same (length vs + i) (omega (arith, total)) ∙ get_or-append-add vs r i false))) in
@@ -136,19 +136,20 @@ found_from vs (g ∷ gs) out ordered e =
     ]
 
 -- ---- only one
-unique_after : (n : ℕ) (gs : List Gate) (v v' : Valuation) → AreOrdered n gs → All (HasRow v) gs → All (HasRow v') gs →
+unique_after : (n : ℕ) (gs : List Gate) (v v' : Valuation) → AreOrdered n gs → All (FollowsRow v) gs →
+    All (FollowsRow v') gs →
     ((w : ℕ) → w < n → v w ≡ v' w) → (w : ℕ) → w < wires_after n gs → v w ≡ v' w
 unfolding AreOrdered wires_after
 unique_after n [] v v' ordered rows rows' same w h = same w h
 unique_after n (g ∷ gs) v v' ordered rows rows' same w h =
     let ins : map v g.ins ≡ map v' g.ins = map_below n v v' g.ins ordered.0 same in
     let outs : map v g.outs ≡ map v' g.outs =
-    some_same _ _ (row g.kind (map v g.ins)) (All-head (HasRow v) g gs rows)
-    (ap (row g.kind) ins ∙ All-head (HasRow v') g gs rows') in
+    some_same _ _ (row g.kind (map v g.ins)) (All-head (FollowsRow v) g gs rows)
+    (ap (row g.kind) ins ∙ All-head (FollowsRow v') g gs rows') in
     let range : map v (range_with_len n (defines g.kind)) ≡ map v' (range_with_len n (defines g.kind)) =
     ap (map v) (sym ordered.2) ∙ outs ∙ ap (map v') ordered.2 in
-    unique_after (n + defines g.kind) gs v v' ordered.3 (All-tail (HasRow v) g gs rows)
-    (All-tail (HasRow v') g gs rows')
+    unique_after (n + defines g.kind) gs v v' ordered.3 (All-tail (FollowsRow v) g gs rows)
+    (All-tail (FollowsRow v') g gs rows')
     (grind (arith, common_steps, cases_lt, get_or-map-range_with_len))
     w h
 

@@ -3,18 +3,18 @@ use Rattle.std.specs.Prelude.{◌≡◌, ℕ, ◌<◌, Bool, true, false, if◌t
 use Rattle.std.specs.Prelude.{Some, ⊤, slice_get, slice_index_or}
 use Rattle.std.specs.List.{flat_map, count_by}
 use Rattle.circuit.specs.Entries.{defined}
-use Rattle.circuit.specs.declared.circuit_line.Kind.{Kind}
-use Rattle.circuit.specs.declared.circuit_line.Kind.TheVariants.{Input, Output, Spill}
-use Rattle.circuit.specs.declared.circuit_line.Kind.TheVariants.{Gate as GateLine}
+use Rattle.circuit.specs.declared.circuit_line.CircuitLineKind.{CircuitLineKind}
+use Rattle.circuit.specs.declared.circuit_line.CircuitLineKind.TheVariants.{Input, Output, Spill}
+use Rattle.circuit.specs.declared.circuit_line.CircuitLineKind.TheVariants.{Gate as GateLine}
 use Rattle.circuit.specs.declared.circuit_line.CircuitLine.{CircuitLine}
 use Rattle.circuit.specs.declared.netlist.ValuesFault.{ValuesFault}
 use Rattle.circuit.specs.declared.netlist.ValuesFault.TheVariants.{OutOfDomain, Memory}
 use Rattle.circuit.specs.Gates.{row, uses, defines}
-use Rattle.circuit.specs.Rules.{gate_count, added_line_code}
+use Rattle.circuit.specs.Rules.{gate_count, limit_or_name_code}
 use Rattle.circuit.specs.Meaning.{Gate, Netlist, Circuit, Valuation, Satisfies, first_gates, number, wires}
 
 -- whether the line is an input
-abbrev pub is_input : Kind → Bool
+abbrev pub is_input : CircuitLineKind → Bool
 is_input Input = true
 is_input _ = false
 
@@ -23,7 +23,7 @@ abbrev pub input_count : List CircuitLine → ℕ
 input_count entries = count_by (λ r. is_input r.kind) entries
 
 -- the gate of a line, if the wires have these names
-abbrev pub gate_of_line_kind : List (List ℕ) → List (List ℕ) → List (List ℕ) → Kind → List Gate
+abbrev pub gate_of_line_kind : List (List ℕ) → List (List ℕ) → List (List ℕ) → CircuitLineKind → List Gate
 gate_of_line_kind names ins outs (GateLine k) =
     record { kind = k; ins = map (number names) ins; outs = map (number names) outs } ∷ []
 gate_of_line_kind names ins outs _ = []
@@ -45,7 +45,7 @@ abbrev pub input_names : List CircuitLine → List (List ℕ)
 input_names entries = flat_map (λ r. if is_input r.kind then r.outs else []) entries
 
 -- whether the line is an output
-abbrev pub is_output : Kind → Bool
+abbrev pub is_output : CircuitLineKind → Bool
 is_output Output = true
 is_output _ = false
 
@@ -55,14 +55,14 @@ output_names entries = flat_map (λ r. if is_output r.kind then r.ins else []) e
 
 -- ---- which lines make a circuit
 -- how many wires a line of a kind consumes
-abbrev pub kind_in_count : Kind → ℕ
+abbrev pub kind_in_count : CircuitLineKind → ℕ
 kind_in_count Input = 0
 kind_in_count (GateLine k) = uses k
 kind_in_count Output = 1
 kind_in_count Spill = 1
 
 -- how many wires a line of a kind defines
-abbrev pub kind_out_count : Kind → ℕ
+abbrev pub kind_out_count : CircuitLineKind → ℕ
 kind_out_count Input = 1
 kind_out_count (GateLine k) = defines k
 kind_out_count Output = 0
@@ -78,7 +78,7 @@ IsNoInputAfterGate before r = is_input r.kind ≡ true → gate_count before ≡
 
 -- the line is good after those before it
 pub record IsGoodAfter (before : List CircuitLine) (r : CircuitLine) : Type 0 where
-  pub adds : added_line_code before r ≡ None
+  pub adds : limit_or_name_code before r ≡ None
   pub fits : FitsKind r
   pub inputs_first : IsNoInputAfterGate before r
 

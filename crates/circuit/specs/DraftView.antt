@@ -5,7 +5,7 @@ use Rattle.section_text.specs.declared.limits.Limits.{Limits}
 use Rattle.circuit.specs.Entries.{defined}
 use Rattle.circuit.specs.declared.circuit_line.CircuitLine.{CircuitLine}
 use Rattle.circuit.specs.declared.draft.Draft.TheInside.{Inside}
-use Rattle.circuit.specs.Rules.{added_line_code_within, consumed, gate_count}
+use Rattle.circuit.specs.Rules.{consumed, gate_count, limit_or_name_code_within}
 use Rattle.section_text.specs.declared.code.RefusalCode.{RefusalCode}
 use Rattle.circuit.specs.Bridge.{AreGoodCircuitLines, gates_of}
 use Rattle.circuit.specs.Wiring.{gate_of}
@@ -18,7 +18,7 @@ pub record DraftView : Type 0 where
 
 -- the code of the first test that a line fails if it is added to a draft
 abbrev pub draft_fault : DraftView → CircuitLine → Option RefusalCode
-draft_fault d r = added_line_code_within d.limits d.lines r
+draft_fault d r = limit_or_name_code_within d.limits d.lines r
 
 -- a draft with one more line
 abbrev pub with_line : DraftView → CircuitLine → DraftView

@@ -8,7 +8,7 @@ use Rattle.circuit.specs.declared.circuit_line.GateKind.{GateKind}
 use Rattle.circuit.specs.declared.circuit_line.GateKind.TheVariants.{Source, Fredkin, Cswap, Interact, Switch, Delay}
 use Rattle.circuit.specs.declared.circuit_line.GateKind.TheVariants.{Unswitch}
 use Rattle.circuit.specs.declared.circuit_line.GateKind.TheVariants.{Uninteract}
-use Rattle.circuit.specs.declared.circuit_line.Kind.TheVariants.{Input, Gate, Output, Spill}
+use Rattle.circuit.specs.declared.circuit_line.CircuitLineKind.TheVariants.{Input, Gate, Output, Spill}
 use Rattle.circuit.specs.declared.circuit_line.CircuitLine.{CircuitLine}
 use Rattle.circuit.specs.Entries.{entry}
 use Rattle.circuit.specs.Gates.{uses, defines}

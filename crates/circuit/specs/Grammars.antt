@@ -6,7 +6,7 @@ use Rattle.circuit.specs.declared.circuit_line.CircuitLine.{CircuitLine}
 use Rattle.section_text.specs.Codes.{or_else}
 use Rattle.circuit.specs.Forms.{form_of}
 use Rattle.section_text.specs.declared.limits.Limits.{Limits}
-use Rattle.circuit.specs.Rules.{order_fault, added_line_code_within, first_unconsumed, consumed}
+use Rattle.circuit.specs.Rules.{order_fault, limit_or_name_code_within, first_unconsumed, consumed}
 use Rattle.section_text.specs.declared.code.RefusalCode.{RefusalCode}
 use Rattle.section_text.specs.declared.code.RefusalCode.TheVariants.{SomethingMissing}
 
@@ -20,7 +20,7 @@ abbrev pub circuit_grammar : Limits → Grammar (Unit {0}) CircuitLine
 circuit_grammar l = record {
   form = form_of;
   header_fault = λ h. None;
-  item_fault = λ h entries r. or_else (order_fault entries r) (added_line_code_within l entries r);
+  item_fault = λ h entries r. or_else (order_fault entries r) (limit_or_name_code_within l entries r);
   end_fault = λ h entries. unconsumed_wire_code (first_unconsumed (consumed entries) (defined entries));
 }
 

@@ -12,10 +12,11 @@ use Rattle.circuit.specs.declared.circuit_line.CircuitLine.{CircuitLine}
 use Rattle.circuit.specs.Grammars.{circuit_grammar}
 use Rattle.section_text.specs.declared.limits.Limits.{Limits}
 use Rattle.circuit.specs.Text.{circuit_text}
-use Rattle.circuit.specs.Meaning.{Netlist, Valuation, Satisfies, AreOrdered, AreNonInverse, IsUndefined, wires, wire_of}
+use Rattle.circuit.specs.Meaning.{Netlist, Valuation, Satisfies, AreOrdered, AreNonInverse, IsFirstGateWithoutRow}
+use Rattle.circuit.specs.Meaning.{wires, wire_of}
 use Rattle.circuit.specs.Bridge.{AreGoodCircuitLines, AreValues, ValuesStopAt, input_count, input_names, gates_of}
 use Rattle.circuit.specs.Bridge.{circuit_of, netlist_of}
-use Rattle.circuit.specs.Rules.{added_line_code_within, gate_count, is_gate, is_wrong_delay, name_fault}
+use Rattle.circuit.specs.Rules.{gate_count, is_gate, is_wrong_delay, limit_or_name_code_within, name_fault}
 use Rattle.section_text.specs.Codes.{code_if, or_else}
 use Rattle.section_text.specs.declared.code.RefusalCode.TheVariants.{PastLimit}
 use Rattle.section_text.specs.declared.limits.Limits.TheVariants.{First, Second}
@@ -39,29 +40,32 @@ GatesAreOrdered = (entries : List CircuitLine) → AreGoodCircuitLines entries �
 
 -- ordered gates have a valuation if none of them is undefined
 abbrev pub HasValuationIfDefined : Type 0
-HasValuationIfDefined = (n : Netlist) (a : Valuation) → AreOrdered n.given n.gates → ((k : ℕ) → ¬ IsUndefined n a k) →
+HasValuationIfDefined = (n : Netlist) (a : Valuation) → AreOrdered n.given n.gates →
+    ((k : ℕ) → ¬ IsFirstGateWithoutRow n a k) →
     (v : Valuation) × Satisfies n a v
 
 -- and only there
 abbrev pub UndefinedHasNoValuation : Type 0
-UndefinedHasNoValuation = (n : Netlist) (a v : Valuation) (k : ℕ) → AreOrdered n.given n.gates → IsUndefined n a k →
+UndefinedHasNoValuation = (n : Netlist) (a v : Valuation) (k : ℕ) → AreOrdered n.given n.gates →
+    IsFirstGateWithoutRow n a k →
     ¬ Satisfies n a v
 
 -- only an inverse gate is undefined
 abbrev pub OnlyInverseGatesAreUndefined : Type 0
 OnlyInverseGatesAreUndefined =
-    (n : Netlist) (a : Valuation) (k : ℕ) → AreOrdered n.given n.gates → (u : IsUndefined n a k) →
+    (n : Netlist) (a : Valuation) (k : ℕ) → AreOrdered n.given n.gates → (u : IsFirstGateWithoutRow n a k) →
     IsTrue (is_inverse u.gate.kind)
 
 -- at most one gate is
 abbrev pub AtMostOneGateIsUndefined : Type 0
-AtMostOneGateIsUndefined = (n : Netlist) (a : Valuation) (k m : ℕ) → AreOrdered n.given n.gates → IsUndefined n a k →
-    IsUndefined n a m → k ≡ m
+AtMostOneGateIsUndefined = (n : Netlist) (a : Valuation) (k m : ℕ) → AreOrdered n.given n.gates →
+    IsFirstGateWithoutRow n a k →
+    IsFirstGateWithoutRow n a m → k ≡ m
 
 -- a gate at which the values stop is undefined
 abbrev pub ValuesStopAtUndefinedGate : Type 0
 ValuesStopAtUndefinedGate = (n : Netlist) (a : Valuation) (k : ℕ) (vs : List Bool) → ValuesStopAt n a k vs →
-    IsUndefined n a k
+    IsFirstGateWithoutRow n a k
 
 -- ordered gates have at most one, with inverse gates too
 abbrev pub HasAtMostOneValuation : Type 0
@@ -120,11 +124,12 @@ pub record InverseGatesUndo : Type 0 where
 -- wires and 1024 gates, and then the names.
 abbrev pub FirstLimitsAreKept : Type 0
 FirstLimitsAreKept = (entries : List CircuitLine) (r : CircuitLine) →
-    added_line_code_within First entries r ≡ or_else (code_if (is_wrong_delay r.kind
+    limit_or_name_code_within First entries r ≡ or_else (code_if (is_wrong_delay r.kind
     || (nat_lt 4096 (length (defined entries) + length r.outs) || (is_gate r.kind && nat_le 1024 (gate_count entries))))
     PastLimit) (name_fault entries r)
 
 -- a line that passes the first limits passes the second ones
 abbrev pub SecondLimitsAreWider : Type 0
-SecondLimitsAreWider = (entries : List CircuitLine) (r : CircuitLine) → added_line_code_within First entries r ≡ None →
-    added_line_code_within Second entries r ≡ None
+SecondLimitsAreWider = (entries : List CircuitLine) (r : CircuitLine) →
+    limit_or_name_code_within First entries r ≡ None →
+    limit_or_name_code_within Second entries r ≡ None

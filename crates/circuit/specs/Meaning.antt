@@ -42,17 +42,17 @@ abbrev pub Valuation : Type 0
 Valuation = ℕ → Bool
 
 -- the gate has a row at the values of its inputs, and its outputs have the values of that row
-abbrev pub HasRow : Valuation → Gate → Type 0
-HasRow v g = row g.kind (map v g.ins) ≡ Some (map v g.outs)
+abbrev pub FollowsRow : Valuation → Gate → Type 0
+FollowsRow v g = row g.kind (map v g.ins) ≡ Some (map v g.outs)
 
 -- the first n gates have their rows
-abbrev pub FirstGatesHaveRows : ℕ → List Gate → Valuation → Type 0
-FirstGatesHaveRows n gates v = (k : ℕ) (g : Gate) → k < n → slice_get gates k ≡ Some g → HasRow v g
+abbrev pub FirstGatesFollowRows : ℕ → List Gate → Valuation → Type 0
+FirstGatesFollowRows n gates v = (k : ℕ) (g : Gate) → k < n → slice_get gates k ≡ Some g → FollowsRow v g
 
 -- v satisfies the gates if the given wires have the values a
 pub record Satisfies (n : Netlist) (a v : Valuation) : Type 0 where
   pub given : (i : ℕ) → i < n.given → v i ≡ a i
-  pub rows : All (HasRow v) n.gates
+  pub rows : All (FollowsRow v) n.gates
 
 -- the values of wires by their names, and a name without a wire is false
 abbrev pub values_by_name : Circuit → Valuation → List ℕ → Bool
@@ -71,12 +71,12 @@ AreNonInverse gates = All (λ g. is_inverse g.kind ≡ false) gates
 
 -- Gate k has no row if the given wires have the values a, and it is the first: the gates before it have theirs under
 -- some values of the wires, and it has none there.
-pub record IsUndefined (n : Netlist) (a : Valuation) (k : ℕ) : Type 0 where
+pub record IsFirstGateWithoutRow (n : Netlist) (a : Valuation) (k : ℕ) : Type 0 where
   pub gate : Gate
   pub numbered : slice_get n.gates k ≡ Some gate
   pub values : Valuation
   pub given : (i : ℕ) → i < n.given → values i ≡ a i
-  pub before : FirstGatesHaveRows k n.gates values
+  pub before : FirstGatesFollowRows k n.gates values
   pub none : row gate.kind (map values gate.ins) ≡ None
 
 -- the first k gates alone

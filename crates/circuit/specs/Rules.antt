@@ -5,8 +5,8 @@ use Rattle.std.specs.List.{flat_map, count_by}
 use Rattle.circuit.specs.declared.circuit_line.GateKind.TheVariants.{Source, Fredkin, Cswap, Interact, Switch, Delay}
 use Rattle.circuit.specs.declared.circuit_line.GateKind.TheVariants.{Unswitch}
 use Rattle.circuit.specs.declared.circuit_line.GateKind.TheVariants.{Uninteract}
-use Rattle.circuit.specs.declared.circuit_line.Kind.{Kind}
-use Rattle.circuit.specs.declared.circuit_line.Kind.TheVariants.{Input, Gate, Output, Spill}
+use Rattle.circuit.specs.declared.circuit_line.CircuitLineKind.{CircuitLineKind}
+use Rattle.circuit.specs.declared.circuit_line.CircuitLineKind.TheVariants.{Input, Gate, Output, Spill}
 use Rattle.circuit.specs.declared.circuit_line.CircuitLine.{CircuitLine}
 use Rattle.section_text.specs.Words.{has}
 use Rattle.section_text.specs.Codes.{code_if, or_else}
@@ -23,7 +23,7 @@ abbrev pub consumed : List CircuitLine → List (List ℕ)
 consumed entries = flat_map (λ r. r.ins) entries
 
 -- whether the line is a gate
-abbrev pub is_gate : Kind → Bool
+abbrev pub is_gate : CircuitLineKind → Bool
 is_gate (Gate k) = true
 is_gate _ = false
 
@@ -52,7 +52,7 @@ name_fault entries r = or_else (consume_fault (defined entries) (consumed entrie
 -- ---- code 2
 
 -- whether the line is a delay of no steps or of more than 4096
-abbrev pub is_wrong_delay : Kind → Bool
+abbrev pub is_wrong_delay : CircuitLineKind → Bool
 is_wrong_delay Input = false
 is_wrong_delay (Gate (Source b)) = false
 is_wrong_delay (Gate Fredkin) = false
@@ -66,8 +66,8 @@ is_wrong_delay Output = false
 is_wrong_delay Spill = false
 
 -- whether a delay, the count of wires or the count of gates is outside the largest limits
-abbrev pub exceeds_limit : List CircuitLine → CircuitLine → Bool
-exceeds_limit entries r = is_wrong_delay r.kind
+abbrev pub exceeds_largest_limit : List CircuitLine → CircuitLine → Bool
+exceeds_largest_limit entries r = is_wrong_delay r.kind
     || (nat_lt max_wires (length (defined entries) + length r.outs)
     || (is_gate r.kind && nat_le max_gates (gate_count entries)))
 
@@ -77,17 +77,17 @@ exceeds_text_limit l entries r = nat_lt (most_wires l) (length (defined entries)
     || (is_gate r.kind && nat_le (most_gates l) (gate_count entries))
 
 -- the code of a line outside the largest limits
-abbrev pub limit_fault : List CircuitLine → CircuitLine → Option RefusalCode
-limit_fault entries r = code_if (exceeds_limit entries r) PastLimit
+abbrev pub largest_limit_code : List CircuitLine → CircuitLine → Option RefusalCode
+largest_limit_code entries r = code_if (exceeds_largest_limit entries r) PastLimit
 
 -- the first of codes 2 to 5, for the largest limits
-unfoldable pub added_line_code : List CircuitLine → CircuitLine → Option RefusalCode
-added_line_code entries r = or_else (limit_fault entries r) (name_fault entries r)
+unfoldable pub limit_or_name_code : List CircuitLine → CircuitLine → Option RefusalCode
+limit_or_name_code entries r = or_else (largest_limit_code entries r) (name_fault entries r)
 
 -- the first of codes 2 to 5, for these limits
-abbrev pub added_line_code_within : Limits → List CircuitLine → CircuitLine → Option RefusalCode
-added_line_code_within l entries r =
-    or_else (code_if (exceeds_text_limit l entries r) PastLimit) (added_line_code entries r)
+abbrev pub limit_or_name_code_within : Limits → List CircuitLine → CircuitLine → Option RefusalCode
+limit_or_name_code_within l entries r =
+    or_else (code_if (exceeds_text_limit l entries r) PastLimit) (limit_or_name_code entries r)
 
 -- ---- codes 6 and 11
 

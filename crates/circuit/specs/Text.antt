@@ -6,8 +6,8 @@ use Rattle.circuit.specs.declared.circuit_line.GateKind.{GateKind}
 use Rattle.circuit.specs.declared.circuit_line.GateKind.TheVariants.{Source, Fredkin, Cswap, Interact, Switch, Delay}
 use Rattle.circuit.specs.declared.circuit_line.GateKind.TheVariants.{Unswitch}
 use Rattle.circuit.specs.declared.circuit_line.GateKind.TheVariants.{Uninteract}
-use Rattle.circuit.specs.declared.circuit_line.Kind.{Kind}
-use Rattle.circuit.specs.declared.circuit_line.Kind.TheVariants.{Input, Gate, Output, Spill}
+use Rattle.circuit.specs.declared.circuit_line.CircuitLineKind.{CircuitLineKind}
+use Rattle.circuit.specs.declared.circuit_line.CircuitLineKind.TheVariants.{Input, Gate, Output, Spill}
 use Rattle.circuit.specs.declared.circuit_line.CircuitLine.{CircuitLine}
 use Rattle.section_text.specs.declared.section.Form.{Form}
 use Rattle.section_text.specs.declared.section.Form.TheVariants.{Header, Item, End}
@@ -36,14 +36,14 @@ gate_parameter_words (Delay n) = decimal n ∷ []
 gate_parameter_words _ = []
 
 -- the first word of a entry, and the others
-unfoldable pub first_word : Kind → List ℕ
+unfoldable pub first_word : CircuitLineKind → List ℕ
 first_word Input = codes "input"
 first_word (Gate k) = gate_word k
 first_word Output = codes "output"
 first_word Spill = codes "spill"
 
 -- the words of a line behind the first, by its kind
-abbrev pub words_after_first : List (List ℕ) → List (List ℕ) → Kind → List (List ℕ)
+abbrev pub words_after_first : List (List ℕ) → List (List ℕ) → CircuitLineKind → List (List ℕ)
 words_after_first ins outs Input = outs
 words_after_first ins outs (Gate k) = gate_parameter_words k ++ (ins ++ codes "->" ∷ outs)
 words_after_first ins outs Output = ins

@@ -1,9 +1,9 @@
 -- The gates and the marks of wires as the code keeps them.
 use Rattle.std.specs.Prelude.{ℕ, Bool, true, List, [], ◌∷◌, take, slice_set}
 use Rattle.std.specs.List.{range_with_len}
-use Rattle.circuit.specs.declared.circuit_line.Kind.{Kind}
-use Rattle.circuit.specs.declared.circuit_line.Kind.TheVariants.{Input, Output, Spill}
-use Rattle.circuit.specs.declared.circuit_line.Kind.TheVariants.{Gate as GateLine}
+use Rattle.circuit.specs.declared.circuit_line.CircuitLineKind.{CircuitLineKind}
+use Rattle.circuit.specs.declared.circuit_line.CircuitLineKind.TheVariants.{Input, Output, Spill}
+use Rattle.circuit.specs.declared.circuit_line.CircuitLineKind.TheVariants.{Gate as GateLine}
 use Rattle.circuit.specs.declared.wiring.GateWires.{GateWires}
 use Rattle.circuit.specs.Gates.{uses, defines}
 use Rattle.circuit.specs.Meaning.{Gate}
@@ -18,7 +18,7 @@ gate_of g =
     }
 
 -- the gate of a line of this kind, if it is a gate's line
-abbrev pub gate_with_outs_from : Kind → List ℕ → ℕ → List Gate
+abbrev pub gate_with_outs_from : CircuitLineKind → List ℕ → ℕ → List Gate
 gate_with_outs_from Input ins first = []
 gate_with_outs_from (GateLine k) ins first =
     record { kind = k; ins = take (uses k) ins; outs = range_with_len first (defines k) }

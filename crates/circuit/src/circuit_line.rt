@@ -18,7 +18,7 @@ ghost use Rattle.std.specs.Prelude.{◌≡◌, ◌≤◌, [], ◌∷◌, if◌th
 ghost use Rattle.circuit.specs.Entries.{rank_of, entry};
 ghost use Rattle.circuit.specs.Bridge.{is_input};
 ghost use Rattle.circuit.specs.Gates.{is_inverse, uses, defines};
-ghost use Rattle.circuit.specs.declared.circuit_line.Kind.TheVariants.{Gate};
+ghost use Rattle.circuit.specs.declared.circuit_line.CircuitLineKind.TheVariants.{Gate};
 ghost use Rattle.circuit.specs.declared.circuit_line.GateKind.TheVariants.{Source};
 
 use section_text::{Name, Names};
@@ -38,7 +38,7 @@ pub enum GateKind {
 
 /// The kind of a circuit's line.
 #[derive(Clone, Copy, Debug, PartialEq, Eq)]
-pub enum Kind {
+pub enum CircuitLineKind {
     Input,
     Gate(GateKind),
     Output,
@@ -48,7 +48,7 @@ pub enum Kind {
 /// A line of a circuit: its kind, the wires that it consumes, and the wires that it defines.
 #[derive(Drop)]
 pub struct CircuitLine {
-    pub kind: Kind,
+    pub kind: CircuitLineKind,
     pub ins: Names,
     pub outs: Names,
 }
@@ -100,30 +100,30 @@ impl GateKind {
     }
 }
 
-impl Kind {
+impl CircuitLineKind {
     /// Returns the place of the kind in the order of a circuit's lines.
     pub fn rank(self) -> u8
         ensures rank { result ≡ rank_of self }
     {
         match self {
-            Kind::Input => 0,
-            Kind::Gate(_) => 1,
-            Kind::Output => 2,
-            Kind::Spill => 3,
+            CircuitLineKind::Input => 0,
+            CircuitLineKind::Gate(_) => 1,
+            CircuitLineKind::Output => 2,
+            CircuitLineKind::Spill => 3,
         }
     }
 }
 
 impl CircuitLine {
     /// Creates the line of an input, an output or a spill, which has one name.
-    pub fn of_one_name(kind: Kind, name: Name) -> CircuitLine
+    pub fn of_one_name(kind: CircuitLineKind, name: Name) -> CircuitLine
         ensures { result ≡ entry kind (if is_input kind then [] else name ∷ [])
             (if is_input kind then name ∷ [] else []) }
     {
         let mut ins = Names::new();
         let mut outs = Names::new();
         match kind {
-            Kind::Input => outs.push(name),
+            CircuitLineKind::Input => outs.push(name),
             _ => ins.push(name),
         }
         CircuitLine { kind, ins, outs }
@@ -134,7 +134,7 @@ impl CircuitLine {
         ensures { result ≡ entry (Gate (Source bit)) [] (name ∷ []) }
     {
         CircuitLine {
-            kind: Kind::Gate(GateKind::Source(bit)),
+            kind: CircuitLineKind::Gate(GateKind::Source(bit)),
             ins: Names::new(),
             outs: Names::of(&[name]),
         }

@@ -3,9 +3,9 @@ ghost use Rattle.std.specs.Prelude.{◌≡◌, ◌==◌, ◌+◌, ◌-◌, true,
 ghost use Rattle.std.specs.Str.{bytes_eq};
 ghost use Rattle.circuit.specs.Entries.{entry, defined};
 ghost use Rattle.circuit.specs.Gates.{uses, defines};
-ghost use Rattle.circuit.specs.declared.circuit_line.Kind.TheVariants.{Input, Gate, Output, Spill};
+ghost use Rattle.circuit.specs.declared.circuit_line.CircuitLineKind.TheVariants.{Input, Gate, Output, Spill};
 ghost use Rattle.circuit.specs.declared.circuit_line.GateKind.TheVariants.{Source};
-ghost use Rattle.circuit.specs.Rules.{exceeds_limit, exceeds_text_limit, is_wrong_delay, is_gate, gate_count, consumed, consume_fault, first_unconsumed};
+ghost use Rattle.circuit.specs.Rules.{exceeds_largest_limit, exceeds_text_limit, is_wrong_delay, is_gate, gate_count, consumed, consume_fault, first_unconsumed};
 ghost use Rattle.circuit.specs.DraftView.{draft_fault, with_line};
 ghost use Rattle.circuit.specs.Wiring.{gate_of, gate_with_outs_from};
 ghost use Rattle.circuit.specs.Meaning.{number};
@@ -15,10 +15,10 @@ ghost use Rattle.section_text.specs.Adding.{HasRefusalCode};
 ghost use Rattle.circuit.specs.Bridge.{FitsKind, IsNoInputAfterGate};
 ghost use Rattle.lemmas.specs.Bounds.{max_wires};
 
-use crate::circuit_line::{CircuitLine, GateKind, Kind};
+use crate::circuit_line::{CircuitLine, CircuitLineKind, GateKind};
 use crate::netlist::{Circuit, is_name_at};
 use crate::number::WireNo;
-use crate::sets::{define_wires, mark_wires};
+use crate::sets::{define_wires, mark_wires_consumed};
 use crate::wiring::{GateWires, push_gate_of_line};
 use indexmap::IndexSet;
 use section_text::{
@@ -61,20 +61,20 @@ pub struct Unused {
     pub wire: Name,
 }
 
-fn has_wrong_delay(kind: Kind) -> bool
+fn has_wrong_delay(kind: CircuitLineKind) -> bool
     ensures { result ≡ is_wrong_delay kind }
 {
     match kind {
-        Kind::Gate(GateKind::Delay(n)) => n == 0 || n > 4096,
+        CircuitLineKind::Gate(GateKind::Delay(n)) => n == 0 || n > 4096,
         _ => false,
     }
 }
 
-fn is_gate_kind(kind: Kind) -> bool
+fn is_gate_kind(kind: CircuitLineKind) -> bool
     ensures { result ≡ is_gate kind }
 {
     match kind {
-        Kind::Gate(_) => true,
+        CircuitLineKind::Gate(_) => true,
         _ => false,
     }
 }
@@ -132,8 +132,8 @@ impl Draft {
     }
 
     // Whether a delay, the count of wires or the count of gates would pass the largest limit.
-    fn exceeds_limit(&self, entry: &CircuitLine) -> bool
-        ensures { result ≡ exceeds_limit self.now.lines entry.now }
+    fn exceeds_largest_limit(&self, entry: &CircuitLine) -> bool
+        ensures { result ≡ exceeds_largest_limit self.now.lines entry.now }
     {
         has_wrong_delay(entry.kind)
             || self.wires.len() + entry.outs.as_slice().len() > MAX_WIRES
@@ -202,7 +202,7 @@ impl Draft {
     }
 
     // Adds a line, whatever the kinds of the lines before it. A fault changes nothing.
-    #[tactic(auto, unfolding(crate::specs::Rules::added_line_code))]
+    #[tactic(auto, unfolding(crate::specs::Rules::limit_or_name_code))]
     pub(crate) fn add(&mut self, entry: CircuitLine) -> Result<(), LineFault>
         requires fits { FitsKind entry }
         requires inputs_first { IsNoInputAfterGate self.old.lines entry }
@@ -214,7 +214,7 @@ impl Draft {
         if self.exceeds_text_limit(&entry) {
             return Err(LineFault::Code(RefusalCode::PastLimit));
         }
-        if self.exceeds_limit(&entry) {
+        if self.exceeds_largest_limit(&entry) {
             return Err(LineFault::Code(RefusalCode::PastLimit));
         }
         let ins = match self.unconsumed_wires(entry.ins.as_slice()) {
@@ -238,7 +238,7 @@ impl Draft {
             self.consumed.truncate(wires);
             return Err(LineFault::Memory);
         }
-        mark_wires(&mut self.consumed, &ins[..used]);
+        mark_wires_consumed(&mut self.consumed, &ins[..used]);
         if is_gate {
             self.gates += 1;
         }
@@ -246,13 +246,13 @@ impl Draft {
     }
 
     /// Returns whether inputs may still be added: no gate, and no source, was added yet.
-    pub fn takes_inputs(&self) -> bool
+    pub fn may_add_inputs(&self) -> bool
         ensures { result ≡ (gate_count self.now.lines == 0) }
     {
         self.gates == 0
     }
 
-    /// Adds an input, which defines a wire, if `takes_inputs()`.
+    /// Adds an input, which defines a wire, if `may_add_inputs()`.
     ///
     /// # Errors
     ///
@@ -268,7 +268,7 @@ impl Draft {
         ensures fault { IfErr result (λ e. HasRefusalCode e
             (draft_fault self.old (entry Input [] (name ∷ [])))) }
     {
-        self.add(CircuitLine::of_one_name(Kind::Input, name))
+        self.add(CircuitLine::of_one_name(CircuitLineKind::Input, name))
     }
 
     /// Adds a source, a gate without inputs whose wire has the value `bit`.
@@ -311,7 +311,7 @@ impl Draft {
         let few_outs = kind.outs();
         prove!(few_ins <= 4 && few_outs <= 4);
         self.add(CircuitLine {
-            kind: Kind::Gate(kind),
+            kind: CircuitLineKind::Gate(kind),
             ins: Names::of(ins),
             outs: Names::of(outs),
         })
@@ -332,7 +332,7 @@ impl Draft {
         ensures fault { IfErr result (λ e. HasRefusalCode e
             (draft_fault self.old (entry Output (name ∷ []) []))) }
     {
-        self.add(CircuitLine::of_one_name(Kind::Output, name))
+        self.add(CircuitLine::of_one_name(CircuitLineKind::Output, name))
     }
 
     /// Adds a spill, which consumes a wire that is no output.
@@ -350,11 +350,11 @@ impl Draft {
         ensures fault { IfErr result (λ e. HasRefusalCode e
             (draft_fault self.old (entry Spill (name ∷ []) []))) }
     {
-        self.add(CircuitLine::of_one_name(Kind::Spill, name))
+        self.add(CircuitLine::of_one_name(CircuitLineKind::Spill, name))
     }
 
     // The first wire that nobody consumes.
-    pub(crate) fn unconsumed_name(&self) -> Option<Name>
+    pub(crate) fn first_unconsumed_name(&self) -> Option<Name>
         ensures { result ≡ first_unconsumed (consumed self.now.lines) (defined self.now.lines) }
     {
         for (number, name) in self.wires.as_slice().iter().enumerate() {
@@ -376,7 +376,7 @@ impl Draft {
         ensures err { IfErr result (λ u. (u.draft ≡ self)
             × (first_unconsumed (consumed self.lines) (defined self.lines) ≡ Some u.wire)) }
     {
-        if let Some(wire) = self.unconsumed_name() {
+        if let Some(wire) = self.first_unconsumed_name() {
             return Err(Unused { draft: self, wire });
         }
         let Draft {

@@ -6,11 +6,11 @@ ghost use Rattle.section_text.specs.Words.{name_of, words_of};
 ghost use Rattle.section_text.specs.declared.section.Form.TheVariants.{Item};
 ghost use Rattle.circuit.specs.Entries.{entry};
 ghost use Rattle.circuit.specs.Bridge.{is_input};
-ghost use Rattle.circuit.specs.declared.circuit_line.Kind.TheVariants.{Input, Output, Spill};
+ghost use Rattle.circuit.specs.declared.circuit_line.CircuitLineKind.TheVariants.{Input, Output, Spill};
 ghost use Rattle.section_text.specs.Feeds.{IsLine, line_bytes};
 ghost use Rattle.circuit.specs.Forms.{bit_at, gate_kind, words_before_names, gate_entry, form_of};
 
-use crate::circuit_line::{CircuitLine, GateKind, Kind};
+use crate::circuit_line::{CircuitLine, CircuitLineKind, GateKind};
 use section_text::{Feed, Form, Line, Name, is_keyword};
 
 #[tactic(auto, unfolding(crate::specs::Forms::bit_at, section_text::specs::Words::is_word_at))]
@@ -81,24 +81,24 @@ fn gate_entry_of(feed: &Feed, line: &Line, keyword: &[u8]) -> Option<CircuitLine
     let from = words_before_names(kind);
     let (ins, outs) = feed.names_beside_arrow(line, from, kind.ins(), kind.outs())?;
     Some(CircuitLine {
-        kind: Kind::Gate(kind),
+        kind: CircuitLineKind::Gate(kind),
         ins,
         outs,
     })
 }
 
 // The kind of a line of a keyword and a name.
-fn kind_of_keyword(keyword: &[u8]) -> Option<Kind>
+fn kind_of_lone_name_keyword(keyword: &[u8]) -> Option<CircuitLineKind>
     ensures { result ≡ (if bytes_eq keyword.now (codes "input") then Some Input
         else if bytes_eq keyword.now (codes "output") then Some Output
         else if bytes_eq keyword.now (codes "spill") then Some Spill else None) }
 {
     if is_keyword(keyword, b"input") {
-        Some(Kind::Input)
+        Some(CircuitLineKind::Input)
     } else if is_keyword(keyword, b"output") {
-        Some(Kind::Output)
+        Some(CircuitLineKind::Output)
     } else if is_keyword(keyword, b"spill") {
-        Some(Kind::Spill)
+        Some(CircuitLineKind::Spill)
     } else {
         None
     }
@@ -117,7 +117,7 @@ fn line_form_by_words(feed: &Feed, line: &Line) -> Option<Form<(), CircuitLine>>
     if is_keyword(keyword, b"end") {
         return feed.if_one_word(line, Form::End);
     }
-    match kind_of_keyword(keyword) {
+    match kind_of_lone_name_keyword(keyword) {
         Some(kind) => Some(Form::Item(CircuitLine::of_one_name(
             kind,
             feed.name_after_keyword(line)?,
@@ -128,7 +128,7 @@ fn line_form_by_words(feed: &Feed, line: &Line) -> Option<Form<(), CircuitLine>>
 
 // The form of an input, output or spill line, by what stands behind its keyword and a space.
 #[inline(always)]
-fn lone_name_form(kind: Kind, name: &[u8]) -> Option<Form<(), CircuitLine>>
+fn lone_name_form(kind: CircuitLineKind, name: &[u8]) -> Option<Form<(), CircuitLine>>
     ensures { result ≡ option_map
         (λ n. Item (entry kind (if is_input kind then [] else n ∷ [])
         (if is_input kind then n ∷ [] else []))) (name_of name.now) }
@@ -138,7 +138,7 @@ fn lone_name_form(kind: Kind, name: &[u8]) -> Option<Form<(), CircuitLine>>
 }
 
 // Whether a line begins with `input` and a space.
-fn is_input_line(line: &[u8]) -> bool
+fn begins_as_input(line: &[u8]) -> bool
     ensures { result ≡ bytes_eq (take 6 line.now) (codes "input ") }
 {
     match line {
@@ -148,7 +148,7 @@ fn is_input_line(line: &[u8]) -> bool
 }
 
 // Whether a line begins with `output` and a space.
-fn is_output_line(line: &[u8]) -> bool
+fn begins_as_output(line: &[u8]) -> bool
     ensures { result ≡ bytes_eq (take 7 line.now) (codes "output ") }
 {
     match line {
@@ -158,7 +158,7 @@ fn is_output_line(line: &[u8]) -> bool
 }
 
 // Whether a line begins with `spill` and a space.
-fn is_spill_line(line: &[u8]) -> bool
+fn begins_as_spill(line: &[u8]) -> bool
     ensures { result ≡ bytes_eq (take 6 line.now) (codes "spill ") }
 {
     match line {
@@ -173,14 +173,14 @@ pub fn line_form(feed: &Feed, line: &Line) -> Option<Form<(), CircuitLine>>
     ensures { result ≡ form_of (words_of (line_bytes feed.now line.now)) }
 {
     let bytes = feed.line(line);
-    if is_output_line(bytes) {
-        return lone_name_form(Kind::Output, &bytes[7..]);
+    if begins_as_output(bytes) {
+        return lone_name_form(CircuitLineKind::Output, &bytes[7..]);
     }
-    if is_input_line(bytes) {
-        return lone_name_form(Kind::Input, &bytes[6..]);
+    if begins_as_input(bytes) {
+        return lone_name_form(CircuitLineKind::Input, &bytes[6..]);
     }
-    if is_spill_line(bytes) {
-        return lone_name_form(Kind::Spill, &bytes[6..]);
+    if begins_as_spill(bytes) {
+        return lone_name_form(CircuitLineKind::Spill, &bytes[6..]);
     }
     line_form_by_words(feed, line)
 }

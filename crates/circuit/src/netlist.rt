@@ -6,7 +6,7 @@ ghost use Rattle.circuit.specs.Meaning.{AreOrdered, wire_of, wires};
 ghost use Rattle.circuit.specs.Wiring.{gate_of};
 ghost use Rattle.lemmas.specs.Bounds.{max_gates, max_wires};
 
-use crate::circuit_line::{CircuitLine, Kind};
+use crate::circuit_line::{CircuitLine, CircuitLineKind};
 use crate::number::{GateNo, WireNo};
 use crate::wiring::{GateWires, values_of};
 use indexmap::IndexSet;
@@ -59,11 +59,11 @@ impl From<AllocError> for ValuesFault {
     }
 }
 
-fn is_input_kind(kind: Kind) -> bool
+fn is_input_kind(kind: CircuitLineKind) -> bool
     ensures { result ≡ is_input kind }
 {
     match kind {
-        Kind::Input => true,
+        CircuitLineKind::Input => true,
         _ => false,
     }
 }

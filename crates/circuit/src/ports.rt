@@ -1,9 +1,9 @@
 //! The names of a circuit's inputs and outputs.
 ghost use Rattle.std.specs.Prelude.{◌≡◌, [], ◌∷◌, ◌++◌, length, Some, OnOk, IfOk};
-ghost use Rattle.section_text.specs.Ports.{named_ports};
+ghost use Rattle.section_text.specs.Ports.{port_name_lists};
 ghost use Rattle.circuit.specs.Bridge.{input_names, netlist_of, output_names};
 
-use crate::circuit_line::{CircuitLine, Kind};
+use crate::circuit_line::{CircuitLine, CircuitLineKind};
 use crate::netlist::Circuit;
 use section_text::{Name, PortNames};
 use std::alloc::{AllocError, Global};
@@ -12,7 +12,7 @@ fn push_if_input(names: &mut Vec<Name>, entry: &CircuitLine) -> Result<(), Alloc
     ensures { OnOk result (names.new.items ≡ names.old.items ++ input_names (entry.now ∷ [])) }
 {
     match entry.kind {
-        Kind::Input => names.extend_from_slice(entry.outs.as_slice()),
+        CircuitLineKind::Input => names.extend_from_slice(entry.outs.as_slice()),
         _ => Ok(()),
     }
 }
@@ -21,7 +21,7 @@ fn push_if_output(names: &mut Vec<Name>, entry: &CircuitLine) -> Result<(), Allo
     ensures { OnOk result (names.new.items ≡ names.old.items ++ output_names (entry.now ∷ [])) }
 {
     match entry.kind {
-        Kind::Output => names.extend_from_slice(entry.ins.as_slice()),
+        CircuitLineKind::Output => names.extend_from_slice(entry.ins.as_slice()),
         _ => Ok(()),
     }
 }
@@ -43,7 +43,7 @@ fn push_port_names_of_lines(
 
 /// Returns the names of the inputs and of the outputs, each in the order of their lines. A spill is no output.
 pub fn port_names(alloc: Global, circuit: &Circuit) -> Result<PortNames, AllocError>
-    ensures ports { IfOk result (λ names. named_ports names
+    ensures ports { IfOk result (λ names. port_name_lists names
         ≡ Some (record { ins = input_names circuit.now; outs = output_names circuit.now })) }
     ensures count { length (input_names circuit.now) ≡ (netlist_of circuit.now).given }
 {

@@ -7,7 +7,7 @@ ghost use Rattle.circuit.specs.Bridge.{netlist_of};
 ghost use Rattle.circuit.specs.Meaning.{wires};
 ghost use Rattle.circuit.specs.Text.{value_line, value_lines, gate_word, gate_parameter_words, first_word, words_after_keyword, entry_text, circuit_text};
 
-use crate::circuit_line::{CircuitLine, GateKind, Kind};
+use crate::circuit_line::{CircuitLine, CircuitLineKind, GateKind};
 use crate::netlist::Circuit;
 use section_text::{Name, print_number, print_word};
 use std::alloc::{AllocError, Global};
@@ -48,21 +48,21 @@ fn print_entry(out: &mut Vec<u8>, entry: &CircuitLine) -> Result<(), AllocError>
     ensures { OnOk result (out.new.items ≡ out.old.items ++ entry_text entry.now) }
 {
     match entry.kind {
-        Kind::Input => {
+        CircuitLineKind::Input => {
             out.extend_from_slice(b"input")?;
             print_names(out, entry.outs.as_slice())?;
         }
-        Kind::Gate(kind) => {
+        CircuitLineKind::Gate(kind) => {
             print_gate(out, kind)?;
             print_names(out, entry.ins.as_slice())?;
             out.extend_from_slice(b" ->")?;
             print_names(out, entry.outs.as_slice())?;
         }
-        Kind::Output => {
+        CircuitLineKind::Output => {
             out.extend_from_slice(b"output")?;
             print_names(out, entry.ins.as_slice())?;
         }
-        Kind::Spill => {
+        CircuitLineKind::Spill => {
             out.extend_from_slice(b"spill")?;
             print_names(out, entry.ins.as_slice())?;
         }

@@ -57,7 +57,7 @@ impl Section for Reading {
     }
 
     fn missing(&self) -> Option<RefusalCode> {
-        match self.draft.unconsumed_name() {
+        match self.draft.first_unconsumed_name() {
             Some(_) => Some(RefusalCode::SomethingMissing),
             None => None,
         }

@@ -69,7 +69,7 @@ pub(crate) fn define_wires(
 }
 
 /// Sets the marks of wires.
-pub(crate) fn mark_wires(consumed: &mut Vec<bool>, wires: &[WireNo])
+pub(crate) fn mark_wires_consumed(consumed: &mut Vec<bool>, wires: &[WireNo])
     requires { All (λ w. w < length consumed.old.items) wires.now }
     ensures { consumed.new.items ≡ with_marks_set wires.now consumed.old.items }
 {

@@ -7,7 +7,7 @@ ghost use Rattle.circuit.specs.Evaluate.{evaluate, IsGateEvaluationError};
 ghost use Rattle.circuit.specs.Wiring.{gate_of, gate_with_outs_from};
 ghost use Rattle.lemmas.specs.Bounds.{max_wires};
 
-use crate::circuit_line::{GateKind, Kind};
+use crate::circuit_line::{CircuitLineKind, GateKind};
 use crate::netlist::ValuesFault;
 use crate::number::WireNo;
 use std::alloc::{AllocError, Global};
@@ -61,7 +61,7 @@ fn four_wires_from(first: u16) -> [WireNo; 4]
 /// changes nothing.
 pub(crate) fn push_gate_of_line(
     gates: &mut Vec<GateWires>,
-    kind: Kind,
+    kind: CircuitLineKind,
     ins: [WireNo; 4],
     first: u16,
 ) -> Result<(), AllocError>
@@ -73,7 +73,7 @@ pub(crate) fn push_gate_of_line(
     ensures err { OnErr result (gates.new.items ≡ gates.old.items) }
 {
     match kind {
-        Kind::Gate(kind) => {
+        CircuitLineKind::Gate(kind) => {
             let outs = four_wires_from(first);
             gates.push(GateWires { kind, ins, outs })?;
             Ok(())

@@ -1,7 +1,8 @@
 -- The laws of books
-use Rattle.core_book.proofs.Imports.{Accepted, BookView, Bool, Closed, Content, Digest, Double, Finding, IsOwn, IsSome}
+use Rattle.core_book.proofs.Imports.{Accepted, BelongsToBook, BookView, Bool, Closed, Content, Digest, Double, Finding}
+use Rattle.core_book.proofs.Imports.{IsSome}
 use Rattle.core_book.proofs.Imports.{None, Number, Option, Reply, Some, Stranger, after_filing, ap, arith, common_steps}
-use Rattle.core_book.proofs.Imports.{digest_of, false, found_in, get_or-set_other, get_or-set_same, if◌then◌else◌}
+use Rattle.core_book.proofs.Imports.{digest_of, false, get_or-set_other, get_or-set_same, held_finding, if◌then◌else◌}
 use Rattle.core_book.proofs.Imports.{is_job_of, is_some, job_of, jobs_decide, least_keep_unique, least_unique, length}
 use Rattle.core_book.proofs.Imports.{nat_eq, nat_lt, nat_tests, not, number_of, option_eq, pointwise, refl, reply_to}
 use Rattle.core_book.proofs.Imports.{same_Some, slice_get, slice_get_within, subst, sym, true, ℕ, ◌∙◌, ◌≡◌, ◌≢◌}
@@ -20,21 +21,24 @@ none_held o h1 = grind (arith, common_steps)
 
 -- ---- a finding of the book's own passes the tests
 
-pub own-digest : (b : BookView) (n : ℕ) (f : Finding) → IsOwn b n f → pointwise nat_eq (digest_of f) b.digest ≡ true
+pub own-digest : (b : BookView) (n : ℕ) (f : Finding) → BelongsToBook b n f →
+    pointwise nat_eq (digest_of f) b.digest ≡ true
 own-digest b n f own = (bytes_decides (digest_of f) b.digest).1 own.digest
 
-pub own-number : (b : BookView) (f : Finding) → IsOwn b (number_of f) f → nat_lt (number_of f) (length b.jobs) ≡ true
+pub own-number : (b : BookView) (f : Finding) → BelongsToBook b (number_of f) f →
+    nat_lt (number_of f) (length b.jobs) ≡ true
 own-number b f own = grind (arith, common_steps, slice_get_within, nat_tests)
 
-pub own-job : (b : BookView) (n : ℕ) (f : Finding) → IsOwn b n f → is_job_of b.jobs n (job_of f) ≡ true
+pub own-job : (b : BookView) (n : ℕ) (f : Finding) → BelongsToBook b n f → is_job_of b.jobs n (job_of f) ≡ true
 unfolding is_job_of
 own-job b n f own = grind (arith, common_steps, option_eq, jobs_decide)
 
 pub accepts-its-own : AcceptedFindingMatchesBookAndIsNew
 accepts-its-own b f e = (accepted-own b f e, none_held _ (accepted-new b f e))
 
-no_stranger : (b : BookView) (f : Finding) (mismatch : Mismatch) (closed held : Bool) → IsOwn b (number_of f) f →
-    b.closed ≡ closed → is_some (found_in b (number_of f)) ≡ held → reply_to b f ≢ Stranger mismatch
+no_stranger : (b : BookView) (f : Finding) (mismatch : Mismatch) (closed held : Bool) →
+    BelongsToBook b (number_of f) f →
+    b.closed ≡ closed → is_some (held_finding b (number_of f)) ≡ held → reply_to b f ≢ Stranger mismatch
 no_stranger b f mismatch true held own is held_is e = grind (arith, common_steps, reply_to-closed)
 no_stranger b f mismatch false true own is held_is e =
     grind (arith, common_steps, reply_to-held, own-digest, own-number, own-job)
@@ -64,7 +68,7 @@ doubles false true true true false n k e = cc
 
 double_tells : (b : BookView) (f : Finding) (k : ℕ) → reply_to b f ≡ Double k →
     IsDouble (pointwise nat_eq (digest_of f) b.digest) (nat_lt (number_of f) (length b.jobs))
-    (is_job_of b.jobs (number_of f) (job_of f)) (is_some (found_in b (number_of f))) (number_of f) k
+    (is_job_of b.jobs (number_of f) (job_of f)) (is_some (held_finding b (number_of f))) (number_of f) k
 unfolding reply_to
 double_tells b f k e = doubles _ _ _ _ _ (number_of f) k e
 
@@ -81,13 +85,13 @@ closed_tells b f e = not_closed _ _ _ _ _ (number_of f) e
 pub closed-answers-closed : ClosedBookAloneAnswersClosed
 closed-answers-closed b f = (closed_tells b f, reply_to-closed b f)
 
-double-own : (b : BookView) (f : Finding) (k : ℕ) → reply_to b f ≡ Double k → IsOwn b k f
+double-own : (b : BookView) (f : Finding) (k : ℕ) → reply_to b f ≡ Double k → BelongsToBook b k f
 double-own b f k e = grind (arith, common_steps, double_tells, bytes_decides, is_job_of-true)
 
 pub doubles-what_is_held : DoubleFindingMatchesBookAndIsHeld
 doubles-what_is_held b f k e =
     let p = double_tells b f k e in
-    (double-own b f k e, subst (λ (n : ℕ). IsSome (found_in b n)) p.same p.held_is)
+    (double-own b f k e, subst (λ (n : ℕ). IsSome (held_finding b n)) p.same p.held_is)
 
 -- ---- what a filing leaves
 
@@ -95,15 +99,16 @@ pub holds-what_is_accepted : AcceptedFindingIsHeld
 holds-what_is_accepted b f is e = grind (arith, common_steps, findings_after-accepted, get_or-set_same, accepted-inside)
 
 -- a number whose finding was accepted held none before
-other_number : (b : BookView) (f g : Finding) (k : ℕ) → reply_to b f ≡ Accepted → found_in b k ≡ Some g →
+other_number : (b : BookView) (f g : Finding) (k : ℕ) → reply_to b f ≡ Accepted → held_finding b k ≡ Some g →
     k ≢ number_of f
 other_number b f g k e held same =
-    let new : is_some (found_in b k) ≡ false = ap (λ (n : ℕ). is_some (found_in b n)) same ∙ accepted-new b f e in
-    let old : is_some (found_in b k) ≡ true = ap is_some held in
+    let new : is_some (held_finding b k) ≡ false =
+    ap (λ (n : ℕ). is_some (held_finding b n)) same ∙ accepted-new b f e in
+    let old : is_some (held_finding b k) ≡ true = ap is_some held in
     cc
 
-keeps : (b : BookView) (f g : Finding) (k : ℕ) (r : Reply) → reply_to b f ≡ r → found_in b k ≡ Some g →
-    found_in (after_filing b f) k ≡ Some g
+keeps : (b : BookView) (f g : Finding) (k : ℕ) (r : Reply) → reply_to b f ≡ r → held_finding b k ≡ Some g →
+    held_finding (after_filing b f) k ≡ Some g
 keeps b f g k Accepted e held = grind (arith, common_steps, findings_after-accepted, get_or-set_other, other_number)
 keeps b f g k _ e held = grind (arith, common_steps, findings_after-other)
 
@@ -121,7 +126,7 @@ stays-replayed b book is = ((λ f. IsReplayed-filed b f book is), IsReplayed-clo
 
 -- a filing that is accepted changes nothing at another number
 pub held-elsewhere : (b : BookView) (f : Finding) (k : ℕ) → reply_to b f ≡ Accepted → k ≢ number_of f →
-    found_in (after_filing b f) k ≡ found_in b k
+    held_finding (after_filing b f) k ≡ held_finding b k
 held-elsewhere b f k e other = grind (arith, common_steps, findings_after-accepted, get_or-set_other)
 
 -- ---- two books

@@ -2,7 +2,8 @@
 use Rattle.core_book.proofs.Imports.{Accepted, All, Bool, Closed, CoreView, Double, Event, Finding, HasSeatBelow}
 use Rattle.core_book.proofs.Imports.{IsBook, IsCore, IsDrawn, IsReplayed, JobView, List, None, Option, Reply, Some}
 use Rattle.core_book.proofs.Imports.{Stranger, [], after_claim, after_event, after_events, after_filing, ap, arith}
-use Rattle.core_book.proofs.Imports.{common_steps, cond, draws_of, eqb_tells, false, found_in, get_or, if◌then◌else◌}
+use Rattle.core_book.proofs.Imports.{common_steps, cond, draws_of, eqb_tells, false, get_or, held_finding}
+use Rattle.core_book.proofs.Imports.{if◌then◌else◌}
 use Rattle.core_book.proofs.Imports.{inl, inr, is_seat_finished, is_some, job_count_of, length, nat_lt, nat_tests}
 use Rattle.core_book.proofs.Imports.{new_core, number_of, occurrences, refl, reply_to, same_Some, subst, sum_by, sym}
 use Rattle.core_book.proofs.Imports.{total, true, ℕ, ◌+◌, ◌<◌, ◌==◌, ◌∙◌, ◌∷◌, ◌≡◌, ◌≢◌, ◌≤◌}
@@ -18,7 +19,7 @@ use Rattle.core_book.proofs.BookLaws.{held-elsewhere, holds-nothing_else, holds-
 use Rattle.core_book.proofs.CoreSteps.{claim-core, events-core, length-events, length-new, new-core}
 use Rattle.core_book.proofs.Counting.{one_if_ended-all}
 use Rattle.core_book.proofs.Filings.{IsBook-filed, accepted-new}
-use Rattle.core_book.proofs.Replays.{IsBook-new, IsReplayed-filed, IsReplayed-new, found_in-new}
+use Rattle.core_book.proofs.Replays.{IsBook-new, IsReplayed-filed, IsReplayed-new, held_finding-new}
 use Rattle.core_book.specs.declared.machine.Answer.TheVariants as Answered
 use Rattle.core_book.specs.declared.machine.Event.TheVariants as Events
 use Rattle.core_book.specs.declared.claim.Claim.TheVariants as Claimed
@@ -98,9 +99,9 @@ unfolding new_core
 new-replayed digest jobs seats = IsReplayed-new digest jobs
 
 new-nothing : (digest : List ℕ) (jobs : List JobView) (seats : ℕ) (k : ℕ) →
-    found_in (new_core digest jobs seats).book k ≡ None
+    held_finding (new_core digest jobs seats).book k ≡ None
 unfolding new_core
-new-nothing digest jobs seats k = found_in-new digest jobs k
+new-nothing digest jobs seats k = held_finding-new digest jobs k
 
 pub events-replay : HistoryReplaysAfterEvents
 events-replay digest jobs seats es =
@@ -113,21 +114,22 @@ holds-honest_own digest jobs seats es k f h = grind (arith, common_steps, events
 
 -- what is held after an event was held before it, or was accepted by it
 held-event : (c : CoreView) (e : Event) (k : ℕ) (f : Finding) → IsBook c.book →
-    found_in (after_event c e).book k ≡ Some f → (found_in c.book k ≡ Some f) ⊎ (Contains (findings_accepted_by c e) f)
+    held_finding (after_event c e).book k ≡ Some f →
+    (held_finding c.book k ≡ Some f) ⊎ (Contains (findings_accepted_by c e) f)
 held-event c (Events.Claim seat) k f is h = inl h
 held-event c (Events.Lose number) k f is h = inl h
 held-event c (Events.File g) k f is h = by_reply (reply_to c.book g) refl
   where
-    kept : reply_to c.book g ≢ Accepted → found_in c.book k ≡ Some f
+    kept : reply_to c.book g ≢ Accepted → held_finding c.book k ≡ Some f
     kept other = ap (λ (xs : List (Option Finding)). get_or xs k None) (sym (holds-nothing_else c.book g other)) ∙ h
 
     by_reply : (r : Reply) → reply_to c.book g ≡ r →
-        (found_in c.book k ≡ Some f) ⊎ (Contains (finding_if_accepted g r) f)
+        (held_finding c.book k ≡ Some f) ⊎ (Contains (finding_if_accepted g r) f)
     by_reply Accepted e =
         elim (eqb_tells (number_of g) k) [
           | inl p ↦
-              let there : found_in (after_filing c.book g) k ≡ Some g =
-              ap (λ (n : ℕ). found_in (after_filing c.book g) n) (sym p.1) ∙ holds-what_is_accepted c.book g is e in
+              let there : held_finding (after_filing c.book g) k ≡ Some g =
+              ap (λ (n : ℕ). held_finding (after_filing c.book g) n) (sym p.1) ∙ holds-what_is_accepted c.book g is e in
               let same : g ≡ f = same_Some g f (sym there ∙ h) in
               inr (subst (λ (x : Finding). Contains (g ∷ []) x) same (Contains-push [] g))
           | inr q ↦ inl (sym (held-elsewhere c.book g k e (λ s. q.1 (sym s))) ∙ h)
@@ -136,29 +138,29 @@ held-event c (Events.File g) k f is h = by_reply (reply_to c.book g) refl
 
 -- what is accepted by an event is held after it
 accepted-event : (c : CoreView) (e : Event) (f : Finding) → IsBook c.book → Contains (findings_accepted_by c e) f →
-    found_in (after_event c e).book (number_of f) ≡ Some f
+    held_finding (after_event c e).book (number_of f) ≡ Some f
 accepted-event c (Events.Claim seat) f is m = absurd (nothing_in f m)
 accepted-event c (Events.Lose number) f is m = absurd (nothing_in f m)
 accepted-event c (Events.File g) f is m = by_reply (reply_to c.book g) refl m
   where
     by_reply : (r : Reply) → reply_to c.book g ≡ r → Contains (finding_if_accepted g r) f →
-        found_in (after_filing c.book g) (number_of f) ≡ Some f
+        held_finding (after_filing c.book g) (number_of f) ≡ Some f
     by_reply Accepted e m =
         let same : g ≡ f = one_in g f m in
-        subst (λ (x : Finding). found_in (after_filing c.book g) (number_of x) ≡ Some x) same
+        subst (λ (x : Finding). held_finding (after_filing c.book g) (number_of x) ≡ Some x) same
         (holds-what_is_accepted c.book g is e)
     by_reply Closed e m = absurd (nothing_in f m)
     by_reply (Stranger mismatch) e m = absurd (nothing_in f m)
     by_reply (Double number) e m = absurd (nothing_in f m)
 
-events-keep-all : (es : List Event) (c : CoreView) (k : ℕ) (f : Finding) → found_in c.book k ≡ Some f →
-    found_in (after_events c es).book k ≡ Some f
+events-keep-all : (es : List Event) (c : CoreView) (k : ℕ) (f : Finding) → held_finding c.book k ≡ Some f →
+    held_finding (after_events c es).book k ≡ Some f
 events-keep-all [] c k f h = h
 events-keep-all (e ∷ es) c k f h = events-keep-all es (after_event c e) k f (events-keep c e k f h)
 
 held-among : (es : List Event) (c : CoreView) (k : ℕ) (f : Finding) → IsBook c.book →
-    found_in (after_events c es).book k ≡ Some f →
-    (found_in c.book k ≡ Some f) ⊎ (Contains (findings_accepted_in c es) f)
+    held_finding (after_events c es).book k ≡ Some f →
+    (held_finding c.book k ≡ Some f) ⊎ (Contains (findings_accepted_in c es) f)
 held-among [] c k f is h = inl h
 held-among (e ∷ es) c k f is h =
     elim (held-among es (after_event c e) k f (event-book c e is) h) [
@@ -172,7 +174,7 @@ held-among (e ∷ es) c k f is h =
     ]
 
 among-held : (es : List Event) (c : CoreView) (f : Finding) → IsBook c.book → Contains (findings_accepted_in c es) f →
-    found_in (after_events c es).book (number_of f) ≡ Some f
+    held_finding (after_events c es).book (number_of f) ≡ Some f
 among-held [] c f is m = absurd (nothing_in f m)
 among-held (e ∷ es) c f is m =
     elim (Contains-append_cases (findings_accepted_by c e) (findings_accepted_in (after_event c e) es) f m) [
@@ -183,7 +185,7 @@ among-held (e ∷ es) c f is m =
 pub holds-what_was_accepted : HoldsWhatWasAccepted
 holds-what_was_accepted digest jobs seats es k f = (forth, back)
   where
-    forth : found_in (core_after digest jobs seats es).book k ≡ Some f →
+    forth : held_finding (core_after digest jobs seats es).book k ≡ Some f →
         Contains (findings_accepted_in (new_core digest jobs seats) es) f × (number_of f ≡ k)
     forth h = (
       elim (held-among es (new_core digest jobs seats) k f (new-book digest jobs seats) h) [
@@ -194,13 +196,13 @@ holds-what_was_accepted digest jobs seats es k f = (forth, back)
     )
 
     back : Contains (findings_accepted_in (new_core digest jobs seats) es) f × (number_of f ≡ k) →
-        found_in (core_after digest jobs seats es).book k ≡ Some f
-    back p = subst (λ (n : ℕ). found_in (core_after digest jobs seats es).book n ≡ Some f) p.1
+        held_finding (core_after digest jobs seats es).book k ≡ Some f
+    back p = subst (λ (n : ℕ). held_finding (core_after digest jobs seats es).book n ≡ Some f) p.1
         (among-held es (new_core digest jobs seats) f (new-book digest jobs seats) p.0)
 
 -- 1 where a finding is held for the number, and else 0
 abbrev held_at : CoreView → ℕ → ℕ
-held_at c k = cond (is_some (found_in c.book k)) 1 0
+held_at c k = cond (is_some (held_finding c.book k)) 1 0
 
 -- 1 for a finding of the number, and else 0
 abbrev at_number : ℕ → Finding → ℕ
@@ -235,5 +237,5 @@ at_most_one false = omega arith
 pub accepts-one_for_each : AcceptsAtMostOnePerNumber
 accepts-one_for_each digest jobs seats es k =
     let all = one-among es (new_core digest jobs seats) k (new-book digest jobs seats) in
-    let most = at_most_one (is_some (found_in (core_after digest jobs seats es).book k)) in
+    let most = at_most_one (is_some (held_finding (core_after digest jobs seats es).book k)) in
     omega (arith, all, most)

@@ -1,8 +1,8 @@
 -- Replies, and what filing keeps
 use Rattle.core_book.proofs.Imports.{Accepted, BookView, Bool, Closed, Content, Digest, Double, Filed, Filing, Finding}
-use Rattle.core_book.proofs.Imports.{IsBook, IsOwn, JobView, List, LogEntry, None, Number, Option, Reply, Some}
-use Rattle.core_book.proofs.Imports.{Stranger, [], accepted_in, after_closing, after_filing, ap, arith, common_steps}
-use Rattle.core_book.proofs.Imports.{cond, digest_of, eqb_tells, false, filing_of, findings_after, found_in, get_or}
+use Rattle.core_book.proofs.Imports.{BelongsToBook, IsBook, JobView, List, LogEntry, None, Number, Option, Reply, Some}
+use Rattle.core_book.proofs.Imports.{Stranger, [], after_closing, after_filing, ap, arith, common_steps, held_count}
+use Rattle.core_book.proofs.Imports.{cond, digest_of, eqb_tells, false, filing_of, findings_after, get_or, held_finding}
 use Rattle.core_book.proofs.Imports.{get_or-set_other, get_or-set_same, if◌then◌else◌, is_job_of, is_some, job_of}
 use Rattle.core_book.proofs.Imports.{jobs_decide, length, length-set, map, nat_eq, nat_lt, nat_tests, not, number_of}
 use Rattle.core_book.proofs.Imports.{option_eq, option_map, pointwise, refl, reply_to, same_job, set, slice_get}
@@ -36,13 +36,13 @@ reply_to-other_job b f closed digest number job = rw (closed, digest, number, jo
 
 pub reply_to-held : (b : BookView) (f : Finding) → b.closed ≡ false → pointwise nat_eq (digest_of f) b.digest ≡ true →
     nat_lt (number_of f) (length b.jobs) ≡ true → is_job_of b.jobs (number_of f) (job_of f) ≡ true →
-    is_some (found_in b (number_of f)) ≡ true → reply_to b f ≡ Double (number_of f)
+    is_some (held_finding b (number_of f)) ≡ true → reply_to b f ≡ Double (number_of f)
 unfolding reply_to
 reply_to-held b f closed digest number job held = rw (closed, digest, number, job, held)
 
 pub reply_to-new : (b : BookView) (f : Finding) → b.closed ≡ false → pointwise nat_eq (digest_of f) b.digest ≡ true →
     nat_lt (number_of f) (length b.jobs) ≡ true → is_job_of b.jobs (number_of f) (job_of f) ≡ true →
-    is_some (found_in b (number_of f)) ≡ false → reply_to b f ≡ Accepted
+    is_some (held_finding b (number_of f)) ≡ false → reply_to b f ≡ Accepted
 unfolding reply_to
 reply_to-new b f closed digest number job held = rw (closed, digest, number, job, held)
 
@@ -117,7 +117,7 @@ passes false true true true false n e = grind (arith, common_steps)
 
 accepted-passes : (b : BookView) (f : Finding) → reply_to b f ≡ Accepted →
     Passes b.closed (pointwise nat_eq (digest_of f) b.digest) (nat_lt (number_of f) (length b.jobs))
-    (is_job_of b.jobs (number_of f) (job_of f)) (is_some (found_in b (number_of f)))
+    (is_job_of b.jobs (number_of f) (job_of f)) (is_some (held_finding b (number_of f)))
 unfolding reply_to
 accepted-passes b f e = passes _ _ _ _ _ (number_of f) e
 
@@ -130,7 +130,7 @@ pub is_job_of-true : (jobs : List JobView) (n : ℕ) (job : JobView) → is_job_
 unfolding is_job_of
 is_job_of-true jobs n job e = same_option (slice_get jobs n) job e
 
-pub accepted-own : (b : BookView) (f : Finding) → reply_to b f ≡ Accepted → IsOwn b (number_of f) f
+pub accepted-own : (b : BookView) (f : Finding) → reply_to b f ≡ Accepted → BelongsToBook b (number_of f) f
 accepted-own b f e =
     let p = accepted-passes b f e in
     record {
@@ -144,7 +144,8 @@ accepted-number b f e =
     let p = accepted-passes b f e in
     grind (arith, nat_tests, p.number_is)
 
-pub accepted-new : (b : BookView) (f : Finding) → reply_to b f ≡ Accepted → is_some (found_in b (number_of f)) ≡ false
+pub accepted-new : (b : BookView) (f : Finding) → reply_to b f ≡ Accepted →
+    is_some (held_finding b (number_of f)) ≡ false
 accepted-new b f e = (accepted-passes b f e).held_is
 
 -- ---- what is held after a filing
@@ -164,17 +165,18 @@ unfolding findings_after
 findings_after-other held f r h1 = grind (arith, common_steps)
 
 -- whose a finding is depends on the digest and the jobs alone
-own-moved : (b c : BookView) (n : ℕ) (f : Finding) → b.digest ≡ c.digest → b.jobs ≡ c.jobs → IsOwn b n f → IsOwn c n f
+own-moved : (b c : BookView) (n : ℕ) (f : Finding) → b.digest ≡ c.digest → b.jobs ≡ c.jobs → BelongsToBook b n f →
+    BelongsToBook c n f
 own-moved b c n f digest jobs p = grind (arith, common_steps, slice_get)
 
-own-set : (b : BookView) (n : ℕ) (f : Finding) → n < length b.findings → IsOwn b n f → IsBook b →
+own-set : (b : BookView) (n : ℕ) (f : Finding) → n < length b.findings → BelongsToBook b n f → IsBook b →
     (k : ℕ) (g : Finding) →
-    get_or (set b.findings n (Some f)) k None ≡ Some g → IsOwn b k g
+    get_or (set b.findings n (Some f)) k None ≡ Some g → BelongsToBook b k g
 own-set b n f inside own is k g e = grind (arith, common_steps, eqb_tells, get_or-set_same, get_or-set_other)
 
 -- a book that holds what another one held after a filing
 book-of : (b c : BookView) (held : List (Option Finding)) → b.digest ≡ c.digest → b.jobs ≡ c.jobs → c.findings ≡ held →
-    length held ≡ length b.jobs → ((k : ℕ) (g : Finding) → get_or held k None ≡ Some g → IsOwn b k g) → IsBook c
+    length held ≡ length b.jobs → ((k : ℕ) (g : Finding) → get_or held k None ≡ Some g → BelongsToBook b k g) → IsBook c
 book-of b c held digest jobs same places own = record {
   places = ap length same ∙ places ∙ ap length jobs;
   own = λ k g e. own-moved b c k g digest jobs (own k g (ap (λ os. get_or os k None) (sym same) ∙ e));
@@ -199,28 +201,28 @@ IsBook-closed b is = book-of b (after_closing b) b.findings refl refl refl is.pl
 abbrev counted : Option Finding → ℕ
 counted o = cond (is_some o) 1 0
 
-pub accepted_in-accepted : (b : BookView) (f : Finding) → IsBook b → reply_to b f ≡ Accepted →
-    accepted_in (after_filing b f) ≡ accepted_in b + 1
-accepted_in-accepted b f is e =
+pub held_count-accepted : (b : BookView) (f : Finding) → IsBook b → reply_to b f ≡ Accepted →
+    held_count (after_filing b f) ≡ held_count b + 1
+held_count-accepted b f is e =
     let inside : number_of f < length b.findings = accepted-inside b f is e in
     let sum = sum_by-set counted b.findings (number_of f) (Some f) None inside in
     let none : counted (get_or b.findings (number_of f) None) ≡ counted None =
     ap (λ (t : Bool). cond t 1 0) (accepted-new b f e) in
-    let one : accepted_in (after_filing b f) ≡ sum_by counted (set b.findings (number_of f) (Some f)) =
+    let one : held_count (after_filing b f) ≡ sum_by counted (set b.findings (number_of f) (Some f)) =
     ap (sum_by counted) (findings_after-accepted b f e) in
     omega (arith, sum, none, one)
 
-pub accepted_in-other : (b : BookView) (f : Finding) → reply_to b f ≢ Accepted →
-    accepted_in (after_filing b f) ≡ accepted_in b
-accepted_in-other b f other = ap (sum_by counted) (findings_after-other b.findings f (reply_to b f) other)
+pub held_count-other : (b : BookView) (f : Finding) → reply_to b f ≢ Accepted →
+    held_count (after_filing b f) ≡ held_count b
+held_count-other b f other = ap (sum_by counted) (findings_after-other b.findings f (reply_to b f) other)
 
 by_reply : (b : BookView) (f : Finding) (r : Reply) → reply_to b f ≡ r → IsBook b →
-    accepted_in (after_filing b f) ≡ accepted_count_after (accepted_in b) r
-by_reply b f r h1 h2 = grind (arith, common_steps, accepted_in-accepted, accepted_in-other)
+    held_count (after_filing b f) ≡ accepted_count_after (held_count b) r
+by_reply b f r h1 h2 = grind (arith, common_steps, held_count-accepted, held_count-other)
 
-pub accepted_in-filed : (b c after : BookView) (f : Finding) (r : Reply) → IsBook b → b ≡ c → r ≡ reply_to c f →
-    after ≡ after_filing c f → accepted_in after ≡ accepted_count_after (accepted_in c) r
-accepted_in-filed b c after f r is same e left = grind (arith, common_steps, by_reply)
+pub held_count-filed : (b c after : BookView) (f : Finding) (r : Reply) → IsBook b → b ≡ c → r ≡ reply_to c f →
+    after ≡ after_filing c f → held_count after ≡ accepted_count_after (held_count c) r
+held_count-filed b c after f r is same e left = grind (arith, common_steps, by_reply)
 
 pub accepted_count_after-other : (n : ℕ) (r : Reply) → (r ≡ Accepted → ⊥) → accepted_count_after n r ≡ n
 accepted_count_after-other n r h1 = grind (arith, common_steps)

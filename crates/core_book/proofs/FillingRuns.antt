@@ -1,6 +1,7 @@
 -- While a book is filled up, one job of each shape is run at most
 use Rattle.core_book.proofs.Imports.{AreGroups, BookView, Bool, Finding, HoldsOfSameShape, IsSome, JobView, List, None}
-use Rattle.core_book.proofs.Imports.{Option, Some, ap, arith, common_steps, false, found_in, get_or, group_count_below}
+use Rattle.core_book.proofs.Imports.{Option, Some, ap, arith, common_steps, false, get_or, group_count_below}
+use Rattle.core_book.proofs.Imports.{held_finding}
 use Rattle.core_book.proofs.Imports.{if◌then◌else◌, inl, inr, job_of, length, nat_tests, option_map, refl, same_Some}
 use Rattle.core_book.proofs.Imports.{shape_of, shapes_of, slice_get, slice_get-map, subst, suc, sym, true, zero, ℕ, ◌+◌}
 use Rattle.core_book.proofs.Imports.{◌<◌, ◌==◌, ◌∙◌, ◌≡◌, ◌≢◌, ◌≤◌}
@@ -49,7 +50,7 @@ holds_alike b c g n job filling are below at other =
     let first = are.each n below in
     let g_n = slice_index g n in
     let lower : g_n < n = by_order g_n n first.first other in
-    let f = some_of (found_in c g_n) (filling.filled.held g_n lower) in
+    let f = some_of (held_finding c g_n) (filling.filled.held g_n lower) in
     let own = filling.book.own g_n f.0 f.1 in
     record {
       finding = f.0;

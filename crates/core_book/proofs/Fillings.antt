@@ -1,8 +1,9 @@
 -- Books that are filled up
 use Rattle.core_book.proofs.Imports.{Accepted, BookView, Bool, Filed, Finding, IsBook, IsHeldOrFiled, IsOpenFor}
 use Rattle.core_book.proofs.Imports.{IsPartlyFilled, IsReplayed, IsSome, JobView, List, None, Option, Some, []}
-use Rattle.core_book.proofs.Imports.{accepted_in, after_filing, ap, append-nil, append_assoc, arith, common_steps, cond}
-use Rattle.core_book.proofs.Imports.{digest_of, eqb_tells, false, filing_of, found_in, get_or, if◌then◌else◌, inl, inr}
+use Rattle.core_book.proofs.Imports.{after_filing, ap, append-nil, append_assoc, arith, common_steps, cond, held_count}
+use Rattle.core_book.proofs.Imports.{digest_of, eqb_tells, false, filing_of, get_or, held_finding, if◌then◌else◌, inl}
+use Rattle.core_book.proofs.Imports.{inr}
 use Rattle.core_book.proofs.Imports.{is_some, job_of, jobs_decide, length, map, new_book, number_of, pointwise, refl}
 use Rattle.core_book.proofs.Imports.{reply_to, same_job, slice_get, subst, suc, sym, true, ℕ, ◌++◌, ◌+◌, ◌<◌, ◌∙◌, ◌∷◌}
 use Rattle.core_book.proofs.Imports.{◌≡◌, ◌≢◌, ◌≤◌}
@@ -40,13 +41,13 @@ new-open digest jobs b is = grind (arith, common_steps)
 
 -- a finding of the book's own, for a number that lacks one, is accepted
 pub new-accepted : (b : BookView) (f : Finding) (n : ℕ) (job : JobView) → b.closed ≡ false → digest_of f ≡ b.digest →
-    number_of f ≡ n → job_of f ≡ job → slice_get b.jobs n ≡ Some job → is_some (found_in b n) ≡ false →
+    number_of f ≡ n → job_of f ≡ job → slice_get b.jobs n ≡ Some job → is_some (held_finding b n) ≡ false →
     reply_to b f ≡ Accepted
 new-accepted b f n job still_open digest number whole at lacks =
     grind (arith, common_steps, reply_to-new, own-digest, own-number, own-job)
 
 pub filed-for : (b c : BookView) (f : Finding) (n : ℕ) (job : JobView) → b.closed ≡ false → digest_of f ≡ b.digest →
-    number_of f ≡ n → job_of f ≡ job → slice_get b.jobs n ≡ Some job → is_some (found_in b n) ≡ false →
+    number_of f ≡ n → job_of f ≡ job → slice_get b.jobs n ≡ Some job → is_some (held_finding b n) ≡ false →
     c ≡ after_filing b f → IsHeldOrFiled b c n
 filed-for b c f n job still_open digest number whole at lacks after =
     inr (record {
@@ -60,15 +61,15 @@ filed-for b c f n job still_open digest number whole at lacks after =
 -- ---- number after number
 
 -- a number that held a finding before
-missing_numbers_below-held : (b : BookView) (n : ℕ) → is_some (found_in b n) ≡ true →
+missing_numbers_below-held : (b : BookView) (n : ℕ) → is_some (held_finding b n) ≡ true →
     missing_numbers_below b (suc n) ≡ missing_numbers_below b n
 missing_numbers_below-held b n held = grind (arith, common_steps, append-nil)
 
-missing_numbers_below-new : (b : BookView) (n : ℕ) → is_some (found_in b n) ≡ false →
+missing_numbers_below-new : (b : BookView) (n : ℕ) → is_some (held_finding b n) ≡ false →
     missing_numbers_below b (suc n) ≡ missing_numbers_below b n ++ n ∷ []
 missing_numbers_below-new b n lacks = ap (λ (t : Bool). missing_numbers_below b n ++ (if t then [] else n ∷ [])) lacks
 
-step-held : (b c : BookView) (n : ℕ) → IsFilledTo b c n → is_some (found_in c n) ≡ true → IsFilledTo b c (suc n)
+step-held : (b c : BookView) (n : ℕ) → IsFilledTo b c n → is_some (held_finding c n) ≡ true → IsFilledTo b c (suc n)
 step-held b c n is held = grind (arith, common_steps, missing_numbers_below-held, eqb_tells)
 
 -- the entry of a finding that is accepted
@@ -76,13 +77,13 @@ entry-accepted : (b c : BookView) (f : Finding) (n : ℕ) → c.digest ≡ b.dig
     reply_to c f ≡ Accepted → Filed (filing_of c f) ≡ accepted_entry b.digest n
 entry-accepted b c f n digest number accepted = grind (arith, common_steps, accepted-own, own-job, c.jobs)
 
-history-filed : (b c : BookView) (f : Finding) (n : ℕ) → IsFilledTo b c n → is_some (found_in c n) ≡ false →
+history-filed : (b c : BookView) (f : Finding) (n : ℕ) → IsFilledTo b c n → is_some (held_finding c n) ≡ false →
     number_of f ≡ n → reply_to c f ≡ Accepted
     → (after_filing c f).history ≡ b.history ++ map (accepted_entry b.digest) (missing_numbers_below b (suc n))
 history-filed b c f n is lacks number accepted =
     grind (arith, common_steps, missing_numbers_below-new, entry-accepted, append_assoc, map-append, c.history)
 
-step-filed : (b c : BookView) (f : Finding) (n : ℕ) → IsBook c → IsFilledTo b c n → is_some (found_in c n) ≡ false →
+step-filed : (b c : BookView) (f : Finding) (n : ℕ) → IsBook c → IsFilledTo b c n → is_some (held_finding c n) ≡ false →
     number_of f ≡ n → reply_to c f ≡ Accepted → IsFilledTo b (after_filing c f) (suc n)
 step-filed b c f n book is lacks number accepted = record {
   digest_stays = is.digest_stays;
@@ -93,11 +94,12 @@ step-filed b c f n book is lacks number accepted = record {
   held = λ k below.
       elim (eqb_tells n k) [
         | inl p ↦
-            let here : found_in (after_filing c f) (number_of f) ≡ Some f = holds-what_is_accepted c f book accepted in
-            subst (λ (j : ℕ). IsSome (found_in (after_filing c f) j)) (number ∙ p.1) (ap is_some here)
+            let here : held_finding (after_filing c f) (number_of f) ≡ Some f =
+            holds-what_is_accepted c f book accepted in
+            subst (λ (j : ℕ). IsSome (held_finding (after_filing c f) j)) (number ∙ p.1) (ap is_some here)
         | inr q ↦
             let other : n ≢ k = q.1 in
-            let elsewhere : found_in (after_filing c f) k ≡ found_in c k =
+            let elsewhere : held_finding (after_filing c f) k ≡ held_finding c k =
             held-elsewhere c f k accepted (λ e. other (sym number ∙ sym e)) in
             ap is_some elsewhere ∙ is.held k (omega (arith, below, other))
       ];
@@ -138,8 +140,8 @@ count-all (o ∷ os) all =
     omega (arith, count o os, rest, one)
 
 pub is-full : (digest : List ℕ) (jobs : List JobView) (b : BookView) → IsOpenFor digest jobs b → IsReplayed b →
-    IsBook b → accepted_in b ≡ length b.jobs → IsFull digest jobs b
+    IsBook b → held_count b ≡ length b.jobs → IsFull digest jobs b
 is-full digest jobs b own replays book all = grind (arith, common_steps, full_book_holds-all)
 
-pub filled-all : (b c : BookView) (n : ℕ) → length b.jobs ≤ n → IsFilling b c n → accepted_in c ≡ length c.jobs
+pub filled-all : (b c : BookView) (n : ℕ) → length b.jobs ≤ n → IsFilling b c n → held_count c ≡ length c.jobs
 filled-all b c n past is = grind (arith, common_steps, count-all, c.jobs, c.findings)

@@ -1,6 +1,7 @@
 -- Books that hold a finding for each job
 use Rattle.core_book.proofs.Imports.{BookView, Finding, IsBook, IsHeld, JobView, List, None, Option, Some, [], arith}
-use Rattle.core_book.proofs.Imports.{common_steps, cond, count_by, found_in, get_or, is_some, length, refl, same_Some}
+use Rattle.core_book.proofs.Imports.{common_steps, cond, count_by, get_or, held_finding, is_some, length, refl}
+use Rattle.core_book.proofs.Imports.{same_Some}
 use Rattle.core_book.proofs.Imports.{slice_get, suc, sym, true, zero, ℕ, ◌+◌, ◌<◌, ◌∙◌, ◌∷◌, ◌≡◌}
 use Rattle.lemmas.proofs.Common.{count_by-le-length, sum_by-cons}
 use Rattle.core_book.specs.Laws.{FullBookHoldsAll}
@@ -18,7 +19,7 @@ all_there (Some f ∷ os) zero full below = refl
 all_there (Some f ∷ os) (suc k) full below =
     all_there os k (omega (arith, full, count (Some f) os)) (omega (arith, below))
 
-held : (b : BookView) (k : ℕ) (j : JobView) (o : Option Finding) → IsBook b → found_in b k ≡ o → is_some o ≡ true →
+held : (b : BookView) (k : ℕ) (j : JobView) (o : Option Finding) → IsBook b → held_finding b k ≡ o → is_some o ≡ true →
     slice_get b.jobs k ≡ Some j → IsHeld b k j
 held b k j None is e some at = cc
 held b k j (Some f) is e some at = record { finding = f; held = e; whole = same_Some _ _ (sym (is.own k f e).job ∙ at) }

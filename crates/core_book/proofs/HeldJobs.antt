@@ -1,6 +1,7 @@
 -- Jobs for which a finding is held, and their least faults
 use Rattle.core_book.proofs.Imports.{AreLeastFaultsOfJob, BookView, Bool, Finding, IsHeld, JobView, LeastFaults, List}
-use Rattle.core_book.proofs.Imports.{Some, [], ap, arith, common_steps, eqb_tells, false, found_in, get_or, inl, inr}
+use Rattle.core_book.proofs.Imports.{Some, [], ap, arith, common_steps, eqb_tells, false, get_or, held_finding, inl}
+use Rattle.core_book.proofs.Imports.{inr}
 use Rattle.core_book.proofs.Imports.{job_of, jobs_decide, length, length-append, map, same_Some, same_job, slice_get}
 use Rattle.core_book.proofs.Imports.{slice_get-map, slice_get_read, subst, sym, true, ℕ, ◌++◌, ◌+◌, ◌<◌, ◌∙◌, ◌∷◌, ◌≡◌}
 use Rattle.core_book.proofs.Imports.{◌≢◌}
@@ -13,7 +14,7 @@ pub whole-job : (wanted theirs : JobView) (f : Finding) (r : Bool) → r ≡ sam
     r ≡ true → job_of f ≡ wanted
 whole-job wanted theirs f r e t is = sym t ∙ (jobs_decide theirs wanted).0 (sym e ∙ is)
 
-pub other-job : (b : BookView) (n : ℕ) (f : Finding) (wanted theirs : JobView) (r : Bool) → Some f ≡ found_in b n →
+pub other-job : (b : BookView) (n : ℕ) (f : Finding) (wanted theirs : JobView) (r : Bool) → Some f ≡ held_finding b n →
     r ≡ same_job theirs wanted → theirs ≡ job_of f → r ≡ false → ¬ IsHeld b n wanted
 other-job b n f wanted theirs r held e t is = grind (arith, common_steps, same_Some, jobs_decide)
 
@@ -57,7 +58,8 @@ each_more jobs fs n j g count at least each k i f there got =
     ]
 
 pub one-more : (b : BookView) (jobs : List JobView) (n : ℕ) (fs : List LeastFaults) (j : JobView) (f : Finding)
-    (r : LeastFaults) → AreFaultsBelow b jobs n fs → slice_get jobs n ≡ Some j → found_in b n ≡ Some f → job_of f ≡ j →
+    (r : LeastFaults) → AreFaultsBelow b jobs n fs → slice_get jobs n ≡ Some j → held_finding b n ≡ Some f →
+    job_of f ≡ j →
     AreLeastFaultsOfJob (job_of f) r → AreFaultsBelow b jobs (n + 1) (fs ++ r ∷ [])
 one-more b jobs n fs j f r below at held whole told = record {
   held = held_more b jobs n j at below.held (record { finding = f; held = held; whole = whole });

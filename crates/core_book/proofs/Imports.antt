@@ -10,8 +10,9 @@ pub use Rattle.border_match.specs.declared.fault.BorderFault.{BorderFault}
 pub use Rattle.certificate.proofs.Imports.{append-nil, append_assoc, delay_and_meet_lines, nat_lt}
 pub use Rattle.certificate_lines.proofs.Imports.{get_or-set_same, is_some, length-replicate, length-set, nat_eq, set}
 pub use Rattle.circuit.proofs.Imports.{slice_get_read}
-pub use Rattle.core_book.specs.Book.{BookView, IsBook, IsOwn, IsReplayed, accepted_in, after_closing, after_filing}
-pub use Rattle.core_book.specs.Book.{filing_of, found_in}
+pub use Rattle.core_book.specs.Book.{BelongsToBook, BookView, IsBook, IsReplayed, after_closing, after_filing}
+pub use Rattle.core_book.specs.Book.{held_count}
+pub use Rattle.core_book.specs.Book.{filing_of, held_finding}
 unfoldable pub use Rattle.core_book.specs.Book.{findings_after, is_job_of, new_book, reply_to}
 pub use Rattle.core_book.specs.BookView.{book_view}
 pub use Rattle.core_book.specs.Claims.{draws_after_claim, is_seat_finished, next_after_claim}

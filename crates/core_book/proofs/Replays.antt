@@ -1,15 +1,16 @@
 -- The history of a book replays to it
 use Rattle.core_book.proofs.Imports.{Accepted, BookView, Bool, Filed, Filing, Finding, IsBook, IsReplayed, JobView}
-use Rattle.core_book.proofs.Imports.{List, LogEntry, None, Option, Reply, Some, [], accepted_in, after_closing}
+use Rattle.core_book.proofs.Imports.{List, LogEntry, None, Option, Reply, Some, [], after_closing, held_count}
 use Rattle.core_book.proofs.Imports.{after_filing, ap, arith, common_steps, count_by, eqb_tells, false, filing_of}
-use Rattle.core_book.proofs.Imports.{findings_after, found_in, get_or, get_or-set_other, get_or-set_same, if◌then◌else◌}
+use Rattle.core_book.proofs.Imports.{findings_after, get_or, get_or-set_other, get_or-set_same, held_finding}
+use Rattle.core_book.proofs.Imports.{if◌then◌else◌}
 use Rattle.core_book.proofs.Imports.{is_some, length, length-append, length-replicate, new_book, number_of, refl}
 use Rattle.core_book.proofs.Imports.{replicate, reply_to, set, suc, sym, true, zero, ℕ, ◌++◌, ◌+◌, ◌<◌, ◌∙◌, ◌∷◌, ◌≡◌}
 use Rattle.lemmas.proofs.Common.{list_any-append}
 use Rattle.core_book.specs.Replay.{Replayed, AreRepliesByRule, IsReplyByRule, accepted_after, after_entry}
 use Rattle.core_book.specs.Replay.{empty_replayed, has_closing, has_number, replay, replay_from}
 use Rattle.core_book.specs.declared.log_entry.LogEntry.TheVariants.{Closing}
-use Rattle.core_book.proofs.Filings.{accepted-inside, accepted_in-accepted, accepted_in-other, findings_after-accepted}
+use Rattle.core_book.proofs.Filings.{accepted-inside, findings_after-accepted, held_count-accepted, held_count-other}
 use Rattle.core_book.proofs.Filings.{findings_after-other}
 
 -- ---- one entry more
@@ -44,7 +45,7 @@ number-more ks held n f inside h k =
 by-reply : (b : BookView) (f : Finding) (ks : List ℕ) (held : List (Option Finding)) → IsReplayed b →
     accepted_after (replay b.history).accepted (number_of f) (reply_to b f) ≡ ks →
     findings_after b.findings f (reply_to b f) ≡ held →
-    length ks ≡ accepted_in (after_filing b f) → ((k : ℕ) → has_number ks k ≡ is_some (get_or held k None)) →
+    length ks ≡ held_count (after_filing b f) → ((k : ℕ) → has_number ks k ≡ is_some (get_or held k None)) →
     IsReplayed (after_filing b f)
 by-reply b f ks held is numbers same count each =
     let e : LogEntry = Filed (filing_of b f) in
@@ -64,11 +65,11 @@ filed-by b f Accepted e book is =
     let ks = (replay b.history).accepted in
     by-reply b f (ks ++ number_of f ∷ []) (set b.findings (number_of f) (Some f)) is
     (ap (accepted_after ks (number_of f)) e) (findings_after-accepted b f e)
-    (length-append ks (number_of f ∷ []) ∙ ap (λ (n : ℕ). n + 1) is.count ∙ sym (accepted_in-accepted b f book e))
+    (length-append ks (number_of f ∷ []) ∙ ap (λ (n : ℕ). n + 1) is.count ∙ sym (held_count-accepted b f book e))
     (number-more ks b.findings (number_of f) f (accepted-inside b f book e) is.accepted)
 filed-by b f _ e book is =
     by-reply b f _ b.findings is (ap (accepted_after (replay b.history).accepted (number_of f)) e)
-    (findings_after-other b.findings f _ (λ s. cc)) (is.count ∙ sym (accepted_in-other b f (λ s. cc))) is.accepted
+    (findings_after-other b.findings f _ (λ s. cc)) (is.count ∙ sym (held_count-other b f (λ s. cc))) is.accepted
 
 pub IsReplayed-filed : (b : BookView) (f : Finding) → IsBook b → IsReplayed b → IsReplayed (after_filing b f)
 IsReplayed-filed b f book is = filed-by b f (reply_to b f) refl book is
@@ -140,6 +141,6 @@ found-nothing zero k = refl
 found-nothing (suc n) zero = refl
 found-nothing (suc n) (suc k) = found-nothing n k
 
-pub found_in-new : (digest : List ℕ) (jobs : List JobView) (k : ℕ) → found_in (new_book digest jobs) k ≡ None
+pub held_finding-new : (digest : List ℕ) (jobs : List JobView) (k : ℕ) → held_finding (new_book digest jobs) k ≡ None
 unfolding new_book
-found_in-new digest jobs k = found-nothing (length jobs) k
+held_finding-new digest jobs k = found-nothing (length jobs) k

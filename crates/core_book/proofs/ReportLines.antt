@@ -10,7 +10,7 @@ use Rattle.lemmas.proofs.Common.{◌&&◌, add-one, ap₂, drop, drop-cons, opti
 use Rattle.circuit.specs.Gates.{is_inverse}
 use Rattle.circuit.specs.Meaning.{Gate}
 use Rattle.certificate.specs.Keeps.{is_kept, unkept_from}
-use Rattle.certificate.specs.Times.{are_all_obeyed}
+use Rattle.certificate.specs.Times.{are_all_timings_obeyed}
 use Rattle.local_run.specs.Faults.{IsFault, IsKeepFault}
 use Rattle.local_run.specs.declared.fault.Fault.{Fault}
 use Rattle.local_run.specs.declared.fault.KeepFault.{KeepFault}
@@ -126,7 +126,8 @@ from_none k = omega arith
 
 pub accepted : (g : Setting) (ms : List ModuleLines) (jobs : List JobView) (fs : List LeastFaults)
     (bs : List (Option BorderFault)) → AreLeastFaults jobs fs → AreBorderFaultsOf g ms bs → length fs ≡ length bs →
-    report_lines_from 0 fs bs ++ unkept_lines g ms ≡ [] → are_all_obeyed (delay_and_meet_lines g.circuit ms) ≡ true →
+    report_lines_from 0 fs bs ++ unkept_lines g ms ≡ [] →
+    are_all_timings_obeyed (delay_and_meet_lines g.circuit ms) ≡ true →
     Accepts g ms jobs
 accepted g ms jobs fs bs least borders len e rules = record {
   no_fault = λ k j f at.

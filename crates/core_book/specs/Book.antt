@@ -30,12 +30,12 @@ new_book digest jobs =
     record { digest = digest; jobs = jobs; findings = replicate (length jobs) None; closed = false; history = [] }
 
 -- the finding that is held for a number
-abbrev pub found_in : BookView → ℕ → Option Finding
-found_in b number = slice_index_or b.findings number None
+abbrev pub held_finding : BookView → ℕ → Option Finding
+held_finding b number = slice_index_or b.findings number None
 
 -- for how many numbers one is held
-abbrev pub accepted_in : BookView → ℕ
-accepted_in b = count_by is_some b.findings
+abbrev pub held_count : BookView → ℕ
+held_count b = count_by is_some b.findings
 
 -- whether this is the job of that number
 unfoldable pub is_job_of : List JobView → ℕ → JobView → Bool
@@ -44,7 +44,7 @@ is_job_of jobs number job = option_eq same_job (slice_get jobs number) (Some job
 -- the reply to a finding: the first that applies
 unfoldable pub reply_to : BookView → Finding → Reply
 reply_to b f =
-    reply_by_rule b.digest (length b.jobs) b.closed (is_some (found_in b (number_of f))) (digest_of f) (number_of f)
+    reply_by_rule b.digest (length b.jobs) b.closed (is_some (held_finding b (number_of f))) (digest_of f) (number_of f)
     (is_job_of b.jobs (number_of f) (job_of f))
 
 -- the entry of a filing
@@ -77,7 +77,7 @@ abbrev pub after_closing : BookView → BookView
 after_closing b = record b { closed = true; history = b.history ++ Closing ∷ [] }
 
 -- the finding is for the book's digest, for this number and for the book's job of it
-pub record IsOwn (b : BookView) (number : ℕ) (f : Finding) : Type 0 where
+pub record BelongsToBook (b : BookView) (number : ℕ) (f : Finding) : Type 0 where
   pub digest : digest_of f ≡ b.digest
   pub number_is : number_of f ≡ number
   pub job : slice_get b.jobs number ≡ Some (job_of f)
@@ -85,12 +85,12 @@ pub record IsOwn (b : BookView) (number : ℕ) (f : Finding) : Type 0 where
 -- a book has a place for each job, and each finding in it is its own
 pub record IsBook (b : BookView) : Type 0 where
   pub places : length b.findings ≡ length b.jobs
-  pub own : (number : ℕ) (f : Finding) → found_in b number ≡ Some f → IsOwn b number f
+  pub own : (number : ℕ) (f : Finding) → held_finding b number ≡ Some f → BelongsToBook b number f
 
 -- The history replays to what the book is. Each stored reply is the one that the rule gives there. The numbers that
 -- were accepted are those for which a finding is held, and as many. The book is closed where the history says so.
 pub record IsReplayed (b : BookView) : Type 0 where
   pub due : AreRepliesByRule b.digest (length b.jobs) empty_replayed b.history
-  pub accepted : (number : ℕ) → has_number (replay b.history).accepted number ≡ is_some (found_in b number)
-  pub count : length (replay b.history).accepted ≡ accepted_in b
+  pub accepted : (number : ℕ) → has_number (replay b.history).accepted number ≡ is_some (held_finding b number)
+  pub count : length (replay b.history).accepted ≡ held_count b
   pub closed_is : (replay b.history).closed ≡ b.closed

@@ -7,7 +7,7 @@ use Rattle.local_run.specs.Faults.{IsLeastFault, IsLeastKeepFault}
 use Rattle.local_run.specs.Shown.{number_of, job_of, fault_of, keep_of}
 use Rattle.local_run.specs.declared.finding.Finding.{Finding}
 use Rattle.core_book.specs.Draws.{IsDrawn, occurrences, total}
-use Rattle.core_book.specs.Book.{IsOwn, IsReplayed, found_in, reply_to}
+use Rattle.core_book.specs.Book.{BelongsToBook, IsReplayed, held_finding, reply_to}
 use Rattle.core_book.specs.Core.{CoreView, HasSeatBelow, after_event, after_events, answer_to, new_core, job_count_of}
 use Rattle.core_book.specs.Verdicts.{IsVerdict}
 use Rattle.core_book.specs.declared.machine.Answer.TheVariants as Answered
@@ -63,7 +63,7 @@ findings_accepted_in c (e ∷ es) = findings_accepted_by c e ++ findings_accepte
 abbrev pub HoldsWhatWasAccepted : Type 0
 HoldsWhatWasAccepted = (digest : List ℕ) (jobs : List JobView) (seats : ℕ) (events : List Event) (number : ℕ)
     (f : Finding) →
-    (found_in (core_after digest jobs seats events).book number ≡ Some f)
+    (held_finding (core_after digest jobs seats events).book number ≡ Some f)
     ↔ (Contains (findings_accepted_in (new_core digest jobs seats) events) f × (number_of f ≡ number))
 
 -- at most one for each number
@@ -75,14 +75,14 @@ AcceptsAtMostOnePerNumber = (digest : List ℕ) (jobs : List JobView) (seats : �
 abbrev pub HeldFindingsAreBooksAndLeast : Type 0
 HeldFindingsAreBooksAndLeast = (digest : List ℕ) (jobs : List JobView) (seats : ℕ) (events : List Event) (number : ℕ)
     (f : Finding) →
-    found_in (core_after digest jobs seats events).book number ≡ Some f →
-    IsOwn (core_after digest jobs seats events).book number f × IsLeastFault (job_of f) (fault_of f)
+    held_finding (core_after digest jobs seats events).book number ≡ Some f →
+    BelongsToBook (core_after digest jobs seats events).book number f × IsLeastFault (job_of f) (fault_of f)
     × IsLeastKeepFault (job_of f) (keep_of f)
 
 -- no event changes a finding that is held
 abbrev pub EventsKeepHeldFindings : Type 0
-EventsKeepHeldFindings = (c : CoreView) (e : Event) (number : ℕ) (f : Finding) → found_in c.book number ≡ Some f →
-    found_in (after_event c e).book number ≡ Some f
+EventsKeepHeldFindings = (c : CoreView) (e : Event) (number : ℕ) (f : Finding) → held_finding c.book number ≡ Some f →
+    held_finding (after_event c e).book number ≡ Some f
 
 -- no event but a filing that is answered `Accepted` changes what is held
 abbrev pub OnlyAcceptedChangesWhatIsHeld : Type 0

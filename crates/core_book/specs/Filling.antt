@@ -6,7 +6,7 @@ use Rattle.module_job.specs.Jobs.{JobView}
 use Rattle.module_job.specs.Shapes.{ShapeView, shape_of}
 use Rattle.local_run.specs.Shown.{job_of, number_of}
 use Rattle.local_run.specs.declared.finding.Finding.{Finding}
-use Rattle.core_book.specs.Book.{BookView, IsReplayed, accepted_in, after_filing, found_in, reply_to}
+use Rattle.core_book.specs.Book.{BookView, IsReplayed, after_filing, held_count, held_finding, reply_to}
 use Rattle.core_book.specs.Verdicts.{AreFindingsHeldBelow}
 use Rattle.core_book.specs.declared.log_entry.LogEntry.{LogEntry}
 use Rattle.core_book.specs.declared.log_entry.LogEntry.TheVariants.{Filed}
@@ -24,12 +24,12 @@ pub record IsFull (digest : List ℕ) (jobs : List JobView) (b : BookView) : Typ
   pub is_open : IsOpenFor digest jobs b
   pub replays : IsReplayed b
   pub all_held : AreFindingsHeldBelow b jobs (length jobs)
-  pub all_accepted : accepted_in b ≡ length jobs
+  pub all_accepted : held_count b ≡ length jobs
 
 -- the numbers below this one for which the book holds nothing, in their order
 abbrev pub missing_numbers_below : BookView → ℕ → List ℕ
 missing_numbers_below b zero = []
-missing_numbers_below b (suc n) = missing_numbers_below b n ++ (if is_some (found_in b n) then [] else n ∷ [])
+missing_numbers_below b (suc n) = missing_numbers_below b n ++ (if is_some (held_finding b n) then [] else n ∷ [])
 
 -- the entry of a finding of this number that the book accepts
 abbrev pub accepted_entry : List ℕ → ℕ → LogEntry
@@ -42,9 +42,9 @@ pub record IsFilledTo (b c : BookView) (below : ℕ) : Type 0 where
   pub jobs_stay : c.jobs ≡ b.jobs
   pub closed_stays : c.closed ≡ b.closed
   pub history_grows : c.history ≡ b.history ++ map (accepted_entry b.digest) (missing_numbers_below b below)
-  pub kept : (number : ℕ) (f : Finding) → found_in b number ≡ Some f → found_in c number ≡ Some f
-  pub held : (number : ℕ) → number < below → IsSome (found_in c number)
-  pub rest : (number : ℕ) → below ≤ number → found_in c number ≡ found_in b number
+  pub kept : (number : ℕ) (f : Finding) → held_finding b number ≡ Some f → held_finding c number ≡ Some f
+  pub held : (number : ℕ) → number < below → IsSome (held_finding c number)
+  pub rest : (number : ℕ) → below ≤ number → held_finding c number ≡ held_finding b number
 
 -- the book is filled below some number, which is at most that of the jobs
 pub record IsPartlyFilled (b c : BookView) : Type 0 where
@@ -54,7 +54,7 @@ pub record IsPartlyFilled (b c : BookView) : Type 0 where
 
 -- a finding for this number was filed, and accepted
 pub record IsFiledFor (b c : BookView) (number : ℕ) : Type 0 where
-  pub lacked : is_some (found_in b number) ≡ false
+  pub lacked : is_some (held_finding b number) ≡ false
   pub finding : Finding
   pub number_is : number_of finding ≡ number
   pub accepted : reply_to b finding ≡ Accepted
@@ -62,7 +62,7 @@ pub record IsFiledFor (b c : BookView) (number : ℕ) : Type 0 where
 
 -- the book held a finding for this number and is as it was, or one was filed and accepted
 abbrev pub IsHeldOrFiled : BookView → BookView → ℕ → Type 0
-IsHeldOrFiled b c number = ((is_some (found_in b number) ≡ true) × (c ≡ b)) ⊎ IsFiledFor b c number
+IsHeldOrFiled b c number = ((is_some (held_finding b number) ≡ true) × (c ≡ b)) ⊎ IsFiledFor b c number
 
 -- ---- how many jobs are run
 
@@ -77,7 +77,7 @@ IsOneMore before after = before < 2 ^ 64 - 1 → after ≡ before + 1
 -- the book holds a finding for this number, and of a job of the same shape
 pub record HoldsOfSameShape (b : BookView) (number : ℕ) (job : JobView) : Type 0 where
   pub finding : Finding
-  pub held : found_in b number ≡ Some finding
+  pub held : held_finding b number ≡ Some finding
   pub alike : shape_of (job_of finding) ≡ shape_of job
 
 -- how many of the numbers below this one are the first of their group

@@ -2,8 +2,8 @@
 use Rattle.std.specs.Prelude.{◌≡◌, ◌≢◌, ◌↔◌, ℕ, length, None, Some, IsSome, true}
 use Rattle.local_run.specs.Shown.{number_of, fault_of, keep_of}
 use Rattle.local_run.specs.declared.finding.Finding.{Finding}
-use Rattle.core_book.specs.Book.{BookView, IsBook, IsOwn, IsReplayed, accepted_in, after_closing, after_filing}
-use Rattle.core_book.specs.Book.{found_in, reply_to}
+use Rattle.core_book.specs.Book.{BelongsToBook, BookView, IsBook, IsReplayed, after_closing, after_filing, held_count}
+use Rattle.core_book.specs.Book.{held_finding, reply_to}
 use Rattle.core_book.specs.Verdicts.{AreFindingsHeldBelow}
 use Rattle.core_book.specs.Replay.{has_closing}
 use Rattle.core_book.specs.declared.reply.Mismatch.{Mismatch}
@@ -12,16 +12,17 @@ use Rattle.core_book.specs.declared.reply.Reply.TheVariants.{Closed, Stranger, D
 -- what is accepted is the book's own, and nothing is held for its number
 abbrev pub AcceptedFindingMatchesBookAndIsNew : Type 0
 AcceptedFindingMatchesBookAndIsNew = (b : BookView) (f : Finding) → reply_to b f ≡ Accepted →
-    IsOwn b (number_of f) f × (found_in b (number_of f) ≡ None)
+    BelongsToBook b (number_of f) f × (held_finding b (number_of f) ≡ None)
 
 -- what is answered `Double` is the book's own, and a finding is held for its number
 abbrev pub DoubleFindingMatchesBookAndIsHeld : Type 0
 DoubleFindingMatchesBookAndIsHeld = (b : BookView) (f : Finding) (number : ℕ) → reply_to b f ≡ Double number →
-    IsOwn b number f × IsSome (found_in b number)
+    BelongsToBook b number f × IsSome (held_finding b number)
 
 -- what is the book's own is no stranger
 abbrev pub MatchingFindingIsNoStranger : Type 0
-MatchingFindingIsNoStranger = (b : BookView) (f : Finding) (number : ℕ) (mismatch : Mismatch) → IsOwn b number f →
+MatchingFindingIsNoStranger =
+    (b : BookView) (f : Finding) (number : ℕ) (mismatch : Mismatch) → BelongsToBook b number f →
     reply_to b f ≢ Stranger mismatch
 
 -- a closed book answers `Closed`, and no other does
@@ -31,12 +32,12 @@ ClosedBookAloneAnswersClosed = (b : BookView) (f : Finding) → (reply_to b f �
 -- what is accepted is held from then on
 abbrev pub AcceptedFindingIsHeld : Type 0
 AcceptedFindingIsHeld = (b : BookView) (f : Finding) → IsBook b → reply_to b f ≡ Accepted →
-    found_in (after_filing b f) (number_of f) ≡ Some f
+    held_finding (after_filing b f) (number_of f) ≡ Some f
 
 -- no filing changes a finding that is held
 abbrev pub FilingKeepsHeldFindings : Type 0
-FilingKeepsHeldFindings = (b : BookView) (f g : Finding) (number : ℕ) → found_in b number ≡ Some g →
-    found_in (after_filing b f) number ≡ Some g
+FilingKeepsHeldFindings = (b : BookView) (f g : Finding) (number : ℕ) → held_finding b number ≡ Some g →
+    held_finding (after_filing b f) number ≡ Some g
 
 -- if a finding is not accepted, what is held stays
 abbrev pub UnacceptedKeepsFindings : Type 0
@@ -59,9 +60,10 @@ ClosedIfHistoryHasClosing = (b : BookView) → IsReplayed b → b.closed ≡ has
 -- what two books of the same jobs hold for one number has the same fault
 abbrev pub BooksAgreeOnFaults : Type 0
 BooksAgreeOnFaults = (b c : BookView) (number : ℕ) (f g : Finding) → IsBook b → IsBook c → b.jobs ≡ c.jobs →
-    found_in b number ≡ Some f → found_in c number ≡ Some g → (fault_of f ≡ fault_of g) × (keep_of f ≡ keep_of g)
+    held_finding b number ≡ Some f → held_finding c number ≡ Some g →
+    (fault_of f ≡ fault_of g) × (keep_of f ≡ keep_of g)
 
 -- a book that accepted as many findings as it has jobs holds one for each job
 abbrev pub FullBookHoldsAll : Type 0
-FullBookHoldsAll = (b : BookView) → IsBook b → accepted_in b ≡ length b.jobs →
+FullBookHoldsAll = (b : BookView) → IsBook b → held_count b ≡ length b.jobs →
     AreFindingsHeldBelow b b.jobs (length b.jobs)

@@ -7,7 +7,7 @@ use Rattle.module_box.specs.Locals.{circuit_gate}
 use Rattle.certificate_lines.specs.Entries.{Setting, ModuleLines}
 use Rattle.module_job.specs.Jobs.{JobView}
 use Rattle.certificate.specs.Keeps.{is_kept, unkept}
-use Rattle.certificate.specs.Times.{are_all_obeyed, delay_and_meet_lines}
+use Rattle.certificate.specs.Times.{are_all_timings_obeyed, delay_and_meet_lines}
 use Rattle.certificate.specs.declared.times.TimeLine.{TimeLine}
 use Rattle.certificate.specs.declared.times.TimeLine.TheVariants as times
 use Rattle.local_run.specs.Faults.{IsFault, IsKeepFault, IsLeastFault, IsLeastKeepFault}
@@ -17,7 +17,7 @@ use Rattle.local_run.specs.declared.fault.KeepFault.{KeepFault}
 use Rattle.local_run.specs.declared.finding.Finding.{Finding}
 use Rattle.border_match.specs.BorderFaults.{IsBorderFault, AreBorderFaultsOf}
 use Rattle.border_match.specs.declared.fault.BorderFault.{BorderFault}
-use Rattle.core_book.specs.Book.{BookView, found_in}
+use Rattle.core_book.specs.Book.{BookView, held_finding}
 use Rattle.core_book.specs.declared.verdict.LeastFaults.{LeastFaults}
 use Rattle.core_book.specs.declared.verdict.ReportLine.{ReportLine}
 use Rattle.core_book.specs.declared.verdict.ReportLine.TheVariants.{Local, Keep, Border, Unkept, Delay, Meet}
@@ -34,7 +34,7 @@ pub record Accepts (g : Setting) (ms : List ModuleLines) (jobs : List JobView) :
   pub no_keep_fault : (number : ℕ) (j : JobView) (f : KeepFault) → slice_get jobs number ≡ Some j → ¬ IsKeepFault j f
   pub kept : (number : ℕ) (gate : Gate) → slice_get g.circuit.netlist.gates number ≡ Some gate →
       IsTrue (is_inverse gate.kind) → IsTrue (is_kept ms number)
-  pub on_time : IsTrue (are_all_obeyed (delay_and_meet_lines g.circuit ms))
+  pub on_time : IsTrue (are_all_timings_obeyed (delay_and_meet_lines g.circuit ms))
 
 -- ---- the lines of a report
 
@@ -107,7 +107,7 @@ IsVerdict g ms jobs (No lines) = (¬ Accepts g ms jobs) × AreReportLines g ms j
 -- the book holds a finding for this number, and it is of this job
 pub record IsHeld (b : BookView) (number : ℕ) (j : JobView) : Type 0 where
   pub finding : Finding
-  pub held : found_in b number ≡ Some finding
+  pub held : held_finding b number ≡ Some finding
   pub whole : job_of finding ≡ j
 
 -- it does for each of the jobs below this number

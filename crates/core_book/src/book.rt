@@ -53,7 +53,7 @@ pub struct NotFiled {
 impl BookState {
     ghost use Rattle.local_run.specs.Shown.{job_of, number_of};
     ghost use Rattle.core_book.specs.Verdicts.{IsHeld};
-    ghost use Rattle.core_book.specs.Book.{IsBook, IsOwn, IsReplayed, accepted_in, after_closing, after_filing, accepted_count_after, filing_of, found_in, is_job_of, new_book, reply_to};
+    ghost use Rattle.core_book.specs.Book.{IsBook, BelongsToBook, IsReplayed, held_count, after_closing, after_filing, accepted_count_after, filing_of, held_finding, is_job_of, new_book, reply_to};
 
     /// Creates an open book of these jobs, numbered from 0 in their order, without findings and without history.
     pub fn new(
@@ -85,8 +85,8 @@ impl BookState {
     pub fn file(&mut self, finding: Finding) -> Result<Reply, NotFiled>
         ensures reply { IfOk result (λ r. r ≡ reply_to self.old finding) }
         ensures after { IfOk result (λ _. self.new ≡ after_filing self.old finding) }
-        ensures counted { IfOk result (λ r. accepted_in self.new
-            ≡ accepted_count_after (accepted_in self.old) r) }
+        ensures counted { IfOk result (λ r. held_count self.new
+            ≡ accepted_count_after (held_count self.old) r) }
         ensures history_fits { OnOk result (length self.new.history < 2 ^ 64) }
         ensures unchanged { OnErr result (self.new ≡ self.old) }
         ensures returned { IfErr result (λ e. e.finding ≡ finding) }
@@ -196,8 +196,8 @@ impl BookState {
     ///
     /// It was made for the book's digest, for this number and for the book's job of it.
     pub fn found(&self, number: usize) -> Option<&Finding>
-        ensures held { option_copied result ≡ found_in self.now number }
-        ensures finding_is_own { IfSome result (λ f. IsOwn self.now number f.now) }
+        ensures held { option_copied result ≡ held_finding self.now number }
+        ensures finding_is_own { IfSome result (λ f. BelongsToBook self.now number f.now) }
     {
         match self.found.get(number) {
             Some(held) => held.as_ref(),
@@ -206,8 +206,8 @@ impl BookState {
     }
 
     /// Returns the finding that is held for a number, if it is of this job.
-    pub fn found_for(&self, number: usize, job: &Job) -> Option<&Finding>
-        ensures finding_held { IfSome result (λ f. (found_in self.now number ≡ Some f.now)
+    pub fn held_finding_of_job(&self, number: usize, job: &Job) -> Option<&Finding>
+        ensures finding_held { IfSome result (λ f. (held_finding self.now number ≡ Some f.now)
             × (job_of f.now ≡ job.now)) }
         ensures missing { IfNone result (¬ IsHeld self.now number job.now) }
     {
@@ -224,7 +224,7 @@ impl BookState {
 
     /// Returns for how many numbers a finding is held: at most as many as there are jobs.
     pub fn accepted(&self) -> usize
-        ensures count { result ≡ accepted_in self.now }
+        ensures count { result ≡ held_count self.now }
         ensures at_most { result ≤ length self.now.jobs }
     {
         self.accepted
@@ -233,7 +233,7 @@ impl BookState {
     // Whether a finding is held for each number.
     pub(crate) fn is_full(&self) -> bool
         ensures book { IsBook self.now }
-        ensures full { result ≡ true → accepted_in self.now ≡ length self.now.jobs }
+        ensures full { result ≡ true → held_count self.now ≡ length self.now.jobs }
     {
         self.accepted == self.jobs.len()
     }

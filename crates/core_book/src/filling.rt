@@ -136,11 +136,11 @@ fn moved_or_run_finding(
             return Ok(own);
         }
     }
-    run_counted(alloc, state.digest(), number, job, runs)
+    run_job_and_count(alloc, state.digest(), number, job, runs)
 }
 
 // Runs a job and counts the run, also one that finds no memory. No other function of this crate runs jobs.
-fn run_counted(
+fn run_job_and_count(
     alloc: Global,
     digest: [u8; 32],
     number: usize,

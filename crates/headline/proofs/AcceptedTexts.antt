@@ -4,10 +4,11 @@
 -- texts of two balls that meet, the second of them with a wrong layout.
 use Rattle.lemmas.proofs.Common.{common_steps}
 use Rattle.headline.proofs.Imports.{All, All-head, All-tail, Bundle, Cell, CircuitLine, Cut, Gate, HasNoDelay, Input}
-use Rattle.headline.proofs.Imports.{Interact, IsCorrect, IsDesign, IsInputName, IsPlain, IsReportOf, IsSmallDesign}
+use Rattle.headline.proofs.Imports.{Interact, IsCorrect, IsDesign, IsInputName, IsPlainModule, IsReportOf}
+use Rattle.headline.proofs.Imports.{IsSmallDesign}
 use Rattle.headline.proofs.Imports.{List, Meet, Module, ModuleLines, No, Ok, Outcome, Output, Pattern, Refused, Some}
 use Rattle.headline.proofs.Imports.{Stop, StopHolds, StopLine, Switch, TouchesRim, Unswitch, Use, Yes, [], arith, bit}
-use Rattle.headline.proofs.Imports.{bundle_of, bundle_with, cell, circuit_of, codes, cuts, design_text, evaluate}
+use Rattle.headline.proofs.Imports.{bundle_of, bundle_with_limits, cell, circuit_of, codes, cuts, design_text, evaluate}
 use Rattle.headline.proofs.Imports.{fault_cmp, flat_map, in_span, job_demand, job_start, local_run, modules_of}
 use Rattle.headline.proofs.Imports.{netlist_of, numbered_all_times, numbered_event, numbered_signals, partner, parts_of}
 use Rattle.headline.proofs.Imports.{plain_lines, refl, row, slice_get, step, subst, suc, true, turned, whole, zero, ℕ}
@@ -157,7 +158,7 @@ no_inverse : (k : ℕ) (gate : Meant) → slice_get (netlist_of meeting).gates k
 no_inverse zero gate at inverse = grind (arith, common_steps)
 no_inverse (suc k) gate at inverse = absurd cc
 
-meeting_plain : (b c : Cell) → IsPlain meeting (meeting_in b c) one
+meeting_plain : (b c : Cell) → IsPlainModule meeting (meeting_in b c) one
 meeting_plain b c = record {
   box = (is_meeting b c).box;
   inputs = (is_meeting b c).inputs;
@@ -179,7 +180,7 @@ record AreRead : Type 0 where
   pub no_fails : Fails (meeting_bundle wrong_layout) wrong_layout one (cell 2 2) 1 (Meet 0 (Some 1) ∷ [])
 
 are_read : AreRead
-unfolding wide_text timed_modules_text there_and_back_text plain_yes_text plain_no_text bundle_of bundle_with
+unfolding wide_text timed_modules_text there_and_back_text plain_yes_text plain_no_text bundle_of bundle_with_limits
     words.lines_of
     words.bytes_after_last_line_feed
     words.number_of
@@ -188,14 +189,15 @@ unfolding wide_text timed_modules_text there_and_back_text plain_yes_text plain_
     words.name_after_keyword
     section.section_of section.section_body_of circuit_forms.form_of circuit_forms.gate_entry
     circuit_forms.gate_line_of_kind
-    circuit_forms.gate_kind circuit_forms.bit_at circuit_rules.added_line_code meaning.number meaning.place_of
+    circuit_forms.gate_kind circuit_forms.bit_at circuit_rules.limit_or_name_code meaning.number meaning.place_of
     layout_forms.form_of layout_forms.cell_of_words_from layout_forms.cell_after_keyword layout_forms.port_after_keyword
     layout_forms.port_of
     layout_forms.size_of layout_forms.sides_and_steps layout_rules.size_fault layout_rules.text_size_fault
-    layout_rules.limit_fault layout_rules.text_limit_fault
+    layout_rules.largest_limit_code layout_rules.text_limit_fault
     layout_rules.rank_of layout_rules.has_later_kind_before layout_rules.order_fault layout_rules.name_fault
     layout_rules.cells_of
-    layout_rules.is_inside layout_rules.takes_at_start layout_rules.takes_at_end layout_rules.cells_taken_at_start
+    layout_rules.is_inside layout_rules.takes_cells_at_start layout_rules.takes_cells_at_end
+    layout_rules.cells_taken_at_start
     layout_rules.cells_taken_at_end
     layout_rules.is_taken layout_rules.cell_fault layout_rules.line_fault layout_rules.layout_line_fault
     layout_rules.missing_fault cell_lists.rectangle_cells in_span boxes.in_box boxes.some_neighbour boxes.in_ring
@@ -207,13 +209,14 @@ unfolding wide_text timed_modules_text there_and_back_text plain_yes_text plain_
     rules.are_new_and_distinct rules.used_gate_fault
     rules.use_line_code rules.keep_line_code rules.is_line_time_allowed rules.is_edge_place_and_time
     rules.is_halo_place_and_time rules.is_stop_place_and_time
-    rules.signal_fault rules.border_line_code rules.entry_fault rules.module_limit_fault rules.end_fault cell_cmp
+    rules.signal_fault rules.border_or_stop_line_code rules.entry_fault rules.module_limit_fault rules.end_fault
+    cell_cmp
     versions.modules_by_version
     start_signal
     end_demand
     port_at places placed_gate placed_gates place_among numbered numbered_all_times numbered_event numbered_signals
     demanded placed_stop bit row evaluate job_start job_demand local_run local_step with_halo step partner turned
-    signal_at all_times_at event_at times.lines_by_number versions.edge_lines_beside versions.sorted_border_lines
+    signal_at all_times_at event_at times.time_lines_by_number versions.edge_lines_beside versions.sorted_border_lines
     versions.precedes_halos
     versions.with_halos versions.is_halo versions.lacks_edge_wire_beside fault_cmp keeps.unkept_from
 are_read = record {

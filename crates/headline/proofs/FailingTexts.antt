@@ -2,7 +2,7 @@
 --
 -- By the tests a cell is not as asked at the end, and no fault comes before this one in the order of faults.
 use Rattle.headline.proofs.Imports.{All, All-head, AnswersOrRefuses, AreJobsOf, AreModules, AreOrdered, BelongTogether}
-use Rattle.headline.proofs.Imports.{Bool, Bundle, Cell, CertView, CircuitLine, Fault, IsPlain, IsRead, IsReportOf}
+use Rattle.headline.proofs.Imports.{Bool, Bundle, Cell, CertView, CircuitLine, Fault, IsPlainModule, IsRead, IsReportOf}
 use Rattle.headline.proofs.Imports.{IsVerdict, JobView, Kind, LineMeans, List, Local, ModuleLines, No, None, Ok, Option}
 use Rattle.headline.proofs.Imports.{Pattern, ReportLine, SaysNoWith, SaysReport, Setting, Some, Valuation, Verdict, []}
 use Rattle.headline.proofs.Imports.{and_parts, ap, ap₂, are_jobs_of, arith, as_values, bit, bundle_of, certificate_text}
@@ -166,7 +166,7 @@ pub record Fails (b : Bundle) (p : Pattern) (m : ModuleLines) (d : Cell) (a : �
     (times : List ReportLine) : Type 0 where
   pub layout : layout_section p ≡ (b.size, b.parts)
   pub alone : modules_in (its_lines b p) ≡ m ∷ []
-  pub plain : IsPlain b.circuit p m
+  pub plain : IsPlainModule b.circuit p m
   pub none_kept : (its_job b p m).kept ≡ []
   pub first : IsFirstByTests (its_job b p m) d a
   pub unkept : unkept_lines (setting_of b.circuit p) (m ∷ []) ≡ []

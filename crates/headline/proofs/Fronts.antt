@@ -1,6 +1,6 @@
 -- A text that is read is read the same behind the line `limits 2`.
 use Rattle.headline.proofs.Imports.{Bundle, Err, List, None, Ok, Option, Refusal, Result, Some, [], ap, arith}
-use Rattle.headline.proofs.Imports.{bundle_of, bundle_with, certificate_grammar, circuit_grammar, common_steps}
+use Rattle.headline.proofs.Imports.{bundle_of, bundle_with_limits, certificate_grammar, circuit_grammar, common_steps}
 use Rattle.headline.proofs.Imports.{layout_grammar, layout_of, length, lines_of, port_names_of, refl, setting_of, subst}
 use Rattle.headline.proofs.Imports.{sym, ℕ, ◌++◌, ◌+◌, ◌∙◌, ◌∷◌, ◌≡◌}
 use Rattle.lemmas.proofs.Common.{ap₂, drop}
@@ -144,16 +144,16 @@ module _ (rest : List ℕ) (b : Bundle) (circuit : List CircuitLine) where
 
 pub wider_bundle : (text : List ℕ) (b : Bundle) → text_limits text ≡ First → bundle_of text ≡ Ok b →
     bundle_of (front_text Second ++ text) ≡ Ok b
-unfolding bundle_of bundle_with
+unfolding bundle_of bundle_with_limits
 wider_bundle text b first e =
     let behind = has_front Second text first in
     let rest = bytes_after_last_line_feed text in
     let read : section_then (circuit_grammar First) 0 (lines_of text) (after_circuit First rest) ≡ Ok b =
-    ap (λ (l : Limits). bundle_with l text) (sym first) ∙ e in
+    ap (λ (l : Limits). bundle_with_limits l text) (sym first) ∙ e in
     let lines : drop 1 (lines_of (front_text Second ++ text)) ≡ lines_of text =
     subst (λ (l : Limits). drop (front_lines l) (lines_of (front_text Second ++ text)) ≡ lines_of text)
     behind.limits behind.lines in
-    ap (λ (l : Limits). bundle_with l (front_text Second ++ text)) behind.limits
+    ap (λ (l : Limits). bundle_with_limits l (front_text Second ++ text)) behind.limits
     ∙ ap₂ (λ (ls : List (List ℕ)) (last : List ℕ).
     section_then (circuit_grammar Second) 1 ls (after_circuit Second last)) lines behind.rest
     ∙ then_wider _ _ wider_circuit 0 1 (lines_of text) (after_circuit First rest) (after_circuit Second rest) b read

@@ -7,7 +7,7 @@ use Rattle.headline.proofs.Imports.{subst, suc, sym, with_halos, zero, ℕ, ◌�
 use Rattle.lemmas.proofs.Common.{mapped_at, mapped_from}
 use Rattle.certificate_lines.specs.Entries.{halos}
 use Rattle.certificate.specs.Jobs.{IsJobOf, line_signals, stops_of_lines}
-use Rattle.certificate_lines.specs.Modules.{IsHalo}
+use Rattle.certificate_lines.specs.Modules.{IsAllowedHalo}
 use Rattle.module_job.specs.Signals.{IsSignalWireBelow}
 use Rattle.certificate_lines.proofs.InList.{all_in}
 use Rattle.certificate.proofs.FullModules.{all_of_each, full_cuts, full_edges, full_gates, full_keeps, full_known}
@@ -41,7 +41,7 @@ module _ (lines : List CircuitLine) (p : Pattern) (ms : List ModuleLines) (good 
       let named : Each (IsNamed c ws) (halos full) =
       in_each (IsNamed c ws) (halos full)
       (λ e i. subst (λ vs. IsNamed c vs e) same
-      (all_in (IsHalo g full.area (known c full)) (halos full) module_is.halo_lines e i).border.signal) in
+      (all_in (IsAllowedHalo g full.area (known c full)) (halos full) module_is.halo_lines e i).border.signal) in
       let back = lines_back c ws (halos full) named in
       record {
         area = is.area;

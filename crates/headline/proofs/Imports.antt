@@ -2,13 +2,13 @@
 pub use Rattle.answers.specs.Answers.{AnswersOrRefuses, pair_with_result}
 pub use Rattle.section_text.proofs.Codes.{no_code, no_code_first}
 pub use Rattle.answers.specs.BundleText.{Bundle}
-unfoldable pub use Rattle.answers.specs.BundleText.{bundle_of, bundle_with}
+unfoldable pub use Rattle.answers.specs.BundleText.{bundle_of, bundle_with_limits}
 pub use Rattle.answers.specs.CheckText.{IsReportOf, IsVerdictOn, SaysReport, verdict_outcome}
 pub use Rattle.answers.specs.MigrateText.{IsMigrationOf, SaysMigration, migrate_of, migrated_bundle}
 unfoldable pub use Rattle.answers.specs.MigrateText.{bundle_text, certificate_section_text, layout_section_text}
-pub use Rattle.answers.specs.ModulesText.{IsModulesOf, SaysModules}
-pub use Rattle.answers.specs.RunText.{IsRunOf, RunQuestion, SaysRunEnd, run_end_outcome, run_end_text}
-pub use Rattle.answers.specs.ValueText.{IsValueOf, SaysValues, ValueQuestion}
+pub use Rattle.answers.specs.ModulesText.{IsModulesAnswerOf, SaysModules}
+pub use Rattle.answers.specs.RunText.{IsRunAnswerOf, RunQuestion, SaysRunEnd, run_end_outcome, run_end_text}
+pub use Rattle.answers.specs.ValueText.{IsValueAnswerOf, SaysValues, ValueQuestion}
 unfoldable pub use Rattle.answers.specs.ValueText.{value_sections_of}
 pub use Rattle.answers.specs.declared.outcome.Outcome.{Outcome}
 pub use Rattle.answers.specs.declared.outcome.Outcome.TheVariants.{No, Refused, Yes}
@@ -35,7 +35,8 @@ pub use Rattle.certificate_lines.specs.declared.certificate_line.CertificateLine
 pub use Rattle.certificate_lines.specs.declared.certificate_line.StopLine.{StopLine}
 pub use Rattle.circuit.proofs.Bridging.{gates_are_ordered, names_pass, push_cons}
 pub use Rattle.circuit.proofs.Imports.{AreGoodCircuitLines, FitsKind, cond_some, consumed, entry}
-unfoldable pub use Rattle.circuit.proofs.Imports.{AreGoodAfter, added_line_code, form_of, gate_entry, gate_line_of_kind}
+unfoldable pub use Rattle.circuit.proofs.Imports.{AreGoodAfter, form_of, gate_entry, gate_line_of_kind}
+unfoldable pub use Rattle.circuit.proofs.Imports.{limit_or_name_code}
 unfoldable pub use Rattle.circuit.proofs.Imports.{if_one_word, name_after_keyword, names_at, row, value_lines}
 pub use Rattle.circuit.proofs.Naming.{inputs_are_first}
 pub use Rattle.circuit.proofs.Places.{Have, bytes_same, consume_have}
@@ -45,13 +46,13 @@ unfoldable pub use Rattle.circuit.specs.Text.{circuit_text}
 pub use Rattle.circuit.specs.declared.circuit_line.CircuitLine.{CircuitLine}
 pub use Rattle.circuit.specs.declared.circuit_line.GateKind.{GateKind}
 pub use Rattle.circuit.specs.declared.circuit_line.GateKind.TheVariants.{Delay, Interact, Source, Switch, Unswitch}
-pub use Rattle.circuit.specs.declared.circuit_line.Kind.TheVariants.{Gate, Input, Output, Spill}
+pub use Rattle.circuit.specs.declared.circuit_line.CircuitLineKind.TheVariants.{Gate, Input, Output, Spill}
 pub use Rattle.core_book.specs.Concluding.{port_names_of}
 pub use Rattle.core_book.specs.declared.verdict.ReportLine.{ReportLine}
 pub use Rattle.core_book.specs.declared.verdict.ReportLine.TheVariants.{Local, Meet}
 pub use Rattle.core_book.specs.declared.verdict.Verdict.{Verdict}
 pub use Rattle.headline.specs.Laws.{HasAnAnswerToEachText, HasAtMostOneAnswerToEachText}
-pub use Rattle.headline.specs.MovedDesigns.{HasRoom, enlarged, moved, moved_by_two, port_moved_by_two}
+pub use Rattle.headline.specs.MovedDesigns.{HasRoomToMove, enlarged, moved, moved_by_two, port_moved_by_two}
 pub use Rattle.headline.specs.MovedDesigns.{rectangle_moved_by_two}
 pub use Rattle.headline.specs.Plain.{HasRimTouch, SaysPlain}
 pub use Rattle.headline.specs.ReportLines.{SaysNoWith}
@@ -72,7 +73,8 @@ pub use Rattle.meaning.specs.Streams.{FourthLineSaysYes}
 pub use Rattle.module_box.proofs.Imports.{take-append-drop}
 pub use Rattle.pattern.proofs.Imports.{AllByRecursion, IsDeadOutside, in_layout, is_layout_side, layout_grammar}
 pub use Rattle.pattern.proofs.Imports.{line_text}
-unfoldable pub use Rattle.pattern.proofs.Imports.{box_of, cells_taken_at_start, layout_text, limit_fault, line_fault}
+unfoldable pub use Rattle.pattern.proofs.Imports.{box_of, cells_taken_at_start, largest_limit_code, layout_text}
+unfoldable pub use Rattle.pattern.proofs.Imports.{line_fault}
 unfoldable pub use Rattle.pattern.proofs.Imports.{name_at, number_at}
 pub use Rattle.pattern.proofs.Named.{faultless_named}
 unfoldable pub use Rattle.pattern.specs.Forms.{corner_and_sides}
@@ -123,11 +125,11 @@ pub use Rattle.soundness.proofs.Imports.{◌%◌, ◌&&◌, ◌++◌, ◌+◌, �
 unfoldable pub use Rattle.soundness.proofs.Imports.{AreOrdered, IsVerdict, bit, cell_fault, cells_of, evaluate}
 unfoldable pub use Rattle.soundness.proofs.Imports.{fault_cmp, in_box, in_ring, in_span, is_inside, is_taken}
 unfoldable pub use Rattle.soundness.proofs.Imports.{job_demand, job_start, local_run, number, rectangle_cells, run}
-unfoldable pub use Rattle.soundness.proofs.Imports.{size_fault, start, step, takes_at_start}
+unfoldable pub use Rattle.soundness.proofs.Imports.{size_fault, start, step, takes_cells_at_start}
 pub use Rattle.soundness.proofs.InputRuns.{IsPlaced, placed, read_layout-names}
 unfoldable pub use Rattle.soundness.proofs.NumberedSignals.{numbered_all_times, numbered_event, numbered_signals}
 pub use Rattle.soundness.proofs.PortNames.{read_layout-is_named}
 pub use Rattle.soundness.proofs.SomeJobs.{are_jobs_of, job_of}
 pub use Rattle.soundness.proofs.SomeVerdict.{vec_of}
 pub use Rattle.soundness.proofs.YesMeansCorrect.{IsRead}
-pub use Rattle.soundness.specs.PlainCertificates.{IsPlain, LineMeans, TouchesRim}
+pub use Rattle.soundness.specs.PlainCertificates.{IsPlainModule, LineMeans, TouchesRim}

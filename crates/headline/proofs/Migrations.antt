@@ -3,7 +3,7 @@ use Rattle.headline.proofs.Imports.{AreFaultless, AreLines, Bool, Bundle, Certif
 use Rattle.headline.proofs.Imports.{CircuitLine, End, Grammar, Header, IsFaultless, IsMigrationOf, IsSection, Item}
 use Rattle.headline.proofs.Imports.{LayoutHeader, LayoutLine, List, None, Ok, Option, Pattern, Refusal, RefusalCode}
 use Rattle.headline.proofs.Imports.{Result, SaysBundle, SaysDesign, Setting, Some, Yes, [], ap}
-use Rattle.headline.proofs.Imports.{append-nil, append_assoc, ap₂, arith, bundle_of, bundle_with, bundle_text}
+use Rattle.headline.proofs.Imports.{append-nil, append_assoc, ap₂, arith, bundle_of, bundle_with_limits, bundle_text}
 use Rattle.headline.proofs.Imports.{bytes_after_last_line_feed, certificate_grammar, certificate_section_text}
 use Rattle.headline.proofs.Imports.{circuit_grammar, clean_both, code_if, codes, common_steps, false, flat_map}
 use Rattle.headline.proofs.Imports.{flat_map-append, if◌then◌else◌, is_word_at, layout_grammar, layout_of}
@@ -123,7 +123,7 @@ module _ (l : Limits) (text : List ℕ) where
 
 pub bundle_made : (text : List ℕ) (b : Bundle) → HasSections text b → IsGoodBundle (text_limits text) b →
     bundle_of text ≡ Ok b
-unfolding bundle_of bundle_with
+unfolding bundle_of bundle_with_limits
 bundle_made text b s good =
     let l : Limits = text_limits text in
     let i = length b.circuit + 2 in

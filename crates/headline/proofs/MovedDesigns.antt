@@ -1,5 +1,6 @@
 -- A small design that computes its circuit gets a yes after it is moved
-use Rattle.headline.proofs.Imports.{CircuitLine, HasRoom, IsCorrect, IsDesign, IsReportOf, IsSmallDesign, IsTrue, List}
+use Rattle.headline.proofs.Imports.{CircuitLine, HasRoomToMove, IsCorrect, IsDesign, IsReportOf, IsSmallDesign, IsTrue}
+use Rattle.headline.proofs.Imports.{List}
 use Rattle.headline.proofs.Imports.{Outcome, Pattern, TouchesRim, Yes, arith, circuit_of, common_steps, design_text}
 use Rattle.headline.proofs.Imports.{enlarged, in_ring, moved, run_under, subst, whole, ℕ, ◌≡◌}
 use Rattle.headline.specs.MovedDesigns.{EachCorrectDesignGetsYes}
@@ -10,7 +11,7 @@ use Rattle.headline.proofs.MovedRuns.{correct_moved, named_moved, under_moved}
 use Rattle.headline.proofs.SomeReport.{some_report}
 use Rattle.headline.proofs.WrittenDesigns.{each_has_text, each_is_decided}
 
-design_moved : (circuit : List CircuitLine) (p : Pattern) → IsDesign circuit p → HasRoom circuit p →
+design_moved : (circuit : List CircuitLine) (p : Pattern) → IsDesign circuit p → HasRoomToMove circuit p →
     IsDesign circuit (moved p)
 design_moved circuit p design room = record {
   circuit_lines = design.circuit_lines;
@@ -22,7 +23,7 @@ design_moved circuit p design room = record {
   ports = named_moved circuit p design.ports;
 }
 
-small_moved : (circuit : List CircuitLine) (p : Pattern) → HasRoom circuit p → IsSmallDesign circuit (moved p)
+small_moved : (circuit : List CircuitLine) (p : Pattern) → HasRoomToMove circuit p → IsSmallDesign circuit (moved p)
 small_moved circuit p room = grind (arith, common_steps)
 
 -- A live cell of the moved run is a moved cell of the old rectangle, and the rim has none of these.

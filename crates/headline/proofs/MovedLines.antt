@@ -2,12 +2,13 @@
 use Rattle.headline.proofs.Imports.{Ball, In, LayoutHeader, LayoutLine, List, Mirror, None, Out, Pattern, Waste, []}
 use Rattle.headline.proofs.Imports.{and_parts, ap₂, arith, cell_fault, cells_of, cells_taken_at_start, common_steps}
 use Rattle.headline.proofs.Imports.{enlarged, flat_map, in_layout, in_span, in_span-negsuc, ints, is_inside, is_taken}
-use Rattle.headline.proofs.Imports.{limit_fault, map, map-append, moved, moved_by_two, negsuc, parts_of}
+use Rattle.headline.proofs.Imports.{largest_limit_code, map, map-append, moved, moved_by_two, negsuc, parts_of}
 use Rattle.headline.proofs.Imports.{port_moved_by_two, pos, range_with_len, rectangle_cells, rectangle_moved_by_two}
-use Rattle.headline.proofs.Imports.{refl, size_fault, span_from, span_parts, suc, sym, takes_at_start, true, zero, ℕ, ℤ}
+use Rattle.headline.proofs.Imports.{refl, size_fault, span_from, span_parts, suc, sym, takes_cells_at_start, true, zero}
+use Rattle.headline.proofs.Imports.{ℕ, ℤ}
 use Rattle.headline.proofs.Imports.{◌++◌, ◌+ℤ◌, ◌+◌, ◌∙◌, ◌∷◌, ◌≡◌, ◌≤◌, no_code}
 use Rattle.bbm_rule.specs.CellLists.{row_cells}
-use Rattle.pattern.specs.Lines.{AreGoodAfter, cells_taken_at_end, takes_at_end, holds}
+use Rattle.pattern.specs.Lines.{AreGoodAfter, cells_taken_at_end, takes_cells_at_end, holds}
 use Rattle.headline.proofs.MovedPlanes.{any_map, cells_moved}
 
 -- ---- lines
@@ -52,12 +53,12 @@ holds_moved part x y = grind (arith, common_steps, line_cells_moved, cells_moved
 
 -- ---- cells that are taken
 
-begins_moved : (part : LayoutLine) → takes_at_start (moved_line part) ≡ takes_at_start part
-unfolding takes_at_start
+begins_moved : (part : LayoutLine) → takes_cells_at_start (moved_line part) ≡ takes_cells_at_start part
+unfolding takes_cells_at_start
 begins_moved part = grind (arith, common_steps)
 
-ends_moved : (part : LayoutLine) → takes_at_end (moved_line part) ≡ takes_at_end part
-unfolding takes_at_end
+ends_moved : (part : LayoutLine) → takes_cells_at_end (moved_line part) ≡ takes_cells_at_end part
+unfolding takes_cells_at_end
 ends_moved part = grind (arith, common_steps)
 
 begun_moved : (parts : List LayoutLine) (x y : ℤ) →
@@ -96,8 +97,8 @@ inside_moved s (Waste c) h = layout_enlarged s c.x c.y h
 
 -- ---- the rules
 
-limit_moved : (part : LayoutLine) → limit_fault (moved_line part) ≡ limit_fault part
-unfolding limit_fault
+limit_moved : (part : LayoutLine) → largest_limit_code (moved_line part) ≡ largest_limit_code part
+unfolding largest_limit_code
 limit_moved part = grind (arith, common_steps)
 
 cell_moved : (s : LayoutHeader) (before : List LayoutLine) (part : LayoutLine) → cell_fault s before part ≡ None →

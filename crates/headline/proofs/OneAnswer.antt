@@ -1,6 +1,7 @@
 -- A text has one answer.
 use Rattle.headline.proofs.Imports.{AnswersOrRefuses, Err, HasAtMostOneAnswerToEachText, IsDeadOutside, IsLiveOutside}
-use Rattle.headline.proofs.Imports.{IsRunOf, LayoutHeader, LayoutLine, List, Ok, Outcome, Pattern, Refusal, Result}
+use Rattle.headline.proofs.Imports.{IsRunAnswerOf, LayoutHeader, LayoutLine, List, Ok, Outcome, Pattern, Refusal}
+use Rattle.headline.proofs.Imports.{Result}
 use Rattle.headline.proofs.Imports.{RunQuestion, SaysRunEnd, State, ap, arith, common_steps, layout_of, layout_section}
 use Rattle.headline.proofs.Imports.{parts_of, sym, true≢false, ℕ, ◌∙◌, ◌≡◌}
 use Rattle.answers.proofs.Bundles.{layout_again}
@@ -33,5 +34,5 @@ pub answered_once : {A : Type 0} (says : A → List ℕ → Outcome → Type 0) 
 answered_once says once (Ok asked) output output' outcome outcome' h h' = grind (arith, common_steps)
 answered_once says once (Err refusal) output output' outcome outcome' h h' = (h.0 ∙ sym h'.0, h.1 ∙ sym h'.1)
 
-pub one_answer : HasAtMostOneAnswerToEachText IsRunOf
+pub one_answer : HasAtMostOneAnswerToEachText IsRunAnswerOf
 one_answer text output output' outcome outcome' h h' = grind (arith, common_steps, answered_once, one_run)

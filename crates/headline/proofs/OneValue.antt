@@ -1,5 +1,5 @@
 -- A circuit has one answer.
-use Rattle.headline.proofs.Imports.{AreOrdered, Bool, HasAtMostOneAnswerToEachText, IsValueOf, List, Outcome}
+use Rattle.headline.proofs.Imports.{AreOrdered, Bool, HasAtMostOneAnswerToEachText, IsValueAnswerOf, List, Outcome}
 use Rattle.headline.proofs.Imports.{SaysValues, Valuation, ValueQuestion, [], ap₂, arith, as_values, common_steps}
 use Rattle.headline.proofs.Imports.{false, inl, inr, length, netlist_of, refl, subst, suc, sym, value_sections_of, zero}
 use Rattle.headline.proofs.Imports.{ℕ, ◌<◌, ◌∙◌, ◌∷◌, ◌≡◌, ◌⊎◌}
@@ -58,6 +58,6 @@ one_evaluation : (asked : ValueQuestion) (output output' : List ℕ) (outcome ou
 one_evaluation asked output output' outcome outcome' h h' =
     one_of asked output output' outcome outcome' h.ordered h.says h'.says
 
-pub one_value : HasAtMostOneAnswerToEachText IsValueOf
+pub one_value : HasAtMostOneAnswerToEachText IsValueAnswerOf
 one_value text output output' outcome outcome' h h' =
     answered_once SaysValues one_evaluation (value_sections_of text) output output' outcome outcome' h h'

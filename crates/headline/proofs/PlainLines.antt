@@ -1,6 +1,6 @@
 -- The lines of the plain certificate of a design make a plain module
 use Rattle.headline.proofs.Imports.{All, All-cons, All-nil, AreGoodCircuitLines, Bool, Box2, CertificateLine}
-use Rattle.headline.proofs.Imports.{CircuitLine, Cut, IsGoodDesign, IsInputName, IsPlaced, IsPlain, Keep, List}
+use Rattle.headline.proofs.Imports.{CircuitLine, Cut, IsGoodDesign, IsInputName, IsPlaced, IsPlainModule, Keep, List}
 use Rattle.headline.proofs.Imports.{ModuleLines, Pattern, SaysPlain, Some, Use, [], add_line, and_parts, any_at, ap}
 use Rattle.headline.proofs.Imports.{append-nil, append_assoc, ap₂, arith, bytes_same, cases_Bool, common_steps, cuts}
 use Rattle.headline.proofs.Imports.{defined, edges, eq-eqb, eqb, eqb-true, false, filter, flat_map, gate_numbers, has}
@@ -109,7 +109,7 @@ module _ (circuit : List CircuitLine) (p : Pattern) (good : AreGoodCircuitLines 
   all_inputs P [] h = All-nil P
   all_inputs P (n ∷ ns) h = All-cons P n ns (h 0 n refl) (all_inputs P ns (λ k. h (suc k)))
 
-  is_plain : IsPlain circuit p one
+  is_plain : IsPlainModule circuit p one
   is_plain = record {
     box = refl;
     inputs = subst (All (IsInputName circuit)) (sym its_cuts)

@@ -1,7 +1,8 @@
 -- The report on a plain text
 use Rattle.headline.proofs.Imports.{Accepts, All, AnswersOrRefuses, AreOnTime, BelongTogether, Bundle, CertView}
 use Rattle.headline.proofs.Imports.{CertificateLine, Circuit, CircuitLine, Err, Fault, HasRightStops, HasRimTouch}
-use Rattle.headline.proofs.Imports.{IsCorrect, IsInputName, IsPlain, IsRead, IsRight, IsVerdict, LineMeans, List, Local}
+use Rattle.headline.proofs.Imports.{IsCorrect, IsInputName, IsPlainModule, IsRead, IsRight, IsVerdict, LineMeans, List}
+use Rattle.headline.proofs.Imports.{Local}
 use Rattle.headline.proofs.Imports.{Meet, ModuleLines, No, Ok, Outcome, Pattern, Refusal, Refused, ReportLine, Result}
 use Rattle.headline.proofs.Imports.{Satisfies, SaysBundle, SaysDesign, SaysNoWith, SaysPlain, SaysReport, Setting, Some}
 use Rattle.headline.proofs.Imports.{StopHolds, TouchesRim, Valuation, Verdict, Yes, [], all_in_modules, all_stops, ap}
@@ -19,7 +20,7 @@ use Rattle.headline.specs.Plain.{IsWrongIfPlain, IsWrongText}
 use Rattle.headline.specs.ReportLines.{EarliestIsReal, LinesMeanIfPlain, LinesHaveMeaning}
 use Rattle.headline.specs.PlainLaws.{LinesOfNoHaveMeaning, PlainIsDecided, PlainNoMeansWrong, YesKeepsOffRim}
 use Rattle.core_book.specs.declared.verdict.ReportLine.TheVariants.{Keep, Delay}
-use Rattle.soundness.specs.FirstFaults.{IsModuleAssignmentOf, IsEarliestLine, IsReal}
+use Rattle.soundness.specs.FirstFaults.{IsModuleAssignmentOf, IsEarliestLine, IsRealFault}
 use Rattle.soundness.specs.HeadlineLaws.{HasInputNames}
 use Rattle.soundness.specs.PlainCertificates.{IsWrongDesign}
 use Rattle.soundness.specs.OnTime.{IsOnTime}
@@ -36,7 +37,7 @@ use Rattle.core_book.specs.declared.verdict.Verdict.TheVariants as verdict
 -- ---- a plain module is plain in either version
 
 full_plain : (g : Setting) (ms : List ModuleLines) (lines : List CircuitLine) (p : Pattern) (m : ModuleLines) →
-    IsPlain lines p m → IsPlain lines p (with_halos g ms m)
+    IsPlainModule lines p m → IsPlainModule lines p (with_halos g ms m)
 unfolding with_halos
 full_plain g ms lines p m plain = record {
   box = plain.box;
@@ -84,7 +85,7 @@ means_module version g ms i m at = elim (cases_Bool (is_haloless_version version
 ]
 
 real_same : (lines : List CircuitLine) (p : Pattern) (full m : ModuleLines) (inputs v : Valuation) (f : Fault) →
-    HaveSameLines full m → IsReal lines p full inputs v f → IsReal lines p m inputs v f
+    HaveSameLines full m → IsRealFault lines p full inputs v f → IsRealFault lines p m inputs v f
 real_same lines p full m inputs v f same real = grind (arith, common_steps)
 
 assignment_same : (c : Circuit) (full m : ModuleLines) (v : Valuation) (a : ℕ) → HaveSameLines full m →
@@ -120,11 +121,11 @@ record MeansPlain (version : ℕ) (g : Setting) (ms : List ModuleLines) (lines :
     (m : ModuleLines) : Type 0 where
   one : ModuleLines
   alone : modules_by_version version g ms ≡ one ∷ []
-  plain : IsPlain lines p one
+  plain : IsPlainModule lines p one
   same : HaveSameLines one m
 
 means_plain : (version : ℕ) (g : Setting) (ms : List ModuleLines) (lines : List CircuitLine) (p : Pattern)
-    (m : ModuleLines) → ms ≡ m ∷ [] → IsPlain lines p m → MeansPlain version g ms lines p m
+    (m : ModuleLines) → ms ≡ m ∷ [] → IsPlainModule lines p m → MeansPlain version g ms lines p m
 means_plain version g ms lines p m is plain = elim (cases_Bool (is_haloless_version version)) [
   | inl new ↦ record {
     one = with_halos g ms m;
@@ -258,7 +259,7 @@ module _ (text : List ℕ) (b : Bundle) (output : List ℕ) (outcome : Outcome) 
     Earliest circuit layout certificate = (i : ℕ) (m : ModuleLines) (f : Fault) (inputs v : Valuation) →
         IsEarliestLine its_no.lines.items i f → slice_get (modules_of certificate) i ≡ Some m →
         Satisfies (netlist_of circuit) inputs v → IsModuleAssignmentOf (circuit_of circuit) m v f.assignment →
-        IsReal circuit layout m inputs v f
+        IsRealFault circuit layout m inputs v f
 
     own_earliest : Earliest c.circuit c.layout c.entries
     own_earliest i m f inputs v first at s has =

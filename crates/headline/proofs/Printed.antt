@@ -9,7 +9,7 @@ use Rattle.headline.proofs.Imports.{◌++◌, ◌<◌, ◌^◌, ◌∙◌, ◌�
 use Rattle.lemmas.proofs.Common.{signed_decimal}
 use Rattle.lemmas.proofs.Common.{inl, inr}
 use Rattle.circuit.specs.Bridge.{kind_in_count, kind_out_count}
-use Rattle.circuit.specs.declared.circuit_line.Kind.{Kind}
+use Rattle.circuit.specs.declared.circuit_line.CircuitLineKind.{CircuitLineKind}
 use Rattle.meaning.specs.Printed.{circuit_printed, form, layout_printed, line_words, printed}
 use Rattle.meaning.specs.Printed.{IsFront}
 use Rattle.headline.specs.Laws.{BeginsWithOneDesign, PrintedDesignIsRead}
@@ -40,7 +40,7 @@ lines_more (l ∷ ls) rest clean =
 
 -- ---- a line of a circuit
 
-kind_counts : (kind : Kind) → ((form kind).1 ≡ kind_in_count kind) × ((form kind).3 ≡ kind_out_count kind)
+kind_counts : (kind : CircuitLineKind) → ((form kind).1 ≡ kind_in_count kind) × ((form kind).3 ≡ kind_out_count kind)
 kind_counts kind = grind (arith, common_steps)
 
 pub fits_of : (r : CircuitLine) → IsLine r → FitsKind r
@@ -54,7 +54,7 @@ are_names [] h = refl
 are_names (n ∷ ns) h = ap₂ (λ a b. a && b) (All-head (λ n. IsTrue (is_name n)) n ns h)
     (are_names ns (All-tail (λ n. IsTrue (is_name n)) n ns h))
 
-line_printed : (kind : Kind) (ins outs : List (List ℕ)) → FitsKind (entry kind ins outs) →
+line_printed : (kind : CircuitLineKind) (ins outs : List (List ℕ)) → FitsKind (entry kind ins outs) →
     printed (line_words (entry kind ins outs)) ≡ entry_text (entry kind ins outs)
 unfolding entry_text first_word words_after_keyword
 line_printed kind ins outs h1 = grind (arith, common_steps, append-nil)

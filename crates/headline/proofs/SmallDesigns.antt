@@ -29,7 +29,8 @@ use Rattle.module_box.specs.Locals.{local_wires}
 use Rattle.certificate_lines.specs.Entries.{gates, last_of, areas}
 use Rattle.certificate_lines.specs.Orders.{is_cut, line_cmp, may_follow, may_precede, sort_number_of, rank_of}
 use Rattle.certificate_lines.specs.Rules.{are_new_and_distinct, cut_line_code, entry_fault, used_gate_fault}
-use Rattle.certificate_lines.specs.Rules.{keep_line_code, line_fault, use_line_code, content_code, module_box_code}
+use Rattle.certificate_lines.specs.Rules.{keep_line_code, line_fault, use_line_code, code_but_for_order}
+use Rattle.certificate_lines.specs.Rules.{module_box_code}
 use Rattle.certificate_lines.specs.Rules.{end_fault, is_last_module_incomplete, is_local, is_local_wire}
 use Rattle.certificate_lines.specs.Rules.{has_nonlocal_port, leaves_gap, module_line_code, module_limit_fault}
 use Rattle.certificate_lines.proofs.LocalLemmas.{local_more}
@@ -216,7 +217,7 @@ unfolding may_precede is_cut line_cmp rank_of sort_number_of
 keep_keep j k lt = grind (arith, common_steps, ordering_then, less_nat)
 
 follow_by : (g : Setting) (m : ModuleLines) (i : CertificateLine) → may_follow m.lines i ≡ true →
-    content_code g m i ≡ None →
+    code_but_for_order g m i ≡ None →
     line_fault g m i ≡ None
 follow_by g m i f w = ap₂ or_else (ap (λ b. code_if (not b) OutOfOrder) f) w
 

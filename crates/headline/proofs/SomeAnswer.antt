@@ -1,6 +1,7 @@
 -- `modules`, `migrate` and `value` have an answer to each text
 use Rattle.headline.proofs.Imports.{AnswersOrRefuses, AreOrdered, CircuitLine, Err, HasAnAnswerToEachText}
-use Rattle.headline.proofs.Imports.{IsMigrationOf, IsModulesOf, IsValueOf, List, No, Ok, Outcome, Refusal, Refused}
+use Rattle.headline.proofs.Imports.{IsMigrationOf, IsModulesAnswerOf, IsValueAnswerOf, List, No, Ok, Outcome, Refusal}
+use Rattle.headline.proofs.Imports.{Refused}
 use Rattle.headline.proofs.Imports.{Result, SaysMigration, SaysModules, SaysValues, ValueQuestion, Yes, [], arith}
 use Rattle.headline.proofs.Imports.{bundle_of, circuit_grammar, codes, common_steps, decimal, defined}
 use Rattle.headline.proofs.Imports.{gates_are_ordered, inl, inr, line_text, netlist_of, pair_with_result, refl}
@@ -8,7 +9,7 @@ use Rattle.headline.proofs.Imports.{refusal_line, section_of, subst, value_lines
 use Rattle.headline.proofs.Imports.{◌⊎◌}
 use Rattle.soundness.proofs.SomeValues.{HasStop, HasValues, values_or_stop}
 use Rattle.answers.specs.ValueText.{assigned_inputs}
-use Rattle.answers.specs.ValueText.{value_sections_with}
+use Rattle.answers.specs.ValueText.{value_sections_with_limits}
 use Rattle.headline.proofs.YesIsRight.{circuit_good, went_on}
 use Rattle.section_text.specs.declared.limits.Limits.{Limits}
 use Rattle.section_text.specs.Limits.{front_lines}
@@ -27,7 +28,7 @@ pub answered_always : {A : Type 0} (says : A → List ℕ → Outcome → Type 0
 answered_always says (Ok asked) each = let s = each asked refl in (s.output, s.outcome, s.is)
 answered_always says (Err refusal) each = (refusal_line refusal, Refused, (refl, refl))
 
-pub some_list : HasAnAnswerToEachText IsModulesOf
+pub some_list : HasAnAnswerToEachText IsModulesAnswerOf
 some_list text = answered_always SaysModules (bundle_of text)
     (λ bundle e. record { output = _; outcome = Yes; is = record { says = refl; ends = refl } })
 
@@ -59,7 +60,7 @@ asked_first entries read asked h1 = grind (arith, common_steps)
 
 asked_ordered : (text : List ℕ) (asked : ValueQuestion) → value_sections_of text ≡ Ok asked
     → AreOrdered (netlist_of asked.0).given (netlist_of asked.0).gates
-unfolding value_sections_of value_sections_with
+unfolding value_sections_of value_sections_with_limits
 asked_ordered text asked e =
     let l : Limits = text_limits text in
     let ls : List (List ℕ) = section_lines text in
@@ -68,7 +69,7 @@ asked_ordered text asked e =
     subst (λ es. AreOrdered (netlist_of es).given (netlist_of es).gates) same
     (gates_are_ordered c.items (circuit_good l (front_lines l) ls c.header c.items c.was))
 
-pub some_values : HasAnAnswerToEachText IsValueOf
+pub some_values : HasAnAnswerToEachText IsValueAnswerOf
 some_values text = answered_always SaysValues (value_sections_of text) (λ asked e.
     let ordered = asked_ordered text asked e in
     says_values asked ordered (values_or_stop (netlist_of asked.0) (assigned_inputs asked) ordered))

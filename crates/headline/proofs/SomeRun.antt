@@ -1,6 +1,6 @@
 -- `run` has an answer to each text
 use Rattle.headline.proofs.Imports.{Bool, Cell, Cells, HasAnAnswerToEachText, IsDeadOutside, IsFaultless, IsLiveOutside}
-use Rattle.headline.proofs.Imports.{IsRunEnd, IsRunOf, LayoutHeader, LayoutLine, LeftAt, List, None, Ok, Pattern}
+use Rattle.headline.proofs.Imports.{IsRunAnswerOf, IsRunEnd, LayoutHeader, LayoutLine, LeftAt, List, None, Ok, Pattern}
 use Rattle.headline.proofs.Imports.{Refusal, Result, RunEnd, RunQuestion, SaysRunEnd, State, [], arith, cases_Bool}
 use Rattle.headline.proofs.Imports.{common_steps, cond, false, filter, flat_map, has, in_box, in_layout, inl, inr}
 use Rattle.headline.proofs.Imports.{layout_grammar, length, pair_with_result, partner, parts_of, plane_at}
@@ -18,7 +18,7 @@ use Rattle.certificate_lines.proofs.InList.{placed}
 use Rattle.certificate.proofs.FullModules.{stands}
 use Rattle.soundness.proofs.SomeLeast.{Decided, HasOne, both_decided, bools_decided, some_decided, true_decided}
 use Rattle.answers.specs.RunText.{run_sections_of}
-use Rattle.answers.specs.RunText.{run_sections_with}
+use Rattle.answers.specs.RunText.{run_sections_with_limits}
 use Rattle.headline.proofs.SomeAnswer.{SaysSomething, answered_always}
 use Rattle.headline.proofs.SomeReport.{some_layout}
 use Rattle.headline.proofs.YesIsRight.{laid_out, went_on}
@@ -94,10 +94,10 @@ module _ (s : LayoutHeader) where
   abbrev StaysUpTo : State → ℕ → Type 0
   StaysUpTo first n = (k : ℕ) → k ≤ n → IsDeadOutside s (run first k)
 
-  abbrev Leaves : State → Type 0
-  Leaves first = (k : ℕ) × RunLeaves s first k
+  abbrev LeavesBoard : State → Type 0
+  LeavesBoard first = (k : ℕ) × RunLeaves s first k
 
-  run_to : (first : State) → IsDeadOutside s first → (n : ℕ) → n ≤ s.steps → StaysUpTo first n ⊎ Leaves first
+  run_to : (first : State) → IsDeadOutside s first → (n : ℕ) → n ≤ s.steps → StaysUpTo first n ⊎ LeavesBoard first
   unfolding run
   run_to first inside zero le = inl
       (λ k low. let e : zero ≡ k = omega (arith, low) in subst (λ k. IsDeadOutside s (run first k)) e inside)
@@ -109,7 +109,7 @@ module _ (s : LayoutHeader) where
         | inr ge ↦ let e : suc n ≡ k = omega (arith, low, ge) in subst (λ k. IsDeadOutside s (run first k)) e now
       ]
 
-      next : StaysUpTo first n ⊎ Leaves first → StaysUpTo first (suc n) ⊎ Leaves first
+      next : StaysUpTo first n ⊎ LeavesBoard first → StaysUpTo first (suc n) ⊎ LeavesBoard first
       next (inr left) = inr left
       next (inl stays) = elim (step_decided n (run first n) (stays n (omega arith))) [
         | inl now ↦ inl (last stays now)
@@ -163,7 +163,7 @@ asked_first lines read asked h1 = grind (arith, common_steps)
 
 asked_layout : (text : List ℕ) (asked : RunQuestion) → run_sections_of text ≡ Ok asked →
     IsAskedLayout (text_limits text) asked
-unfolding run_sections_of run_sections_with
+unfolding run_sections_of run_sections_with_limits
 asked_layout text asked e =
     let k : Limits = text_limits text in
     let ls : List (List ℕ) = section_lines text in
@@ -188,6 +188,6 @@ says_end l asked a =
       is = record { layout = p.0; end = end.0; lines = p.1 ∙ a.same; run = end.1; says = refl; ends = refl };
     }
 
-pub some_run : HasAnAnswerToEachText IsRunOf
+pub some_run : HasAnAnswerToEachText IsRunAnswerOf
 some_run text = answered_always SaysRunEnd (run_sections_of text)
     (λ asked e. says_end (text_limits text) asked (asked_layout text asked e))

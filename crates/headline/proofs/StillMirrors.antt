@@ -1,12 +1,13 @@
 -- A mirror that touches the rim of its rectangle: its layout computes a circuit, and gets a yes after it is moved
-use Rattle.headline.proofs.Imports.{Bool, CircuitLine, Gate, HasNoDelay, HasRoom, IsCorrect}
+use Rattle.headline.proofs.Imports.{Bool, CircuitLine, Gate, HasNoDelay, HasRoomToMove, IsCorrect}
 use Rattle.headline.proofs.Imports.{IsDesign, IsReportOf, IsSmallDesign, List, LooksAsAsked, No, None, Pattern}
-use Rattle.headline.proofs.Imports.{Satisfies, Source, Spill, State, TouchesRim, Valuation, [], added_line_code}
+use Rattle.headline.proofs.Imports.{Satisfies, Source, Spill, State, TouchesRim, Valuation, [], limit_or_name_code}
 use Rattle.headline.proofs.Imports.{ap, arith, cell_fault, cells_of, cells_taken_at_start, codes, common_steps}
 use Rattle.headline.proofs.Imports.{design_text, false, in_box, in_layout, in_ring, in_span, in_span-negsuc, inl, inr}
-use Rattle.headline.proofs.Imports.{ints, is_inside, is_taken, limit_fault, negsuc, number, partner}
+use Rattle.headline.proofs.Imports.{ints, is_inside, is_taken, largest_limit_code, negsuc, number, partner}
 use Rattle.headline.proofs.Imports.{parts_of, plane_at, pos, rectangle_cells, refl, row, run, run_under, size_fault}
-use Rattle.headline.proofs.Imports.{span_from, span_parts, start, step, subst, suc, sym, takes_at_start, true, turned}
+use Rattle.headline.proofs.Imports.{span_from, span_parts, start, step, subst, suc, sym, takes_cells_at_start, true}
+use Rattle.headline.proofs.Imports.{turned}
 use Rattle.headline.proofs.Imports.{zero, ℕ, ℤ, ◌&&◌, ◌+ℤ◌, ◌+◌, ◌-ℤ◌, ◌∙◌, ◌∷◌, ◌≡◌, ◌≤◌}
 use Rattle.lemmas.proofs.Common.{next_neg}
 use Rattle.bbm_rule.specs.Spans.{in_area}
@@ -131,7 +132,7 @@ mirror_correct = record {
 -- ---- its lines keep the rules
 
 constant_good : AreGoodCircuitLines constant
-unfolding AreGoodCircuit added_line_code
+unfolding AreGoodCircuit limit_or_name_code
 constant_good = grind (arith, common_steps)
 
 mirror_size : size_fault rim_mirror.size ≡ None
@@ -139,7 +140,8 @@ unfolding size_fault
 mirror_size = refl
 
 mirror_good : AreGoodAfter rim_mirror.size [] (parts_of rim_mirror)
-unfolding takes_at_start cells_taken_at_start cell_fault cells_of is_inside is_taken limit_fault rectangle_cells
+unfolding takes_cells_at_start cells_taken_at_start cell_fault cells_of is_inside is_taken largest_limit_code
+    rectangle_cells
 mirror_good = (refl, refl, tt)
 
 mirror_design : IsDesign constant rim_mirror
@@ -149,7 +151,7 @@ no_delay : HasNoDelay constant
 no_delay zero steps a b e = grind (arith, common_steps)
 no_delay (suc k) steps a b e = absurd cc
 
-room : HasRoom constant rim_mirror
+room : HasRoomToMove constant rim_mirror
 room = record { wide = omega arith; high = omega arith; short = omega arith; inputs = omega arith; gates = omega arith }
 
 small : IsSmallDesign constant rim_mirror

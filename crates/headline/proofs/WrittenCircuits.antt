@@ -1,7 +1,7 @@
 -- The lines of a good circuit can be written, if its wires have names
 use Rattle.headline.proofs.Imports.{AllByRecursion, AreGoodAfter, CircuitLine, Delay, End, FitsKind}
 use Rattle.headline.proofs.Imports.{Gate, GateKind, Have, Header, Input, Item, List, None, Output, Some}
-use Rattle.headline.proofs.Imports.{Source, Spill, [], added_line_code, and_parts, ap}
+use Rattle.headline.proofs.Imports.{Source, Spill, [], and_parts, ap, limit_or_name_code}
 use Rattle.headline.proofs.Imports.{ap₂, arith, bytes_eq, bytes_eq-Decides, cases_Bool, codes}
 use Rattle.headline.proofs.Imports.{common_steps, cond, cond_some, consume_have, consumed, decimal, defined, defines}
 use Rattle.headline.proofs.Imports.{entry, false, false≢true, no_code_first, form_of, gate_entry}
@@ -15,7 +15,7 @@ use Rattle.circuit.specs.Forms.{bit_at, gate_kind, words_before_names}
 use Rattle.circuit.specs.Gates.{uses}
 use Rattle.circuit.specs.Rules.{is_wrong_delay}
 use Rattle.circuit.specs.Text.{gate_parameter_words, gate_word}
-use Rattle.circuit.specs.declared.circuit_line.Kind.{Kind}
+use Rattle.circuit.specs.declared.circuit_line.CircuitLineKind.{CircuitLineKind}
 use Rattle.pattern.proofs.Added.{no_code}
 use Rattle.headline.proofs.Written.{HasLine, HasSection, IsWord, digits_word, has_section, line_by, name_word}
 
@@ -90,10 +90,10 @@ delay_small : (n : ℕ) → is_wrong_delay (Gate (Delay n)) ≡ false → n < 10
 delay_small n h = grind (arith, nat_tests, h)
 
 -- a number of the kind has at most nine digits
-abbrev pub IsShort : Kind → Type 0
+abbrev pub IsShort : CircuitLineKind → Type 0
 IsShort kind = (n : ℕ) → kind ≡ Gate (Delay n) → n < 10 ^ 9
 
-pub is_short : (kind : Kind) → is_wrong_delay kind ≡ false → IsShort kind
+pub is_short : (kind : CircuitLineKind) → is_wrong_delay kind ≡ false → IsShort kind
 is_short kind h n e = delay_small n (subst (λ k. is_wrong_delay k ≡ false) e h)
 
 kind_read : (k : GateKind) (rest : List (List ℕ)) → IsShort (Gate k) →
@@ -165,7 +165,8 @@ lone_line w n r h k e = line_by form_of (Item r) w (n ∷ []) h (name_word n k, 
 first_of : (n : List ℕ) (ns : List (List ℕ)) → AreNames (n ∷ ns) → is_name n ≡ true
 first_of n ns h = (and_parts (is_name n) (list_all is_name ns) h).0
 
-pub line_of : (kind : Kind) (ins outs : List (List ℕ)) → FitsKind (entry kind ins outs) → AreNames ins → AreNames outs →
+pub line_of : (kind : CircuitLineKind) (ins outs : List (List ℕ)) → FitsKind (entry kind ins outs) → AreNames ins →
+    AreNames outs →
     IsShort kind → HasLine form_of (Item (entry kind ins outs))
 unfolding form_of is_word_at name_after_keyword name_at
 line_of (Gate k) ins outs fits i o right = gate_line k ins outs fits i o right
@@ -186,9 +187,9 @@ line_of _ [] outs fits i o right = absurd (let e = fits.0 in omega (arith, e))
 
 -- ---- the section
 
-pub right_delay : (before : List CircuitLine) (r : CircuitLine) → added_line_code before r ≡ None →
+pub right_delay : (before : List CircuitLine) (r : CircuitLine) → limit_or_name_code before r ≡ None →
     is_wrong_delay r.kind ≡ false
-unfolding added_line_code
+unfolding limit_or_name_code
 right_delay before r e = grind (arith, common_steps, left_is_false, no_code, no_code_first)
 
 pub defined_more : (before : List CircuitLine) (r : CircuitLine) → AreNames (defined before) → AreNames r.outs →

@@ -6,7 +6,8 @@ use Rattle.headline.proofs.Imports.{SomethingMissing, TakenCell, Waste, [], and_
 use Rattle.headline.proofs.Imports.{arith, box_of, bytes_same, cell, cell_fault, code_if, codes, common_steps}
 use Rattle.headline.proofs.Imports.{corner_and_sides, decimal, false, has, if_one_word, in_box, in_layout, input_names}
 use Rattle.headline.proofs.Imports.{is_inside, is_name, is_taken, is_word_at, layout_grammar, layout_line_fault}
-use Rattle.headline.proofs.Imports.{limit_fault, line_fault, list_all, list_any, map, name_at, nat_tests, no_code, not}
+use Rattle.headline.proofs.Imports.{largest_limit_code, line_fault, list_all, list_any, map, name_at, nat_tests}
+use Rattle.headline.proofs.Imports.{no_code, not}
 use Rattle.headline.proofs.Imports.{number_at, number_written, option_map, or_else, output_names, parts_of}
 use Rattle.headline.proofs.Imports.{port_names_of, refl, size_fault, slice_get, slice_get-map, subst, suc, sym, true}
 use Rattle.headline.proofs.Imports.{whole, ℕ, ◌&&◌, ◌++◌, ◌+◌, ◌<◌, ◌>>=◌, ◌^◌, ◌||◌, ◌∙◌, ◌∷◌, ◌≡◌, ◌≤◌}
@@ -15,7 +16,8 @@ use Rattle.lemmas.proofs.Common.{not_lt_test}
 use Rattle.module_box.proofs.BoxCells.{in_box_nats}
 use Rattle.pattern.specs.Forms.{cell_of_words_from, form_of, cell_after_keyword, port_after_keyword, port_of}
 use Rattle.pattern.specs.Forms.{sides_and_steps, size_of}
-use Rattle.pattern.specs.Lines.{AreGoodAfter, is_in_line_named, has_later_kind_before, is_out_line_named, missing_fault}
+use Rattle.pattern.specs.Lines.{AreGoodAfter, is_input_cell_named, has_later_kind_before, is_output_cell_named}
+use Rattle.pattern.specs.Lines.{missing_fault}
 use Rattle.pattern.specs.Lines.{name_fault, order_fault, rank_of}
 use Rattle.pattern.specs.Lines.{text_limit_fault, text_size_fault}
 use Rattle.soundness.proofs.PortNames.{in_lines, out_lines}
@@ -143,7 +145,7 @@ module _ (s : LayoutHeader) (l : HasLimits s) where
   unfolding cell_fault
   inside before part e = first_holds (is_inside s part) (is_taken before part) e
 
-  line_of : (names : PortNameLists) (part : LayoutLine) → IsPortName names part → limit_fault part ≡ None →
+  line_of : (names : PortNameLists) (part : LayoutLine) → IsPortName names part → largest_limit_code part ≡ None →
       is_inside s part ≡ true → HasLine form_of (Item part)
   unfolding is_inside
   line_of names (Mirror r) n e h = let k = small_mirror r h in mirror_line r k.x k.y k.w k.h
@@ -245,7 +247,8 @@ unfolding layout_line_fault line_fault
 faultless_on k s l names before [] within order good n = tt
 faultless_on k s l names before (part ∷ parts) within order good n = (
   ap₂ or_else order.0 (ap₂ or_else (mirror_within k s before part within good.1)
-      (all_none (order_fault before part) (limit_fault part) (name_fault (Some names) part) (cell_fault s before part)
+      (all_none (order_fault before part) (largest_limit_code part) (name_fault (Some names) part)
+      (cell_fault s before part)
       order.0 good.0 (name_ok s l names part n.0) good.1)),
   faultless_on k s l names (before ++ part ∷ []) parts within order.1 good.2 n.1,
 )
@@ -317,8 +320,8 @@ module _ (circuit : List CircuitLine) (p : Pattern) (limits : size_fault p.size 
     header = ap₂ or_else (size_within k s within) limits;
     each = faultless_on k s l names [] (parts_of p) within (in_order p) good ports_named;
     end = ap₂ (λ a b. code_if (not (a && b)) SomethingMissing)
-        (all_have (λ n. list_any (is_in_line_named n) (parts_of p)) names.ins (λ k n at.
+        (all_have (λ n. list_any (is_input_cell_named n) (parts_of p)) names.ins (λ k n at.
         in_lines p n ∙ each_port names.ins p.ins are.ins k n at))
-        (all_have (λ n. list_any (is_out_line_named n) (parts_of p)) names.outs (λ k n at.
+        (all_have (λ n. list_any (is_output_cell_named n) (parts_of p)) names.outs (λ k n at.
         out_lines p n ∙ each_port names.outs p.outs are.outs k n at));
   }

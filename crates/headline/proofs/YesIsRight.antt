@@ -5,8 +5,9 @@ use Rattle.headline.proofs.Imports.{HasRightStops, Header, IsCorrect, IsFaultles
 use Rattle.headline.proofs.Imports.{IsVerdict, Item, JobView, LayoutHeader, LayoutLine, List, None, Ok, Option}
 use Rattle.headline.proofs.Imports.{OutOfOrder, Outcome, Pattern, PortNameLists, Refusal, RefusalCode, Refused, Result}
 use Rattle.headline.proofs.Imports.{SaysBundle, SaysDesign, SaysReport, Some, StopHolds, StopLine, Verdict, Yes, []}
-use Rattle.headline.proofs.Imports.{added_line_code, all_in_modules, all_stops, ap, append-nil, append_assoc, ap₂}
-use Rattle.headline.proofs.Imports.{arith, bundle_of, bundle_with, bytes_after_last_line_feed, certificate_grammar}
+use Rattle.headline.proofs.Imports.{all_in_modules, all_stops, ap, append-nil, append_assoc, ap₂, limit_or_name_code}
+use Rattle.headline.proofs.Imports.{arith, bundle_of, bundle_with_limits, bytes_after_last_line_feed}
+use Rattle.headline.proofs.Imports.{certificate_grammar}
 use Rattle.headline.proofs.Imports.{circuit_grammar, circuit_of, circuit_text, common_steps, cond, consumed, defined}
 use Rattle.headline.proofs.Imports.{drop, eqb, faultless_named, flat_map, unconsumed_wire_code, flat_map-append}
 use Rattle.headline.proofs.Imports.{form_of, gates_are_ordered, inputs_are_first, layout_grammar, layout_of}
@@ -31,7 +32,7 @@ use Rattle.soundness.proofs.YesMeansCorrect.{yes_means-correct, yes_means-on_tim
 use Rattle.headline.specs.Laws.{FourthLineShowsOutcome, SaysCorrectDesign, UnrefusedDesignIsGood, YesHasOneValuation}
 use Rattle.headline.specs.Laws.{YesMeansRightStops}
 use Rattle.headline.proofs.OneAnswer.{layout_from}
-use Rattle.headline.specs.RightInFull.{HasFewWires}
+use Rattle.headline.specs.RightInFull.{KeepsWireAndGateLimits}
 use Rattle.headline.proofs.FewWires.{few_wires}
 use Rattle.headline.proofs.Designs.{bundle_said, design_said, one_design}
 use Rattle.headline.proofs.FourthLines.{refusal_says_none, says_yes, yes_says}
@@ -80,7 +81,7 @@ line_good : (l : Limits) (words : List (List ℕ)) (ls : List (List ℕ)) (befor
 unfolding AreGoodAfter
 line_good l words ls before n rows (Some (Item r)) f none e rec =
     let passed = unless_ok n (or_else (order_fault before r)
-    (or_else (code_if (exceeds_text_limit l before r) PastLimit) (added_line_code before r)))
+    (or_else (code_if (exceeds_text_limit l before r) PastLimit) (limit_or_name_code before r)))
     (section_body_of (circuit_grammar l) tt (before ++ r ∷ []) (n + 1) ls) (tt, rows) e in
     let codes = both_none (order_fault before r) _ passed.0 in
     let h : last_rank before ≤ rank_of r.kind =
@@ -92,7 +93,7 @@ line_good l words ls before n rows (Some (Item r)) f none e rec =
       rows_are = t.rows_are ∙ append_assoc before (r ∷ []) t.more;
       good = (
         record {
-          adds = (both_none _ (added_line_code before r) codes.1).1;
+          adds = (both_none _ (limit_or_name_code before r) codes.1).1;
           fits = entry_fits words r f;
           inputs_first = no_gate_yet r.kind (last_rank before) (gate_count before) h none;
         },
@@ -174,7 +175,7 @@ no_missing o h1 = grind (arith, common_steps)
 pub record IsReadBundle (text : List ℕ) (b : Bundle) : Type 0 where
   pub circuit : AreGoodCircuitLines b.circuit
   pub all_consumed : first_unconsumed (consumed b.circuit) (defined b.circuit) ≡ None
-  pub few_wires : HasFewWires (text_limits text) b.circuit
+  pub few_wires : KeepsWireAndGateLimits (text_limits text) b.circuit
   pub layout : IsFaultless (layout_grammar (text_limits text) (Some (port_names_of b.circuit))) b.size b.parts
   pub says : (p : Pattern) → layout_section p ≡ (b.size, b.parts) → SaysDesign text b.circuit p
   pub begins : (p : Pattern) → layout_section p ≡ (b.size, b.parts) → BeginsWith text b.circuit p
@@ -213,7 +214,7 @@ pub record AreSections (text : List ℕ) (b : Bundle) : Type 0 where
   pub ended : bytes_after_last_line_feed text ≡ []
 
 pub in_sections : (text : List ℕ) (b : Bundle) → bundle_of text ≡ Ok b → AreSections text b
-unfolding bundle_of bundle_with
+unfolding bundle_of bundle_with_limits
 in_sections text b e = grind (arith, lines_of)
 
 pub bundle_good : (text : List ℕ) (b : Bundle) → bundle_of text ≡ Ok b → IsReadBundle text b

@@ -50,7 +50,7 @@ moved p = record {
 -- ---- what is proved of it
 
 -- at most 60 by 60 cells, 65,536 steps, 12 inputs and 64 gates, so that the larger layout is small too
-pub record HasRoom (circuit : List CircuitLine) (layout : Pattern) : Type 0 where
+pub record HasRoomToMove (circuit : List CircuitLine) (layout : Pattern) : Type 0 where
   pub wide : layout.size.w ≤ 60
   pub high : layout.size.h ≤ 60
   pub short : layout.size.steps ≤ 65536
@@ -73,14 +73,14 @@ pub record MovedGetsYes (circuit : List CircuitLine) (layout : Pattern) : Type 0
 -- This holds of each design with room that keeps the rules and computes its circuit, if the circuit has no delay.
 abbrev pub EachCorrectDesignGetsYes : Type 0
 EachCorrectDesignGetsYes = (circuit : List CircuitLine) (layout : Pattern) → IsDesign circuit layout →
-    HasRoom circuit layout → IsCorrect circuit layout → HasNoDelay circuit → MovedGetsYes circuit layout
+    HasRoomToMove circuit layout → IsCorrect circuit layout → HasNoDelay circuit → MovedGetsYes circuit layout
 
 -- Some design needs the move. It touches its rim, so its own plain text is reported with the outcome no.
 pub record SomeDesignNeedsRoom : Type 0 where
   pub circuit : List CircuitLine
   pub layout : Pattern
   pub design : IsDesign circuit layout
-  pub room : HasRoom circuit layout
+  pub room : HasRoomToMove circuit layout
   pub correct : IsCorrect circuit layout
   pub no_delay : HasNoDelay circuit
   pub touches : TouchesRim circuit layout

@@ -1,13 +1,13 @@
 -- The meaning of a no of `check` if the certificate is plain: one module that is the whole rectangle.
 --
 -- Read before: all that meaning/specs/Headline.antt and Stops.antt name; certificate_lines/specs/Entries.antt up to
--- `kept_gate_in` (the lines of a module); soundness/specs/PlainCertificates.antt from `IsPlain` to `TouchesRim`.
+-- `kept_gate_in` (the lines of a module); soundness/specs/PlainCertificates.antt from `IsPlainModule` to `TouchesRim`.
 use Rattle.std.specs.Prelude.{◌≡◌, ◌⊎◌, ℕ, List, [], ◌∷◌}
 use Rattle.circuit.specs.declared.circuit_line.CircuitLine.{CircuitLine}
 use Rattle.pattern.specs.Layout.{Pattern}
 use Rattle.certificate_lines.specs.Entries.{ModuleLines, modules_of}
 use Rattle.certificate_lines.specs.declared.certificate_line.CertificateLine.{CertificateLine}
-use Rattle.soundness.specs.PlainCertificates.{IsPlain, TouchesRim}
+use Rattle.soundness.specs.PlainCertificates.{IsPlainModule, TouchesRim}
 use Rattle.meaning.specs.Design.{SaysDesign}
 use Rattle.meaning.specs.Headline.{IsRight}
 use Rattle.headline.specs.Stops.{HasRightStops, SaysBundle}
@@ -20,7 +20,7 @@ pub record SaysPlain (text : List ℕ) : Type 0 where
   pub says : SaysBundle text circuit layout certificate
   pub one : ModuleLines
   pub modules : modules_of certificate ≡ one ∷ []
-  pub plain : IsPlain circuit layout one
+  pub plain : IsPlainModule circuit layout one
 
 -- the text says a circuit and then a layout that touches its rim
 pub record HasRimTouch (text : List ℕ) : Type 0 where

@@ -15,7 +15,7 @@ use Rattle.headline.specs.Stops.{SaysBundle}
 use Rattle.section_text.specs.Spelling.{line_text}
 use Rattle.circuit.specs.Meaning.{Satisfies, Valuation}
 use Rattle.local_run.specs.declared.fault.Fault.{Fault}
-use Rattle.soundness.specs.FirstFaults.{IsModuleAssignmentOf, IsEarliestLine, IsReal}
+use Rattle.soundness.specs.FirstFaults.{IsModuleAssignmentOf, IsEarliestLine, IsRealFault}
 use Rattle.core_book.specs.declared.verdict.ReportLine.{ReportLine}
 use Rattle.report.specs.ReportText.{report_line_text, lines_before_verdict}
 use Rattle.headline.specs.Plain.{SaysPlain}
@@ -35,7 +35,7 @@ EarliestIsReal text lines = (circuit : List CircuitLine) (layout : Pattern) (cer
     SaysBundle text circuit layout certificate →
     (i : ℕ) (m : ModuleLines) (f : Fault) (inputs v : Valuation) → IsEarliestLine lines i f →
     slice_get (modules_of certificate) i ≡ Some m → Satisfies (netlist_of circuit) inputs v →
-    IsModuleAssignmentOf (circuit_of circuit) m v f.assignment → IsReal circuit layout m inputs v f
+    IsModuleAssignmentOf (circuit_of circuit) m v f.assignment → IsRealFault circuit layout m inputs v f
 
 -- if the text is plain, each of these lines means what `LineMeans` says
 abbrev pub LinesMeanIfPlain : List ℕ → List ReportLine → Type 0

@@ -2,7 +2,7 @@
 --
 -- Read before: all that meaning/specs/Headline.antt and Stops.antt name; soundness/specs/PlainCertificates.antt from
 -- `IsLiveOnRim` to `TouchesRim`; circuit/specs/Bridge.antt up to `AreGoodCircuitLines` and Rules.antt up to
--- `added_line_code` (the rules of a circuit); pattern/specs/Lines.antt (those of a layout).
+-- `limit_or_name_code` (the rules of a circuit); pattern/specs/Lines.antt (those of a layout).
 use Rattle.std.specs.Prelude.{◌≡◌, ◌<◌, ◌≤◌, ℕ, List, [], ◌++◌, length, None, Some, slice_get, take}
 use Rattle.circuit.specs.Bridge.{AreGoodCircuitLines, input_count, input_names, netlist_of}
 use Rattle.circuit.specs.Entries.{defined}
@@ -23,8 +23,8 @@ use Rattle.headline.specs.Stops.{HasRightStops}
 -- ---- the rules of a design
 
 -- no more wires and no more gates than a text with these limits may have
-abbrev pub HasFewWires : Limits → List CircuitLine → Type 0
-HasFewWires l circuit = (length (defined circuit) ≤ most_wires l) × (gate_count circuit ≤ most_gates l)
+abbrev pub KeepsWireAndGateLimits : Limits → List CircuitLine → Type 0
+KeepsWireAndGateLimits l circuit = (length (defined circuit) ≤ most_wires l) × (gate_count circuit ≤ most_gates l)
 
 -- The design of a text that is not refused is good: each of its lines is good after those before it, by names, limits
 -- and cells, and some line of the circuit consumes each wire. The text begins with the lines of both sections in their
@@ -32,7 +32,7 @@ HasFewWires l circuit = (length (defined circuit) ≤ most_wires l) × (gate_cou
 pub record IsGoodDesign (text : List ℕ) (circuit : List CircuitLine) (layout : Pattern) : Type 0 where
   pub circuit_lines : AreGoodCircuitLines circuit
   pub all_consumed : first_unconsumed (consumed circuit) (defined circuit) ≡ None
-  pub few_wires : HasFewWires (text_limits text) circuit
+  pub few_wires : KeepsWireAndGateLimits (text_limits text) circuit
   pub size : size_fault layout.size ≡ None
   pub text_size : text_size_fault (text_limits text) layout.size ≡ None
   pub layout_lines : AreGoodAfter layout.size [] (parts_of layout)

@@ -7,9 +7,9 @@ ghost use Rattle.headline.specs.Witnesses.{PlainNoTextIsRefuted, PlainYesTextIsA
 ghost use Rattle.headline.specs.MovedDesigns.{EachCorrectDesignGetsYes, SomeDesignNeedsRoom};
 ghost use Rattle.headline.specs.Migration.{MigrationKeepsVersionTwo, MigrationIsIdempotent, MigrationKeepsYes, MigrationSaysTheSame};
 ghost use Rattle.answers.specs.MigrateText.{IsMigrationOf};
-ghost use Rattle.answers.specs.ModulesText.{IsModulesOf};
-ghost use Rattle.answers.specs.RunText.{IsRunOf};
-ghost use Rattle.answers.specs.ValueText.{IsValueOf};
+ghost use Rattle.answers.specs.ModulesText.{IsModulesAnswerOf};
+ghost use Rattle.answers.specs.RunText.{IsRunAnswerOf};
+ghost use Rattle.answers.specs.ValueText.{IsValueAnswerOf};
 
 /// States that what `check` writes for a text, and its outcome, is a function of the text.
 pub fn check_has_one_answer()
@@ -19,20 +19,20 @@ pub fn check_has_one_answer()
 
 /// States that what `run` writes for a text, and its outcome, is a function of the text.
 pub fn run_has_one_answer()
-    ensures one { HasAtMostOneAnswerToEachText IsRunOf }
-    ensures some { HasAnAnswerToEachText IsRunOf }
+    ensures one { HasAtMostOneAnswerToEachText IsRunAnswerOf }
+    ensures some { HasAnAnswerToEachText IsRunAnswerOf }
 {}
 
 /// States that what `value` writes for a text, and its outcome, is a function of the text.
 pub fn value_has_one_answer()
-    ensures one { HasAtMostOneAnswerToEachText IsValueOf }
-    ensures some { HasAnAnswerToEachText IsValueOf }
+    ensures one { HasAtMostOneAnswerToEachText IsValueAnswerOf }
+    ensures some { HasAnAnswerToEachText IsValueAnswerOf }
 {}
 
 /// States that what `modules` writes for a text, and its outcome, is a function of the text.
 pub fn modules_has_one_answer()
-    ensures one { HasAtMostOneAnswerToEachText IsModulesOf }
-    ensures some { HasAnAnswerToEachText IsModulesOf }
+    ensures one { HasAtMostOneAnswerToEachText IsModulesAnswerOf }
+    ensures some { HasAnAnswerToEachText IsModulesAnswerOf }
 {}
 
 /// States that what `migrate` writes for a text, and its outcome, is a function of the text.

@@ -1,7 +1,7 @@
 -- The findings that are due from the draws of all workers.
 use Rattle.std.proofs.lemmas.Grind.{common_steps}
 use Rattle.job_pool.proofs.Imports.{All, All-map, Desk, HasWorked, IsDrawn, IsSeatOf, List, Worker, []}
-use Rattle.job_pool.proofs.Imports.{arith, drawn_by, drop, due_count, false, get_or, if◌then◌else◌, length, map}
+use Rattle.job_pool.proofs.Imports.{arith, drawn_by, drop, due_finding_count, false, get_or, if◌then◌else◌, length, map}
 use Rattle.job_pool.proofs.Imports.{nat_tests, past_last, refl, seats_of, shares_of, subst, suc, sum_of_filed, take}
 use Rattle.job_pool.proofs.Imports.{total, ℕ, ◌++◌, ◌+◌, ◌<◌, ◌∷◌, ◌≡◌, ◌≤◌}
 use Rattle.lemmas.proofs.Common.{Bool, nat_lt, true, drop_all, sum_by-cons, take_all}
@@ -14,7 +14,7 @@ use lib.ListN.{get_elem?}
 
 by_cases : (b d : Bool) (groups : List ℕ) (n next : ℕ) (before : List ℕ) → All (λ g. g < n) groups → nat_lt next n ≡ d →
     Empty ≡ (if b then Empty else if d then Number next else Empty) →
-    due_count groups (if b then before else before ++ next ∷ []) ≡ due_count groups before
+    due_finding_count groups (if b then before else before ++ next ∷ []) ≡ due_finding_count groups before
 by_cases true d groups n next before below t e = refl
 by_cases false true groups n next before below t e = absurd (cc)
 by_cases false false groups n next before below t e =
@@ -26,14 +26,14 @@ by_cases false false groups n next before below t e =
 -- for a claim that is answered Empty nothing more is due
 pub empty_adds_none : (groups : List ℕ) (n next : ℕ) (before after : List ℕ) → All (λ g. g < n) groups →
     Empty ≡ claim_answer n before next → after ≡ draws_after_claim n before next →
-    due_count groups after ≡ due_count groups before
+    due_finding_count groups after ≡ due_finding_count groups before
 empty_adds_none groups n next before after below e is = grind (arith, common_steps, by_cases)
 
 -- where a list ends with a draw of n or more, all numbers below n were drawn, and so the findings of all members are
 -- due
 all_are_due : (counter n i : ℕ) (lists : List (List ℕ)) (xs groups : List ℕ) → IsDrawn counter lists →
     get_elem? lists i ≡ some xs → n < past_last xs → All (λ g. g < n) groups →
-    total (due_count groups) lists ≡ length groups
+    total (due_finding_count groups) lists ≡ length groups
 all_are_due counter n i lists xs groups r at ends below =
     let counted = end_counted counter n i lists xs r at ends in
     due_in_all counter n lists r (omega (arith, counted)) groups below
@@ -48,9 +48,9 @@ module _ {F A : Type 0} (desk : Desk) (groups : List ℕ) where
   all_filed : (before after : List (Worker F A)) → length after ≡ length before
       → ((i : ℕ) (d : Worker F A) → i < length before →
       (get_or after i d).share.filed
-      ≡ (get_or before i d).share.filed + due_count groups (drawn_by (get_or after i d).seat))
+      ≡ (get_or before i d).share.filed + due_finding_count groups (drawn_by (get_or after i d).seat))
       → sum_of_filed (shares_of after)
-      ≡ sum_of_filed (shares_of before) + total (due_count groups) (map drawn_by (seats_of after))
+      ≡ sum_of_filed (shares_of before) + total (due_finding_count groups) (map drawn_by (seats_of after))
   all_filed [] [] len each = refl
   all_filed [] (y ∷ ys) len each = absurd (omega arith)
   all_filed (x ∷ xs) [] len each = absurd (omega arith)

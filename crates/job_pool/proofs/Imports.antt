@@ -10,7 +10,8 @@ pub use Rattle.core_book.specs.Draws.{past_last}
 pub use Rattle.job_pool.specs.Lists.{all_but_last, count_at_least, joined, past_greatest}
 pub use Rattle.job_pool.specs.Rule.{HasAllPlaces, IsDealt, seat_view}
 pub use Rattle.job_pool.specs.Seats.{IsNewSeatOf, IsSeatOf, drawn_by}
-pub use Rattle.job_pool.specs.Work.{HasRisen, HasWorked, IsReadyWorker, due_count, seats_of, shares_of, sum_of_filed}
+pub use Rattle.job_pool.specs.Work.{HasRisen, HasWorked, IsReadyWorker, due_finding_count, seats_of, shares_of}
+pub use Rattle.job_pool.specs.Work.{sum_of_filed}
 pub use Rattle.job_pool.specs.declared.desk.Desk.{Desk}
 pub use Rattle.job_pool.specs.declared.desk.DeskSeat.{DeskSeat}
 pub use Rattle.job_pool.specs.declared.rule.View.{View}

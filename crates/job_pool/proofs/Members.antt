@@ -1,6 +1,7 @@
 -- Groups of jobs, and the findings that are due for draws.
 use Rattle.std.proofs.lemmas.Grind.{common_steps}
-use Rattle.job_pool.proofs.Imports.{All, IsDrawn, List, [], ap, arith, due_count, get_or, if◌then◌else◌, length, map}
+use Rattle.job_pool.proofs.Imports.{All, IsDrawn, List, [], ap, arith, due_finding_count, get_or, if◌then◌else◌, length}
+use Rattle.job_pool.proofs.Imports.{map}
 use Rattle.job_pool.proofs.Imports.{nat_tests, occurrences, refl, shape_of, shapes_of, suc, sym, take, total}
 use Rattle.job_pool.proofs.Imports.{zero, ℕ, ◌++◌, ◌+◌, ◌<◌, ◌==◌, ◌∙◌, ◌∷◌, ◌≡◌, ◌≢◌, ◌≤◌}
 use Rattle.lemmas.proofs.Common.{Some, option_map, slice_get, slice_index, All-head, All-tail}
@@ -60,34 +61,36 @@ pub times_step : (x : ℕ) (gs : List ℕ) (i d : ℕ) → i < length gs →
 times_step x gs i d lt = grind (arith, common_steps, take_more, times-append)
 
 -- ---- what is due
-due_append : (gs xs ys : List ℕ) → due_count gs (xs ++ ys) ≡ due_count gs xs + due_count gs ys
+due_append : (gs xs ys : List ℕ) → due_finding_count gs (xs ++ ys) ≡ due_finding_count gs xs + due_finding_count gs ys
 due_append gs [] ys = omega arith
 due_append gs (x ∷ xs) ys = let h = due_append gs xs ys in omega arith
 
 pub due_more : (gs : List ℕ) (i : ℕ) (xs ys : List ℕ) → ys ≡ xs ++ i ∷ [] →
-    due_count gs ys ≡ due_count gs xs + occurrences i gs
-due_more gs i xs ys is = let e = ap (due_count gs) is in let a = due_append gs xs (i ∷ []) in omega (arith, e, a)
+    due_finding_count gs ys ≡ due_finding_count gs xs + occurrences i gs
+due_more gs i xs ys is = let e = ap (due_finding_count gs) is in let a = due_append gs xs (i ∷ []) in
+    omega (arith, e, a)
 
-due_none : (ys : List ℕ) → due_count [] ys ≡ 0
+due_none : (ys : List ℕ) → due_finding_count [] ys ≡ 0
 due_none [] = refl
 due_none (y ∷ ys) = let h = due_none ys in omega (arith, h)
 
 one_test : (g y : ℕ) → ◌≡◌ {A = ℕ} (if g == y then 1 else 0) (if y == g then 1 else 0)
 one_test g y = grind (arith, nat_tests)
 
-due_cons : (g : ℕ) (gs ys : List ℕ) → due_count (g ∷ gs) ys ≡ occurrences g ys + due_count gs ys
+due_cons : (g : ℕ) (gs ys : List ℕ) → due_finding_count (g ∷ gs) ys ≡ occurrences g ys + due_finding_count gs ys
 due_cons g gs [] = refl
 due_cons g gs (y ∷ ys) = let h = due_cons g gs ys in let t = one_test g y in omega (arith, h, t)
 
 -- where all numbers of groups were drawn, each member's finding was due once
 pub due_in_all : (counter n : ℕ) (lists : List (List ℕ)) → IsDrawn counter lists → n ≤ counter → (gs : List ℕ) →
-    All (λ g. g < n) gs → total (due_count gs) lists ≡ length gs
-due_in_all counter n lists r le [] all = total_same (due_count []) (λ _. 0) lists due_none ∙ nothing lists
+    All (λ g. g < n) gs → total (due_finding_count gs) lists ≡ length gs
+due_in_all counter n lists r le [] all = total_same (due_finding_count []) (λ _. 0) lists due_none ∙ nothing lists
 due_in_all counter n lists r le (g ∷ gs) all =
     let h = due_in_all counter n lists r le gs (All-tail (λ g. g < n) g gs all) in
     let below = All-head (λ g. g < n) g gs all in
-    let s = total_same (due_count (g ∷ gs)) (λ ys. occurrences g ys + due_count gs ys) lists (due_cons g gs) in
-    let a = total-add (occurrences g) (due_count gs) lists in
+    let s = total_same (due_finding_count (g ∷ gs)) (λ ys. occurrences g ys + due_finding_count gs ys) lists
+    (due_cons g gs) in
+    let a = total-add (occurrences g) (due_finding_count gs) lists in
     let o = r.once g in
     grind (arith, nat_tests)
 

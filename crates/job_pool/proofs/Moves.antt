@@ -8,7 +8,8 @@ use Rattle.std.proofs.Math.ListN.{length-set}
 use Rattle.atomic_table.specs.Table.{State, Me, keeps, step, Allows, Splits, Joins}
 use Rattle.atomic_table.proofs.Lists.{at_set, at_snoc, set_else, set_again}
 use Rattle.job_pool.specs.declared.rule.DeskSize.{DeskSize}
-use Rattle.job_pool.specs.Rule.{Fits, MeetsRule, lists_of, view_after_claim, view_after_look, IsAfterClaim, IsAfterLook}
+use Rattle.job_pool.specs.Rule.{FitsDeskRule, MeetsRule, lists_of, view_after_claim, view_after_look, IsAfterClaim}
+use Rattle.job_pool.specs.Rule.{IsAfterLook}
 use Rattle.job_pool.specs.Rule.{view_after_split, split_off_view, joined_view, spent_view}
 use Rattle.job_pool.proofs.Sums.{total_set, total_snoc, total-map, total_le, at_le, count_at_least-append}
 use Rattle.job_pool.proofs.Sums.{past_greatest-append, front-snoc, late_in_all, draw_keeps, merge_keeps, empty_keeps}
@@ -27,11 +28,12 @@ bound n seats word views r =
 
 -- one view changed: the others still fit, since the word never falls
 fits_set : (n word now id : ℕ) (views : List View) (w : View) → word ≤ now →
-    ((j : ℕ) (v : View) → get_elem? views j ≡ some v → Fits n word v) → Fits n now w → (j : ℕ) (v : View) →
-    get_elem? (set views id w) j ≡ some v → Fits n now v
+    ((j : ℕ) (v : View) → get_elem? views j ≡ some v → FitsDeskRule n word v) → FitsDeskRule n now w →
+    (j : ℕ) (v : View) →
+    get_elem? (set views id w) j ≡ some v → FitsDeskRule n now v
 fits_set n word now id views w le others mine j v at =
     ⊎_elim
-    (λ (x : (j ≡ id) × (w ≡ v)). subst (Fits n now) x.1 mine)
+    (λ (x : (j ≡ id) × (w ≡ v)). subst (FitsDeskRule n now) x.1 mine)
     (λ (x : (j ≢ id) × (get_elem? views j ≡ some v)). let f = others j v x.1 in let s = f.seen_within in record {
       late_within = f.late_within;
       only_last = f.only_last;
@@ -41,8 +43,8 @@ fits_set n word now id views w le others mine j v at =
     })
     (at_set views id j w v at)
 
-fits_drew : (n word : ℕ) (v : View) → v.places ≡ 1 → count_at_least n v.draws ≡ 0 → Fits n word v →
-    Fits n (suc word) (view_after_claim v word)
+fits_drew : (n word : ℕ) (v : View) → v.places ≡ 1 → count_at_least n v.draws ≡ 0 → FitsDeskRule n word v →
+    FitsDeskRule n (suc word) (view_after_claim v word)
 fits_drew n word v one clear f = record {
   late_within = let a = count_at_least-append n v.draws (word ∷ []) in grind (arith, nat_tests);
   only_last = λ _. ap (count_at_least n) (front-snoc v.draws word) ∙ clear;
@@ -125,7 +127,8 @@ module _ {S : Type 0} where
         (f, refl, refl),
       )
     where
-      fits_saw : (n word : ℕ) (v : View) → v.places ≡ 1 → Fits n word v → Fits n word (view_after_look v word)
+      fits_saw : (n word : ℕ) (v : View) → v.places ≡ 1 → FitsDeskRule n word v →
+          FitsDeskRule n word (view_after_look v word)
       fits_saw n word v one f = record {
         late_within = f.late_within;
         only_last = f.only_last;
@@ -142,7 +145,7 @@ module _ {S : Type 0} where
         each = fits_set n word word id views w (omega arith) r.each (fits_saw n word v one (r.each id v at));
       }
 
-fits_new : (n word places : ℕ) → Fits n word (seat_view [] 0 places)
+fits_new : (n word places : ℕ) → FitsDeskRule n word (seat_view [] 0 places)
 fits_new n word places = record {
   late_within = omega arith;
   only_last = λ _. refl;
@@ -152,10 +155,11 @@ fits_new n word places = record {
 }
 
 fits_more : (n word : ℕ) (views : List View) (w : View) →
-    ((j : ℕ) (v : View) → get_elem? views j ≡ some v → Fits n word v) → Fits n word w → (j : ℕ) (v : View) →
-    get_elem? (views ++ w ∷ []) j ≡ some v → Fits n word v
+    ((j : ℕ) (v : View) → get_elem? views j ≡ some v → FitsDeskRule n word v) → FitsDeskRule n word w →
+    (j : ℕ) (v : View) →
+    get_elem? (views ++ w ∷ []) j ≡ some v → FitsDeskRule n word v
 fits_more n word views w others mine j v at =
-    ⊎_elim (λ (x : get_elem? views j ≡ some v). others j v x) (λ (x : w ≡ v). subst (Fits n word) x mine)
+    ⊎_elim (λ (x : get_elem? views j ≡ some v). others j v x) (λ (x : w ≡ v). subst (FitsDeskRule n word) x mine)
     (at_snoc views w v j at)
 
 split_keeps : (n seats word id p : ℕ) (views : List View) → get_elem? views id ≡ some (seat_view [] 0 p) → 0 < p →
@@ -173,8 +177,8 @@ split_keeps n seats word id p views at some_place r =
           (fits_set n word word id views w (omega arith) r.each (fits_new n word (p - 1))) (fits_new n word 1);
     }
 
-fits_both : (n word : ℕ) (v w : View) → 0 < v.places → 0 < w.places → Fits n word v → Fits n word w →
-    Fits n word (joined_view v w)
+fits_both : (n word : ℕ) (v w : View) → 0 < v.places → 0 < w.places → FitsDeskRule n word v → FitsDeskRule n word w →
+    FitsDeskRule n word (joined_view v w)
 fits_both n word v w some_place other_place f g = record {
   late_within = let a = count_at_least-append n v.draws w.draws in let x = f.late_within in let y = g.late_within in
       omega arith;

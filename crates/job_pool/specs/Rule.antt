@@ -14,7 +14,7 @@ use Rattle.job_pool.specs.declared.rule.View.{View}
 -- One view, if there are n numbers and as many were drawn as the word says. It has at most as many draws of n or more
 -- as it has places. In a view with one place only the last draw is such a draw. The count that it has seen is above
 -- each of its draws and at most the word. A view with no place has nothing
-pub record Fits (n word : ℕ) (v : View) : Type 0 where
+pub record FitsDeskRule (n word : ℕ) (v : View) : Type 0 where
   pub late_within : count_at_least n v.draws ≤ v.places
   pub only_last : v.places ≡ 1 → count_at_least n (all_but_last v.draws) ≡ 0
   pub seen_within : v.seen ≤ word
@@ -29,7 +29,7 @@ lists_of = map (λ v. v.draws)
 pub record IsDealt (n seats word : ℕ) (views : List View) : Type 0 where
   pub drawn : IsDrawn word (lists_of views)
   pub places : total (λ v. v.places) views ≡ seats
-  pub each : (seat : ℕ) (v : View) → get_elem? views seat ≡ some v → Fits n word v
+  pub each : (seat : ℕ) (v : View) → get_elem? views seat ≡ some v → FitsDeskRule n word v
 
 -- a desk has one word
 abbrev pub MeetsRule : {S : Type 0} → DeskSize → State S View → Type 0

@@ -23,9 +23,9 @@ pub record HaveRisen (before after : List Counts) : Type 0 where
 
 -- For each job `groups` has the number of the first of its shape. This many findings are due from the seat that drew
 -- these numbers: those of all members of the groups whose first numbers they are
-abbrev pub due_count : List ℕ → List ℕ → ℕ
-due_count groups [] = 0
-due_count groups (y ∷ ys) = occurrences y groups + due_count groups ys
+abbrev pub due_finding_count : List ℕ → List ℕ → ℕ
+due_finding_count groups [] = 0
+due_finding_count groups (y ∷ ys) = occurrences y groups + due_finding_count groups ys
 
 module _ {F A : Type 0} where
   -- a worker that may begin
@@ -36,7 +36,8 @@ module _ {F A : Type 0} where
   pub record HasWorked (desk : Desk) (groups : List ℕ) (before after : Worker F A) : Type 0 where
     pub seat : IsSeatOf desk after.seat
     pub risen : HasRisen before.share after.share
-    pub filed : after.starved ≡ false → after.share.filed ≡ before.share.filed + due_count groups (drawn_by after.seat)
+    pub filed : after.starved ≡ false →
+        after.share.filed ≡ before.share.filed + due_finding_count groups (drawn_by after.seat)
     pub ended : after.starved ≡ false → number_count_of desk < past_last (drawn_by after.seat)
 
   abbrev pub shares_of : List (Worker F A) → List Counts

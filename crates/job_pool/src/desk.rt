@@ -4,7 +4,7 @@ ghost use Rattle.core_book.specs.Draws.{past_last};
 ghost use Rattle.job_pool.specs.Lists.{all_but_last, past_greatest};
 ghost use Rattle.lemmas.specs.Bounds.{max_modules};
 
-use crate::rule::{Claims, DeskRule, DeskSize, LookStep, SplitOrJoinStep, View};
+use crate::rule::{ClaimStep, DeskRule, DeskSize, LookStep, SplitOrJoinStep, View};
 use atomic_table::{Seat, Table};
 use core_book::Claim;
 use std::alloc::{AllocError, Global};
@@ -127,7 +127,10 @@ impl Desk {
         if seat.is_finished() {
             return Claim::Empty;
         }
-        let found = self.table.shared.fetch_add::<Claims>(&mut seat.seat, 0, 1) as usize;
+        let found = self
+            .table
+            .shared
+            .fetch_add::<ClaimStep>(&mut seat.seat, 0, 1) as usize;
         seat.drawn.push_reserved(found);
         if found < self.numbers {
             Claim::Number(found)

@@ -31,9 +31,9 @@ impl<S> TableRule<S, View, DeskSize> for DeskRule {
 }
 
 /// The step of a claim: it adds 1 to the word, and the seat draws what it found.
-pub struct Claims;
+pub struct ClaimStep;
 
-impl<S> Play<S, View> for Claims {
+impl<S> Play<S, View> for ClaimStep {
     ghost use Rattle.job_pool.specs.Rule.{IsAfterClaim};
 
     ghost then = { IsAfterClaim };

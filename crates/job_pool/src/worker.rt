@@ -104,12 +104,12 @@ fn run_group_if_first<F: Filings, A: Ledger, G, R: Wait>(
         return Ok(());
     }
     let digest = shared_work.book.digest();
-    let finding = run_counted(buffers, digest, number, &jobs[number], runs)?;
+    let finding = run_job_and_count(buffers, digest, number, &jobs[number], runs)?;
     file_members(rt, shared_work, &finding, number, share)
 }
 
 // Runs a job and counts the run, also one that finds no memory. No other function of this crate runs jobs.
-fn run_counted(
+fn run_job_and_count(
     buffers: &mut Buffers,
     digest: [u8; 32],
     number: usize,

@@ -1,12 +1,13 @@
 -- Steps that pass over the blocks that stay
 use Rattle.lanes.proofs.Imports.{AllUnmarkedDead, AreBlockCellsUnmarked, AreUnmarkedBlocksStable, BlockMarks}
-use Rattle.lanes.proofs.Imports.{BlockPlaces, Even, HasWordsStrideRows, IsNotRowEnd, IsPassed, IsStable, IsUnmarked}
+use Rattle.lanes.proofs.Imports.{BlockPlaces, Even, HasWordsStrideRows, IsNotRowEnd, IsPassedBlock, IsStable}
+use Rattle.lanes.proofs.Imports.{IsUnmarked}
 use Rattle.lanes.proofs.Imports.{IsWordSame, IsWordTurned, LiveMarks, Odd, Partition, Planes, TurnsBlock}
 use Rattle.lanes.proofs.Imports.{TurnsBlocksBetween, TurnsBlocksWhere, ap, arith, bit, bit-zero, block_at, block_count}
 use Rattle.lanes.proofs.Imports.{by_eq_or_not, by_lt_or_le, common_steps, div-add-mod, false, false≢true, inl, inr}
 use Rattle.lanes.proofs.Imports.{marks_of, mod-lt, mul-le-mul_left, subst, sym, true, ℕ, ◌%◌, ◌*◌, ◌+◌, ◌/◌, ◌<◌, ◌∙◌}
 use Rattle.lanes.proofs.Imports.{◌≡◌, ◌≢◌, ◌≤◌, ◌⊎◌}
-use Rattle.lanes.specs.Sweeps.{IsInRangeNotInWord, TurnsNamed}
+use Rattle.lanes.specs.Sweeps.{IsInRangeNotInWord, TurnsNamedBlocks}
 use Rattle.lanes.specs.Lanes.{TurnsCells}
 use Rattle.lanes.proofs.TurnLemmas.{calm_turned, half_turned}
 use Rattle.lanes.proofs.CalmLemmas.{cells_of, odd_even, other_cell, others_apart}
@@ -35,18 +36,18 @@ named_stay part p P stay = grind (arith, common_steps, calm_turned)
 
 -- the same blocks under another name
 pub renamed : (w s : ℕ) (part : Partition) (P Q : ℕ → Type 0) (p q : Planes) → ((n : ℕ) → Q n → P n) →
-    ((n : ℕ) → P n → Q n) → TurnsNamed w s part P p q → TurnsNamed w s part Q p q
+    ((n : ℕ) → P n → Q n) → TurnsNamedBlocks w s part P p q → TurnsNamedBlocks w s part Q p q
 renamed w s part P Q p q from to t = grind (arith, common_steps)
 
 -- and by the numbers of words and of cells of a row that are the same
 resized : (w w' s s' : ℕ) (part : Partition) (P : ℕ → ℕ → Type 0) (p q : Planes) → w ≡ w' → s ≡ s' →
-    TurnsNamed w s part (P s) p q → TurnsNamed w' s' part (P s') p q
+    TurnsNamedBlocks w s part (P s) p q → TurnsNamedBlocks w' s' part (P s') p q
 resized w w' s s' part P p q ew es t = rw (ew, es) at t
 
 -- some blocks are turned after others
 pub named_join : (w s : ℕ) (part : Partition) (P Q R : ℕ → Type 0) (p q r : Planes) → ((n : ℕ) → P n → Q n → ⊥) →
     ((n : ℕ) → R n → P n ⊎ Q n) → ((n : ℕ) → P n → R n) → ((n : ℕ) → Q n → R n) →
-    TurnsNamed w s part P p q → TurnsNamed w s part Q q r → TurnsNamed w s part R p r
+    TurnsNamedBlocks w s part P p q → TurnsNamedBlocks w s part Q q r → TurnsNamedBlocks w s part R p r
 named_join w s part P Q R p q r apart of_r r_of_p r_of_q first second = record {
   turned = λ n k is l. elim (of_r n is) [
     | inl a ↦ turned_after w _ k p q r (second.same n k (λ b. apart n a b) l) (first.turned n k a l)
@@ -88,9 +89,9 @@ pub passed_stay : (part : Partition) (p : Planes) (m : BlockMarks) (l : LiveMark
     AreUnmarkedBlocksStable m p → AllUnmarkedDead l p → end ≤ 64 * k + 64 → end ≤ block_count part p →
     ((n : ℕ) → n / 64 ≡ k → bit word (n % 64) ≡ false →
     IsUnmarked (marks_of part m) n ⊎ AreBlockCellsUnmarked l (block_at part p.stride n)) →
-    TurnsBlocksWhere part (IsPassed part p.stride (64 * k) end word) p p
+    TurnsBlocksWhere part (IsPassedBlock part p.stride (64 * k) end word) p p
 passed_stay part p m l k end word calm dead short within says =
-    named_stay part p (IsPassed part p.stride (64 * k) end word) (λ n is.
+    named_stay part p (IsPassedBlock part p.stride (64 * k) end word) (λ n is.
     let inside : n < block_count part p = omega (arith, is.0.1, within) in
     elim (says n (omega (arith, is.0.0, is.0.1, short)) is.0.2) [
       | inl free ↦ calm part n (inside, is.1) free
@@ -104,23 +105,26 @@ by_row_end part s n h1 h2 = grind (arith, common_steps, odd_even)
 
 -- one more mark is cleared: its block is turned, or is the last one of its row
 pub one_more : (part : Partition) (p q r : Planes) (u first end rest rest' : ℕ) → OnePast first end rest rest' u →
-    HasWordsStrideRows p.words p.stride p.rows q → TurnsBlocksWhere part (IsPassed part p.stride first end rest) p q →
+    HasWordsStrideRows p.words p.stride p.rows q →
+    TurnsBlocksWhere part (IsPassedBlock part p.stride first end rest) p q →
     (IsNotRowEnd part q.stride u → TurnsBlock (block_at part q.stride u) q r) →
     ((IsNotRowEnd part q.stride u → ⊥) → r ≡ q) →
-    TurnsBlocksWhere part (IsPassed part p.stride first end rest') p r
+    TurnsBlocksWhere part (IsPassedBlock part p.stride first end rest') p r
 one_more part p q r u first end rest rest' one size before turns last = by_row_end part q.stride u
     (λ inside.
     let here : IsNotRowEnd part p.stride u = rw size.1 at inside in
     let turned = resized q.words p.words q.stride p.stride part (λ (s n : ℕ). n ≡ u) q r size.0 size.1
     (one_named part q r u (turns inside)) in
-    named_join p.words p.stride part (IsPassed part p.stride first end rest) (λ n. n ≡ u)
-    (IsPassed part p.stride first end rest') p q r
+    named_join p.words p.stride part (IsPassedBlock part p.stride first end rest) (λ n. n ≡ u)
+    (IsPassedBlock part p.stride first end rest') p q r
     (λ n is e. one.free (subst (IsInRangeNotInWord first end rest) e is.0))
     (λ n is. by_eq_or_not n u (λ e. inr e) (λ ne. inl (one.from n ne is.0, is.1)))
     (λ n is. (one.to n (λ e. one.free (subst (IsInRangeNotInWord first end rest) e is.0)) is.0, is.1))
     (λ n e. rw e (one.here, here)) before turned)
-    (λ out. subst (λ (o : Planes). TurnsBlocksWhere part (IsPassed part p.stride first end rest') p o) (sym (last out))
-    (renamed p.words p.stride part (IsPassed part p.stride first end rest) (IsPassed part p.stride first end rest') p q
+    (λ out. subst (λ (o : Planes). TurnsBlocksWhere part (IsPassedBlock part p.stride first end rest') p o)
+    (sym (last out))
+    (renamed p.words p.stride part (IsPassedBlock part p.stride first end rest)
+    (IsPassedBlock part p.stride first end rest') p q
     (λ n is. (one.from n (other n is.1 out) is.0, is.1)) (λ n is. (one.to n (other n is.1 out) is.0, is.1)) before))
   where
     other : (n : ℕ) → IsNotRowEnd part p.stride n → (IsNotRowEnd part q.stride u → ⊥) → n ≢ u
@@ -156,7 +160,7 @@ word_more part p q r k end blocks size some within short whole s t =
 pub word_more_none : (part : Partition) (p q : Planes) (k blocks rest : ℕ) →
     HasWordsStrideRows p.words p.stride p.rows q → 64 * k < blocks → rest ≡ 0 →
     ((end : ℕ) → end ≤ 64 * k + 64 → end ≤ blocks →
-    TurnsBlocksWhere part (IsPassed part q.stride (64 * k) end rest) q q) →
+    TurnsBlocksWhere part (IsPassedBlock part q.stride (64 * k) end rest) q q) →
     TurnsBelow part (64 * k) blocks p q → TurnsBelow part (64 * (k + 1)) blocks p q
 word_more_none part p q k blocks rest size some none calm s = by_lt_or_le (64 * k + 64) blocks
     (λ l. word_more part p q q k (64 * k + 64) blocks size (omega arith) (omega arith) (omega arith) (inl (omega arith))
@@ -165,7 +169,7 @@ word_more_none part p q k blocks rest size some none calm s = by_lt_or_le (64 * 
     (turned blocks l (omega arith)))
   where
     turned : (end : ℕ) → end ≤ 64 * k + 64 → end ≤ blocks → TurnsBlocksBetween part (64 * k) end q q
-    turned end short within = renamed q.words q.stride part (IsPassed part q.stride (64 * k) end rest)
+    turned end short within = renamed q.words q.stride part (IsPassedBlock part q.stride (64 * k) end rest)
         (λ n. (64 * k ≤ n) × (n < end) × IsNotRowEnd part q.stride n) q q
         (λ n l. (past_all (64 * k) end rest n none l.0 l.1, l.2)) (λ n is. (is.0.0, is.0.1, is.1))
         (calm end short within)

@@ -17,7 +17,7 @@ pub use Rattle.lanes.specs.Lanes.{HasWordsStrideRows}
 unfoldable pub use Rattle.lanes.specs.Lanes.{lane, plane_of}
 pub use Rattle.lanes.specs.Live.{AllUnmarkedDead, AreBlockCellsUnmarked, AreNumberCellsUnmarked, IsDeadCell}
 pub use Rattle.lanes.specs.Live.{TakesMarkOfOther}
-pub use Rattle.lanes.specs.Sweeps.{IsPassed, IsWordSame, IsWordTurned, TurnsBlocksBetween, TurnsBlocksWhere}
+pub use Rattle.lanes.specs.Sweeps.{IsPassedBlock, IsWordSame, IsWordTurned, TurnsBlocksBetween, TurnsBlocksWhere}
 pub use Rattle.lanes.specs.Turns.{AntiStays, DiagonalStays, IsSameOutsidePart, IsStable, MainStays, SwapsPart}
 pub use Rattle.lanes.specs.Turns.{TurnsBlock, TurnsPart}
 pub use Rattle.lanes.specs.declared.block_marks.BlockMarks.{BlockMarks}

@@ -6,7 +6,7 @@ use Rattle.lanes.proofs.Imports.{◌/◌, ◌<◌, ◌∙◌, ◌≡◌}
 use Rattle.bbm_rule.proofs.BlockRuns.{mate_lt}
 use Rattle.bbm_rule.proofs.PlaneLemmas.{mate_twice, turned_twice}
 use Rattle.bbm_rule.specs.Rows.{mate}
-use Rattle.lanes.specs.Blocks.{ShareNone}
+use Rattle.lanes.specs.Blocks.{ShareNoChangingCell}
 use Rattle.lanes.specs.Calm.{UnmarksOnlyBlock}
 use Rattle.lanes.specs.Lanes.{TurnsCells}
 use Rattle.lanes.specs.Settled.{IsSameAtNumber, KeepsSettled}
@@ -45,7 +45,7 @@ odd_marks_kept part at m m' even unmarks u free = elim (unmarks Odd u free) [
 -- a cell stays if it is on no diagonal that changes
 kept_lane : (main anti : Bool) (b : BlockPlaces) (p q : Planes) (u a x y : ℕ) →
     HasWordsStrideRows p.words p.stride p.rows q → ChangesCells main anti b p q →
-    ShareNone main anti (block_at Odd p.stride u) b → a < 64 * p.words → p.stride * (y / 2) + x / 2 ≡ u →
+    ShareNoChangingCell main anti (block_at Odd p.stride u) b → a < 64 * p.words → p.stride * (y / 2) + x / 2 ≡ u →
     lane q a x y ≡ lane p a x y
 unfolding lane
 kept_lane main anti b p q u a x y size ch none la at =
@@ -54,7 +54,7 @@ kept_lane main anti b p q u a x y size ch none la at =
 -- the cells of a number stay if they are on none
 pub kept_number : (main anti : Bool) (b : BlockPlaces) (p q : Planes) (u : ℕ) →
     HasWordsStrideRows p.words p.stride p.rows q → ChangesCells main anti b p q →
-    ShareNone main anti (block_at Odd p.stride u) b → IsSameAtNumber u p q
+    ShareNoChangingCell main anti (block_at Odd p.stride u) b → IsSameAtNumber u p q
 kept_number main anti b p q u size ch none = record {
   words = size.0;
   stride = size.1;

@@ -49,6 +49,6 @@ AreCellNumbers b p = (b.odd < p.stride * p.rows) × (b.right < p.stride * p.rows
     × (b.even < p.stride * p.rows)
 
 -- two blocks have no cell in common that is on a diagonal that changes
-abbrev pub ShareNone : Bool → Bool → BlockPlaces → BlockPlaces → Type 0
-ShareNone main anti b c =
+abbrev pub ShareNoChangingCell : Bool → Bool → BlockPlaces → BlockPlaces → Type 0
+ShareNoChangingCell main anti b c =
     (main ≡ true → (b.odd ≢ c.odd) × (b.even ≢ c.even)) × (anti ≡ true → (b.right ≢ c.right) × (b.down ≢ c.down))

@@ -3,7 +3,7 @@ use Rattle.std.specs.Prelude.{◌≡◌, ◌≢◌, ◌⊎◌, Bool, true, ℕ, 
 use Rattle.std.proofs.Props.{props}
 use Rattle.bbm_rule.specs.Marks.{IsUnmarked}
 use Rattle.bbm_rule.specs.Rows.{cell_at}
-use Rattle.lanes.specs.Blocks.{IsBlock, ShareNone, block_at, marks_of}
+use Rattle.lanes.specs.Blocks.{IsBlock, ShareNoChangingCell, block_at, marks_of}
 use Rattle.lanes.specs.Turns.{IsStable}
 use Rattle.lanes.specs.declared.block_marks.BlockMarks.{BlockMarks}
 use Rattle.lanes.specs.declared.blocks.BlockPlaces.{BlockPlaces}
@@ -40,7 +40,7 @@ AreMarkedUnlessIn n others m =
 -- changes, and one of the other diagonal if that does
 abbrev pub MarksSharing : Partition → Bool → Bool → ℕ → BlockPlaces → List ℕ → List ℕ → Type 0
 MarksSharing part main anti s b old new =
-    (u : ℕ) → IsUnmarked new u → IsUnmarked old u × ShareNone main anti (block_at part s u) b
+    (u : ℕ) → IsUnmarked new u → IsUnmarked old u × ShareNoChangingCell main anti (block_at part s u) b
 
 -- so they are at the blocks of both partitions
 abbrev pub MarksBlocks : Bool → Bool → ℕ → BlockPlaces → BlockMarks → BlockMarks → Type 0

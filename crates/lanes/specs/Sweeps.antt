@@ -23,13 +23,13 @@ pub record IsWordSame (w : ℕ) (b : BlockPlaces) (k : ℕ) (p q : Planes) : Typ
   pub even : slice_index q.even.items (w * b.even + k) ≡ slice_index p.even.items (w * b.even + k)
 
 -- the named blocks of a partition are turned, and no cell of another block has changed
-pub record TurnsNamed (w s : ℕ) (part : Partition) (IsNamed : ℕ → Type 0) (p q : Planes) : Type 0 where
+pub record TurnsNamedBlocks (w s : ℕ) (part : Partition) (IsNamed : ℕ → Type 0) (p q : Planes) : Type 0 where
   pub turned : (n k : ℕ) → IsNamed n → k < w → IsWordTurned w (block_at part s n) k p q
   pub same : (n k : ℕ) → (IsNamed n → ⊥) → k < w → IsWordSame w (block_at part s n) k p q
 
 -- so they are in planes whose cells have their words, and whose rows their cells
 abbrev pub TurnsBlocksWhere : Partition → (ℕ → Type 0) → Planes → Planes → Type 0
-TurnsBlocksWhere part IsNamed p q = TurnsNamed p.words p.stride part IsNamed p q
+TurnsBlocksWhere part IsNamed p q = TurnsNamedBlocks p.words p.stride part IsNamed p q
 
 -- the blocks from one number to another are turned, but for the last ones of the rows, which are not in the box
 abbrev pub TurnsBlocksBetween : Partition → ℕ → ℕ → Planes → Planes → Type 0
@@ -41,5 +41,5 @@ abbrev pub IsInRangeNotInWord : ℕ → ℕ → ℕ → ℕ → Type 0
 IsInRangeNotInWord first end rest n = (first ≤ n) × (n < end) × (bit rest (n % 64) ≡ false)
 
 -- the same, but for the last blocks of the rows
-abbrev pub IsPassed : Partition → ℕ → ℕ → ℕ → ℕ → ℕ → Type 0
-IsPassed part s first end rest n = IsInRangeNotInWord first end rest n × IsNotRowEnd part s n
+abbrev pub IsPassedBlock : Partition → ℕ → ℕ → ℕ → ℕ → ℕ → Type 0
+IsPassedBlock part s first end rest n = IsInRangeNotInWord first end rest n × IsNotRowEnd part s n

@@ -65,7 +65,7 @@ impl BlockMarks {
     }
 
     /// Marks the blocks that have no mark among other marks, as far as both reach, and unmarks the others.
-    pub fn set_to_unmarked_of(&mut self, other: &BlockMarks)
+    pub fn set_to_complement_of(&mut self, other: &BlockMarks)
         ensures marked { (n : ℕ) → HasRoomForBlockMarks n self.old →
             HasRoomForBlockMarks n other.now → AreMarkedUnlessIn n other.now self.new }
         ensures room { HasSameBlockRoom self.old self.new }
@@ -89,7 +89,13 @@ impl BlockMarks {
 
     /// Marks block u of a partition, and those of the other partition that share a cell of a changed diagonal with it.
     #[inline]
-    pub fn mark_changes(&mut self, partition: Partition, u: usize, stride: usize, changes: Changes)
+    pub fn mark_block_and_neighbours(
+        &mut self,
+        partition: Partition,
+        u: usize,
+        stride: usize,
+        changes: Changes,
+    )
         requires room { HasRoomForBlockMarks (u + 1) self.old }
         requires odd { let b = block_at partition stride u in
             (b.odd < 64 * vec_len self.old.odd) × (b.odd < 2 ^ 32) }

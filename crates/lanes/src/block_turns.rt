@@ -95,7 +95,7 @@ impl Planes {
 
     /// Turns the blocks of a partition from `first` on to below `end`.
     #[inline]
-    pub(crate) fn turn_range(&mut self, partition: Partition, first: usize, end: usize)
+    pub(crate) fn turn_block_range(&mut self, partition: Partition, first: usize, end: usize)
         requires { (first < end) × (end ≤ block_count partition self.old) }
         ensures part { TurnsFrom (block_at partition self.old.stride first)
             (self.old.words * (end - first)) self.old self.new }

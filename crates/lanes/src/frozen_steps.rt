@@ -23,7 +23,7 @@ impl FrozenBlocks {
     {
         if self.is_found {
             planes.prove_planes_are_words();
-            marks.set_to_unmarked_of(&self.marks);
+            marks.set_to_complement_of(&self.marks);
         } else {
             marks.mark_all();
         }

@@ -33,7 +33,7 @@ fn prove_cells_are_words(cells: &[u64])
 // Whether a cell meets its condition and is live under each assignment.
 #[tactic(auto, using(crate::proofs::HeldLemmas::all_live))]
 #[inline(always)]
-fn is_met_and_always_live(is_met: bool, cells: &[u64], at: usize, words: usize) -> bool
+fn meets_condition_and_is_always_live(is_met: bool, cells: &[u64], at: usize, words: usize) -> bool
     requires { words * at + words ≤ length cells.now }
     ensures { result ≡ true →
         (is_met ≡ true) × HasValueUnderAll true words (cell_word_bit words cells.now at) }
@@ -44,7 +44,7 @@ fn is_met_and_always_live(is_met: bool, cells: &[u64], at: usize, words: usize) 
 // Whether a cell meets its condition and is dead under each assignment.
 #[tactic(auto, using(crate::proofs::HeldLemmas::all_dead))]
 #[inline(always)]
-fn is_met_and_always_dead(is_met: bool, cells: &[u64], at: usize, words: usize) -> bool
+fn meets_condition_and_is_always_dead(is_met: bool, cells: &[u64], at: usize, words: usize) -> bool
     requires { words * at + words ≤ length cells.now }
     ensures { result ≡ true →
         (is_met ≡ true) × HasValueUnderAll false words (cell_word_bit words cells.now at) }
@@ -68,10 +68,10 @@ impl Planes {
             (cell_word_bit self.now.words self.now.even.items block.even) }
     {
         let words = self.words;
-        (is_met_and_always_live(met.odd, &self.odd, block.odd, words)
-            || is_met_and_always_live(met.even, &self.even, block.even, words))
-            && (is_met_and_always_live(met.right, &self.right, block.right, words)
-                || is_met_and_always_live(met.down, &self.down, block.down, words))
+        (meets_condition_and_is_always_live(met.odd, &self.odd, block.odd, words)
+            || meets_condition_and_is_always_live(met.even, &self.even, block.even, words))
+            && (meets_condition_and_is_always_live(met.right, &self.right, block.right, words)
+                || meets_condition_and_is_always_live(met.down, &self.down, block.down, words))
     }
 
     /// Returns whether the cells of a block meet their conditions and are dead under each assignment.
@@ -85,10 +85,10 @@ impl Planes {
             (cell_word_bit self.now.words self.now.even.items block.even) }
     {
         let words = self.words;
-        is_met_and_always_dead(met.odd, &self.odd, block.odd, words)
-            && is_met_and_always_dead(met.right, &self.right, block.right, words)
-            && is_met_and_always_dead(met.down, &self.down, block.down, words)
-            && is_met_and_always_dead(met.even, &self.even, block.even, words)
+        meets_condition_and_is_always_dead(met.odd, &self.odd, block.odd, words)
+            && meets_condition_and_is_always_dead(met.right, &self.right, block.right, words)
+            && meets_condition_and_is_always_dead(met.down, &self.down, block.down, words)
+            && meets_condition_and_is_always_dead(met.even, &self.even, block.even, words)
     }
 
     /// Shows that the words of the planes have 64 bits each. It does nothing.
@@ -117,7 +117,7 @@ impl Planes {
         let mut at = next_unmarked(marks, 0, blocks);
         while at < blocks {
             let end = next_marked(marks, at, blocks);
-            self.turn_range(partition, at, end);
+            self.turn_block_range(partition, at, end);
             at = next_unmarked(marks, end, blocks);
         }
     }

@@ -10,8 +10,8 @@
 //!
 //! The calls that change cells:
 //!
-//! - [`MarkedPlanes::new`] makes planes in which all cells are dead, and [`MarkedPlanes::leave`] leaves their vectors to
-//!   later planes.
+//! - [`MarkedPlanes::new`] makes planes in which all cells are dead, and [`MarkedPlanes::leave`] leaves their vectors
+//!   to later planes.
 //! - [`MarkedPlanes::put`] sets the words of one cell to those of a [`WordSource`], and changes no other cell.
 //! - [`MarkedPlanes::odd_step`] turns all blocks whose upper left corner is odd, which fill box and halo, by the block
 //!   rule. If it returns `false`, no cell changed.
@@ -28,7 +28,7 @@
 //! - [`MarkedPlanes::border_marks_to_check`] finds the cells of ring and halo that may be live or that the caller
 //!   marked: each other cell is dead and unmarked, or neither in the ring nor in the halo. After an odd step it passes
 //!   over those too that have not changed since (`specs/Settled.antt`), unless the caller marked them as new.
-//! - [`is_marked`] and [`take_first`] read such marks.
+//! - [`is_marked`] and [`take_first_mark`] read such marks.
 //! - [`Planes::cell_number`] returns the number of a cell in its plane, [`Planes::column_and_row`] the column and row
 //!   of a number there, and [`Planes::cells_per_plane`] how many numbers there are.
 //!
@@ -58,5 +58,5 @@ mod words;
 
 pub use buffers::Buffers;
 pub use marked_planes::MarkedPlanes;
-pub use marks::{is_marked, take_first};
+pub use marks::{is_marked, take_first_mark};
 pub use planes::{Planes, WordSource};

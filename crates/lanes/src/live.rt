@@ -10,7 +10,7 @@ ghost use Rattle.std.specs.Prelude.{ℕ, ◌≡◌, ◌/◌, ◌<◌, ◌≤◌,
 use crate::blocks::{BlockPlaces, Diagonal};
 use crate::buffers::Buffers;
 use crate::marks::{
-    is_marked, mark_if, next_marked_in_either, set_mark, set_marks_to_not_both, swap_marks,
+    is_marked, mark_if, next_marked_in_either, set_mark, set_marks_to_not_both, swap_two_marks,
 };
 use crate::words::Changes;
 use bbm_rule::marks::mark_all;
@@ -185,8 +185,13 @@ impl LiveMarks {
         ensures same_room { HasSameRoom self.old self.new }
     {
         match diagonal {
-            Diagonal::Main => swap_marks(&mut self.odd, &mut self.even, block.odd, block.even),
-            Diagonal::Anti => swap_marks(&mut self.right, &mut self.down, block.right, block.down),
+            Diagonal::Main => swap_two_marks(&mut self.odd, &mut self.even, block.odd, block.even),
+            Diagonal::Anti => swap_two_marks(
+                &mut self.right,
+                &mut self.down,
+                block.right,
+                block.down,
+            ),
         }
     }
 }

@@ -63,7 +63,7 @@ impl MarkedPlanes {
         let stride = self.planes.stride();
         let block = self.planes.block_places(partition, u);
         self.block_marks
-            .mark_changes(partition, u, stride, Changes::of(diagonal));
+            .mark_block_and_neighbours(partition, u, stride, Changes::of(diagonal));
         self.live_marks.swap(diagonal, block);
         self.planes.swap(diagonal, block);
     }
@@ -87,7 +87,8 @@ impl MarkedPlanes {
             return false;
         }
         let stride = self.planes.stride();
-        self.block_marks.mark_changes(partition, u, stride, changes);
+        self.block_marks
+            .mark_block_and_neighbours(partition, u, stride, changes);
         self.live_marks.mark_cells(block, changes);
         self.planes.turn_block(block);
         true
@@ -95,7 +96,7 @@ impl MarkedPlanes {
 
     // Whether each cell of a block is known to be dead.
     #[inline(always)]
-    fn is_dead(&self, block: BlockPlaces) -> bool
+    fn is_block_known_dead(&self, block: BlockPlaces) -> bool
         requires { AreCellNumbers block self.now.planes }
         ensures { result ≡ true → AreBlockCellsUnmarked self.now.live_marks block }
     {
@@ -114,11 +115,13 @@ impl MarkedPlanes {
             TurnsBlock (block_at Partition.Even self.old.planes.stride n) self.old.planes
             self.new.planes }
     {
-        let is_dead = self.is_dead(self.planes.block_places(Partition::Even, n));
-        if is_dead {
+        let is_block_known_dead = self.is_block_known_dead(
+            self.planes.block_places(Partition::Even, n),
+        );
+        if is_block_known_dead {
             self.block_marks.unmark(Partition::Even, n);
         }
-        is_dead
+        is_block_known_dead
     }
 
     // Takes the mark off the block of the even partition that a cell of a diagonal of block u of the odd partition has

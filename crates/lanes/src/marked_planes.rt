@@ -18,8 +18,10 @@ use crate::blocks::Partition;
 use crate::buffers::Buffers;
 use crate::frozen::FrozenBlocks;
 use crate::live::LiveMarks;
-use crate::marked_steps::STEPS_TO_SEARCH;
-use crate::marks::{is_marked, mark_border, marked_in_first_and_other, marked_in_word_and_any};
+use crate::marked_steps::DENSE_STEPS_BEFORE_SEARCH;
+use crate::marks::{
+    is_marked, mark_ring_and_halo_numbers, marked_in_first_and_other, marked_in_word_and_any,
+};
 use crate::phases::WholePlaneSteps;
 use crate::planes::{Planes, WordSource};
 use crate::words::Changes;
@@ -61,7 +63,7 @@ pub struct MarkedPlanes {
 }
 
 // How often the blocks that no step changes are looked for.
-const MAX_SEARCHES: u32 = 4;
+const MAX_FROZEN_SEARCHES: u32 = 4;
 
 impl MarkedPlanes {
     ghost use Rattle.bbm_rule.specs.Bits.{bit};
@@ -91,7 +93,7 @@ impl MarkedPlanes {
         let block_marks = BlockMarks::new(buffers, long)?;
         let live_marks = LiveMarks::new(buffers, long)?;
         let mut border_marks = buffers.take_zeros(long)?;
-        mark_border(&mut border_marks, planes.stride(), planes.rows());
+        mark_ring_and_halo_numbers(&mut border_marks, planes.stride(), planes.rows());
         Ok(MarkedPlanes {
             planes,
             block_marks,
@@ -103,8 +105,8 @@ impl MarkedPlanes {
             is_settled: false,
             whole_plane_steps: WholePlaneSteps::NONE,
             frozen: FrozenBlocks::not_found_yet(buffers.alloc()),
-            steps_until_search: STEPS_TO_SEARCH,
-            searches_left: MAX_SEARCHES,
+            steps_until_search: DENSE_STEPS_BEFORE_SEARCH,
+            searches_left: MAX_FROZEN_SEARCHES,
         })
     }
 
@@ -245,7 +247,7 @@ impl MarkedPlanes {
         self.live_marks.set(x, y, u, is_live);
         let changes = Changes::of_cell(x, y);
         self.block_marks
-            .mark_changes(Partition::Odd, u, stride, changes);
+            .mark_block_and_neighbours(Partition::Odd, u, stride, changes);
         self.frozen.give_up_if_frozen(u);
     }
 }

@@ -5,12 +5,12 @@ ghost use Rattle.std.specs.Prelude.{ℕ, ◌≡◌, ◌+◌, ◌*◌, ◌/◌, �
 
 use crate::blocks::Partition;
 use crate::marked_planes::MarkedPlanes;
-use crate::marks::take_first;
+use crate::marks::take_first_mark;
 use crate::phases::{WholePlaneSteps, is_turning_all_cheaper};
 
 /// In how many steps many blocks must change before those that no step changes are looked for. A search costs as much
 /// as some of these steps.
-pub(crate) const STEPS_TO_SEARCH: u32 = 128;
+pub(crate) const DENSE_STEPS_BEFORE_SEARCH: u32 = 128;
 
 // So many blocks are few for `is_turning_all_cheaper`, in boxes of 16 by 16 cells or more. In smaller ones all steps
 // cost little.
@@ -18,7 +18,7 @@ const MAX_FEW_BLOCKS: usize = 4;
 
 impl MarkedPlanes {
     ghost use Rattle.lanes.specs.Blocks.{block_count};
-    ghost use Rattle.lanes.specs.Sweeps.{IsPassed, TurnsBlocksBetween, TurnsBlocksWhere};
+    ghost use Rattle.lanes.specs.Sweeps.{IsPassedBlock, TurnsBlocksBetween, TurnsBlocksWhere};
     ghost use Rattle.lanes.specs.Lanes.{HasWordsStrideRows, AreSameInBox, TurnsCells};
 
     // Looks whether the next steps are to turn whole planes, after a step by marks in which `changed` blocks changed.
@@ -78,7 +78,7 @@ impl MarkedPlanes {
             self.steps_until_search -= steps;
             return;
         }
-        self.steps_until_search = STEPS_TO_SEARCH;
+        self.steps_until_search = DENSE_STEPS_BEFORE_SEARCH;
         self.searches_left -= 1;
         self.frozen.find(&self.planes);
     }
@@ -89,7 +89,7 @@ impl MarkedPlanes {
         requires { 64 * k < block_count partition self.now.planes }
         ensures calm { (end : ℕ) → end ≤ 64 * k + 64 → end ≤ block_count partition self.now.planes →
             TurnsBlocksWhere partition
-            (IsPassed partition self.now.planes.stride (64 * k) end result) self.now.planes
+            (IsPassedBlock partition self.now.planes.stride (64 * k) end result) self.now.planes
             self.now.planes }
     {
         let word = self.block_marks.marks_of(partition)[k];
@@ -115,7 +115,7 @@ impl MarkedPlanes {
         requires word { (first % 64 ≡ 0) × (first < end) × (end ≤ first + 64) }
         requires end_within_blocks { end ≤ block_count partition self.old.planes }
         requires passed_stable { TurnsBlocksWhere partition
-            (IsPassed partition self.old.planes.stride first end word) self.old.planes
+            (IsPassedBlock partition self.old.planes.stride first end word) self.old.planes
             self.old.planes }
         ensures turned { TurnsBlocksBetween partition first end self.old.planes self.new.planes }
         ensures size { HasWordsStrideRows self.old.planes.words self.old.planes.stride
@@ -127,7 +127,7 @@ impl MarkedPlanes {
         let mut rest = word;
         let mut changed = 0;
         while rest != 0 {
-            let (place, others) = take_first(rest);
+            let (place, others) = take_first_mark(rest);
             let u = first + place;
             if u >= end {
                 return changed;

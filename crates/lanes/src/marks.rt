@@ -85,7 +85,7 @@ fn flip_mark(marks: &mut [u64], at: usize)
 /// Exchanges the marks of a number in one list and of one in another.
 #[tactic(auto, using(crate::proofs::MarkFlips::took, crate::proofs::MarkFlips::becomes_second, crate::proofs::MarkFlips::becomes_first))]
 #[inline(always)]
-pub fn swap_marks(first: &mut [u64], second: &mut [u64], a: usize, b: usize)
+pub fn swap_two_marks(first: &mut [u64], second: &mut [u64], a: usize, b: usize)
     requires { (a / 64 < length first.old) × (b / 64 < length second.old) }
     ensures first { TakesMarkOfOther a b first.old second.old first.new }
     ensures second { TakesMarkOfOther b a second.old first.old second.new }
@@ -159,7 +159,7 @@ pub fn mark_odd_neighbours(marks: &mut [u64], at: usize, stride: usize, changes:
 }
 
 /// Marks the numbers of the cells of ring and halo, for planes of this many columns and rows.
-pub fn mark_border(marks: &mut [u64], stride: usize, rows: usize)
+pub fn mark_ring_and_halo_numbers(marks: &mut [u64], stride: usize, rows: usize)
     requires room_for_marks { stride * rows ≤ 64 * length marks.old }
     requires size { (2 ≤ stride) × (stride ≤ 64) × (2 ≤ rows) × (rows ≤ 64) }
     ensures { AreUnmarkedAwayFromBorder stride rows marks.new }
@@ -209,7 +209,7 @@ pub fn marked_in_word_and_any(
 /// Returns the place of the first mark in a word of marks, and the word without it.
 #[tactic(auto, using(crate::proofs::MarkFlips::clears_first))]
 #[inline(always)]
-pub fn take_first(word: u64) -> (usize, u64)
+pub fn take_first_mark(word: u64) -> (usize, u64)
     requires { word ≢ 0 }
     ensures first { (result.0 < 64) × (bit word result.0 ≡ true)
         × ((j : ℕ) → j < result.0 → bit word j ≡ false) }

@@ -1,5 +1,6 @@
 -- Values that are cleared under the assignments under which some used gate lacks a row
-use Rattle.local_run.proofs.Imports.{AreRowsAt, AreValueRows, List, Netlist, Satisfies, Valuation, and-true, arith, bit}
+use Rattle.local_run.proofs.Imports.{AreValueRows, AreValueRowsAt, List, Netlist, Satisfies, Valuation, and-true, arith}
+use Rattle.local_run.proofs.Imports.{bit}
 use Rattle.local_run.proofs.Imports.{bit-and, bit_and, bit_of_row, by_lt_or_le, common_steps, length, subst, sym, true}
 use Rattle.local_run.proofs.Imports.{value_of, ℕ, ◌%◌, ◌*◌, ◌<◌, ◌≡◌, ◌≤◌}
 use Rattle.lemmas.proofs.Common.{slice_index, mod-mul-add, mul_comm}
@@ -34,8 +35,8 @@ rows_kept n words old new whole lacking long keeps rows = grind (arith, common_s
     stay : Stay words
     stay = subst Stay rows.wide keeps
 
-    at : (a : ℕ) → a < 64 * words → AreRowsAt n words a old.values.items old.undefined.items old.defined.items →
-        AreRowsAt n words a new.values.items new.undefined.items new.defined.items
+    at : (a : ℕ) → a < 64 * words → AreValueRowsAt n words a old.values.items old.undefined.items old.defined.items →
+        AreValueRowsAt n words a new.values.items new.undefined.items new.defined.items
     at a small h = rw (whole, lacking) (record {
       local = λ e. subst (λ (v : Valuation). Satisfies n (bit a) v) (sym (λ i w. stay a w small e i)) (h.local e);
       undefined = h.undefined;

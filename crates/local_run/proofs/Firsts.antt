@@ -1,6 +1,6 @@
 -- From the cells that were looked at, in order, to the first fault
 use Rattle.local_run.proofs.Imports.{Bool, Box2, Demand, Edge, End, HasNoFaultOfKind, IsFaultUnder, IsFaultWhereDefined}
-use Rattle.local_run.proofs.Imports.{IsFirstOfKind, IsKindSoughtAt, IsLeastBelow, IsScanStride, JobView, Kind}
+use Rattle.local_run.proofs.Imports.{IsFirstFaultOfKind, IsKindScannedAt, IsLeastBelow, IsScanStride, JobView, Kind}
 use Rattle.local_run.proofs.Imports.{MeetsDemand, None, Option, Signal, Some, Valuation, Values, and_from, and_parts}
 use Rattle.local_run.proofs.Imports.{ap, arith, assignments, box_coord, common_steps, false, false≢true, in_box}
 use Rattle.local_run.proofs.Imports.{in_ring, in_span, in_span-negsuc, ints, is_defined_under, is_live, job_demand}
@@ -45,7 +45,7 @@ pub edge_none : (j : JobView) (n : ℕ) (u : ℕ → Valuation) (t : ℕ) (k : K
 edge_none j n u t k x y e out a l f = grind (arith, common_steps, false≢true)
 
 pub end_least : (j : JobView) (vs : Values) (n : ℕ) (f : ℕ → Bool) (s : Signal) (d : Demand) (t : ℕ) (k : Kind)
-    (x y : ℤ) (r : Option ℕ) → End ≡ k → IsKindSoughtAt j t k →
+    (x y : ℤ) (r : Option ℕ) → End ≡ k → IsKindScannedAt j t k →
     in_box j.area x y ≡ true → job_demand j x y ≡ d →
     ((v : Valuation) (b : Bool) → MeetsDemand v d b → b ≡ is_live v s) →
     ((v : Valuation) (b : Bool) → b ≡ is_live v s → MeetsDemand v d b) →
@@ -60,7 +60,7 @@ pub edge_not_found : (j : JobView) (vs : Values) (n t : ℕ) (k : Kind) (x y : �
 edge_not_found j vs n t k x y e out a l f = edge_none j n (λ a. valuation vs a) t k x y e out a l f.1
 
 -- ---- cells in order
-fault_in_box : (j : JobView) (v : Valuation) (t : ℕ) (kind : Kind) (x y : ℤ) → IsKindSoughtAt j t kind →
+fault_in_box : (j : JobView) (v : Valuation) (t : ℕ) (kind : Kind) (x y : ℤ) → IsKindScannedAt j t kind →
     IsFaultUnder j v t kind x y → in_box j.area x y ≡ true
 unfolding in_ring
 fault_in_box j v t kind x y h1 h2 = grind (arith, common_steps, and_parts)
@@ -68,7 +68,7 @@ fault_in_box j v t kind x y h1 h2 = grind (arith, common_steps, and_parts)
 abbrev pub FreeAt : JobView → Values → ℕ → Kind → ℕ → ℕ → ℕ → Type 0
 FreeAt j vs t kind x y a = ¬ IsFaultWhereDefined j vs a t kind (box_coord j.area.x x) (box_coord j.area.y y)
 
-pub free_from : (j : JobView) (vs : Values) (t : ℕ) (kind : Kind) → IsKindSoughtAt j t kind →
+pub free_from : (j : JobView) (vs : Values) (t : ℕ) (kind : Kind) → IsKindScannedAt j t kind →
     ((x y a : ℕ) → x < j.area.w → y < j.area.h → a < assignments j → FreeAt j vs t kind x y a) →
     HasNoFaultOfKind j vs t kind
 unfolding in_box
@@ -78,7 +78,7 @@ free_from j vs t kind s free x y a l f =
     let py = span_at j.area.y j.area.h y h.1 in
     grind (arith, common_steps)
 
-pub first_from : (j : JobView) (vs : Values) (t : ℕ) (kind : Kind) (x y a : ℕ) (cx cy : ℤ) → IsKindSoughtAt j t kind →
+pub first_from : (j : JobView) (vs : Values) (t : ℕ) (kind : Kind) (x y a : ℕ) (cx cy : ℤ) → IsKindScannedAt j t kind →
     cx ≡ box_coord j.area.x x → cy ≡ box_coord j.area.y y →
     x < j.area.w → y < j.area.h →
     ((x' y' a' : ℕ) → x' < j.area.w → y' < y → a' < assignments j → FreeAt j vs t kind x' y' a') →
@@ -86,7 +86,7 @@ pub first_from : (j : JobView) (vs : Values) (t : ℕ) (kind : Kind) (x y a : �
     IsLeastBelow (assignments j) (λ a'.
     IsFaultWhereDefined j vs a' t kind (box_coord j.area.x x) (box_coord j.area.y y))
     (Some a) →
-    IsFirstOfKind j vs t kind (record { time = t; kind = kind; cell = record { x = cx; y = cy }; assignment = a })
+    IsFirstFaultOfKind j vs t kind (record { time = t; kind = kind; cell = record { x = cx; y = cy }; assignment = a })
 unfolding in_box
 first_from j vs t kind x y a cx cy s ex ey lx ly rows cells least = rw (ex, ey) (record {
   at_time = refl;

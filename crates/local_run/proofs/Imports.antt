@@ -13,14 +13,16 @@ pub use Rattle.lemmas.proofs.Common.{Contains, and-true, div_ceil, int_equal, na
 pub use Rattle.lemmas.proofs.Common.{three_ways, ∥∥₁_elim, ∥∥₁_map, ◌<ℤ◌}
 pub use Rattle.local_run.specs.Faults.{HasFault, IsFault, IsFaultUnder, IsKeepFault, IsLeastFault, IsStopFault}
 pub use Rattle.local_run.specs.Faults.{assignments}
-pub use Rattle.local_run.specs.Leaps.{HasSameSignalsAtOddTimes, IsOddOf, IsRunUnchangedUntil, IsTimePlaceBetween}
+pub use Rattle.local_run.specs.Leaps.{HasSameSignalsAtOddTimes, IsOddOfTimePair, IsRunUnchangedUntil}
+pub use Rattle.local_run.specs.Leaps.{IsTimePlaceBetween}
 pub use Rattle.local_run.specs.Order.{kind_number}
 unfoldable pub use Rattle.local_run.specs.Order.{fault_cmp, keep_cmp}
 unfoldable pub use Rattle.local_run.specs.Places.{box_coord, halo_coord}
 pub use Rattle.local_run.specs.Quiet.{AreStarredCellMarks, HasRoomForCellNumbers, IsCellMarked, KeepsMarks, number_at}
 unfoldable pub use Rattle.local_run.specs.Runs.{local_run, with_halo}
 pub use Rattle.local_run.specs.Scans.{HasNoFaultOfKind, HasValueRow, IsCellAsSignalUnderWords, IsEdgeCorrectAt}
-pub use Rattle.local_run.specs.Scans.{IsFaultWhereDefined, IsFirstOfKind, IsHaloCellSet, IsKindSoughtAt, IsLeastBelow}
+pub use Rattle.local_run.specs.Scans.{IsFaultWhereDefined, IsFirstFaultOfKind, IsHaloCellSet, IsKindScannedAt}
+pub use Rattle.local_run.specs.Scans.{IsLeastBelow}
 pub use Rattle.local_run.specs.Scans.{IsNextStop, IsOutsideBoxFromHalo, IsReady, IsScanStride, Shows, is_defined_under}
 pub use Rattle.local_run.specs.Scans.{valuation}
 pub use Rattle.local_run.specs.declared.fault.Fault.{Fault}
@@ -36,7 +38,7 @@ unfoldable pub use Rattle.module_box.proofs.Imports.{AreOrdered, all_times_at, b
 unfoldable pub use Rattle.module_box.proofs.Imports.{in_ring, in_span, moment_cmp, partner, step}
 pub use Rattle.module_box.proofs.MovedBoxes.{signals_moved}
 pub use Rattle.module_box.proofs.Rising.{all_times_none, event_none, is_first, moment_total}
-pub use Rattle.module_box.specs.LocalValues.{AreRowsAt, AreValueRows}
+pub use Rattle.module_box.specs.LocalValues.{AreValueRows, AreValueRowsAt}
 unfoldable pub use Rattle.module_box.specs.LocalValues.{bit_of_row, value_of}
 pub use Rattle.module_box.specs.Moves.{moved_signals}
 pub use Rattle.module_box.specs.Places.{place_in}

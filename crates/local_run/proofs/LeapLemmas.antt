@@ -1,5 +1,5 @@
 -- Runs that stay as they are, and times that can be leapt over
-use Rattle.local_run.proofs.Imports.{AllTimesSignal, Cell, Greater, HasSameSignalsAtOddTimes, IsOddOf, IsRising}
+use Rattle.local_run.proofs.Imports.{AllTimesSignal, Cell, Greater, HasSameSignalsAtOddTimes, IsOddOfTimePair, IsRising}
 use Rattle.local_run.proofs.Imports.{IsRunUnchangedUntil, IsTimePlaceBetween, JobView, Less, List, Moment, None}
 use Rattle.local_run.proofs.Imports.{Signal, Signals, Some, State, TimedSignal, Valuation, Zero, all_times_at}
 use Rattle.local_run.proofs.Imports.{all_times_none, ap, ap₂, arith, by_lt_or_le, common_steps, event_at}
@@ -89,7 +89,7 @@ even_of t = elim (even_or_odd t) [
   | inr h ↦ (t + 1, omega arith, omega arith, omega arith)
 ]
 
-after_same : (j : JobView) (u : Valuation) (t o n k : ℕ) → IsOddOf t o → IsRunUnchangedUntil j u t (t + 2) →
+after_same : (j : JobView) (u : Valuation) (t o n k : ℕ) → IsOddOfTimePair t o → IsRunUnchangedUntil j u t (t + 2) →
     HasSameSignalsAtOddTimes j.halos o n → t ≤ k → k < n →
     ((x y : ℤ) → local_run j u k x y ≡ local_run j u t x y) → (x y : ℤ) →
     local_run j u (suc k) x y ≡ local_run j u t x y
@@ -108,7 +108,7 @@ after_same j u t o n k of stays steady from l same x y =
     ]
 
 -- ---- and so on
-stays_by : (j : JobView) (u : Valuation) (t o n d : ℕ) → IsOddOf t o → IsRunUnchangedUntil j u t (t + 2) →
+stays_by : (j : JobView) (u : Valuation) (t o n d : ℕ) → IsOddOfTimePair t o → IsRunUnchangedUntil j u t (t + 2) →
     HasSameSignalsAtOddTimes j.halos o n →
     t + d ≤ n →
     (x y : ℤ) → local_run j u (t + d) x y ≡ local_run j u t x y

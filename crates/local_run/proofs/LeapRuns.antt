@@ -1,12 +1,12 @@
 -- Runs under all assignments that leap over times
-use Rattle.local_run.proofs.Imports.{Bool, HasSameSignalsAtOddTimes, IsJob, IsNextStop, IsOddOf, IsReady}
+use Rattle.local_run.proofs.Imports.{Bool, HasSameSignalsAtOddTimes, IsJob, IsNextStop, IsOddOfTimePair, IsReady}
 use Rattle.local_run.proofs.Imports.{IsRunUnchangedUntil, JobView, Planes, Shows, Values, and_parts, arith, assignments}
 use Rattle.local_run.proofs.Imports.{by_eq_or_not, by_lt_or_le, cases_Bool, common_steps, false, in_box, in_span, inl}
 use Rattle.local_run.proofs.Imports.{inr, local_run, subst, sym, valuation, ℕ, ℤ, ◌%◌, ◌+◌, ◌-◌, ◌<◌, ◌||◌, ◌∙◌, ◌≡◌}
 use Rattle.local_run.proofs.Imports.{◌≤◌, ◌⊎◌}
 use Rattle.lemmas.proofs.Common.{or_parts}
 use Rattle.local_run.specs.Leaps.{IsLeap}
-use Rattle.local_run.specs.Scans.{IsPassed}
+use Rattle.local_run.specs.Scans.{IsTimePassed}
 use Rattle.local_run.proofs.Firsts.{span_at}
 use Rattle.local_run.proofs.LeapLemmas.{quiet_runs, no_new_faults}
 use Rattle.local_run.proofs.Leasts.{AreFreeBefore, free_more}
@@ -40,7 +40,7 @@ stays_both : (j : JobView) (vs : Values) (o a : ℕ) → a < assignments j → S
     SameRuns j vs (o + 2) (o + 1) → IsRunUnchangedUntil j (valuation vs a) o (o + 2)
 stays_both j vs o a la first second k x y from to = grind (arith, common_steps, by_eq_or_not)
 
-is_odd_of : (o : ℕ) → o % 2 ≡ 1 → IsOddOf o o
+is_odd_of : (o : ℕ) → o % 2 ≡ 1 → IsOddOfTimePair o o
 is_odd_of o odd = grind (arith, common_steps)
 
 -- ---- where a run has come to
@@ -54,7 +54,7 @@ pub record InRun (j : JobView) (vs : Values) (t place : ℕ) (p : Planes) (chang
   pub still : changed ≡ false → (1 ≤ t) × SameRuns j vs t (t - 1)
 
 one_next : (j : JobView) (vs : Values) (t old place : ℕ) (p q : Planes) (before changed : Bool) → IsReady j vs →
-    InRun j vs t old p before → t < j.steps → IsPassed j vs t place →
+    InRun j vs t old p before → t < j.steps → IsTimePassed j vs t place →
     Shows j vs (t + 1) q → (changed ≡ false → Shows j vs t q) → InRun j vs (t + 1) place q changed
 one_next j vs t old place p q before changed ready run l passed next same =
     grind (arith, common_steps, free_more, same_as_before)
@@ -96,7 +96,7 @@ leap_next j vs o n place q changed odd first second free next low high edges hal
     all a la = quiet_runs j (valuation vs a) o o n (is_odd_of o odd) (both a la) halos
 
 pub next_run : (j : JobView) (vs : Values) (t n old place : ℕ) (p q : Planes) (before changed : Bool) → IsReady j vs →
-    InRun j vs t old p before → t < j.steps → IsPassed j vs t place →
+    InRun j vs t old p before → t < j.steps → IsTimePassed j vs t place →
     Shows j vs (t + 1) q → (changed ≡ false → Shows j vs t q) → (t < n) × (n ≤ j.steps) →
     (n ≡ t + 1) ⊎ IsLeap j t (before || changed) n → IsNextStop j n place → InRun j vs n place q changed
 next_run j vs t n old place p q before changed ready run l passed next same range way high = elim way [

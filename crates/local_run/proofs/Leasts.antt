@@ -1,6 +1,6 @@
 -- From the first fault of a time and a kind to the least fault of the job
-use Rattle.local_run.proofs.Imports.{All, AreRowsAt, Edge, End, Equal, Fault, Greater, HasNoFaultOfKind, IsFault}
-use Rattle.local_run.proofs.Imports.{IsFaultWhereDefined, IsFirstOfKind, IsKeepFault, IsLeastBelow, IsLeastFault}
+use Rattle.local_run.proofs.Imports.{All, AreValueRowsAt, Edge, End, Equal, Fault, Greater, HasNoFaultOfKind, IsFault}
+use Rattle.local_run.proofs.Imports.{IsFaultWhereDefined, IsFirstFaultOfKind, IsKeepFault, IsLeastBelow, IsLeastFault}
 use Rattle.local_run.proofs.Imports.{IsReady, IsTrue, JobView, KeepFault, Kind, None, Option, Ordering, Some, Stop}
 use Rattle.local_run.proofs.Imports.{Values, arith, assignments, bit, by_lt_or_le, cases_Bool, cases_lt, cell_cmp}
 use Rattle.local_run.proofs.Imports.{common_steps, false, fault_cmp, inl, inr, int_equal, is_among, is_defined_under}
@@ -9,7 +9,7 @@ use Rattle.local_run.proofs.Imports.{slice_get_within, subst, sym, true, true≢
 use Rattle.local_run.proofs.Imports.{∥∥₁_elim, ◌%◌, ◌+◌, ◌<ℤ◌, ◌<◌, ◌∙◌, ◌≡◌, ◌≢◌, ◌≤◌, ◌⊎◌}
 use Rattle.lemmas.proofs.Common.{◌↔◌, MatchOption, int_cmp}
 use Rattle.circuit.proofs.Undefined.{undefined_has_none}
-use Rattle.circuit.specs.Meaning.{IsUndefined}
+use Rattle.circuit.specs.Meaning.{IsFirstGateWithoutRow}
 use Rattle.local_run.specs.Faults.{IsLeastKeepFault}
 use Rattle.local_run.specs.Laws.{NoFaultWhereUndefined}
 use Rattle.local_run.specs.Scans.{HasNoEdgeFaultAtOddTime, IsFirstFaultAt}
@@ -50,7 +50,7 @@ undefined_no_fault j f k ordered u h =
     (λ s. undefined_has_none j.locals.netlist (bit f.assignment) s.values k ordered u s.local)
 
 rows_at : (j : JobView) (vs : Values) (a : ℕ) → IsReady j vs → a < assignments j →
-    AreRowsAt j.locals.netlist vs.words a vs.rows.values.items vs.rows.undefined.items vs.rows.defined.items
+    AreValueRowsAt j.locals.netlist vs.words a vs.rows.values.items vs.rows.undefined.items vs.rows.defined.items
 rows_at j vs a ready small = grind (arith, common_steps)
 
 -- what a fault is under the values that are given
@@ -69,7 +69,7 @@ shown : (j : JobView) (vs : Values) (f : Fault) → IsReady j vs → f.assignmen
 shown j vs f ready small h = (decided j f (valuation vs f.assignment) ready.job ready.ordered small
     ((rows_at j vs f.assignment ready small).local h.0)).1 h.1
 
-first_least : (j : JobView) (vs : Values) (f : Fault) → IsReady j vs → IsFirstOfKind j vs f.time f.kind f →
+first_least : (j : JobView) (vs : Values) (f : Fault) → IsReady j vs → IsFirstFaultOfKind j vs f.time f.kind f →
     ((g : Fault) → IsFault j g → ¬ (g.time < f.time)) →
     ((g : Fault) → IsFault j g → f.time ≡ g.time → ¬ (kind_number g.kind < kind_number f.kind)) →
     IsLeastFault j (Some f)
@@ -114,13 +114,13 @@ none_before : (j : JobView) (vs : Values) (t : ℕ) → IsReady j vs → t ≤ j
 none_before j vs t ready early free f h l =
     before_free j vs t early free f.time f.kind f.cell.x f.cell.y f.assignment h.in_range (under j vs f ready h) l
 
-is_first : (j : JobView) (vs : Values) (t : ℕ) (k : Kind) (f : Fault) → IsFirstOfKind j vs t k f →
-    IsFirstOfKind j vs f.time f.kind f
+is_first : (j : JobView) (vs : Values) (t : ℕ) (k : Kind) (f : Fault) → IsFirstFaultOfKind j vs t k f →
+    IsFirstFaultOfKind j vs f.time f.kind f
 is_first j vs t k f first = grind (arith, common_steps)
 
 -- from the first fault of a kind at a time, where the kinds before it have no fault at the time
 least_at : (j : JobView) (vs : Values) (t : ℕ) (k : Kind) (f : Fault) → IsReady j vs → t ≤ j.steps →
-    AreFreeBefore j vs t → IsFirstOfKind j vs t k f →
+    AreFreeBefore j vs t → IsFirstFaultOfKind j vs t k f →
     ((l : Kind) (x y : ℤ) (a : ℕ) → a < assignments j → IsFaultWhereDefined j vs a t l x y →
     ¬ (kind_number l < kind_number k)) →
     IsLeastFault j (Some f)
@@ -160,7 +160,7 @@ early_least j vs t f ready early free (inr stop) =
 
 -- the first fault of a stop at the last time
 pub last_stop_least : (j : JobView) (vs : Values) (f : Fault) → IsReady j vs → AreFreeBefore j vs j.steps →
-    IsFirstOfKind j vs j.steps Stop f → IsLeastFault j (Some f)
+    IsFirstFaultOfKind j vs j.steps Stop f → IsLeastFault j (Some f)
 last_stop_least j vs f ready free first =
     least_at j vs j.steps Stop f ready (omega arith) free first (none_below_stop j vs j.steps (no_last_edge j vs))
 
@@ -182,7 +182,7 @@ none_left j vs free stops ends timed t End x y a small d = grind (arith, common_
 -- the first fault of a demand, or none
 pub end_least_fault : (j : JobView) (vs : Values) (o : Option Fault) → IsReady j vs → AreFreeBefore j vs j.steps →
     HasNoFaultOfKind j vs j.steps Stop →
-    MatchOption o (HasNoFaultOfKind j vs j.steps End) (λ f. IsFirstOfKind j vs j.steps End f) → IsLeastFault j o
+    MatchOption o (HasNoFaultOfKind j vs j.steps End) (λ f. IsFirstFaultOfKind j vs j.steps End f) → IsLeastFault j o
 end_least_fault j vs (Some f) ready free stops first =
     least_at j vs j.steps End f ready (omega arith) free first (none_below_end j vs stops)
 end_least_fault j vs None ready free stops ends = λ g h.
@@ -215,7 +215,7 @@ keep_tells j vs a gate ready small below kept = (
 
 keep_below : (j : JobView) (f : KeepFault) → IsKeepFault j f → f.gate < length j.locals.netlist.gates
 keep_below j f h = ∥∥₁_elim h.shown (Prim.hlevel props)
-    (λ (u : IsUndefined j.locals.netlist (bit f.assignment) f.gate).
+    (λ (u : IsFirstGateWithoutRow j.locals.netlist (bit f.assignment) f.gate).
     slice_get_within j.locals.netlist.gates f.gate u.gate u.numbered)
 
 -- no gate before this one has a keep fault

@@ -11,7 +11,7 @@ use Rattle.lemmas.proofs.Common.{map}
 use Rattle.bbm_rule.specs.Moves.{IsMoved}
 use Rattle.bbm_rule.specs.Plane.{parity}
 use Rattle.bbm_rule.proofs.Moving.{parity_moved, step_moved}
-use Rattle.bbm_rule.specs.Boxes.{IsEven}
+use Rattle.bbm_rule.specs.Boxes.{IsEvenBox}
 use Rattle.module_box.specs.Moves.{BoxMovesAlong, IsMovedBox, IsInShiftRange, moved_cell}
 use Rattle.module_box.proofs.BoxCells.{in_box_nats, small_number}
 use Rattle.module_box.proofs.MovedBoxes.{boxes_moved, cell_back, cell_cmp_moved}
@@ -127,7 +127,7 @@ stops_twice : (a b c d : ℕ) (ss : List listed.Stop) →
 stops_twice a b c d [] = refl
 stops_twice a b c d (s ∷ ss) = grind (arith, common_steps, stops_twice a b c d ss, twice)
 
-alike : (j k : JobView) → IsEven j.area → IsEven k.area → shape_of j ≡ shape_of k →
+alike : (j k : JobView) → IsEvenBox j.area → IsEvenBox k.area → shape_of j ≡ shape_of k →
     AreAlike (columns_between j k) (rows_between j k) j k
 unfolding job_start job_demand
 alike j k ej ek same =

@@ -6,7 +6,7 @@ use Rattle.local_run.proofs.Imports.{pos, shift_to_origin, signal_at, signals_mo
 use Rattle.local_run.proofs.Imports.{◌+ℤ◌, ◌+◌, ◌-ℤ◌, ◌/◌, ◌<◌, ◌∙◌, ◌≡◌, ◌≤◌}
 use Rattle.bbm_rule.specs.Marks.{MarksOne}
 use Rattle.local_run.specs.Leaps.{AreLaterFrom}
-use Rattle.local_run.specs.Quiet.{AreStarredCellsMarked, IsZeroAtUnmarked, LacksCellMark, own_mark_number_at}
+use Rattle.local_run.specs.Quiet.{AreStarredCellsMarked, IsZeroAtUnmarked, LacksCellMark, cell_line_mark_number_at}
 use Rattle.lanes.proofs.LaneLemmas.{place_below}
 use Rattle.std.proofs.Math.Nat.{mul-le-mul_left}
 
@@ -24,7 +24,7 @@ part_within n c x y l = grind (arith, common_steps, mul-le-mul_left)
 
 pub cell_marked : (b : Box2) (c : Cell) (x y : ℕ) (old middle new : List ℕ) → c.x ≡ halo_coord b.x x →
     c.y ≡ halo_coord b.y y →
-    MarksOne (number_at b x y) old middle → MarksOne (own_mark_number_at b x y) middle new → IsCellMarked b c new
+    MarksOne (number_at b x y) old middle → MarksOne (cell_line_mark_number_at b x y) middle new → IsCellMarked b c new
 cell_marked b c x y old middle new ex ey one own x' y' lx ly ex' ey' free = grind (arith, common_steps, outer_same)
 
 lacks_line : (b : Box2) (x y : ℕ) (old new : List ℕ) → KeepsMarks old new → LacksCellMark b x y new →

@@ -1,5 +1,5 @@
 -- Stops in their order, and the first of them that has a fault
-use Rattle.local_run.proofs.Imports.{HasNoFaultOfKind, IsFirstOfKind, IsLeastBelow, IsNextStop}
+use Rattle.local_run.proofs.Imports.{HasNoFaultOfKind, IsFirstFaultOfKind, IsLeastBelow, IsNextStop}
 use Rattle.local_run.proofs.Imports.{IsRising, IsStopFault, JobView, Less, Moment, None, Some, Stop}
 use Rattle.local_run.proofs.Imports.{Valuation, Values, ap, arith, assignments, cases_lt, cell_cmp, common_steps}
 use Rattle.local_run.proofs.Imports.{get_or, inl, inr, int_equal, ints, is_defined_under, length, local_run, moment_cmp}
@@ -80,7 +80,7 @@ not_itself x y = grind (arith, common_steps, less_itself)
 pub stop_first : (j : JobView) (vs : Values) (t place a : ℕ) (s : listed.Stop) →
     IsRising moment_cmp stop_moment j.stops → AreTried j vs t place → slice_get j.stops place ≡ Some s →
     s.at.time ≡ t → IsLeastBelow (assignments j) (λ b. IsStopMissed j vs b s) (Some a) →
-    IsFirstOfKind j vs t Stop (record { time = t; kind = Stop; cell = s.at.cell; assignment = a })
+    IsFirstFaultOfKind j vs t Stop (record { time = t; kind = Stop; cell = s.at.cell; assignment = a })
 stop_first j vs t place a s rising tried e at least = record {
   at_time = refl;
   same_kind = refl;

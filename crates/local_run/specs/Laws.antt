@@ -9,7 +9,7 @@ use Rattle.module_box.specs.Schedules.{Signals, signal_at}
 use Rattle.module_job.specs.Jobs.{JobView, IsJob}
 use Rattle.local_run.specs.Faults.{IsEdgeFault, IsFault, IsFaultUnder, IsKeepFault, IsLeastFault, IsLeastKeepFault}
 use Rattle.local_run.specs.Faults.{assignments}
-use Rattle.local_run.specs.Leaps.{IsOddOf, HasSameSignalsAtOddTimes, IsRunUnchangedUntil}
+use Rattle.local_run.specs.Leaps.{IsOddOfTimePair, HasSameSignalsAtOddTimes, IsRunUnchangedUntil}
 use Rattle.local_run.specs.Runs.{local_run}
 use Rattle.local_run.specs.Shown.{job_of, fault_of, keep_of}
 use Rattle.local_run.specs.declared.fault.Fault.{Fault}
@@ -69,13 +69,14 @@ LocalRunStaysInBox = (j : JobView) (u : Valuation) (t : ℕ) → IsJob j → Lie
 
 -- A run that does not change in two steps does not change until time n, if the signals of the halo do not either
 abbrev pub QuietRunStaysUnchanged : Type 0
-QuietRunStaysUnchanged = (j : JobView) (u : Valuation) (t o n : ℕ) → IsOddOf t o → IsRunUnchangedUntil j u t (t + 2) →
+QuietRunStaysUnchanged = (j : JobView) (u : Valuation) (t o n : ℕ) → IsOddOfTimePair t o →
+    IsRunUnchangedUntil j u t (t + 2) →
     HasSameSignalsAtOddTimes j.halos o n → IsRunUnchangedUntil j u t n
 
 -- If the signals of the ring do not change either, an edge fault before time n was there at the odd one of the two
 -- times.
 abbrev pub QuietRunAddsNoEdgeFault : Type 0
-QuietRunAddsNoEdgeFault = (j : JobView) (u : Valuation) (t o n k : ℕ) (x y : ℤ) → IsOddOf t o →
+QuietRunAddsNoEdgeFault = (j : JobView) (u : Valuation) (t o n k : ℕ) (x y : ℤ) → IsOddOfTimePair t o →
     IsRunUnchangedUntil j u t (t + 2) →
     HasSameSignalsAtOddTimes j.halos o n → HasSameSignalsAtOddTimes j.edges o n →
     t ≤ k → k < n → IsEdgeFault j u k x y → IsEdgeFault j u o x y

@@ -15,7 +15,7 @@ abbrev pub HasSameSignalsAtOddTimes : Signals → ℕ → ℕ → Type 0
 HasSameSignalsAtOddTimes s t n = (k : ℕ) (x y : ℤ) → t ≤ k → k < n → k % 2 ≡ 1 → signal_at s k x y ≡ signal_at s t x y
 
 -- o is the odd one of two times that follow one another, of which t is the first
-pub record IsOddOf (t o : ℕ) : Type 0 where
+pub record IsOddOfTimePair (t o : ℕ) : Type 0 where
   pub odd : o % 2 ≡ 1
   pub from : t ≤ o
   pub next : o ≤ t + 1

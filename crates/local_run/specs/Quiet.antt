@@ -17,12 +17,12 @@ number_at b x y = (b.w / 2 + 1) * (y / 2) + x / 2
 
 -- The number of a cell among the marks on lines. These begin with a mark for each number in the planes, and then have
 -- four parts of as many marks, one for each plane, by the parities of column and row.
-abbrev pub own_mark_number_at : Box2 → ℕ → ℕ → ℕ
-own_mark_number_at b x y = number_at b x y + (b.w / 2 + 1) * (b.h / 2 + 1) * (1 + 2 * (y % 2) + x % 2)
+abbrev pub cell_line_mark_number_at : Box2 → ℕ → ℕ → ℕ
+cell_line_mark_number_at b x y = number_at b x y + (b.w / 2 + 1) * (b.h / 2 + 1) * (1 + 2 * (y % 2) + x % 2)
 
 -- one of the two marks of a cell is missing
 abbrev pub LacksCellMark : Box2 → ℕ → ℕ → List ℕ → Type 0
-LacksCellMark b x y marks = IsUnmarked marks (number_at b x y) ⊎ IsUnmarked marks (own_mark_number_at b x y)
+LacksCellMark b x y marks = IsUnmarked marks (number_at b x y) ⊎ IsUnmarked marks (cell_line_mark_number_at b x y)
 
 -- there is room for the numbers of all cells of a box and its halo
 abbrev pub HasRoomForCellNumbers : Box2 → List ℕ → Type 0

@@ -73,10 +73,10 @@ pub record Shows (j : JobView) (vs : Values) (t : ℕ) (p : Planes) : Type 0 whe
       lane p a (1 + x) (1 + y) ≡ local_run j (valuation vs a) t (box_coord j.area.x x) (box_coord j.area.y y)
 
 -- whether faults of the kind are sought at the time, cell by cell
-abbrev pub IsKindSoughtAt : JobView → ℕ → Kind → Type 0
-IsKindSoughtAt j t Edge = (t % 2 ≡ 1) × (t < j.steps)
-IsKindSoughtAt j t Stop = ⊥
-IsKindSoughtAt j t End = t ≡ j.steps
+abbrev pub IsKindScannedAt : JobView → ℕ → Kind → Type 0
+IsKindScannedAt j t Edge = (t % 2 ≡ 1) × (t < j.steps)
+IsKindScannedAt j t Stop = ⊥
+IsKindScannedAt j t End = t ≡ j.steps
 
 -- How far apart the cells of row y of a box are that can have a fault of the kind: next to each other, or the first and
 -- the last
@@ -90,7 +90,7 @@ abbrev pub IsScanStride : Kind → ℕ → ℕ → ℕ → ℕ → Type 0
 IsScanStride kind w h y stride = (1 ≤ stride) × (stride ≤ 64) × ((stride ≡ 1) ⊎ IsEndToEndStride kind w h y stride)
 
 -- f comes first among the faults of a kind at a time
-pub record IsFirstOfKind (j : JobView) (vs : Values) (t : ℕ) (kind : Kind) (f : Fault) : Type 0 where
+pub record IsFirstFaultOfKind (j : JobView) (vs : Values) (t : ℕ) (kind : Kind) (f : Fault) : Type 0 where
   pub at_time : f.time ≡ t
   pub same_kind : f.kind ≡ kind
   pub small : f.assignment < assignments j
@@ -145,11 +145,11 @@ HasNoEdgeFaultAtOddTime j vs t = t % 2 ≡ 1 → HasNoFaultOfKind j vs t Edge
 
 -- f comes first among all faults at a time before the last
 abbrev pub IsFirstFaultAt : JobView → Values → ℕ → Fault → Type 0
-IsFirstFaultAt j vs t f = ((t % 2 ≡ 1) × IsFirstOfKind j vs t Edge f)
-    ⊎ (HasNoEdgeFaultAtOddTime j vs t × IsFirstOfKind j vs t Stop f)
+IsFirstFaultAt j vs t f = ((t % 2 ≡ 1) × IsFirstFaultOfKind j vs t Edge f)
+    ⊎ (HasNoEdgeFaultAtOddTime j vs t × IsFirstFaultOfKind j vs t Stop f)
 
 -- a time before the last without a fault: the place is that of the next stop after it
-pub record IsPassed (j : JobView) (vs : Values) (t place : ℕ) : Type 0 where
+pub record IsTimePassed (j : JobView) (vs : Values) (t place : ℕ) : Type 0 where
   pub next : IsNextStop j (t + 1) place
   pub edges : HasNoEdgeFaultAtOddTime j vs t
   pub stops : HasNoFaultOfKind j vs t Stop

@@ -9,13 +9,13 @@ ghost use Rattle.module_job.specs.Signals.{IsSignalWireBelow};
 ghost use Rattle.local_run.specs.Places.{halo_coord};
 ghost use Rattle.local_run.specs.Quiet.{AreLineMarks};
 ghost use Rattle.local_run.specs.Steady.{AreEventMarks, IsNumberCorrect, IsSteadyWhereSettled};
-ghost use Rattle.local_run.specs.Scans.{IsEdgeCorrectAt, AreEdgesCorrectBetweenNumbers, AreEdgesCorrectAtPlace, IsHaloSet, IsHaloCellSet, AreHaloCellsSetBetween, AreHaloCellsSetAtPlace, HasNoFaultOfKind, IsOutsideBoxFromHalo, IsReady, IsKindSoughtAt, IsSameBeforeNumber, IsSameButAtPlace, IsSameButAtCell, Shows};
+ghost use Rattle.local_run.specs.Scans.{IsEdgeCorrectAt, AreEdgesCorrectBetweenNumbers, AreEdgesCorrectAtPlace, IsHaloSet, IsHaloCellSet, AreHaloCellsSetBetween, AreHaloCellsSetAtPlace, HasNoFaultOfKind, IsOutsideBoxFromHalo, IsReady, IsKindScannedAt, IsSameBeforeNumber, IsSameButAtPlace, IsSameButAtCell, Shows};
 
 use crate::fault::Kind;
 use crate::line_marks::LineMarks;
-use crate::places::{edge_at, halo_at};
+use crate::places::{edge_signal_at, halo_signal_at};
 use crate::values::Values;
-use lanes::{MarkedPlanes, take_first};
+use lanes::{MarkedPlanes, take_first_mark};
 use module_box::Signal;
 use module_job::Job;
 
@@ -39,7 +39,7 @@ fn halo_signal(
     ensures wire_exists { IsSignalWireBelow (wires job.now.locals.netlist) result }
 {
     if lines.may_have_line(marked_planes.planes(), x, y) {
-        halo_at(job, lines.time(), x, y, lines.places().halos)
+        halo_signal_at(job, lines.time(), x, y, lines.places().halos)
     } else {
         Signal::Zero
     }
@@ -67,7 +67,7 @@ fn edge_signal(
     ensures wire_exists { IsSignalWireBelow (wires job.now.locals.netlist) result }
 {
     if lines.may_have_line(marked_planes.planes(), x, y) {
-        edge_at(job, lines.time(), x - 1, y - 1, lines.places().edges)
+        edge_signal_at(job, lines.time(), x - 1, y - 1, lines.places().edges)
     } else {
         Signal::Zero
     }
@@ -97,7 +97,7 @@ fn is_edge_correct(
     }
     let signal = edge_signal(marked_planes, job, lines, x, y);
     values
-        .first_difference(marked_planes.planes(), x, y, signal)
+        .first_difference_where_defined(marked_planes.planes(), x, y, signal)
         .is_none()
 }
 
@@ -122,7 +122,7 @@ fn set_halo_cell(
     ensures settled { KeepsSettled marked_planes.old marked_planes.new }
 {
     let signal = halo_signal(marked_planes, job, lines, x, y);
-    if values.is_different(marked_planes.planes(), x, y, signal) {
+    if values.differs_from_signal(marked_planes.planes(), x, y, signal) {
         values.put(marked_planes, x, y, signal);
     }
 }
@@ -131,7 +131,7 @@ fn set_halo_cell(
 // whether it carries what its edge signal says, if it is in the ring; only `true` is proved to be right.
 #[tactic(auto, using(crate::proofs::Silence::unsaid_halo, crate::proofs::Silence::outer_edge, crate::proofs::Silence::unsaid_edge, lanes::proofs::SettledLemmas::settled_once))]
 #[inline(always)]
-fn set_halo_or_test_ring_cell(
+fn set_halo_or_is_edge_correct(
     marked_planes: &mut MarkedPlanes,
     values: &Values,
     job: &Job,
@@ -142,7 +142,7 @@ fn set_halo_or_test_ring_cell(
     requires job_ready { IsReady job.now values.now }
     requires shows { Shows job.now values.now lines.now.time marked_planes.old.planes }
     requires lines { AreLineMarks job.now lines.now.time lines.now.marks.items }
-    requires sought { IsKindSoughtAt job.now lines.now.time Kind.Edge }
+    requires sought { IsKindScannedAt job.now lines.now.time Kind.Edge }
     requires place { (x < job.now.area.w + 2) × (y < job.now.area.h + 2) }
     ensures shows { Shows job.now values.now lines.now.time marked_planes.new.planes }
     ensures edge { result ≡ true → IsEdgeCorrectAt job.now values.now lines.now.time x y }
@@ -162,8 +162,8 @@ fn set_halo_or_test_ring_cell(
     true
 }
 
-// Sets or tests the four cells in a column and row of the planes, each as `set_halo_or_test_ring_cell` does.
-fn set_or_test_four_cells(
+// Sets or tests the four cells in a column and row of the planes, each as `set_halo_or_is_edge_correct` does.
+fn set_halo_cells_or_are_edges_correct(
     marked_planes: &mut MarkedPlanes,
     values: &Values,
     job: &Job,
@@ -174,7 +174,7 @@ fn set_or_test_four_cells(
     requires job_ready { IsReady job.now values.now }
     requires shows { Shows job.now values.now lines.now.time marked_planes.old.planes }
     requires lines { AreLineMarks job.now lines.now.time lines.now.marks.items }
-    requires sought { IsKindSoughtAt job.now lines.now.time Kind.Edge }
+    requires sought { IsKindScannedAt job.now lines.now.time Kind.Edge }
     requires place { (column < job.now.area.w / 2 + 1) × (row < job.now.area.h / 2 + 1) }
     ensures shows { Shows job.now values.now lines.now.time marked_planes.new.planes }
     ensures edges { result ≡ true →
@@ -187,10 +187,10 @@ fn set_or_test_four_cells(
 {
     let x = 2 * column;
     let y = 2 * row;
-    let first = set_halo_or_test_ring_cell(marked_planes, values, job, lines, x, y);
-    let second = set_halo_or_test_ring_cell(marked_planes, values, job, lines, x + 1, y);
-    let third = set_halo_or_test_ring_cell(marked_planes, values, job, lines, x, y + 1);
-    let fourth = set_halo_or_test_ring_cell(marked_planes, values, job, lines, x + 1, y + 1);
+    let first = set_halo_or_is_edge_correct(marked_planes, values, job, lines, x, y);
+    let second = set_halo_or_is_edge_correct(marked_planes, values, job, lines, x + 1, y);
+    let third = set_halo_or_is_edge_correct(marked_planes, values, job, lines, x, y + 1);
+    let fourth = set_halo_or_is_edge_correct(marked_planes, values, job, lines, x + 1, y + 1);
     first & second & third & fourth
 }
 
@@ -200,7 +200,7 @@ fn set_or_test_four_cells(
 // The numbers without a mark in the word need no look. It was read before: a cell that is set changes marks of its own
 // number alone.
 #[tactic(auto, using(crate::proofs::QuietLemmas::number_below, lanes::proofs::FieldLemmas::past_all))]
-fn set_halo_test_ring_in_word(
+fn set_halo_and_check_ring_at_marks(
     marked_planes: &mut MarkedPlanes,
     values: &Values,
     job: &Job,
@@ -211,7 +211,7 @@ fn set_halo_test_ring_in_word(
     requires job_ready { IsReady job.now values.now }
     requires shows { Shows job.now values.now lines.now.time marked_planes.old.planes }
     requires lines { AreLineMarks job.now lines.now.time lines.now.marks.items }
-    requires sought { IsKindSoughtAt job.now lines.now.time Kind.Edge }
+    requires sought { IsKindScannedAt job.now lines.now.time Kind.Edge }
     requires first { (first % 64 ≡ 0) × (first < marked_planes.old.planes.stride
         * marked_planes.old.planes.rows) }
     requires unset_are_correct { (u : ℕ) → u / 64 ≡ first / 64 → bit word (u % 64) ≡ false →
@@ -229,14 +229,21 @@ fn set_halo_test_ring_in_word(
     let mut is_right = true;
     let mut rest = word;
     while rest != 0 {
-        let (place, others) = take_first(rest);
+        let (place, others) = take_first_mark(rest);
         let u = first + place;
         if u >= cells {
             return is_right;
         }
         rest = others;
         let (column, row) = marked_planes.planes().column_and_row(u);
-        is_right &= set_or_test_four_cells(marked_planes, values, job, lines, column, row);
+        is_right &= set_halo_cells_or_are_edges_correct(
+            marked_planes,
+            values,
+            job,
+            lines,
+            column,
+            row,
+        );
     }
     is_right
 }
@@ -246,7 +253,7 @@ fn set_halo_test_ring_in_word(
 ///
 /// Cells that carried their signals at all times at the last look and have not changed need a look only if a line says
 /// something of this time alone.
-pub fn set_halo_check_ring(
+pub fn set_halo_and_check_ring(
     marked_planes: &mut MarkedPlanes,
     values: &Values,
     job: &Job,
@@ -255,10 +262,10 @@ pub fn set_halo_check_ring(
     requires job_ready { IsReady job.now values.now }
     requires shows { Shows job.now values.now lines.now.time marked_planes.old.planes }
     requires lines { AreLineMarks job.now lines.now.time lines.now.marks.items }
-    requires sought { IsKindSoughtAt job.now lines.now.time Kind.Edge }
+    requires sought { IsKindScannedAt job.now lines.now.time Kind.Edge }
     requires events { AreEventMarks job.now lines.now.time lines.now.events.items }
     requires steady { IsSteadyWhereSettled job.now values.now marked_planes.old
-        lines.now.last_events.items }
+        lines.now.last_event_marks.items }
     ensures shows { Shows job.now values.now lines.now.time marked_planes.new.planes }
     ensures halo { IsHaloSet job.now values.now lines.now.time marked_planes.new.planes }
     ensures edges { result ≡ true → HasNoFaultOfKind job.now values.now lines.now.time Kind.Edge }
@@ -270,13 +277,20 @@ pub fn set_halo_check_ring(
         let word = marked_planes.border_marks_to_check(
             lines.marks(),
             lines.events(),
-            lines.last_events(),
+            lines.last_event_marks(),
             k,
         );
         if word == 0 {
             continue;
         }
-        is_right &= set_halo_test_ring_in_word(marked_planes, values, job, lines, 64 * k, word);
+        is_right &= set_halo_and_check_ring_at_marks(
+            marked_planes,
+            values,
+            job,
+            lines,
+            64 * k,
+            word,
+        );
     }
     is_right
 }

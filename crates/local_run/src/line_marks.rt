@@ -9,7 +9,8 @@ ghost use Rattle.std.specs.Prelude.{◌≡◌, ◌+◌, ◌*◌, ◌/◌, ◌%�
 ghost use Rattle.lemmas.specs.Bounds.{max_steps};
 
 use crate::lines::{
-    EventPlaces, LinePlaces, mark_lines, marks_of_starred_cells, number_words, own_mark_number,
+    EventPlaces, LinePlaces, cell_line_mark_number, mark_lines, marks_of_starred_cells,
+    number_mark_word_count,
 };
 use lanes::{Buffers, Planes, is_marked};
 use module_job::Job;
@@ -27,14 +28,14 @@ pub struct LineMarks {
     // marks on the numbers of which a line says something at this time and not at all times
     events: Vec<u64>,
     // the same for the time that was looked at before
-    last_events: Vec<u64>,
+    last_event_marks: Vec<u64>,
     // whether they may have a mark
     has_last_events: bool,
     // where the search for the next time's lines begins
     places: LinePlaces,
     ghost same_long: { vec_len marks ≡ vec_len all_times },
     ghost five_parts: { vec_len marks ≡ 5 * vec_len events },
-    ghost last_same_long: { vec_len last_events ≡ vec_len events },
+    ghost last_same_long: { vec_len last_event_marks ≡ vec_len events },
     ghost keeps: { KeepsMarks all_times.items marks.items },
 }
 
@@ -47,14 +48,14 @@ impl LineMarks {
         let all_times = marks_of_starred_cells(buffers, job)?;
         let mut marks = buffers.take_zeros(all_times.len())?;
         marks.copy_from_slice(&all_times);
-        let long = number_words(job);
-        let none = EventPlaces::NO_PHASE;
+        let long = number_mark_word_count(job);
+        let none = EventPlaces::NO_PLACES;
         Ok(LineMarks {
             time: 0,
             marks,
             all_times,
             events: buffers.take_zeros(long)?,
-            last_events: buffers.take_zeros(long)?,
+            last_event_marks: buffers.take_zeros(long)?,
             has_last_events: false,
             places: LinePlaces {
                 edges: none,
@@ -69,10 +70,10 @@ impl LineMarks {
             marks,
             all_times,
             events,
-            last_events,
+            last_event_marks,
             ..
         } = self;
-        buffers.leave(last_events);
+        buffers.leave(last_event_marks);
         buffers.leave(events);
         buffers.leave(marks);
         buffers.leave(all_times);
@@ -82,13 +83,13 @@ impl LineMarks {
     ///
     /// The marks of the time that was looked at before are taken off. Most times have none of their own. Those on the
     /// numbers of its events are kept as the last ones.
-    pub fn look_at(&mut self, job: &Job, time: u32)
+    pub fn mark_lines_at(&mut self, job: &Job, time: u32)
         requires all_times { AreStarredCellMarks (shape_of job.now) self.old.all_times.items }
         requires range { time < max_steps }
         ensures time { self.new.time ≡ time }
         ensures lines { AreLineMarks job.now time self.new.marks.items }
         ensures events { AreEventMarks job.now time self.new.events.items }
-        ensures last_events { self.new.last_events.items ≡ self.old.events.items }
+        ensures last_event_marks { self.new.last_event_marks.items ≡ self.old.events.items }
         ensures all_times { self.new.all_times ≡ self.old.all_times }
     {
         self.time = time;
@@ -97,7 +98,7 @@ impl LineMarks {
             self.marks.copy_from_slice(&self.all_times);
         }
         // An exchange costs less than a copy. A mark that is left over would only cost a look.
-        swap(&mut self.events, &mut self.last_events);
+        swap(&mut self.events, &mut self.last_event_marks);
         if self.has_last_events {
             self.events.fill(0);
         }
@@ -137,11 +138,11 @@ impl LineMarks {
 
     /// Returns the marks on the numbers of the events of the time that was looked at before it.
     #[inline(always)]
-    pub fn last_events(&self) -> &[u64]
-        ensures marks { result.now ≡ self.now.last_events.items }
+    pub fn last_event_marks(&self) -> &[u64]
+        ensures marks { result.now ≡ self.now.last_event_marks.items }
         ensures long { vec_len self.now.marks ≡ 5 * length result.now }
     {
-        &self.last_events
+        &self.last_event_marks
     }
 
     /// Returns the places of the lines of the time that was looked at.
@@ -160,7 +161,7 @@ impl LineMarks {
             + planes.now.stride * planes.now.rows * (1 + 2 * (y % 2) + x % 2)) }
     {
         let number = planes.cell_number(x, y);
-        let own = own_mark_number(number, planes.cells_per_plane(), x, y);
+        let own = cell_line_mark_number(number, planes.cells_per_plane(), x, y);
         is_marked(&self.marks, own)
     }
 }

@@ -38,7 +38,7 @@ fn number_from_halo(coordinate: i32, first: u32, count: u32) -> Option<usize>
 /// cells.
 #[inline(always)]
 #[tactic(auto, using(crate::proofs::QuietLemmas::part_within))]
-pub fn own_mark_number(number: usize, cells: usize, x: usize, y: usize) -> usize
+pub fn cell_line_mark_number(number: usize, cells: usize, x: usize, y: usize) -> usize
     requires { (number < cells) × (cells ≤ 4096) }
     ensures number { result ≡ number + cells * (1 + 2 * (y % 2) + x % 2) }
     ensures range { result < 5 * cells }
@@ -65,7 +65,7 @@ fn mark_cell(marks: &mut [u64], area: Box2, cell: Cell) -> Option<usize>
     let number = stride * (y / 2) + x / 2;
     mark(marks, number);
     let cells = stride * (area.h as usize / 2 + 1);
-    mark(marks, own_mark_number(number, cells, x, y));
+    mark(marks, cell_line_mark_number(number, cells, x, y));
     Some(number)
 }
 
@@ -215,7 +215,7 @@ pub struct EventPlaces {
 
 impl EventPlaces {
     /// No place.
-    pub const NO_PHASE: EventPlaces = EventPlaces { first: 0, end: 0 };
+    pub const NO_PLACES: EventPlaces = EventPlaces { first: 0, end: 0 };
 }
 
 /// The places of the edge and halo lines of the time that was looked at last.
@@ -330,7 +330,7 @@ fn mark_stars_of_shape(marks: &mut [u64], shape: &Shape)
 }
 
 /// Returns how many words the marks on the numbers in a plane take.
-pub fn number_words(job: &Job) -> usize
+pub fn number_mark_word_count(job: &Job) -> usize
     requires { IsJob job.now }
     ensures { result ≡ div_ceil ((job.now.area.w / 2 + 1) * (job.now.area.h / 2 + 1)) 64 }
 {
@@ -345,7 +345,7 @@ pub fn marks_of_starred_cells(buffers: &mut Buffers, job: &Job) -> Result<Vec<u6
     ensures count { IfOk result (λ m. vec_len m
         ≡ 5 * div_ceil ((job.now.area.w / 2 + 1) * (job.now.area.h / 2 + 1)) 64) }
 {
-    let mut marks = buffers.take_zeros(5 * number_words(job))?;
+    let mut marks = buffers.take_zeros(5 * number_mark_word_count(job))?;
     mark_stars_of_shape(&mut marks, job.shape());
     Ok(marks)
 }

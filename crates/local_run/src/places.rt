@@ -109,7 +109,7 @@ pub fn skip_dead_demands(job: &Job, x: usize, y: usize) -> usize
 /// Returns what the cell at a column and row of the box carries at an odd time, if it is in the ring. Its event is
 /// sought first at some places, whatever they are.
 #[tactic(auto, using(crate::proofs::QuietLemmas::inner_signal, module_job::proofs::OwnSignals::edge_below))]
-pub fn edge_at(job: &Job, time: u32, x: usize, y: usize, near: EventPlaces) -> Signal
+pub fn edge_signal_at(job: &Job, time: u32, x: usize, y: usize, near: EventPlaces) -> Signal
     requires { (x < job.now.area.w) × (y < job.now.area.h) }
     ensures signal_is_exact { result
         ≡ signal_at job.now.edges time (box_coord job.now.area.x x) (box_coord job.now.area.y y) }
@@ -124,7 +124,7 @@ pub fn edge_at(job: &Job, time: u32, x: usize, y: usize, near: EventPlaces) -> S
 /// Returns what the cell at a column and row, counted from the halo, carries at an odd time, if it is in the halo. Its
 /// event is sought first at some places, whatever they are.
 #[tactic(auto, using(crate::proofs::QuietLemmas::outer_signal, module_job::proofs::OwnSignals::halo_below))]
-pub fn halo_at(job: &Job, time: u32, x: usize, y: usize, near: EventPlaces) -> Signal
+pub fn halo_signal_at(job: &Job, time: u32, x: usize, y: usize, near: EventPlaces) -> Signal
     requires { (x < job.now.area.w + 2) × (y < job.now.area.h + 2) }
     ensures signal_is_exact { result
         ≡ signal_at job.now.halos time (halo_coord job.now.area.x x) (halo_coord job.now.area.y y) }

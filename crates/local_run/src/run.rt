@@ -6,10 +6,10 @@ ghost use Rattle.lanes.specs.Settled.{IsSameAtNumber, IsSettled, KeepsSettled};
 ghost use Rattle.local_run.specs.Quiet.{AreStarredCellMarks};
 ghost use Rattle.local_run.specs.Steady.{AreEventMarks, IsSteadyWhereSettled};
 ghost use Rattle.local_run.specs.Faults.{IsLeastFault, IsLeastKeepFault};
-ghost use Rattle.local_run.specs.Scans.{IsHaloSet, IsFirstOfKind, IsFirstFaultAt, HasNoFaultOfKind, IsNextStop, IsPassed, IsReady, IsKindSoughtAt, Shows};
+ghost use Rattle.local_run.specs.Scans.{IsHaloSet, IsFirstFaultOfKind, IsFirstFaultAt, HasNoFaultOfKind, IsNextStop, IsTimePassed, IsReady, IsKindScannedAt, Shows};
 ghost use Rattle.local_run.specs.Shown.{digest_of, number_of, job_of, fault_of, keep_of};
 
-use crate::border::set_halo_check_ring;
+use crate::border::set_halo_and_check_ring;
 use crate::fault::{Fault, KeepFault, Kind};
 use crate::finding::Finding;
 use crate::keep::find_least_keep_fault;
@@ -25,7 +25,7 @@ use std::alloc::{AllocError, Global};
 use std::sync::Arc;
 
 // The first fault of an edge at an odd time before the last. The cells of the halo become what their signals say.
-fn set_halo_find_edge_fault(
+fn set_halo_and_find_edge_fault(
     marked_planes: &mut MarkedPlanes,
     lines: &mut LineMarks,
     values: &Values,
@@ -34,7 +34,7 @@ fn set_halo_find_edge_fault(
 ) -> Option<Fault>
     requires job_ready { IsReady job.now values.now }
     requires lines { AreStarredCellMarks (shape_of job.now) lines.old.all_times.items }
-    requires sought { IsKindSoughtAt job.now time Kind.Edge }
+    requires sought { IsKindScannedAt job.now time Kind.Edge }
     requires shows { Shows job.now values.now time marked_planes.old.planes }
     requires steady { IsSteadyWhereSettled job.now values.now marked_planes.old
         lines.old.events.items }
@@ -43,11 +43,11 @@ fn set_halo_find_edge_fault(
     ensures lines { lines.new.all_times ≡ lines.old.all_times }
     ensures events { AreEventMarks job.now time lines.new.events.items }
     ensures fault { MatchOption result (HasNoFaultOfKind job.now values.now time Kind.Edge)
-        (λ f. IsFirstOfKind job.now values.now time Kind.Edge f) }
+        (λ f. IsFirstFaultOfKind job.now values.now time Kind.Edge f) }
 {
     marked_planes.count_down_word_reads();
-    lines.look_at(job, time);
-    if set_halo_check_ring(marked_planes, values, job, lines) {
+    lines.mark_lines_at(job, time);
+    if set_halo_and_check_ring(marked_planes, values, job, lines) {
         return None;
     }
     let search = FaultSearch {
@@ -82,11 +82,11 @@ fn fault_at_time(
     ensures events { time % 2 ≡ 1 → AreEventMarks job.now time lines.new.events.items }
     ensures even_unchanged { time % 2 ≡ 0 →
         (marked_planes.new ≡ marked_planes.old) × (lines.new ≡ lines.old) }
-    ensures fault { MatchOption result (IsPassed job.now values.now time next.new)
+    ensures fault { MatchOption result (IsTimePassed job.now values.now time next.new)
         (λ f. IsFirstFaultAt job.now values.now time f) }
 {
     if time % 2 == 1 {
-        if let Some(fault) = set_halo_find_edge_fault(marked_planes, lines, values, job, time) {
+        if let Some(fault) = set_halo_and_find_edge_fault(marked_planes, lines, values, job, time) {
             return Some(fault);
         }
     }
@@ -159,7 +159,7 @@ fn least_fault(
     let search = FaultSearch {
         kind: Kind::End,
         time: steps,
-        near: EventPlaces::NO_PHASE,
+        near: EventPlaces::NO_PLACES,
     };
     let fault = first_fault_of_kind(&marked_planes, values, job, search);
     lines.leave(buffers);

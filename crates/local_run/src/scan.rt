@@ -7,12 +7,12 @@ ghost use Rattle.local_run.specs.Places.{box_coord};
 ghost use Rattle.lanes.specs.Lanes.{lane};
 ghost use Rattle.module_job.specs.Jobs.{job_demand};
 ghost use Rattle.module_job.specs.Signals.{is_live};
-ghost use Rattle.local_run.specs.Scans.{IsFirstOfKind, IsFaultWhereDefined, HasNoFaultOfKind, IsLeastBelow, IsStopMissed, IsNextStop, IsReady, IsKindSoughtAt, IsScanStride, Shows, is_defined_under, valuation};
+ghost use Rattle.local_run.specs.Scans.{IsFirstFaultOfKind, IsFaultWhereDefined, HasNoFaultOfKind, IsLeastBelow, IsStopMissed, IsNextStop, IsReady, IsKindScannedAt, IsScanStride, Shows, is_defined_under, valuation};
 
 use crate::fault::{Fault, Kind};
 use crate::lines::EventPlaces;
 use crate::places::{
-    box_cell_at, column_and_row_of, demand_at, edge_at, is_in_ring, skip_dead_demands,
+    box_cell_at, column_and_row_of, demand_at, edge_signal_at, is_in_ring, skip_dead_demands,
 };
 use crate::values::Values;
 use lanes::MarkedPlanes;
@@ -20,7 +20,7 @@ use module_box::Signal;
 use module_job::{Demand, Job, Stop};
 
 // The least assignment at which each used gate has a row and a cell, counted from the halo, is live.
-fn first_live_assignment(
+fn first_defined_live_assignment(
     marked_planes: &MarkedPlanes,
     values: &Values,
     x: usize,
@@ -39,7 +39,7 @@ fn first_live_assignment(
     if !marked_planes.may_be_live(x, y) {
         return None;
     }
-    values.first_difference(marked_planes.planes(), x, y, Signal::Zero)
+    values.first_difference_where_defined(marked_planes.planes(), x, y, Signal::Zero)
 }
 
 /// The kind and the time of the faults that are sought.
@@ -53,7 +53,7 @@ pub struct FaultSearch {
 
 /// Returns the least assignment under which the cell at a column and row of the box has a fault of the kind.
 #[tactic(auto, using(crate::proofs::Firsts::end_least, crate::proofs::Firsts::inner_in_box, crate::proofs::Firsts::edge_not_found, crate::proofs::Scans::row_from))]
-pub fn cell_fault_assignment(
+pub fn first_cell_fault_assignment(
     marked_planes: &MarkedPlanes,
     values: &Values,
     job: &Job,
@@ -63,7 +63,7 @@ pub fn cell_fault_assignment(
 ) -> Option<u32>
     requires job_ready { IsReady job.now values.now }
     requires shows { Shows job.now values.now search.time marked_planes.now.planes }
-    requires sought { IsKindSoughtAt job.now search.time search.kind }
+    requires sought { IsKindScannedAt job.now search.time search.kind }
     requires place { (x < job.now.area.w) × (y < job.now.area.h) }
     ensures { IsLeastBelow (assignments job.now)
         (λ a. IsFaultWhereDefined job.now values.now a search.time search.kind
@@ -75,15 +75,20 @@ pub fn cell_fault_assignment(
             if !is_in_ring(job, x, y) {
                 return None;
             }
-            let signal = edge_at(job, search.time, x, y, search.near);
-            values.first_difference(planes, 1 + x, 1 + y, signal)
+            let signal = edge_signal_at(job, search.time, x, y, search.near);
+            values.first_difference_where_defined(planes, 1 + x, 1 + y, signal)
         }
         Kind::Stop => None,
         Kind::End => match demand_at(job, x, y) {
-            Demand::Dead => first_live_assignment(marked_planes, values, 1 + x, 1 + y),
-            Demand::Live => values.first_difference(planes, 1 + x, 1 + y, Signal::One),
+            Demand::Dead => first_defined_live_assignment(marked_planes, values, 1 + x, 1 + y),
+            Demand::Live => values.first_difference_where_defined(
+                planes,
+                1 + x,
+                1 + y,
+                Signal::One,
+            ),
             Demand::Wire(wire) => {
-                values.first_difference(planes, 1 + x, 1 + y, Signal::Wire(wire))
+                values.first_difference_where_defined(planes, 1 + x, 1 + y, Signal::Wire(wire))
             }
             Demand::Any => None,
         },
@@ -140,9 +145,9 @@ pub fn first_fault_of_kind(
 ) -> Option<Fault>
     requires job_ready { IsReady job.now values.now }
     requires shows { Shows job.now values.now search.time marked_planes.now.planes }
-    requires sought { IsKindSoughtAt job.now search.time search.kind }
+    requires sought { IsKindScannedAt job.now search.time search.kind }
     ensures { MatchOption result (HasNoFaultOfKind job.now values.now search.time search.kind)
-        (λ f. IsFirstOfKind job.now values.now search.time search.kind f) }
+        (λ f. IsFirstFaultOfKind job.now values.now search.time search.kind f) }
 {
     let FaultSearch { kind, time, .. } = search;
     let area = job.area();
@@ -156,7 +161,7 @@ pub fn first_fault_of_kind(
             if x >= width {
                 break;
             }
-            if let Some(assignment) = cell_fault_assignment(
+            if let Some(assignment) = first_cell_fault_assignment(
                 marked_planes,
                 values,
                 job,
@@ -179,7 +184,7 @@ pub fn first_fault_of_kind(
 }
 
 // The least assignment under which the cell of a stop is not as its wire, at the stop's time.
-fn stop_fault_assignment(
+fn first_stop_fault_assignment(
     marked_planes: &MarkedPlanes,
     values: &Values,
     job: &Job,
@@ -193,7 +198,7 @@ fn stop_fault_assignment(
         result }
 {
     let (x, y) = column_and_row_of(job, stop.at.cell);
-    values.first_difference(
+    values.first_difference_where_defined(
         marked_planes.planes(),
         1 + x,
         1 + y,
@@ -219,7 +224,7 @@ pub fn first_stop_fault(
     ensures { MatchOption result
         (HasNoFaultOfKind job.now values.now time Kind.Stop
         × IsNextStop job.now (time + 1) next.new)
-        (λ f. IsFirstOfKind job.now values.now time Kind.Stop f) }
+        (λ f. IsFirstFaultOfKind job.now values.now time Kind.Stop f) }
 {
     let mut place = *next;
     'stops: while place < job.stops() {
@@ -227,7 +232,7 @@ pub fn first_stop_fault(
         if stop.at.time != time {
             break;
         }
-        if let Some(assignment) = stop_fault_assignment(marked_planes, values, job, stop) {
+        if let Some(assignment) = first_stop_fault_assignment(marked_planes, values, job, stop) {
             return Some(Fault {
                 time,
                 kind: Kind::Stop,

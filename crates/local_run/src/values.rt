@@ -14,7 +14,7 @@ use module_job::Job;
 use std::alloc::{AllocError, Global};
 
 // The rows, in which the values are made false under the assignments under which some used gate lacks a row.
-fn without_undefined(rows: ValueRows) -> ValueRows
+fn with_false_where_undefined(rows: ValueRows) -> ValueRows
     requires defined_not_empty { 0 < length rows.defined.items }
     ensures defined { result.defined ≡ rows.defined }
     ensures undefined { result.undefined ≡ rows.undefined }
@@ -28,7 +28,7 @@ fn without_undefined(rows: ValueRows) -> ValueRows
         defined,
     } = rows;
     let mut values = values;
-    clear_undefined(&mut values, &defined);
+    clear_values_where_undefined(&mut values, &defined);
     ValueRows {
         values,
         undefined,
@@ -38,7 +38,7 @@ fn without_undefined(rows: ValueRows) -> ValueRows
 
 // Makes the values false under the assignments under which some used gate lacks a row. No fault is sought under these,
 // and a run in which all wires are false changes less.
-fn clear_undefined(values: &mut [u64], defined: &[u64])
+fn clear_values_where_undefined(values: &mut [u64], defined: &[u64])
     requires defined_not_empty { 0 < length defined.now }
     ensures length_unchanged { length values.new ≡ length values.old }
     ensures keeps { KeepsValuesWhereDefined defined.now values.old values.new }
@@ -75,7 +75,7 @@ impl Values {
         let wiring = job.wiring();
         let count = 1usize << wiring.cuts();
         let words = count.div_ceil(64);
-        let rows = without_undefined(wiring.value_rows(alloc, words)?);
+        let rows = with_false_where_undefined(wiring.value_rows(alloc, words)?);
         Ok(Values { words, count, rows })
     }
 
@@ -117,7 +117,7 @@ impl Values {
     ///
     /// The cell is counted from the halo.
     #[inline(always)]
-    pub fn first_difference(
+    pub fn first_difference_where_defined(
         &self,
         planes: &Planes,
         x: usize,
@@ -134,16 +134,22 @@ impl Values {
             × (lane planes.now a x y ≢ is_live (valuation self.now a) signal)) result }
     {
         // Most cells are as they should be.
-        if !self.is_different(planes, x, y, signal) {
+        if !self.differs_from_signal(planes, x, y, signal) {
             return None;
         }
-        self.seek_difference(planes, x, y, signal)
+        self.seek_difference_where_defined(planes, x, y, signal)
     }
 
     // The least assignment at which each used gate has a row and a cell is not as the signal says. It looks at each
     // word.
     #[tactic(auto, using(crate::proofs::Scans::differs_not))]
-    fn seek_difference(&self, planes: &Planes, x: usize, y: usize, signal: Signal) -> Option<u32>
+    fn seek_difference_where_defined(
+        &self,
+        planes: &Planes,
+        x: usize,
+        y: usize,
+        signal: Signal,
+    ) -> Option<u32>
         requires place { (x / 2 < planes.now.stride) × (y / 2 < planes.now.rows) }
         requires words { (self.now.words ≡ planes.now.words) × (self.now.words ≤ 64) }
         requires room_for_assignments { self.now.count ≤ 64 * self.now.words }
@@ -171,7 +177,7 @@ impl Values {
     /// Returns whether a cell is not as the signal says under some assignment, whatever rows the gates have.
     ///
     /// The cell is counted from the halo. Only `false` is proved to be right.
-    pub fn is_different(&self, planes: &Planes, x: usize, y: usize, signal: Signal) -> bool
+    pub fn differs_from_signal(&self, planes: &Planes, x: usize, y: usize, signal: Signal) -> bool
         requires place { (x / 2 < planes.now.stride) × (y / 2 < planes.now.rows) }
         requires words { (self.now.words ≡ planes.now.words) × (self.now.words ≤ 64) }
         requires row { HasValueRow self.now signal }

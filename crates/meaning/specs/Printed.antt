@@ -9,8 +9,8 @@ use Rattle.std.specs.Fmt.{decimal, signed_decimal}
 use Rattle.section_text.specs.Words.{is_name}
 use Rattle.circuit.specs.declared.circuit_line.GateKind.TheVariants.{Source, Fredkin, Cswap, Interact, Switch, Delay}
 use Rattle.circuit.specs.declared.circuit_line.GateKind.TheVariants.{Unswitch, Uninteract}
-use Rattle.circuit.specs.declared.circuit_line.Kind.{Kind}
-use Rattle.circuit.specs.declared.circuit_line.Kind.TheVariants.{Input, Gate, Output, Spill}
+use Rattle.circuit.specs.declared.circuit_line.CircuitLineKind.{CircuitLineKind}
+use Rattle.circuit.specs.declared.circuit_line.CircuitLineKind.TheVariants.{Input, Gate, Output, Spill}
 use Rattle.circuit.specs.declared.circuit_line.CircuitLine.{CircuitLine}
 use Rattle.pattern.specs.declared.layout_line.LayoutLine.{LayoutLine}
 use Rattle.pattern.specs.declared.layout_line.LayoutLine.TheVariants.{Mirror, Ball, In, Out, Waste}
@@ -23,7 +23,7 @@ printed words = drop 1 (flat_map (λ w. 32 ∷ w) words) ++ 10 ∷ []
 -- ---- the circuit
 
 -- a kind of line: its first words, how many names it consumes, its arrow, and how many names it defines
-abbrev pub form : Kind → List ℕ × ℕ × List (List ℕ) × ℕ
+abbrev pub form : CircuitLineKind → List ℕ × ℕ × List (List ℕ) × ℕ
 form Input = (codes "input", 0, [], 1)
 form (Gate (Source b)) = (if b then codes "source 1" else codes "source 0", 0, codes "->" ∷ [], 1)
 form (Gate Fredkin) = (codes "fredkin", 3, codes "->" ∷ [], 3)

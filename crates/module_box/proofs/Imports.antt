@@ -5,12 +5,12 @@ pub use Rattle.bbm_rule.proofs.Imports.{pos, w32, ℤ, ◌%◌, ◌+ℤ◌, ◌-
 unfoldable pub use Rattle.bbm_rule.proofs.Imports.{bit, in_span, partner, step}
 pub use Rattle.bbm_rule.proofs.Spans.{span_from, span_parts}
 pub use Rattle.bbm_rule.proofs.Steps.{step_same}
-pub use Rattle.bbm_rule.specs.Boxes.{IsEven}
+pub use Rattle.bbm_rule.specs.Boxes.{IsEvenBox}
 unfoldable pub use Rattle.bbm_rule.specs.Boxes.{in_box, in_halo, in_ring, some_neighbour}
 pub use Rattle.bbm_rule.specs.Plane.{is_at}
 pub use Rattle.bbm_rule.specs.declared.block.Box2.{Box2}
 pub use Rattle.bbm_rule.specs.declared.block.Cell.{Cell}
-pub use Rattle.circuit.proofs.Imports.{All, All-head, All-tail, Bool, Gate, HasRow, List, Netlist, None, Option}
+pub use Rattle.circuit.proofs.Imports.{All, All-head, All-tail, Bool, FollowsRow, Gate, List, Netlist, None, Option}
 pub use Rattle.circuit.proofs.Imports.{Satisfies, Some, Valuation, [], ap, append_assoc, ap₂, arith, as_values}
 pub use Rattle.circuit.proofs.Imports.{cases_Bool, cases_lt, common_steps, defines, drop, eqb, eqb-true, false}
 pub use Rattle.circuit.proofs.Imports.{flat_map, get_or, get_or-append-add, get_or_append_left, get_or_from_slice_get}
@@ -29,7 +29,8 @@ pub use Rattle.lemmas.proofs.Common.{unsigned_abs}
 pub use Rattle.module_box.specs.Equality.{gate_kind_number}
 pub use Rattle.module_box.specs.Laws.{SameInBox}
 pub use Rattle.module_box.specs.LocalGates.{gate_of_local_gate}
-pub use Rattle.module_box.specs.LocalValues.{IsColumnAt, SaysColumn, gate_out_words, is_none, is_this_gate, lane}
+pub use Rattle.module_box.specs.LocalValues.{AreGateValuesAtBit, AreModuleValuesAtBit, gate_out_words, is_none}
+pub use Rattle.module_box.specs.LocalValues.{is_this_gate, lane}
 pub use Rattle.module_box.specs.LocalValues.{word_of_input}
 pub use Rattle.module_box.specs.Locals.{AreDistinct, AreLocalsOf, LocalNet, circuit_wire, is_among, renumber_gate}
 unfoldable pub use Rattle.bbm_rule.specs.CellOrder.{cell_cmp}

@@ -1,6 +1,8 @@
 -- The values of all wires of a module, and its gates without a row: one assignment, and rows of assignments
-use Rattle.module_box.proofs.Imports.{All, All-head, All-tail, AreOrdered, Bool, Gate, HasRow, IsColumnAt, List}
-use Rattle.module_box.proofs.Imports.{Netlist, None, Option, Satisfies, SaysColumn, Some, Valuation, [], ap, arith}
+use Rattle.module_box.proofs.Imports.{All, All-head, All-tail, AreModuleValuesAtBit, AreOrdered, Bool, FollowsRow, Gate}
+use Rattle.module_box.proofs.Imports.{List}
+use Rattle.module_box.proofs.Imports.{AreGateValuesAtBit, Netlist, None, Option, Satisfies, Some, Valuation, [], ap}
+use Rattle.module_box.proofs.Imports.{arith}
 use Rattle.module_box.proofs.Imports.{as_values, bit, cases_Bool, cases_lt, common_steps, defines, eq-eqb, eqb-true}
 use Rattle.module_box.proofs.Imports.{false, get_or, get_or-append-add, get_or_append_left, inl, inr, is_none}
 use Rattle.module_box.proofs.Imports.{is_this_gate, lane, length, length-map, length-range_with_len, length_push, map}
@@ -11,7 +13,7 @@ use Rattle.lemmas.proofs.Common.{All-cons, All-nil, get_or-set_other, get_or-set
 use Rattle.lemmas.proofs.Common.{get_or-range_with_len}
 use Rattle.circuit.proofs.Undefined.{undefined_at, undefined_is, wires_grow}
 use Rattle.circuit.proofs.Valuations.{evaluated, map_below}
-use Rattle.module_box.specs.LocalValues.{AreRowsAt, bit_of_row, value_of}
+use Rattle.module_box.specs.LocalValues.{AreValueRowsAt, bit_of_row, value_of}
 use Rattle.module_box.proofs.WordRows.{read_lane}
 
 -- ---- what satisfies a netlist does so by its values of the netlist's wires
@@ -22,9 +24,9 @@ pub all_below : (n m : ℕ) (ws : List ℕ) → n ≤ m → All (λ w. w < n) ws
 all_below n m ws h all = λ i d l. let small = all i d l in omega (arith, small)
 
 rows_same : (n : ℕ) (gs : List Gate) (u v : Valuation) → AreOrdered n gs →
-    ((w : ℕ) → w < wires_after n gs → u w ≡ v w) → All (HasRow u) gs → All (HasRow v) gs
+    ((w : ℕ) → w < wires_after n gs → u w ≡ v w) → All (FollowsRow u) gs → All (FollowsRow v) gs
 unfolding AreOrdered wires_after
-rows_same n [] u v ordered same rows = All-nil (HasRow v)
+rows_same n [] u v ordered same rows = All-nil (FollowsRow v)
 rows_same n (g ∷ gs) u v ordered same rows =
     let all : ℕ = wires_after (n + defines g.kind) gs in
     let grow : n + defines g.kind ≤ all = wires_grow (n + defines g.kind) gs in
@@ -33,8 +35,8 @@ rows_same n (g ∷ gs) u v ordered same rows =
     let below : All (λ w. w < all) g.outs =
     subst (λ (ws : List ℕ). All (λ w. w < all) ws) (sym ordered.2) (range_below n (defines g.kind) all grow) in
     let outs : map u g.outs ≡ map v g.outs = map_below all u v g.outs below same in
-    All-cons (HasRow v) g gs (ap (row g.kind) (sym ins) ∙ All-head (HasRow u) g gs rows ∙ ap Some outs)
-    (rows_same (n + defines g.kind) gs u v ordered.3 same (All-tail (HasRow u) g gs rows))
+    All-cons (FollowsRow v) g gs (ap (row g.kind) (sym ins) ∙ All-head (FollowsRow u) g gs rows ∙ ap Some outs)
+    (rows_same (n + defines g.kind) gs u v ordered.3 same (All-tail (FollowsRow u) g gs rows))
 
 pub satisfies_same : (n : Netlist) (a u v : Valuation) → AreOrdered n.given n.gates →
     ((w : ℕ) → w < wires n → u w ≡ v w) → Satisfies n a u → Satisfies n a v
@@ -109,7 +111,7 @@ pub record AreRowsBelow (l : Netlist) (words chunk : ℕ) (values undefined defi
   pub long : length values ≡ words * wires l
   pub tall : length undefined ≡ words * length l.gates
   pub count : length defined ≡ chunk
-  pub each : (a : ℕ) → a < 64 * chunk → AreRowsAt l words a values undefined defined
+  pub each : (a : ℕ) → a < 64 * chunk → AreValueRowsAt l words a values undefined defined
 
 pub rows_more : (l : Netlist) (words chunk word : ℕ)
     (column gaps values values' undefined undefined' defined defined' : List ℕ) → AreOrdered l.given l.gates →
@@ -117,7 +119,7 @@ pub rows_more : (l : Netlist) (words chunk word : ℕ)
     IsWritten words chunk (wires l) column values values' →
     IsWritten words chunk (length l.gates) gaps undefined undefined' → length values' ≡ length values →
     length undefined' ≡ length undefined →
-    defined' ≡ defined ++ word ∷ [] → ((b : ℕ) → b < 64 → IsColumnAt l (64 * chunk + b) column gaps word b) →
+    defined' ≡ defined ++ word ∷ [] → ((b : ℕ) → b < 64 → AreModuleValuesAtBit l (64 * chunk + b) column gaps word b) →
     AreRowsBelow l words chunk values undefined defined →
     AreRowsBelow l words (chunk + 1) values' undefined' defined'
 unfolding bit_of_row
@@ -128,7 +130,7 @@ rows_more l words chunk word column gaps values values' undefined undefined' def
       count = ap length pushed ∙ length_push defined word ∙ ap (λ n. n + 1) before.count;
       each = λ a h. elim (cases_lt a (64 * chunk)) [
         | inl less ↦
-            let was : AreRowsAt l words a values undefined defined = before.each a less in
+            let was : AreValueRowsAt l words a values undefined defined = before.each a less in
             let place : a / 64 < length defined = (let count = before.count in omega (arith, count)) in
             let same : bit_of_row defined' a ≡ bit_of_row defined a =
             ap (λ k. bit k (a % 64)) (ap (λ (ws : List ℕ). slice_index ws (a / 64)) pushed
@@ -147,8 +149,8 @@ rows_more l words chunk word column gaps values values' undefined undefined' def
             let at : a / 64 ≡ chunk = omega arith in
             let b : ℕ = a % 64 in
             let sum : 64 * chunk + b ≡ a = omega arith in
-            let is : IsColumnAt l a column gaps word b =
-            subst (λ x. IsColumnAt l x column gaps word b) sum (columns b (omega arith)) in
+            let is : AreModuleValuesAtBit l a column gaps word b =
+            subst (λ x. AreModuleValuesAtBit l x column gaps word b) sum (columns b (omega arith)) in
             let place : length defined + 0 ≡ a / 64 = (let count = before.count in omega (arith, count, at)) in
             let same : bit_of_row defined' a ≡ bit word b =
             ap (λ k. bit k b) (ap (λ (ws : List ℕ). slice_index ws (a / 64)) pushed
@@ -190,7 +192,7 @@ is_gate_at o k e = ap (λ (o : Option ℕ). is_this_gate o k) e ∙ eq-eqb k k r
 pub column_at : (l : Netlist) (given words undefined : List ℕ) (defined a b : ℕ) → AreOrdered l.given l.gates →
     length given ≡ l.given →
     ((i : ℕ) → i < l.given → bit (slice_index_or given i 0) b ≡ bit a i) →
-    SaysColumn given l.gates words undefined defined b → IsColumnAt l a words undefined defined b
+    AreGateValuesAtBit given l.gates words undefined defined b → AreModuleValuesAtBit l a words undefined defined b
 column_at l given words undefined defined a b ordered long bits says =
     let vs : List Bool = lane b given in
     let len : length vs ≡ l.given = length-map given (λ x. bit x b) ∙ long in
@@ -207,7 +209,7 @@ column_at l given words undefined defined a b ordered long bits says =
 
 -- where no gate of a column is undefined, the values are there
 pub column_defined : (l : Netlist) (a b defined : ℕ) (words undefined : List ℕ) →
-    IsColumnAt l a words undefined defined b →
+    AreModuleValuesAtBit l a words undefined defined b →
     ((k : ℕ) → k < length l.gates → bit (slice_index undefined k) b ≡ false) →
     bit defined b ≡ true
 column_defined l a b defined words undefined is clear =

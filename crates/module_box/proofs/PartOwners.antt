@@ -1,12 +1,13 @@
 -- Tables of owners that boxes take one after the other, from blocks to cells
-use Rattle.module_box.proofs.Imports.{Box2, HasBlockAtPlace, IsEven, IsOwnersTable, List, OwnersView, TakesBox, [], ap}
+use Rattle.module_box.proofs.Imports.{Box2, HasBlockAtPlace, IsEvenBox, IsOwnersTable, List, OwnersView, TakesBox, []}
+use Rattle.module_box.proofs.Imports.{ap}
 use Rattle.module_box.proofs.Imports.{arith, below_or_from, common_steps, div-mul-add, in_box, inl}
 use Rattle.module_box.proofs.Imports.{inr, length, mod-mul-add, mul-le-mul_right, owner_of, rectangle, refl, slice_get}
 use Rattle.module_box.proofs.Imports.{slice_get_within, slice_index, subst, sym, true, ℕ, ℤ, ◌*◌, ◌+◌, ◌/◌, ◌<◌, ◌∙◌}
 use Rattle.module_box.proofs.Imports.{◌≡◌}
 use Rattle.lemmas.proofs.Common.{div-add-mod', mod-lt, replicate}
 use Rattle.bbm_rule.specs.Boxes.{Tile}
-use Rattle.module_box.specs.Tiling.{AreEvenInside, AreOwners, ArePartOwners, AreTakenBy, Holds, MayPut}
+use Rattle.module_box.specs.Tiling.{AreEvenInside, AreOwners, ArePartOwners, AreTakenBy, Holds, MayAddBox}
 use Rattle.module_box.specs.Tiling.{IsInside, PutsBox, block_corner_x, block_corner_y, block_index, no_owner}
 use Rattle.module_box.proofs.BoxCells.{halves, in_box_nats, in_rectangle, owner_in_table}
 use Rattle.module_box.proofs.NoTilings.{corner_column, corner_row, from_sides}
@@ -26,12 +27,12 @@ held_at boxes i h has = record { area = h.area; numbered = h.numbered; has = has
 
 module _ (o : OwnersView) (t : IsOwnersTable o) where
   -- a box has the cell exactly if it has the block
-  pub has_block : (b : Box2) (x y : ℤ) → IsEven b → in_box (rectangle o) x y ≡ true → in_box b x y ≡ true →
+  pub has_block : (b : Box2) (x y : ℤ) → IsEvenBox b → in_box (rectangle o) x y ≡ true → in_box b x y ≡ true →
       HasBlockAtPlace b (o.width / 2) (place_of o x y)
   has_block b x y even inside here =
       grind (arith, common_steps, in_box_nats, box_down, div-mul-add, mod-mul-add, halves)
 
-  pub has_cell : (b : Box2) (x y : ℤ) → IsEven b → in_box (rectangle o) x y ≡ true →
+  pub has_cell : (b : Box2) (x y : ℤ) → IsEvenBox b → in_box (rectangle o) x y ≡ true →
       HasBlockAtPlace b (o.width / 2) (place_of o x y) → in_box b x y ≡ true
   has_cell b x y even inside here =
       grind (arith, common_steps, in_box_nats, box_up, div-mul-add, mod-mul-add, halves)
@@ -42,7 +43,7 @@ module _ (o : OwnersView) (t : IsOwnersTable o) where
   corner_inside k lt = grind (arith, common_steps, from_sides, corner_column, corner_row)
 
   -- and each block of a box inside has a place
-  pub block_within : (b : Box2) → IsEven b → IsInside o.width o.height b → (k : ℕ) →
+  pub block_within : (b : Box2) → IsEvenBox b → IsInside o.width o.height b → (k : ℕ) →
       HasBlockAtPlace b (o.width / 2) k → k < length o.numbers
   block_within b even inside k here = grind (arith, common_steps, among_from, div-add-mod', mod-lt, mul-le-mul_right)
 
@@ -96,7 +97,7 @@ module _ (o : OwnersView) (t : IsOwnersTable o) where
 
 -- ---- one more box
 
-pub puts_box : (o : OwnersView) (b : Box2) → MayPut o b → (number stop : ℕ) (new : List ℕ) →
+pub puts_box : (o : OwnersView) (b : Box2) → MayAddBox o b → (number stop : ℕ) (new : List ℕ) →
     TakesBox (o.width / 2) b no_owner number stop o.numbers new → PutsBox b number o (record o { numbers = new })
 puts_box o b may number stop new takes =
     let w = takes.within in
@@ -116,7 +117,7 @@ puts_box o b may number stop new takes =
             table = record { width = t.width; height = t.height; sized = takes.sized ∙ t.sized };
             each = λ i d e. elim (pushed boxes b i d e) [
               | inl old ↦ part.each i d old
-              | inr last ↦ subst (λ (c : Box2). IsEven c × IsInside o.width o.height c) last.1 (may.even, may.inside)
+              | inr last ↦ subst (λ (c : Box2). IsEvenBox c × IsInside o.width o.height c) last.1 (may.even, may.inside)
             ];
             taken = (taken_by_next (o.width / 2) (length o.numbers) no_owner number stop boxes b o.numbers new
                 (record {

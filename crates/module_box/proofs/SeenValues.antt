@@ -1,5 +1,5 @@
 -- The values of a circuit's wires, as a module sees them
-use Rattle.module_box.proofs.Imports.{AreLocalsOf, Bool, Gate, HasRow, LocalNet, Netlist, Option, Satisfies, Some}
+use Rattle.module_box.proofs.Imports.{AreLocalsOf, Bool, FollowsRow, Gate, LocalNet, Netlist, Option, Satisfies, Some}
 use Rattle.module_box.proofs.Imports.{Valuation, ap, arith, bit, circuit_wire, common_steps, eqb, false, get_or, map}
 use Rattle.module_box.proofs.Imports.{renumber_gate, row, same_Some, slice_get, slice_get-get_or, subst, suc, sym, true}
 use Rattle.module_box.proofs.Imports.{zero, ℕ, ◌%◌, ◌*◌, ◌+◌, ◌/◌, ◌<◌, ◌∙◌, ◌≡◌}
@@ -8,7 +8,7 @@ use Rattle.bbm_rule.specs.Plane.{one_if}
 use Rattle.circuit.proofs.Valuations.{at_most_one}
 use Rattle.module_box.specs.Locals.{circuit_gate}
 use Rattle.module_box.specs.LocalValues.{IsLocalValuation, values_by_local_number}
-use Rattle.module_box.specs.Laws.{ChoicesAreAssignments, LocalValuesAgree, UndefinedGateIsSeenLocally}
+use Rattle.module_box.specs.Laws.{ChoicesAreAssignments, LocalValuesAgreeWithCircuit, UndefinedGateIsSeenLocally}
 use Rattle.circuit.proofs.Undefined.{row_at}
 
 -- ---- the number whose first n bits are these
@@ -57,7 +57,7 @@ choices_are_assignments n f = (from_bits n f, from_bits_below n f, bit-from_bits
 
 -- ---- the rows of a module's gates
 
-row_seen : (f : ℕ → ℕ) (v : Valuation) (g : Gate) → HasRow v (renumber_gate f g) → HasRow (λ i. v (f i)) g
+row_seen : (f : ℕ → ℕ) (v : Valuation) (g : Gate) → FollowsRow v (renumber_gate f g) → FollowsRow (λ i. v (f i)) g
 row_seen f v g h = ap (row g.kind) (sym (map-map v f g.ins)) ∙ h ∙ ap Some (map-map v f g.outs)
 
 seen_valuation : (n : Netlist) (l : LocalNet) (inputs v : Valuation) (a : ℕ) → AreLocalsOf n l → Satisfies n inputs v →
@@ -69,8 +69,8 @@ seen_valuation n l inputs v a are s bits = record {
       (row_at v n.gates _ _ s.rows (are.used k _ (slice_get-get_or l.netlist.gates k d h)));
 }
 
-pub local_values_agree : LocalValuesAgree
-local_values_agree n l inputs v a are s bits =
+pub local_values_agree_with_circuit : LocalValuesAgreeWithCircuit
+local_values_agree_with_circuit n l inputs v a are s bits =
     let seen = seen_valuation n l inputs v a are s bits in
     record {
       is_local = seen;

@@ -1,10 +1,10 @@
 -- Boxes that take the places of their blocks, row by row
-use Rattle.module_box.proofs.Imports.{Box2, HasBlockAtPlace, IsEven, List, TakesBox, TakesRow, and_from, and_parts}
+use Rattle.module_box.proofs.Imports.{Box2, HasBlockAtPlace, IsEvenBox, List, TakesBox, TakesRow, and_from, and_parts}
 use Rattle.module_box.proofs.Imports.{arith, below_or_from, common_steps, div-mul-add, in_box, inl, inr, length}
 use Rattle.module_box.proofs.Imports.{mod-mul-add, mul-le-mul_right, slice_index, span_from, span_parts, ℕ, ◌%◌, ◌*◌}
 use Rattle.module_box.proofs.Imports.{◌+◌, ◌/◌, ◌<◌, ◌∙◌, ◌≡◌, ◌≤◌}
 use Rattle.lemmas.proofs.Common.{min, div-add-mod', mod-lt}
-use Rattle.module_box.specs.Taking.{FitsTable}
+use Rattle.module_box.specs.Taking.{FitsBlockTable}
 
 -- the rows and columns of blocks that a box has
 pub record IsAmong (b : Box2) (row column : ℕ) : Type 0 where
@@ -13,12 +13,12 @@ pub record IsAmong (b : Box2) (row column : ℕ) : Type 0 where
   pub left : b.x / 2 ≤ column
   pub right : column < b.x / 2 + b.w / 2
 
-pub among_from : (b : Box2) (columns k : ℕ) → IsEven b → HasBlockAtPlace b columns k →
+pub among_from : (b : Box2) (columns k : ℕ) → IsEvenBox b → HasBlockAtPlace b columns k →
     IsAmong b (k / columns) (k % columns)
 unfolding in_box
 among_from b columns k even h = grind (arith, common_steps, and_parts, span_parts)
 
-pub block_from : (b : Box2) (columns k : ℕ) → IsEven b → IsAmong b (k / columns) (k % columns) →
+pub block_from : (b : Box2) (columns k : ℕ) → IsEvenBox b → IsAmong b (k / columns) (k % columns) →
     HasBlockAtPlace b columns k
 unfolding in_box
 block_from b columns k even a = grind (arith, common_steps, and_from, span_from)
@@ -47,7 +47,7 @@ pub row_from : (columns row k : ℕ) → 0 < columns → row * columns ≤ k →
 row_from columns row k some p = grind (arith, common_steps, below_or_from, mul-le-mul_right, div-add-mod', mod-lt)
 
 -- the places before `stop`, after a row of the box's blocks is taken up to there
-row_part : (columns : ℕ) (b : Box2) (free number row end stop k : ℕ) (old mid new : List ℕ) → IsEven b →
+row_part : (columns : ℕ) (b : Box2) (free number row end stop k : ℕ) (old mid new : List ℕ) → IsEvenBox b →
     b.y / 2 ≤ row → row < b.y / 2 + b.h / 2 → b.x + b.w ≤ 2 * columns →
     TakesRows columns b free number (row * columns) old mid → end ≤ row * columns + b.x / 2 + b.w / 2 →
     TakesRow free number (row * columns + b.x / 2) end stop mid new → k < length old → k < stop →
@@ -59,8 +59,8 @@ row_part columns b free number row end stop k old mid new even top bottom right 
 )
 
 -- the row ends at a place that is not free
-pub row_stops : (columns : ℕ) (b : Box2) (free number row end stop : ℕ) (old mid new : List ℕ) → IsEven b →
-    FitsTable columns b → b.y / 2 ≤ row → row < b.y / 2 + b.h / 2 →
+pub row_stops : (columns : ℕ) (b : Box2) (free number row end stop : ℕ) (old mid new : List ℕ) → IsEvenBox b →
+    FitsBlockTable columns b → b.y / 2 ≤ row → row < b.y / 2 + b.h / 2 →
     TakesRows columns b free number (row * columns) old mid → end ≤ row * columns + b.x / 2 + b.w / 2 →
     end ≤ length mid → TakesRow free number (row * columns + b.x / 2) end stop mid new →
     stop < end → TakesBox columns b free number stop old new
@@ -77,8 +77,8 @@ row_stops columns b free number row end stop old mid new even fits top bottom ro
     }
 
 -- the whole row is taken, as far as the table goes
-pub row_goes_on : (columns : ℕ) (b : Box2) (free number row end stop : ℕ) (old mid new : List ℕ) → IsEven b →
-    FitsTable columns b → b.y / 2 ≤ row → row < b.y / 2 + b.h / 2 →
+pub row_goes_on : (columns : ℕ) (b : Box2) (free number row end stop : ℕ) (old mid new : List ℕ) → IsEvenBox b →
+    FitsBlockTable columns b → b.y / 2 ≤ row → row < b.y / 2 + b.h / 2 →
     TakesRows columns b free number (row * columns) old mid →
     end ≡ min (row * columns + b.x / 2 + b.w / 2) (length mid) →
     TakesRow free number (row * columns + b.x / 2) end stop mid new →

@@ -1,5 +1,5 @@
 -- From the blocks of a rectangle to its cells
-use Rattle.module_box.proofs.Imports.{AreFirstBoxesInside, Box2, Cell, HasBlockAtPlace, IsEven, List, Some}
+use Rattle.module_box.proofs.Imports.{AreFirstBoxesInside, Box2, Cell, HasBlockAtPlace, IsEvenBox, List, Some}
 use Rattle.module_box.proofs.Imports.{TakesBox, [], and_from, and_parts, ap, get_or_from_slice_get, slice_get, take}
 use Rattle.module_box.proofs.Imports.{take_more, arith, below_or_from, cases_Bool, common_steps}
 use Rattle.module_box.proofs.Imports.{false≢true, in_box, in_span, inl, inr, length, length_push, mul-le-mul_left, pos}
@@ -9,7 +9,7 @@ use Rattle.lemmas.proofs.Common.{div-add-mod, get_or-replicate, get_or-take, len
 use Rattle.lemmas.proofs.Common.{replicate}
 use Rattle.lemmas.proofs.Common.{take_all}
 use Rattle.module_box.specs.Tiling.{AreTakenBy, Holds, HoldsBlock, block_corner_x, block_corner_y}
-use Rattle.module_box.specs.Tiling.{HeldTwice, IsBadBlock}
+use Rattle.module_box.specs.Tiling.{HeldTwice, IsFirstBadBlock}
 use Rattle.module_box.proofs.Rising.{at_end, kept, pushed}
 
 span_down : (f n k : ℕ) → f % 2 ≡ 0 → n % 2 ≡ 0 → in_span f n (pos k) ≡ true → in_span f n (pos (2 * (k / 2))) ≡ true
@@ -19,12 +19,12 @@ span_up : (f n k : ℕ) → f % 2 ≡ 0 → n % 2 ≡ 0 → in_span f n (pos (2 
 span_up f n k ef en h = grind (arith, common_steps, span_parts, span_from)
 
 -- a box with even corner and sides has a cell where it has the corner of the cell's block
-pub box_down : (b : Box2) (i k : ℕ) → IsEven b → in_box b (pos i) (pos k) ≡ true →
+pub box_down : (b : Box2) (i k : ℕ) → IsEvenBox b → in_box b (pos i) (pos k) ≡ true →
     in_box b (pos (2 * (i / 2))) (pos (2 * (k / 2))) ≡ true
 unfolding in_box
 box_down b i k e h = grind (arith, common_steps, and_parts, and_from, span_down)
 
-pub box_up : (b : Box2) (i k : ℕ) → IsEven b → in_box b (pos (2 * (i / 2))) (pos (2 * (k / 2))) ≡ true →
+pub box_up : (b : Box2) (i k : ℕ) → IsEvenBox b → in_box b (pos (2 * (i / 2))) (pos (2 * (k / 2))) ≡ true →
     in_box b (pos i) (pos k) ≡ true
 unfolding in_box
 box_up b i k e h = grind (arith, common_steps, and_parts, and_from, span_up)
@@ -147,7 +147,7 @@ pub bad_block : (w h place : ℕ) (boxes : List Box2) (table : List ℕ) (c : Ce
     AreFirstBoxesInside w h (length boxes) boxes → place < (h / 2) * (w / 2) →
     IsTakenBy (w / 2) ((h / 2) * (w / 2)) (length boxes) boxes table → place ≤ length table →
     ((k : ℕ) → k < place → ¬ (slice_index table k ≡ length boxes)) →
-    (c.x ≡ block_corner_x (w / 2) place) × (c.y ≡ block_corner_y (w / 2) place) → IsBadBlock w h boxes c
+    (c.x ≡ block_corner_x (w / 2) place) × (c.y ≡ block_corner_y (w / 2) place) → IsFirstBadBlock w h boxes c
 bad_block w h place boxes table c inside lt t le full is = record {
   inside = inside;
   place = place;

@@ -1,6 +1,7 @@
 -- The words of a gate's wires: at each bit they are the gate's row
 use Rattle.module_box.proofs.Imports.{Bool, Cswap, Delay, Fredkin, Gate, GateKind, Interact, List, LocalGate, None}
-use Rattle.module_box.proofs.Imports.{Option, SaysColumn, Some, Source, Switch, Uninteract, Unswitch, [], ap, ap₂}
+use Rattle.module_box.proofs.Imports.{AreGateValuesAtBit, Option, Some, Source, Switch, Uninteract, Unswitch, [], ap}
+use Rattle.module_box.proofs.Imports.{ap₂}
 use Rattle.module_box.proofs.Imports.{arith, as_values, bit, bit-zero, cases_lt, common_steps, defines, drop, eq-eqb}
 use Rattle.module_box.proofs.Imports.{false, gate_of_local_gate, gate_out_words, get_or, get_or-append-add}
 use Rattle.module_box.proofs.Imports.{get_or_append_left, inl, inr, is_none, is_this_gate, lane, length, length-append}
@@ -11,7 +12,7 @@ use Rattle.lemmas.proofs.Common.{add-one, bit_and, bit_xor, cond, drop-cons, dro
 use Rattle.lemmas.proofs.Common.{option_map, map-append}
 use Rattle.bbm_rule.proofs.BitLemmas.{bit-and, bit-or, bit-xor, xor}
 use Rattle.circuit.specs.Evaluate.{evaluate, first_undefined_gate, this_or_later_undefined}
-use Rattle.module_box.specs.LocalValues.{undefined_bits, row_unless_undefined, AddsRow}
+use Rattle.module_box.specs.LocalValues.{undefined_bits, row_unless_undefined, AddsOutWords}
 use Rattle.std.proofs.Math.ListN as listn
 use Rattle.bbm_rule.proofs.MarkLemmas.{bit_ones}
 
@@ -105,7 +106,7 @@ many_outs : (kind : GateKind) (a x y z : ℕ) → length (gate_out_words kind a 
 many_outs kind a x y z = grind (arith, common_steps)
 
 pub gate_done : (ws new : List ℕ) (g : LocalGate) (none : ℕ) → length g.ins ≡ 4 → new ≡ ws ++ outs_of g.kind ws g.ins →
-    none ≡ none_of g.kind ws g.ins → AddsRow (gate_of_local_gate g) ws new none
+    none ≡ none_of g.kind ws g.ins → AddsOutWords (gate_of_local_gate g) ws new none
 unfolding evaluate
 gate_done ws new g none long more is = record {
   long = ap length more ∙ length-append ws outs ∙ ap (λ n. length ws + n) (many_outs g.kind _ _ _ _);
@@ -160,7 +161,7 @@ column_start given gs undefined b small = grind (arith, common_steps, shift_none
 
 -- the words after a gate
 record IsAfter (g : LocalGate) (old new undefined undefined' : List ℕ) (defined defined' none first : ℕ) : Type 0 where
-  pub adds : AddsRow (gate_of_local_gate g) old new none
+  pub adds : AddsOutWords (gate_of_local_gate g) old new none
   pub is_first : first ≡ bit_and defined none
   pub more : undefined' ≡ undefined ++ first ∷ []
   pub fewer : defined' ≡ bit_xor defined first
@@ -278,7 +279,7 @@ column_none given gs words undefined same none = grind (arith, common_steps, col
 
 pub column_more : (given : List ℕ) (gs : List LocalGate) (k : ℕ) (d : LocalGate) (old new undefined undefined' : List ℕ)
     (defined defined' none first : ℕ) → k < length gs →
-    AddsRow (gate_of_local_gate (get_or gs k d)) old new none → first ≡ bit_and defined none →
+    AddsOutWords (gate_of_local_gate (get_or gs k d)) old new none → first ≡ bit_and defined none →
     undefined' ≡ undefined ++ first ∷ [] → defined' ≡ bit_xor defined first →
     AreInColumn given gs k old undefined defined → AreInColumn given gs (k + 1) new undefined' defined'
 unfolding wires_after
@@ -297,7 +298,7 @@ column_more given gs k d old new undefined undefined' defined defined' none firs
 -- all gates are done
 pub column_says : (given : List ℕ) (gs : List LocalGate) (k : ℕ) (words undefined : List ℕ) (defined b : ℕ) → b < 64 →
     length gs ≤ k → k ≤ length gs → AreInColumn given gs k words undefined defined →
-    SaysColumn given (map gate_of_local_gate gs) words undefined defined b
+    AreGateValuesAtBit given (map gate_of_local_gate gs) words undefined defined b
 unfolding evaluate first_undefined_gate shift
 column_says given gs k words undefined defined b small past within all =
     let is : InColumn given gs k words undefined defined b = all.each b small in

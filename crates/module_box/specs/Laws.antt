@@ -3,8 +3,8 @@ use Rattle.std.specs.Prelude.{◌≡◌, ◌≢◌, ℕ, ℤ, ◌<◌, ◌%◌, 
 use Rattle.std.specs.Bool.{Decides}
 use Rattle.bbm_rule.specs.Plane.{State, step}
 use Rattle.bbm_rule.specs.Bits.{bit}
-use Rattle.circuit.specs.Meaning.{IsUndefined, Netlist, Satisfies, Valuation, wires}
-use Rattle.bbm_rule.specs.Boxes.{in_box, in_ring, in_halo, IsEven, Tile}
+use Rattle.circuit.specs.Meaning.{IsFirstGateWithoutRow, Netlist, Satisfies, Valuation, wires}
+use Rattle.bbm_rule.specs.Boxes.{in_box, in_ring, in_halo, IsEvenBox, Tile}
 use Rattle.module_box.specs.Tiling.{rectangle_of, MayHaveOwnerTable, IsTileFault}
 use Rattle.module_box.specs.Schedules.{Signals}
 use Rattle.module_box.specs.Locals.{LocalNet, AreLocalsOf, circuit_gate}
@@ -29,7 +29,7 @@ pub record EvenStep (b : Box2) (t : ℕ) : Type 0 where
 
 -- An even step maps the cells of an even box into the box, and the cells after it depend on the box alone.
 abbrev pub EvenStepStaysInBox : Type 0
-EvenStepStaysInBox = (b : Box2) (t : ℕ) → IsEven b → t % 2 ≡ 0 → EvenStep b t
+EvenStepStaysInBox = (b : Box2) (t : ℕ) → IsEvenBox b → t % 2 ≡ 0 → EvenStep b t
 
 -- the same cells of the halo are live
 abbrev pub SameInHalo : Box2 → State → State → Type 0
@@ -73,8 +73,8 @@ pub record SeesCircuit (l : LocalNet) (v : Valuation) (a : ℕ) : Type 0 where
 
 -- If v satisfies the circuit's netlist, and the assignment gives each cut its value in v, each wire of the module has
 -- its value in v.
-abbrev pub LocalValuesAgree : Type 0
-LocalValuesAgree = (n : Netlist) (l : LocalNet) (inputs v : Valuation) (a : ℕ) → AreLocalsOf n l →
+abbrev pub LocalValuesAgreeWithCircuit : Type 0
+LocalValuesAgreeWithCircuit = (n : Netlist) (l : LocalNet) (inputs v : Valuation) (a : ℕ) → AreLocalsOf n l →
     Satisfies n inputs v →
     ((i : ℕ) → i < l.netlist.given → bit a i ≡ values_by_local_number l v i) → SeesCircuit l v a
 
@@ -82,7 +82,7 @@ LocalValuesAgree = (n : Netlist) (l : LocalNet) (inputs v : Valuation) (a : ℕ)
 -- cut the value that it has up to there.
 abbrev pub UndefinedGateIsSeenLocally : Type 0
 UndefinedGateIsSeenLocally = (n : Netlist) (l : LocalNet) (inputs : Valuation) (k place a : ℕ) → AreLocalsOf n l →
-    (u : IsUndefined n inputs k) →
+    (u : IsFirstGateWithoutRow n inputs k) →
     place < length l.netlist.gates → circuit_gate l place ≡ k →
     ((i : ℕ) → i < l.netlist.given → bit a i ≡ values_by_local_number l u.values i) →
     IsFirstLocalGateWithoutRow l a place

@@ -7,7 +7,7 @@ use Rattle.circuit.specs.declared.circuit_line.GateKind.TheVariants.{Source, Fre
 use Rattle.circuit.specs.declared.circuit_line.GateKind.TheVariants.{Unswitch}
 use Rattle.circuit.specs.declared.circuit_line.GateKind.TheVariants.{Uninteract}
 use Rattle.circuit.specs.Gates.{row, defines}
-use Rattle.circuit.specs.Meaning.{Gate, Netlist, Valuation, Satisfies, IsUndefined, wires}
+use Rattle.circuit.specs.Meaning.{Gate, Netlist, Valuation, Satisfies, IsFirstGateWithoutRow, wires}
 use Rattle.circuit.specs.Bridge.{AreValues, as_values}
 use Rattle.circuit.specs.Evaluate.{evaluate, first_undefined_gate}
 use Rattle.module_box.specs.declared.values.LocalValuesError.{LocalValuesError}
@@ -22,7 +22,7 @@ IsLocalValuation l cut_bits v = Satisfies l.netlist (bit cut_bits) v
 
 -- under an assignment the gate at place k among those that the module uses is the first that has no row
 abbrev pub IsFirstLocalGateWithoutRow : LocalNet → ℕ → ℕ → Type 0
-IsFirstLocalGateWithoutRow l cut_bits k = IsUndefined l.netlist (bit cut_bits) k
+IsFirstLocalGateWithoutRow l cut_bits k = IsFirstGateWithoutRow l.netlist (bit cut_bits) k
 
 -- the values of the circuit's wires, by the numbers that they have in the module
 abbrev pub values_by_local_number : LocalNet → Valuation → Valuation
@@ -30,7 +30,7 @@ values_by_local_number l v i = v (circuit_wire l i)
 
 -- the reason why there are no local values: a gate without a row, or out of memory, about which it says no more
 abbrev pub IsLocalValuesError : Netlist → ℕ → LocalValuesError → Type 0
-IsLocalValuesError n cut_bits (NoRow k) = IsUndefined n (bit cut_bits) k
+IsLocalValuesError n cut_bits (NoRow k) = IsFirstGateWithoutRow n (bit cut_bits) k
 IsLocalValuesError n cut_bits Memory = Unit {0}
 
 -- the value of wire w under assignment a, in rows of words: a row for each wire, a word for 64 assignments
@@ -43,17 +43,18 @@ bit_of_row row a = bit (slice_index row (a / 64)) (a % 64)
 
 -- If the bit of an assignment is set, the values are a local valuation. Else some gate is the first that has no row,
 -- and its row of words has the bit.
-pub record AreRowsAt (n : Netlist) (words a : ℕ) (values lacking whole : List ℕ) : Type 0 where
+pub record AreValueRowsAt (n : Netlist) (words a : ℕ) (values lacking whole : List ℕ) : Type 0 where
   pub local : bit_of_row whole a ≡ true → Satisfies n (bit a) (value_of words values a)
-  pub undefined : (k : ℕ) → k < length n.gates → (value_of words lacking a k ≡ true) ↔ IsUndefined n (bit a) k
-  pub none : bit_of_row whole a ≡ false → (k : ℕ) × IsUndefined n (bit a) k
+  pub undefined : (k : ℕ) → k < length n.gates → (value_of words lacking a k ≡ true) ↔ IsFirstGateWithoutRow n (bit a) k
+  pub none : bit_of_row whole a ≡ false → (k : ℕ) × IsFirstGateWithoutRow n (bit a) k
 
 -- the values of all wires under 64 times `words` assignments, and the gates without a row, in rows of `words` words
 pub record AreValueRows (n : Netlist) (words : ℕ) (rows : ValueRows) : Type 0 where
   pub long : length rows.values.items ≡ words * wires n
   pub tall : length rows.undefined.items ≡ words * length n.gates
   pub wide : length rows.defined.items ≡ words
-  pub each : (a : ℕ) → a < 64 * words → AreRowsAt n words a rows.values.items rows.undefined.items rows.defined.items
+  pub each : (a : ℕ) → a < 64 * words →
+      AreValueRowsAt n words a rows.values.items rows.undefined.items rows.defined.items
 
 -- ---- words that have a bit for each of 64 assignments
 
@@ -90,7 +91,7 @@ abbrev pub word_of_input : List ℕ → List ℕ → ℕ → ℕ
 word_of_input words ins place = slice_index_or words (slice_index_or ins place 0) 0
 
 -- a gate is done: the words of its outputs are added, but at the bits of `none`, where it has no row
-pub record AddsRow (g : Gate) (old new : List ℕ) (none : ℕ) : Type 0 where
+pub record AddsOutWords (g : Gate) (old new : List ℕ) (none : ℕ) : Type 0 where
   pub long : length new ≡ length old + defines g.kind
   pub has : (b : ℕ) → b < 64 → bit none b ≡ false → evaluate (lane b old) (g ∷ []) ≡ Some (lane b new)
   pub lacks : (b : ℕ) → b < 64 → bit none b ≡ true → row g.kind (map (as_values (lane b old)) g.ins) ≡ None
@@ -109,14 +110,15 @@ is_this_gate (Some m) k = m == k
 
 -- The meaning of words for the gates at bit b, if the given wires have the words `given`: the values, if all gates have
 -- a row; whether they do; and for each gate whether it is the first that has none.
-pub record SaysColumn (given : List ℕ) (gs : List Gate) (words lacking : List ℕ) (whole b : ℕ) : Type 0 where
+pub record AreGateValuesAtBit (given : List ℕ) (gs : List Gate) (words lacking : List ℕ) (whole b : ℕ) : Type 0 where
   pub values : bit whole b ≡ true → evaluate (lane b given) gs ≡ Some (lane b words)
   pub defined : bit whole b ≡ is_none (first_undefined_gate (lane b given) gs)
   pub undefined : (k : ℕ) → k < length gs →
       bit (slice_index lacking k) b ≡ is_this_gate (first_undefined_gate (lane b given) gs) k
 
 -- the meaning of words for the gates of a module under an assignment, at bit b
-pub record IsColumnAt (n : Netlist) (a : ℕ) (words lacking : List ℕ) (whole b : ℕ) : Type 0 where
+pub record AreModuleValuesAtBit (n : Netlist) (a : ℕ) (words lacking : List ℕ) (whole b : ℕ) : Type 0 where
   pub values : bit whole b ≡ true → AreValues n (bit a) (lane b words)
-  pub undefined : (k : ℕ) → k < length n.gates → (bit (slice_index lacking k) b ≡ true) ↔ IsUndefined n (bit a) k
-  pub none : bit whole b ≡ false → (k : ℕ) × IsUndefined n (bit a) k
+  pub undefined : (k : ℕ) → k < length n.gates →
+      (bit (slice_index lacking k) b ≡ true) ↔ IsFirstGateWithoutRow n (bit a) k
+  pub none : bit whole b ≡ false → (k : ℕ) × IsFirstGateWithoutRow n (bit a) k

@@ -26,7 +26,7 @@ pub record TakesBox (columns : ℕ) (b : Box2) (free number stop : ℕ) (old new
   pub ends : stop < length old → HasBlockAtPlace b columns stop × ¬ (slice_index old stop ≡ free)
 
 -- the box lies in a rectangle that is `columns` blocks wide, and at most 2048 blocks wide and high
-pub record FitsTable (columns : ℕ) (b : Box2) : Type 0 where
+pub record FitsBlockTable (columns : ℕ) (b : Box2) : Type 0 where
   pub some : 0 < columns
   pub most : columns ≤ max_blocks
   pub right : b.x + b.w ≤ 2 * columns

@@ -2,7 +2,7 @@
 use Rattle.std.specs.Prelude.{◌≡◌, ℕ, ℤ, pos, ◌<◌, ◌≤◌, ◌+◌, ◌*◌, ◌/◌, ◌%◌, List, [], ◌∷◌, ◌++◌, length, None, Option}
 use Rattle.std.specs.Prelude.{IsTrue, Some, slice_get, slice_index}
 use Rattle.std.specs.Int.RustNames.{unsigned_abs}
-use Rattle.bbm_rule.specs.Boxes.{in_box, IsEven, Tile}
+use Rattle.bbm_rule.specs.Boxes.{in_box, IsEvenBox, Tile}
 use Rattle.bbm_rule.specs.declared.block.Box2.{Box2}
 use Rattle.bbm_rule.specs.declared.block.Cell.{Cell}
 use Rattle.module_box.specs.declared.tile.TileFault.{TileFault}
@@ -33,7 +33,7 @@ pub record Holds (boxes : List Box2) (x y : ℤ) (i : ℕ) : Type 0 where
   pub has : IsTrue (in_box area x y)
 
 -- box i and no other has the cell
-pub record IsHolder (boxes : List Box2) (x y : ℤ) (i : ℕ) : Type 0 where
+pub record IsOnlyHolder (boxes : List Box2) (x y : ℤ) (i : ℕ) : Type 0 where
   pub holds : Holds boxes x y i
   pub only : (j : ℕ) → Holds boxes x y j → j ≡ i
 
@@ -44,10 +44,10 @@ AreFirstBoxesInside w h n boxes = (k : ℕ) (b : Box2) → k < n → slice_get b
 -- each block before the place lies in one box
 abbrev pub AreFirstBlocksInOneBox : ℕ → ℕ → List Box2 → Type 0
 AreFirstBlocksInOneBox columns place boxes =
-    (k : ℕ) → k < place → (i : ℕ) × IsHolder boxes (block_corner_x columns k) (block_corner_y columns k) i
+    (k : ℕ) → k < place → (i : ℕ) × IsOnlyHolder boxes (block_corner_x columns k) (block_corner_y columns k) i
 
 -- the first block that lies in two boxes or in none
-pub record IsBadBlock (w h : ℕ) (boxes : List Box2) (c : Cell) : Type 0 where
+pub record IsFirstBadBlock (w h : ℕ) (boxes : List Box2) (c : Cell) : Type 0 where
   pub inside : AreFirstBoxesInside w h (length boxes) boxes
   pub place : ℕ
   pub within : place < (h / 2) * (w / 2)
@@ -67,15 +67,15 @@ pub record HeldTwice (boxes : List Box2) (x y : ℤ) : Type 0 where
 abbrev pub IsTileFault : ℕ → ℕ → List Box2 → TileFault → Type 0
 IsTileFault w h boxes (Outside n) =
     AreFirstBoxesInside w h n boxes × ((b : Box2) × (slice_get boxes n ≡ Some b) × ¬ IsInside w h b)
-IsTileFault w h boxes (Overlap c) = IsBadBlock w h boxes c × HeldTwice boxes c.x c.y
-IsTileFault w h boxes (Gap c) = IsBadBlock w h boxes c × ((i : ℕ) → ¬ Holds boxes c.x c.y i)
+IsTileFault w h boxes (Overlap c) = IsFirstBadBlock w h boxes c × HeldTwice boxes c.x c.y
+IsTileFault w h boxes (Gap c) = IsFirstBadBlock w h boxes c × ((i : ℕ) → ¬ Holds boxes c.x c.y i)
 IsTileFault w h boxes Memory = Unit {0}
 
 -- what `owner_table` asks of its caller
 pub record MayHaveOwnerTable (w h : ℕ) (boxes : List Box2) : Type 0 where
   pub width : (2 ≤ w) × (w ≤ max_side) × (w % 2 ≡ 0)
   pub height : (2 ≤ h) × (h ≤ max_side) × (h % 2 ≡ 0)
-  pub even : (k : ℕ) (b : Box2) → slice_get boxes k ≡ Some b → IsEven b
+  pub even : (k : ℕ) (b : Box2) → slice_get boxes k ≡ Some b → IsEvenBox b
   pub sides : (k : ℕ) (b : Box2) → slice_get boxes k ≡ Some b → (2 ≤ b.w) × (2 ≤ b.h)
 
 -- a rectangle, and the number of a box for each of its blocks, row by row
@@ -125,7 +125,7 @@ pub record AreTakenBy (columns free : ℕ) (boxes : List Box2) (table : List ℕ
 
 -- the boxes are even and inside the rectangle
 abbrev pub AreEvenInside : OwnersView → List Box2 → Type 0
-AreEvenInside o boxes = (i : ℕ) (b : Box2) → slice_get boxes i ≡ Some b → IsEven b × IsInside o.width o.height b
+AreEvenInside o boxes = (i : ℕ) (b : Box2) → slice_get boxes i ≡ Some b → IsEvenBox b × IsInside o.width o.height b
 
 -- the number at the blocks that no box has so far; each box has a lower one
 abbrev pub no_owner : ℕ
@@ -144,14 +144,14 @@ IsFreeBox o b = (k : ℕ) → k < length o.numbers → HasBlockAtPlace b (o.widt
     slice_index o.numbers k ≡ no_owner
 
 -- the box may be added: it is even, inside the rectangle and free
-pub record MayPut (o : OwnersView) (b : Box2) : Type 0 where
-  pub even : IsEven b
+pub record MayAddBox (o : OwnersView) (b : Box2) : Type 0 where
+  pub even : IsEvenBox b
   pub inside : IsInside o.width o.height b
   pub free : IsFreeBox o b
 
 -- the boxes so far have each block of the rectangle
-abbrev pub AreAllTaken : OwnersView → Type 0
-AreAllTaken o = (k : ℕ) → k < length o.numbers → ¬ (slice_index o.numbers k ≡ no_owner)
+abbrev pub AreAllBlocksTaken : OwnersView → Type 0
+AreAllBlocksTaken o = (k : ℕ) → k < length o.numbers → ¬ (slice_index o.numbers k ≡ no_owner)
 
 -- the box of this number has the cell, or none has it
 abbrev pub IsOwnerOrNone : List Box2 → ℤ → ℤ → Option ℕ → Type 0

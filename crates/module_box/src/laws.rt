@@ -1,6 +1,6 @@
 //! Laws on the definitions alone.
 
-ghost use Rattle.module_box.specs.Laws.{ChoicesAreAssignments, EvenStepStaysInBox, FaultMeansNoTiling, StepDependsOnBoxAndHalo, HaloCellIsRingCellOfOwner, LocalsEqualityDecides, LocalValuesAgree, ScheduleEqualityDecides, UndefinedGateIsSeenLocally};
+ghost use Rattle.module_box.specs.Laws.{ChoicesAreAssignments, EvenStepStaysInBox, FaultMeansNoTiling, StepDependsOnBoxAndHalo, HaloCellIsRingCellOfOwner, LocalsEqualityDecides, LocalValuesAgreeWithCircuit, ScheduleEqualityDecides, UndefinedGateIsSeenLocally};
 ghost use Rattle.module_box.specs.Moves.{RingsAndHalosMoveAlong, SignalsMoveAlong};
 ghost use Rattle.module_box.specs.Numbers.{NumbersDetermineGates};
 
@@ -44,9 +44,9 @@ pub fn equality_is_of_content()
 /// - Some assignment gives each cut the value that its wire has in the circuit.
 /// - Under such an assignment each wire of the module has its value in the circuit.
 /// - If a gate of the circuit has no row, the same gate has none in a module that uses it.
-pub fn local_values_agree()
+pub fn local_values_agree_with_circuit()
     ensures assignment { ChoicesAreAssignments }
-    ensures agree { LocalValuesAgree }
+    ensures agree { LocalValuesAgreeWithCircuit }
     ensures undefined { UndefinedGateIsSeenLocally }
 {}
 

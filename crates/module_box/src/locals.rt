@@ -206,7 +206,7 @@ impl Locals {
     }
 
     /// Returns the module's number, below `wires()`, of a wire of the circuit, if the module knows it.
-    pub fn module_number(&self, wire: WireNo) -> Option<u16>
+    pub fn number_in_module(&self, wire: WireNo) -> Option<u16>
         ensures place { result ≡ position (λ w. w == wire) self.now.circuit_wires }
         ensures found_if_known { is_some result ≡ is_among self.now.circuit_wires wire }
         ensures number_exists { IfSome result (λ i. i < length self.now.circuit_wires) }
@@ -216,7 +216,7 @@ impl Locals {
     }
 
     /// Returns the number in the circuit of the used gate at this place, for a place below `gates()`, and else 0.
-    pub fn gate_number(&self, place: usize) -> u16
+    pub fn circuit_gate_number(&self, place: usize) -> u16
         ensures { result ≡ circuit_gate self.now place }
     {
         match self.circuit_gates.get(place) {

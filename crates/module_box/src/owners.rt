@@ -1,9 +1,9 @@
 //! Which box has each cell of a rectangle.
 
 ghost use Rattle.std.specs.Prelude.{◌≡◌, ◌≤◌, ◌%◌, ◌↔◌, [], List, IfOk, IsTrue};
-ghost use Rattle.bbm_rule.specs.Boxes.{in_box, IsEven};
+ghost use Rattle.bbm_rule.specs.Boxes.{in_box, IsEvenBox};
 ghost use Rattle.bbm_rule.specs.declared.block.Box2.{Box2};
-ghost use Rattle.module_box.specs.Tiling.{ArePartOwners, AreAllTaken, IsFreeBox, IsInside, IsOwnerOrNone, MayPut, PutsBox, owner_of, rectangle};
+ghost use Rattle.module_box.specs.Tiling.{ArePartOwners, AreAllBlocksTaken, IsFreeBox, IsInside, IsOwnerOrNone, MayAddBox, PutsBox, owner_of, rectangle};
 ghost use Rattle.lemmas.specs.Bounds.{max_side};
 
 use crate::taking::{fill_box_until_taken, first_free_place, is_box_free};
@@ -58,7 +58,7 @@ impl Owners {
     /// Returns whether no box so far has a cell of this box.
     #[tactic(auto, using(crate::proofs::PartOwners::block_within))]
     pub fn is_box_free(&self, area: Box2) -> bool
-        requires even { IsEven area }
+        requires even { IsEvenBox area }
         requires inside { IsInside self.now.width self.now.height area }
         ensures { IsTrue result ↔ IsFreeBox self.now area }
     {
@@ -67,7 +67,7 @@ impl Owners {
 
     /// Adds a box that is free, by its number.
     pub fn put(&mut self, area: Box2, number: usize)
-        requires { MayPut self.old area }
+        requires { MayAddBox self.old area }
         ensures { PutsBox area number self.old self.new }
     {
         let columns = self.width as usize / 2;
@@ -75,8 +75,8 @@ impl Owners {
     }
 
     /// Returns whether the boxes so far have each cell of the rectangle.
-    pub fn are_all_taken(&self) -> bool
-        ensures { IsTrue result ↔ AreAllTaken self.now }
+    pub fn are_all_blocks_taken(&self) -> bool
+        ensures { IsTrue result ↔ AreAllBlocksTaken self.now }
     {
         first_free_place(&self.numbers, NO_OWNER) == self.numbers.len()
     }

@@ -1,8 +1,8 @@
 //! A table with a place for each block of a rectangle, row by row, which boxes take one after the other.
 
 ghost use Rattle.std.specs.Prelude.{◌≡◌, ◌≤◌, ◌<◌, ◌+◌, ◌*◌, ◌/◌, ◌↔◌, ℕ, IsTrue, length, slice_index};
-ghost use Rattle.bbm_rule.specs.Boxes.{IsEven};
-ghost use Rattle.module_box.specs.Taking.{FitsTable, TakesBox, TakesRow};
+ghost use Rattle.bbm_rule.specs.Boxes.{IsEvenBox};
+ghost use Rattle.module_box.specs.Taking.{FitsBlockTable, TakesBox, TakesRow};
 ghost use Rattle.module_box.specs.Tiling.{HasBlockAtPlace};
 
 use bbm_rule::Box2;
@@ -38,8 +38,8 @@ pub fn fill_box_until_taken(
     free: usize,
     number: usize,
 ) -> usize
-    requires even { IsEven area }
-    requires fits { FitsTable columns area }
+    requires even { IsEvenBox area }
+    requires fits { FitsBlockTable columns area }
     ensures { TakesBox columns area free number result table.old table.new }
 {
     let left = area.x as usize / 2;
@@ -76,8 +76,8 @@ fn is_row_free(table: &[usize], from: usize, end: usize, free: usize) -> bool
 /// Returns whether the places of the box's blocks are free.
 #[tactic(auto, using(crate::proofs::Takings::among_from, crate::proofs::Takings::block_from, crate::proofs::Takings::in_row, crate::proofs::Takings::row_from, crate::proofs::Takings::row_of))]
 pub fn is_box_free(table: &[usize], columns: usize, area: Box2, free: usize) -> bool
-    requires even { IsEven area }
-    requires fits { FitsTable columns area }
+    requires even { IsEvenBox area }
+    requires fits { FitsBlockTable columns area }
     requires within { (area.y / 2 + area.h / 2) * columns ≤ length table.now }
     ensures { IsTrue result ↔ ((k : ℕ) → HasBlockAtPlace area columns k →
         slice_index table.now k ≡ free) }

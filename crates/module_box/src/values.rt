@@ -5,7 +5,7 @@ ghost use Rattle.bbm_rule.specs.Bits.{bit};
 ghost use Rattle.circuit.specs.Bridge.{AreValues};
 ghost use Rattle.circuit.specs.Meaning.{AreOrdered, wires, wires_after};
 ghost use Rattle.module_box.specs.LocalGates.{gate_of_local_gate};
-ghost use Rattle.module_box.specs.LocalValues.{AddsRow, AreValueRows, IsColumnAt, IsLocalValuesError, SaysColumn, lane, undefined_bits, gate_out_words};
+ghost use Rattle.module_box.specs.LocalValues.{AddsOutWords, AreValueRows, AreModuleValuesAtBit, IsLocalValuesError, AreGateValuesAtBit, lane, undefined_bits, gate_out_words};
 
 use crate::locals::LocalGate;
 use crate::wiring::Wiring;
@@ -13,7 +13,7 @@ use circuit::GateKind;
 use std::alloc::{AllocError, Global};
 
 // The word of a cut: at bit b its value under assignment 64 * chunk + b.
-fn cut_word(cut: usize, chunk: u32) -> u64
+fn cut_value_word(cut: usize, chunk: u32) -> u64
     requires { cut < 32 }
     ensures { (b : ℕ) → b < 64 → bit result b ≡ bit (64 * chunk + b) cut }
 {
@@ -35,7 +35,7 @@ fn cut_word(cut: usize, chunk: u32) -> u64
 }
 
 // The words of the cuts.
-fn cut_words(alloc: Global, cuts: usize, chunk: u32) -> Result<Vec<u64>, AllocError>
+fn cut_value_words(alloc: Global, cuts: usize, chunk: u32) -> Result<Vec<u64>, AllocError>
     requires { cuts ≤ 32 }
     ensures count { IfOk result (λ ws. length ws.items ≡ cuts) }
     ensures bits { IfOk result (λ ws. (i : ℕ) → i < cuts → (b : ℕ) → b < 64 →
@@ -43,7 +43,7 @@ fn cut_words(alloc: Global, cuts: usize, chunk: u32) -> Result<Vec<u64>, AllocEr
 {
     let mut words = Vec::with_capacity(alloc, cuts)?;
     for cut in 0..cuts {
-        words.push(cut_word(cut, chunk))?;
+        words.push(cut_value_word(cut, chunk))?;
     }
     Ok(words)
 }
@@ -98,8 +98,8 @@ fn undefined_bits(kind: GateKind, a: u64, b: u64, c: u64, d: u64) -> u64
 
 // Adds the words of the wires that the gate defines, and tells the bits at which it has no row.
 fn push_out_words(words: &mut Vec<u64>, gate: LocalGate) -> Result<u64, AllocError>
-    ensures { IfOk result (λ none. AddsRow (gate_of_local_gate gate) words.old.items words.new.items
-        none) }
+    ensures { IfOk result (λ none. AddsOutWords (gate_of_local_gate gate) words.old.items
+        words.new.items none) }
 {
     let [x, y, z, w] = gate.ins;
     let a = word_at(words.as_slice(), x);
@@ -125,8 +125,8 @@ fn value_words(alloc: Global, given: &[u64], gates: &[LocalGate]) -> Result<Valu
         ≡ wires_after (length given.now) (map gate_of_local_gate gates.now)) }
     ensures count { IfOk result (λ c. length c.undefined.items ≡ length gates.now) }
     ensures says { IfOk result (λ c. (b : ℕ) → b < 64 →
-        SaysColumn given.now (map gate_of_local_gate gates.now) c.words.items c.undefined.items
-        c.defined b) }
+        AreGateValuesAtBit given.now (map gate_of_local_gate gates.now) c.words.items
+        c.undefined.items c.defined b) }
 {
     let mut words = given.to_vec(alloc)?;
     let mut undefined = Vec::with_capacity(alloc, gates.len())?;
@@ -260,9 +260,10 @@ impl Wiring {
         ensures count { IfOk result (λ c. length c.words.items ≡ wires self.now) }
         ensures gates { IfOk result (λ c. length c.undefined.items ≡ length self.now.gates) }
         ensures values { IfOk result (λ c. (b : ℕ) → b < 64 →
-            IsColumnAt self.now (64 * chunk + b) c.words.items c.undefined.items c.defined b) }
+            AreModuleValuesAtBit self.now (64 * chunk + b) c.words.items c.undefined.items c.defined
+            b) }
     {
-        let given = cut_words(alloc, self.given, chunk)?;
+        let given = cut_value_words(alloc, self.given, chunk)?;
         let column = value_words(alloc, given.as_slice(), self.gates.as_slice())?;
         Ok(column)
     }

@@ -24,9 +24,10 @@ pub head_like : {A : Type 0} (summary : A → List ℕ) (xs : List A) (n : ℕ) 
 head_like summary xs n x k o h there its is known = grind (arith, common_steps, first_found, mapped_at)
 
 -- ---- the first one with the summary is the same
-pub first_equal_shape : {A : Type 0} (summary : A → List ℕ) (xs : List A) (n h : ℕ) → IsFirstLike (map summary xs) n h →
+pub first_equal_shape_number : {A : Type 0} (summary : A → List ℕ) (xs : List A) (n h : ℕ) →
+    IsFirstLike (map summary xs) n h →
     slice_get xs h ≡ slice_get xs n → IsFirstLike xs n h
-first_equal_shape summary xs n h like same = record {
+first_equal_shape_number summary xs n h like same = record {
   same = same;
   first = λ i lt e. like.first i lt
       (slice_get-map summary xs i ∙ ap (option_map summary) e ∙ sym (slice_get-map summary xs n));

@@ -6,7 +6,7 @@ use Rattle.module_box.specs.Moves.{moved_signals}
 use Rattle.module_box.specs.Schedules.{Signals, signal_at}
 use Rattle.module_box.proofs.MovedBoxes.{cell_back, signals_back, signals_moved}
 use Rattle.module_job.specs.Jobs.{JobView}
-use Rattle.module_job.specs.Laws.{ShapesAreParts}
+use Rattle.module_job.specs.Laws.{JobIsPlacedShape}
 use Rattle.module_job.specs.Shapes.{shift_to_origin}
 
 pub forth_back : (n : ℕ) → pos n +ℤ shift_to_origin n ≡ pos 0
@@ -31,7 +31,7 @@ pub placed_shape : (j : JobView) →
     job_of_shape j.area.x j.area.y j.locals.circuit_wires j.locals.circuit_gates (shape_of j) ≡ j
 placed_shape j = grind (arith, common_steps, placed_again, stops_back, back_forth)
 
-pub job_is_placed_shape : ShapesAreParts
+pub job_is_placed_shape : JobIsPlacedShape
 job_is_placed_shape = record { whole = placed_shape; part = shape_placed }
 
 -- what a shape carries at a cell that is moved back is what the job carries at the cell

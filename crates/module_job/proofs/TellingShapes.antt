@@ -2,7 +2,8 @@
 use Rattle.module_job.proofs.Imports.{All-head, All-tail, Demand, IsPrefixFree, List, ShapeView, Signal, []}
 use Rattle.module_job.proofs.Imports.{all_times_numbers, append_assoc, ap₂, arith, cases_Bool, common_steps, cond-false}
 use Rattle.module_job.proofs.Imports.{cond-true, demand_number, event_numbers, flat_map, inl, inr, nat_tests}
-use Rattle.module_job.proofs.Imports.{number_bytes, refl, same_head, same_tail, signal_number, sparse_list_numbers}
+use Rattle.module_job.proofs.Imports.{compact_number_bytes, refl, same_head, same_tail, signal_number}
+use Rattle.module_job.proofs.Imports.{sparse_list_numbers}
 use Rattle.module_job.proofs.Imports.{stop_numbers, sym, ℕ, ℤ, ◌++◌, ◌<◌, ◌∙◌, ◌∷◌, ◌≡◌, ◌⊎◌}
 use Rattle.lemmas.proofs.Common.{◌^◌, from_le_bytes-to_le_bytes_2, from_le_bytes-to_le_bytes_8, to_le_bytes, w16}
 use Rattle.std.specs.Int.{w64}
@@ -87,8 +88,9 @@ shapes_tell a b r s e =
 
 -- ---- bytes
 abbrev Forms : ℕ → Type 0
-Forms n = ((n < 254) × (number_bytes n ≡ n ∷ []))
-    ⊎ (((n < 2 ^ 16) × (number_bytes n ≡ 254 ∷ to_le_bytes w16 n)) ⊎ (number_bytes n ≡ 255 ∷ to_le_bytes w64 n))
+Forms n = ((n < 254) × (compact_number_bytes n ≡ n ∷ []))
+    ⊎ (((n < 2 ^ 16) × (compact_number_bytes n ≡ 254 ∷ to_le_bytes w16 n))
+    ⊎ (compact_number_bytes n ≡ 255 ∷ to_le_bytes w64 n))
 
 forms : (n : ℕ) → Forms n
 forms n = grind (arith, common_steps, cases_Bool, nat_tests, cond-true, cond-false)
@@ -102,7 +104,7 @@ eight_tell : (n m : ℕ) (r s : List ℕ) → n < 2 ^ 64 → m < 2 ^ 64 → to_l
 eight_tell n m r s few few' e = grind (arith, common_steps, same_length, from_le_bytes-to_le_bytes_8)
 
 bytes_tell : (n m : ℕ) (r s : List ℕ) → Forms n → Forms m → n < 2 ^ 64 → m < 2 ^ 64 →
-    number_bytes n ++ r ≡ number_bytes m ++ s → (n ≡ m) × (r ≡ s)
+    compact_number_bytes n ++ r ≡ compact_number_bytes m ++ s → (n ≡ m) × (r ≡ s)
 bytes_tell n m r s (inl f) (inl g) few few' e = grind (arith, common_steps, same_head, same_tail)
 bytes_tell n m r s (inl f) (inr (inr g)) few few' e = grind (arith, common_steps, same_head)
 bytes_tell n m r s (inr (inl f)) (inr (inl g)) few few' e = grind (arith, common_steps, two_tell, same_tail)
@@ -114,15 +116,15 @@ bytes_tell n m r s (inr (inl f)) _ few few' e = grind (arith, common_steps, same
 empty : (x : ℕ) (xs : List ℕ) → [] ≡ x ∷ xs → ⊥
 empty x xs e = cc
 
-some_bytes : (n : ℕ) (r : List ℕ) → Forms n → [] ≡ number_bytes n ++ r → ⊥
+some_bytes : (n : ℕ) (r : List ℕ) → Forms n → [] ≡ compact_number_bytes n ++ r → ⊥
 some_bytes n r h1 h2 = grind (arith, common_steps, empty)
 
 pub numbers_told : BytesDetermineNumbers
 numbers_told [] [] few few' e = refl
-numbers_told [] (m ∷ ms) few few' e = absurd (some_bytes m (flat_map number_bytes ms) (forms m) e)
-numbers_told (n ∷ ns) [] few few' e = absurd (some_bytes n (flat_map number_bytes ns) (forms n) (sym e))
+numbers_told [] (m ∷ ms) few few' e = absurd (some_bytes m (flat_map compact_number_bytes ms) (forms m) e)
+numbers_told (n ∷ ns) [] few few' e = absurd (some_bytes n (flat_map compact_number_bytes ns) (forms n) (sym e))
 numbers_told (n ∷ ns) (m ∷ ms) few few' e =
-    let both = bytes_tell n m (flat_map number_bytes ns) (flat_map number_bytes ms) (forms n) (forms m)
+    let both = bytes_tell n m (flat_map compact_number_bytes ns) (flat_map compact_number_bytes ms) (forms n) (forms m)
     (All-head (λ (k : ℕ). k < 2 ^ 64) n ns few) (All-head (λ (k : ℕ). k < 2 ^ 64) m ms few') e in
     ap₂ (λ x xs. x ∷ xs) both.0 (numbers_told ns ms (All-tail (λ (k : ℕ). k < 2 ^ 64) n ns few)
     (All-tail (λ (k : ℕ). k < 2 ^ 64) m ms few') both.1)

@@ -2,7 +2,7 @@
 use Rattle.std.specs.Prelude.{ℕ, ℤ, ◌+◌, ◌<◌, ◌≤◌, if◌then◌else◌, List, unwrap_or, slice_get, IsTrue}
 use Rattle.std.specs.List.{All}
 use Rattle.circuit.specs.Meaning.{wires}
-use Rattle.bbm_rule.specs.Boxes.{in_box, IsEven}
+use Rattle.bbm_rule.specs.Boxes.{in_box, IsEvenBox}
 use Rattle.module_box.specs.Locals.{LocalNet}
 use Rattle.module_box.specs.Moments.{moment_cmp}
 use Rattle.module_box.specs.Schedules.{Signals, IsRising}
@@ -62,7 +62,7 @@ stop_moment s = s.at
 -- A job within the limits of a certificate: its box is even, has sides of 2 to 64 and lies in a rectangle of 4096 by
 -- 4096 cells. It has at most 1,048,576 steps, it names its own wires, and its stops rise by time, y and x.
 pub record IsJob (j : JobView) : Type 0 where
-  pub even : IsEven j.area
+  pub even : IsEvenBox j.area
   pub width : (2 ≤ j.area.w) × (j.area.w ≤ 64) × (j.area.x + j.area.w ≤ max_side)
   pub height : (2 ≤ j.area.h) × (j.area.h ≤ 64) × (j.area.y + j.area.h ≤ max_side)
   pub steps : j.steps ≤ max_steps

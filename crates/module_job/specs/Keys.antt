@@ -81,13 +81,13 @@ shape_numbers s =
     ++ (length s.kept ∷ s.kept)
 
 -- A number below 2 ^ 64: one byte, or two or eight behind a byte that says so
-abbrev pub number_bytes : ℕ → List ℕ
-number_bytes n = if nat_lt n 254 then n
+abbrev pub compact_number_bytes : ℕ → List ℕ
+compact_number_bytes n = if nat_lt n 254 then n
     ∷ [] else (if nat_lt n 65536 then 254 ∷ to_le_bytes w16 n else 255 ∷ to_le_bytes w64 n)
 
 -- the key of a shape
 abbrev pub shape_digest : ShapeView → List ℕ
-shape_digest s = sha256 (flat_map number_bytes (shape_numbers s))
+shape_digest s = sha256 (flat_map compact_number_bytes (shape_numbers s))
 
 -- ---- laws: different shapes have different numbers, and different numbers different bytes
 -- Two shapes with the same numbers are the same, also if more numbers follow.
@@ -97,4 +97,4 @@ NumbersDetermineShapes = IsPrefixFree shape_numbers
 -- Two lists of numbers with the same bytes are the same.
 abbrev pub BytesDetermineNumbers : Type 0
 BytesDetermineNumbers = (ns ms : List ℕ) → All (λ n. n < 2 ^ 64) ns → All (λ n. n < 2 ^ 64) ms →
-    flat_map number_bytes ns ≡ flat_map number_bytes ms → ns ≡ ms
+    flat_map compact_number_bytes ns ≡ flat_map compact_number_bytes ms → ns ≡ ms

@@ -15,7 +15,7 @@ ShapeEqualityDecides = (s t : ShapeView) → Decides (same_shape s t) (s ≡ t)
 
 -- A job is its shape, placed where its box lies and over its wires and gates of the circuit. A shape that is placed is
 -- the shape of the job that it becomes. So two jobs are the same exactly if corner, wires, gates and shape are.
-pub record ShapesAreParts : Type 0 where
+pub record JobIsPlacedShape : Type 0 where
   pub whole : (j : JobView) → job_of_shape j.area.x j.area.y j.locals.circuit_wires j.locals.circuit_gates (shape_of j)
       ≡ j
   pub part : (x y : ℕ) (wires gates : List ℕ) (s : ShapeView) → shape_of (job_of_shape x y wires gates s) ≡ s

@@ -13,7 +13,7 @@ use std::hash::Hash;
 use std::sync::Arc;
 
 // The number that the map has for the key. Where it has none, this one from now on.
-fn first_number_with_key<K: Copy + Eq + Hash>(
+fn find_or_add_first_number<K: Copy + Eq + Hash>(
     firsts: &mut IndexMap<K, usize>,
     key: K,
     number: usize,
@@ -39,7 +39,7 @@ fn first_numbers_of_keys(alloc: Global, keys: &[[u8; 32]]) -> Result<Vec<usize>,
     let mut firsts = IndexMap::new(alloc);
     let mut groups = Vec::with_capacity(alloc, keys.len())?;
     for (number, key) in keys.iter().enumerate() {
-        let first = first_number_with_key(&mut firsts, *key, number)?;
+        let first = find_or_add_first_number(&mut firsts, *key, number)?;
         groups.push(first)?;
     }
     Ok(groups)
@@ -47,7 +47,12 @@ fn first_numbers_of_keys(alloc: Global, keys: &[[u8; 32]]) -> Result<Vec<usize>,
 
 // The number of the first shape that equals shape `number`, where `first` is the number of the first shape with its
 // key. If different shapes have different keys, the result is `first`.
-fn first_equal_shape(shapes: &[Arc<Shape>], keys: &[[u8; 32]], number: usize, first: usize) -> usize
+fn first_equal_shape_number(
+    shapes: &[Arc<Shape>],
+    keys: &[[u8; 32]],
+    number: usize,
+    first: usize,
+) -> usize
     requires keys { AreKeys (map arc_value shapes.now) keys.now }
     requires number { number < length shapes.now }
     requires first { IsFirstLike keys.now number first }
@@ -84,7 +89,7 @@ pub fn shape_groups(
     let firsts = first_numbers_of_keys(alloc, keys)?;
     let mut groups = Vec::with_capacity(alloc, shapes.len())?;
     for number in 0..shapes.len() {
-        groups.push(first_equal_shape(shapes, keys, number, firsts[number]))?;
+        groups.push(first_equal_shape_number(shapes, keys, number, firsts[number]))?;
     }
     Ok(groups)
 }
@@ -105,7 +110,7 @@ fn have_same_shape(jobs: &[Arc<Job>], one: usize, other: usize) -> bool
 }
 
 // The number of the first job that has the shape of this one. None before `first` has it.
-fn first_of_shape(jobs: &[Arc<Job>], first: usize, number: usize) -> usize
+fn first_job_of_same_shape(jobs: &[Arc<Job>], first: usize, number: usize) -> usize
     requires number { number < length jobs.now }
     requires none_before { (i : ℕ) → i < first →
         slice_get (map shape_of (map arc_value jobs.now)) i
@@ -134,10 +139,10 @@ pub fn job_groups(alloc: Global, jobs: &[Arc<Job>]) -> Result<Vec<usize>, AllocE
     let mut groups = Vec::with_capacity(alloc, jobs.len())?;
     for number in 0..jobs.len() {
         let shape: &Shape = jobs[number].shape();
-        let mut group = first_number_with_key(&mut summaries, shape.summary(), number)?;
+        let mut group = find_or_add_first_number(&mut summaries, shape.summary(), number)?;
         if !have_same_shape(jobs, group, number) {
-            let first = first_number_with_key(&mut keys, shape.key(alloc)?, number)?;
-            group = first_of_shape(jobs, first, number);
+            let first = find_or_add_first_number(&mut keys, shape.key(alloc)?, number)?;
+            group = first_job_of_same_shape(jobs, first, number);
         }
         groups.push(group)?;
     }

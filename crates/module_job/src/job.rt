@@ -148,7 +148,7 @@ impl Job {
 
     /// Returns the number in the circuit of the used gate at this place, for a place below the count of those, and else
     /// 0.
-    pub fn gate_number(&self, place: usize) -> u16
+    pub fn circuit_gate_number(&self, place: usize) -> u16
         ensures { result ≡ circuit_gate self.now.locals place }
     {
         match self.gates.get(place) {
@@ -211,7 +211,7 @@ impl Job {
     }
 
     /// Returns how many signals cells of the halo have at single times.
-    pub fn halo_events(&self) -> usize
+    pub fn halo_event_count(&self) -> usize
         ensures { result ≡ length self.now.halos.events }
     {
         self.shape.halos().events().len()

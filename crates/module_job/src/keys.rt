@@ -1,7 +1,7 @@
 //! The numbers of shapes, which differ for different shapes, and their keys.
 ghost use Rattle.std.specs.Prelude.{◌≡◌, ◌^◌, ◌<◌, ◌++◌, [], ◌∷◌, length, IfOk, OnOk};
 ghost use Rattle.std.specs.List.{All, flat_map};
-ghost use Rattle.module_job.specs.Keys.{cell_numbers, sparse_list_numbers, demand_number, event_numbers, all_times_numbers, zigzag_number, number_bytes, shape_digest, shape_numbers, signal_number, signals_numbers, stop_numbers};
+ghost use Rattle.module_job.specs.Keys.{cell_numbers, sparse_list_numbers, demand_number, event_numbers, all_times_numbers, zigzag_number, compact_number_bytes, shape_digest, shape_numbers, signal_number, signals_numbers, stop_numbers};
 
 use crate::job::{Demand, Stop};
 use crate::shape::Shape;
@@ -133,7 +133,7 @@ fn push_schedule(numbers: &mut Vec<u64>, schedule: &Schedule) -> Result<(), Allo
     push_events(numbers, schedule.events())
 }
 
-fn push_cell_numbers(numbers: &mut Vec<u64>, shape: &Shape) -> Result<(), AllocError>
+fn push_sides_steps_and_cells(numbers: &mut Vec<u64>, shape: &Shape) -> Result<(), AllocError>
     ensures { OnOk result (numbers.new.items
         ≡ numbers.old.items ++ (shape.now.width ∷ shape.now.height ∷ shape.now.steps ∷ [])
         ++ sparse_list_numbers signal_number shape.now.starts
@@ -147,8 +147,8 @@ fn push_cell_numbers(numbers: &mut Vec<u64>, shape: &Shape) -> Result<(), AllocE
 }
 
 // The bytes of a number.
-fn push_number_code(bytes: &mut Vec<u8>, number: u64) -> Result<(), AllocError>
-    ensures { OnOk result (bytes.new.items ≡ bytes.old.items ++ number_bytes number) }
+fn push_compact_number_bytes(bytes: &mut Vec<u8>, number: u64) -> Result<(), AllocError>
+    ensures { OnOk result (bytes.new.items ≡ bytes.old.items ++ compact_number_bytes number) }
 {
     if number < 254 {
         bytes.push(number as u8)?;
@@ -166,12 +166,12 @@ fn push_number_code(bytes: &mut Vec<u8>, number: u64) -> Result<(), AllocError>
 
 // The bytes of the numbers.
 fn bytes_of(alloc: Global, numbers: &[u64]) -> Result<Vec<u8>, AllocError>
-    ensures bytes { IfOk result (λ bytes. bytes.items ≡ flat_map number_bytes numbers.now) }
+    ensures bytes { IfOk result (λ bytes. bytes.items ≡ flat_map compact_number_bytes numbers.now) }
     ensures all_fit_u64 { All (λ n. n < 2 ^ 64) numbers.now }
 {
     let mut bytes = Vec::with_capacity(alloc, numbers.len())?;
     for number in numbers {
-        push_number_code(&mut bytes, *number)?;
+        push_compact_number_bytes(&mut bytes, *number)?;
     }
     Ok(bytes)
 }
@@ -183,7 +183,7 @@ impl Shape {
         ensures { IfOk result (λ numbers. numbers.items ≡ shape_numbers self.now) }
     {
         let mut numbers = self.wiring.numbers(alloc)?;
-        push_cell_numbers(&mut numbers, self)?;
+        push_sides_steps_and_cells(&mut numbers, self)?;
         push_schedule(&mut numbers, &self.edges)?;
         push_schedule(&mut numbers, &self.halos)?;
         numbers.push(self.stops.len() as u64)?;

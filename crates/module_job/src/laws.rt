@@ -1,6 +1,6 @@
 //! Laws of the definitions, each the contract of a function without a body.
 ghost use Rattle.module_job.specs.Keys.{BytesDetermineNumbers, NumbersDetermineShapes};
-ghost use Rattle.module_job.specs.Laws.{JobEqualityDecides, ShapeEqualityDecides, ShapesAreParts};
+ghost use Rattle.module_job.specs.Laws.{JobEqualityDecides, JobIsPlacedShape, ShapeEqualityDecides};
 
 /// States that two [`Job`](crate::Job)s are equal exactly if contracts see the same of both, and so two
 /// [`Shape`](crate::Shape)s.
@@ -13,7 +13,7 @@ pub fn equality_is_of_content()
 /// States that a job is its shape, placed where its box lies and over its wires and gates of the circuit.
 #[tactic(auto, using(crate::proofs::ShapeParts::job_is_placed_shape))]
 pub fn job_is_placed_shape()
-    ensures { ShapesAreParts }
+    ensures { JobIsPlacedShape }
 {}
 
 /// States that shapes that differ have different numbers, and that different numbers have different bytes.

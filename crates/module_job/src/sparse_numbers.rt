@@ -37,7 +37,7 @@ impl Model for SparseNumbers {
 const FIRST_CAPACITY: usize = 64;
 
 // Adds an entry: a place plus one, and its number.
-fn push_entry(entries: &mut Vec<u64>, place: u64, number: u64) -> Result<(), AllocError>
+fn push_place_and_number(entries: &mut Vec<u64>, place: u64, number: u64) -> Result<(), AllocError>
     ensures added { OnOk result (entries.new.items
         ≡ entries.old.items ++ place ∷ number ∷ []) }
     ensures unchanged_on_error { OnErr result (entries.new.items ≡ entries.old.items) }
@@ -129,7 +129,7 @@ impl SparseNumbers {
         if place == usize::MAX {
             return Err(AllocError);
         }
-        push_entry(&mut self.entries, place as u64 + 1, number)?;
+        push_place_and_number(&mut self.entries, place as u64 + 1, number)?;
         mark_if_room(&mut self.marks, place);
         self.count = place + 1;
         Ok(())

@@ -2,8 +2,10 @@
 use Rattle.pattern.proofs.Imports.{AreGoodAfter, Ball, Bool, Box2, Cell, In, LayoutHeader, LayoutLine, List, Mirror}
 use Rattle.pattern.proofs.Imports.{None, Out, Pattern, Port, RefusalCode, Waste, [], ap, append-nil, append_assoc}
 use Rattle.pattern.proofs.Imports.{arith, cell_fault, cells_taken_at_end, cells_taken_at_start, code_if, common_steps}
-use Rattle.pattern.proofs.Imports.{false, has_later_kind_before, limit_fault, list_any-append, nat_tests, not, or_last}
-use Rattle.pattern.proofs.Imports.{order_fault, parts_of, subst, sym, takes_at_end, takes_at_start, ℕ, ℤ, ◌&&◌, ◌++◌}
+use Rattle.pattern.proofs.Imports.{false, has_later_kind_before, largest_limit_code, list_any-append, nat_tests, not}
+use Rattle.pattern.proofs.Imports.{or_last}
+use Rattle.pattern.proofs.Imports.{order_fault, parts_of, subst, sym, takes_cells_at_end, takes_cells_at_start, ℕ, ℤ}
+use Rattle.pattern.proofs.Imports.{◌&&◌, ◌++◌}
 use Rattle.pattern.proofs.Imports.{◌==◌, ◌||◌, ◌∙◌, ◌∷◌, ◌≡◌}
 use Rattle.lemmas.proofs.Common.{map-append}
 use Rattle.pattern.specs.Lines.{holds}
@@ -72,7 +74,8 @@ module _ (p v : Pattern) (same : v ≡ p) (part : LayoutLine) (follows : order_f
 -- ---- one more good line
 
 good_push : (s : LayoutHeader) (before parts : List LayoutLine) (part : LayoutLine) → AreGoodAfter s before parts →
-    limit_fault part ≡ None → cell_fault s (before ++ parts) part ≡ None → AreGoodAfter s before (parts ++ part ∷ [])
+    largest_limit_code part ≡ None → cell_fault s (before ++ parts) part ≡ None →
+    AreGoodAfter s before (parts ++ part ∷ [])
 good_push s before [] part good limit cells =
     (limit, subst (λ (l : List LayoutLine). cell_fault s l part ≡ None) (append-nil before) cells, tt)
 good_push s before (q ∷ parts) part good limit cells = (
@@ -83,7 +86,7 @@ good_push s before (q ∷ parts) part good limit cells = (
 )
 
 pub good_more : (s : LayoutHeader) (p v : Pattern) (same : v ≡ p) (q : List LayoutLine) (part : LayoutLine) →
-    AreGoodAfter s [] (parts_of p) → q ≡ parts_of v ++ part ∷ [] → limit_fault part ≡ None →
+    AreGoodAfter s [] (parts_of p) → q ≡ parts_of v ++ part ∷ [] → largest_limit_code part ≡ None →
     cell_fault s (parts_of v) part ≡ None → AreGoodAfter s [] q
 good_more s p v same q part good more limit cells = grind (arith, common_steps, good_push)
 
@@ -91,12 +94,12 @@ good_more s p v same q part good more limit cells = grind (arith, common_steps, 
 
 pub begun_push : (parts : List LayoutLine) (part : LayoutLine) (x y : ℤ) →
     cells_taken_at_start (parts ++ part ∷ []) x y
-    ≡ (cells_taken_at_start parts x y || (takes_at_start part && holds part x y))
+    ≡ (cells_taken_at_start parts x y || (takes_cells_at_start part && holds part x y))
 unfolding cells_taken_at_start
-begun_push parts part x y = list_any-append (λ b. takes_at_start b && holds b x y) parts (part ∷ []) ∙ or_last _ _
+begun_push parts part x y = list_any-append (λ b. takes_cells_at_start b && holds b x y) parts (part ∷ []) ∙ or_last _ _
 
 pub ended_push : (parts : List LayoutLine) (part : LayoutLine) (x y : ℤ) →
     cells_taken_at_end (parts ++ part ∷ []) x y
-    ≡ (cells_taken_at_end parts x y || (takes_at_end part && holds part x y))
+    ≡ (cells_taken_at_end parts x y || (takes_cells_at_end part && holds part x y))
 unfolding cells_taken_at_end
-ended_push parts part x y = list_any-append (λ b. takes_at_end b && holds b x y) parts (part ∷ []) ∙ or_last _ _
+ended_push parts part x y = list_any-append (λ b. takes_cells_at_end b && holds b x y) parts (part ∷ []) ∙ or_last _ _

@@ -20,9 +20,10 @@ unfoldable pub use Rattle.pattern.specs.Layout.{start}
 pub use Rattle.pattern.specs.LayoutView.{pattern_of}
 pub use Rattle.pattern.specs.Lines.{AreGoodAfter, AreNamed, is_layout_side}
 unfoldable pub use Rattle.pattern.specs.Lines.{cell_fault, cells_of, cells_taken_at_end, cells_taken_at_start}
-unfoldable pub use Rattle.pattern.specs.Lines.{has_later_kind_before, is_inside, is_taken, limit_fault, line_fault}
-unfoldable pub use Rattle.pattern.specs.Lines.{missing_fault, name_fault, order_fault, size_fault, takes_at_end}
-unfoldable pub use Rattle.pattern.specs.Lines.{takes_at_start}
+unfoldable pub use Rattle.pattern.specs.Lines.{has_later_kind_before, is_inside, is_taken, largest_limit_code}
+unfoldable pub use Rattle.pattern.specs.Lines.{line_fault}
+unfoldable pub use Rattle.pattern.specs.Lines.{missing_fault, name_fault, order_fault, size_fault, takes_cells_at_end}
+unfoldable pub use Rattle.pattern.specs.Lines.{takes_cells_at_start}
 pub use Rattle.pattern.specs.Run.{EndsWith, LeavesAt}
 unfoldable pub use Rattle.pattern.specs.Run.{live_cells, start_cells_by_kind}
 pub use Rattle.pattern.specs.Text.{cell_words, form_text, port_words, box_words, size_words}
@@ -38,7 +39,7 @@ pub use Rattle.section_text.proofs.Imports.{subst, suc, sym, take, true, zero, �
 pub use Rattle.section_text.proofs.Imports.{◌∷◌, ◌≡◌, ◌≤◌}
 unfoldable pub use Rattle.section_text.proofs.Imports.{name_at, number_at}
 pub use Rattle.section_text.specs.Codes.{code_if}
-pub use Rattle.section_text.specs.Ports.{PortNameLists, named_ports}
+pub use Rattle.section_text.specs.Ports.{PortNameLists, port_name_lists}
 pub use Rattle.section_text.specs.Spelling.{line_text}
 pub use Rattle.section_text.specs.Words.{has}
 pub use Rattle.section_text.specs.declared.code.RefusalCode.{RefusalCode}

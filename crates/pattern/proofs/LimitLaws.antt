@@ -1,12 +1,12 @@
 -- The first limits are those of old, and the second ones let in more.
 use Rattle.pattern.proofs.Imports.{Bool, LayoutLine, None, Option, RefusalCode, ap, arith, code_if, common_steps}
-use Rattle.pattern.proofs.Imports.{limit_fault, line_fault, not, refl, ℕ, ◌&&◌, ◌∙◌, ◌≡◌}
+use Rattle.pattern.proofs.Imports.{largest_limit_code, line_fault, not, refl, ℕ, ◌&&◌, ◌∙◌, ◌≡◌}
 use Rattle.lemmas.proofs.Common.{nat_le, nat_lt, ◌||◌}
 use Rattle.section_text.specs.Codes.{or_else}
 use Rattle.section_text.specs.declared.code.RefusalCode.TheVariants.{PastLimit}
 use Rattle.section_text.specs.declared.limits.Limits.TheVariants.{First, Second}
-use Rattle.pattern.specs.Laws.{FirstLinesAreKept, FirstSizesAreKept, SecondLimitsAreWider, first_mirror_fault}
-use Rattle.pattern.specs.Laws.{is_first_mirror_side, is_first_side}
+use Rattle.pattern.specs.Laws.{FirstLinesAreKept, FirstSizesAreKept, SecondLimitsAreWider, first_limits_mirror_fault}
+use Rattle.pattern.specs.Laws.{is_mirror_side_in_first_limits, is_side_in_first_limits}
 use Rattle.pattern.specs.Lines.{is_layout_side, is_mirror_side, layout_line_fault, size_fault, text_limit_fault}
 use Rattle.pattern.specs.Lines.{text_size_fault}
 use Rattle.pattern.specs.declared.layout_line.LayoutHeader.{LayoutHeader}
@@ -23,10 +23,10 @@ one_code a b = grind (arith, common_steps)
 
 -- ---- one side
 
-mirror_side : (n : ℕ) → (nat_lt 512 n || not (is_mirror_side n)) ≡ not (is_first_mirror_side n)
+mirror_side : (n : ℕ) → (nat_lt 512 n || not (is_mirror_side n)) ≡ not (is_mirror_side_in_first_limits n)
 mirror_side n = grind (arith, common_steps)
 
-layout_side : (n : ℕ) → (nat_lt 512 n || not (is_layout_side n)) ≡ not (is_first_side n)
+layout_side : (n : ℕ) → (nat_lt 512 n || not (is_layout_side n)) ≡ not (is_side_in_first_limits n)
 layout_side n = grind (arith, common_steps)
 
 step_count : (n : ℕ) → (nat_lt 65536 n || not (nat_le n 1048576)) ≡ not (nat_le n 65536)
@@ -51,8 +51,9 @@ first_sizes_are_kept ports s =
 
 -- the tests of a mirror, and those of any other line
 mirror_kept : (part : LayoutLine) (rest : Option RefusalCode) →
-    or_else (text_limit_fault First part) (or_else (limit_fault part) rest) ≡ or_else (first_mirror_fault part) rest
-unfolding limit_fault text_limit_fault
+    or_else (text_limit_fault First part) (or_else (largest_limit_code part) rest)
+    ≡ or_else (first_limits_mirror_fault part) rest
+unfolding largest_limit_code text_limit_fault
 mirror_kept part rest = grind (arith, common_steps, one_test, two_sides, mirror_side)
 
 -- the test of the order is made twice
@@ -72,8 +73,8 @@ wider_size : (s : LayoutHeader) → size_fault s ≡ None → text_size_fault Se
 unfolding size_fault text_size_fault
 wider_size s e = grind (arith, common_steps)
 
-wider_line : (part : LayoutLine) → limit_fault part ≡ None → text_limit_fault Second part ≡ None
-unfolding limit_fault text_limit_fault
+wider_line : (part : LayoutLine) → largest_limit_code part ≡ None → text_limit_fault Second part ≡ None
+unfolding largest_limit_code text_limit_fault
 wider_line (Mirror r) e = grind (arith, common_steps)
 wider_line (Ball c) e = refl
 wider_line (In p) e = refl

@@ -3,7 +3,8 @@ use Rattle.pattern.proofs.Imports.{AreGoodAfter, Ball, Bool, Cell, HaveDistinctC
 use Rattle.pattern.proofs.Imports.{List, Mirror, None, Out, Pattern, Port, Some, State, TakenCell, Waste, [], ap}
 use Rattle.pattern.proofs.Imports.{append-nil, arith, cell_fault, cells_of, cells_taken_at_end, cells_taken_at_start}
 use Rattle.pattern.proofs.Imports.{code_if, common_steps, false, is_at, is_inside, is_taken, map, not, parts_of, refl}
-use Rattle.pattern.proofs.Imports.{same_Some, slice_get, subst, suc, sym, takes_at_end, takes_at_start, true, zero, ℕ}
+use Rattle.pattern.proofs.Imports.{same_Some, slice_get, subst, suc, sym, takes_cells_at_end, takes_cells_at_start}
+use Rattle.pattern.proofs.Imports.{true, zero, ℕ}
 use Rattle.pattern.proofs.Imports.{ℤ, ◌++◌, ◌||◌, ◌∙◌, ◌∷◌, ◌≡◌}
 use Rattle.lemmas.proofs.Common.{true≢false, left_is_false}
 use Rattle.pattern.proofs.Added.{no_code, begun_push, ended_push}
@@ -64,22 +65,22 @@ module _ (make : Port → LayoutLine) (taken : List LayoutLine → State)
 
 in_free : (s : LayoutHeader) (before : List LayoutLine) (p : Port) → cell_fault s before (In p) ≡ None →
     cells_taken_at_start before p.cell.x p.cell.y ≡ false
-unfolding cell_fault is_taken cells_of takes_at_start
+unfolding cell_fault is_taken cells_of takes_cells_at_start
 in_free s before p e = one_of (cells_taken_at_start before p.cell.x p.cell.y) (not_taken (is_inside s (In p)) _ e)
 
 out_free : (s : LayoutHeader) (before : List LayoutLine) (p : Port) → cell_fault s before (Out p) ≡ None →
     cells_taken_at_end before p.cell.x p.cell.y ≡ false
-unfolding cell_fault is_taken cells_of takes_at_start
+unfolding cell_fault is_taken cells_of takes_cells_at_start
 out_free s before p e = one_of (cells_taken_at_end before p.cell.x p.cell.y) (not_taken (is_inside s (Out p)) _ e)
 
 in_more : (before : List LayoutLine) (p : Port) (x y : ℤ) →
     cells_taken_at_start (before ++ In p ∷ []) x y ≡ (cells_taken_at_start before x y || (is_at p.cell x y || false))
-unfolding cells_of takes_at_start
+unfolding cells_of takes_cells_at_start
 in_more before p x y = begun_push before (In p) x y
 
 out_more : (before : List LayoutLine) (p : Port) (x y : ℤ) →
     cells_taken_at_end (before ++ Out p ∷ []) x y ≡ (cells_taken_at_end before x y || (is_at p.cell x y || false))
-unfolding cells_of takes_at_end
+unfolding cells_of takes_cells_at_end
 out_more before p x y = ended_push before (Out p) x y
 
 module _ (p : Pattern) (good : AreGoodAfter p.size [] (parts_of p)) where

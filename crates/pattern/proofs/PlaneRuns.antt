@@ -4,7 +4,7 @@ use Rattle.pattern.proofs.Imports.{ap, arith, common_steps, false, get_or, in_ce
 use Rattle.pattern.proofs.Imports.{live, live_cells, refl, run, start, subst, sym, true, ℕ, ℤ, ◌+◌, ◌<◌, ◌∙◌, ◌≡◌, ◌≤◌}
 use Rattle.lemmas.proofs.Common.{OnErr, OnOk, Result, add-one, cases_lt, is_err, list_any_at}
 use Rattle.bbm_rule.specs.Plane.{step}
-use Rattle.bbm_rule.specs.Board.{Board, is_inside, IsStep, Leaves}
+use Rattle.bbm_rule.specs.Board.{Board, is_inside, IsStep, LeavesBoard}
 use Rattle.bbm_rule.proofs.Boards.{live_is_inside}
 use Rattle.pattern.specs.Run.{RunsInside, RunLeaves}
 
@@ -47,7 +47,7 @@ stays_more first t new s w h same stays k le = grind (arith, common_steps, cases
 
 pub run_leaves : (first : State) (t : ℕ) (old : Board) (s : LayoutHeader) → old.width ≡ s.w → old.height ≡ s.h →
     t + 1 ≤ s.steps → ((x y : ℤ) → live old x y ≡ run first t x y) → ((k : ℕ) → k ≤ t → IsDeadOutside s (run first k)) →
-    Leaves t old → RunLeaves s first (t + 1)
+    LeavesBoard t old → RunLeaves s first (t + 1)
 run_leaves first t old s w h within same stays leaves =
     grind (arith, common_steps, run_more, same_state, inside_is_layout)
 

@@ -4,7 +4,8 @@ use Rattle.pattern.proofs.Imports.{Some, TakenCell, [], arith, cell_fault, cells
 use Rattle.pattern.proofs.Imports.{cells_taken_at_start, common_steps, false, flat_map, in_cells, in_layout, in_span}
 use Rattle.pattern.proofs.Imports.{inside_is_span, is_inside, is_layout_side, is_taken, list_any, nat_tests, not, pos}
 use Rattle.pattern.proofs.Imports.{range_with_len, rectangle_cells, refl, row_cells, size_fault, subst, suc, sym}
-use Rattle.pattern.proofs.Imports.{takes_at_end, takes_at_start, true, zero, ℕ, ℤ, ◌%◌, ◌&&◌, ◌++◌, ◌+◌, ◌<◌, ◌||◌, ◌∙◌}
+use Rattle.pattern.proofs.Imports.{takes_cells_at_end, takes_cells_at_start, true, zero, ℕ, ℤ, ◌%◌, ◌&&◌, ◌++◌, ◌+◌}
+use Rattle.pattern.proofs.Imports.{◌<◌, ◌||◌, ◌∙◌}
 use Rattle.pattern.proofs.Imports.{◌∷◌, ◌≡◌, ◌≤◌}
 use Rattle.lemmas.proofs.Common.{if◌then◌else◌, All-from_recursion, and_parts, at_most_by_test}
 use Rattle.pattern.specs.DraftBoards.{LiesOn}
@@ -112,9 +113,10 @@ pub mirror_lies_on : (b : Board) (part : LayoutLine) (r : Box2) → part ≡ Mir
     ((r.x + r.w ≤ b.width) × (r.x + r.w ≤ max_side)) × ((r.y + r.h ≤ b.height) × (r.y + r.h ≤ max_side))
 mirror_lies_on b part r is on = grind (arith, common_steps, mirror_fits)
 
-pub among_cells_of : (p q : Cell → Bool) (part : LayoutLine) (cells : List Cell) (b : Bool) → takes_at_start part ≡ b →
+pub among_cells_of : (p q : Cell → Bool) (part : LayoutLine) (cells : List Cell) (b : Bool) →
+    takes_cells_at_start part ≡ b →
     cells_of part ≡ cells → (if b then list_any p cells else list_any q cells)
-    ≡ (if takes_at_start part then list_any p (cells_of part) else list_any q (cells_of part))
+    ≡ (if takes_cells_at_start part then list_any p (cells_of part) else list_any q (cells_of part))
 among_cells_of p q part cells b begin are = rw (begin, are) refl
 
 -- ---- cells that are taken
@@ -127,7 +129,8 @@ pub taken_by : (one other : Board) (parts : List LayoutLine) (part : LayoutLine)
     ((x y : ℤ) → live one x y ≡ cells_taken_at_start parts x y) →
     ((x y : ℤ) → live other x y ≡ cells_taken_at_end parts x y) →
     cells ≡ cells_of part
-    → (if takes_at_start part then list_any (λ c. live one c.x c.y) cells else list_any (λ c. live other c.x c.y) cells)
+    → (if takes_cells_at_start part then list_any (λ c. live one c.x c.y) cells else list_any
+    (λ c. live other c.x c.y) cells)
     ≡ is_taken parts part
 unfolding is_taken
 taken_by one other parts part cells same_begun same_ended are =
@@ -145,12 +148,12 @@ module _ (old new : Board) (parts more : List LayoutLine) (part : LayoutLine) (c
     (are : cells ≡ cells_of part)
     (longer : more ≡ parts ++ part ∷ []) where
   pub begun_more : ((x y : ℤ) → live old x y ≡ cells_taken_at_start parts x y) →
-      ((x y : ℤ) → live new x y ≡ (live old x y || (takes_at_start part && in_cells cells x y))) → (x y : ℤ) →
+      ((x y : ℤ) → live new x y ≡ (live old x y || (takes_cells_at_start part && in_cells cells x y))) → (x y : ℤ) →
       live new x y ≡ cells_taken_at_start more x y
   begun_more before after x y = after x y ∙ rw (before x y, are, longer, begun_push parts part x y) refl
 
   pub ended_more : ((x y : ℤ) → live old x y ≡ cells_taken_at_end parts x y) →
-      ((x y : ℤ) → live new x y ≡ (live old x y || (takes_at_end part && in_cells cells x y))) → (x y : ℤ) →
+      ((x y : ℤ) → live new x y ≡ (live old x y || (takes_cells_at_end part && in_cells cells x y))) → (x y : ℤ) →
       live new x y ≡ cells_taken_at_end more x y
   ended_more before after x y = after x y ∙ rw (before x y, are, longer, ended_push parts part x y) refl
 

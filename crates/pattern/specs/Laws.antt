@@ -33,33 +33,35 @@ ReadsWhatIsPrinted = (l : Limits) (ports : Option PortNameLists) (text : List �
 -- ---- limits
 
 -- whether a side of a layout is within the first limits
-abbrev pub is_first_side : ℕ → Bool
-is_first_side n = nat_le 2 n && nat_le n 512 && (n % 2 == 0)
+abbrev pub is_side_in_first_limits : ℕ → Bool
+is_side_in_first_limits n = nat_le 2 n && nat_le n 512 && (n % 2 == 0)
 
 -- the code of a size outside the first limits: width and height even, 2 to 512, and at most 65,536 steps
-abbrev pub first_size_fault : LayoutHeader → Option RefusalCode
-first_size_fault s = code_if (not (is_first_side s.w && is_first_side s.h && nat_le s.steps 65536)) PastLimit
+abbrev pub first_limits_size_fault : LayoutHeader → Option RefusalCode
+first_limits_size_fault s = code_if
+    (not (is_side_in_first_limits s.w && is_side_in_first_limits s.h && nat_le s.steps 65536)) PastLimit
 
 -- whether a side of a mirror is within the first limits
-abbrev pub is_first_mirror_side : ℕ → Bool
-is_first_mirror_side n = nat_le 1 n && nat_le n 512
+abbrev pub is_mirror_side_in_first_limits : ℕ → Bool
+is_mirror_side_in_first_limits n = nat_le 1 n && nat_le n 512
 
 -- the code of a mirror outside the first limits: its sides are 1 to 512
-abbrev pub first_mirror_fault : LayoutLine → Option RefusalCode
-first_mirror_fault (Mirror r) = code_if (not (is_first_mirror_side r.w && is_first_mirror_side r.h)) PastLimit
-first_mirror_fault _ = None
+abbrev pub first_limits_mirror_fault : LayoutLine → Option RefusalCode
+first_limits_mirror_fault (Mirror r) =
+    code_if (not (is_mirror_side_in_first_limits r.w && is_mirror_side_in_first_limits r.h)) PastLimit
+first_limits_mirror_fault _ = None
 
 -- with the first limits a size is tested as in a text without the line `limits 2`
 abbrev pub FirstSizesAreKept : Type 0
 FirstSizesAreKept = (ports : Option PortNameLists) (s : LayoutHeader) →
-    (layout_grammar First ports).header_fault s ≡ first_size_fault s
+    (layout_grammar First ports).header_fault s ≡ first_limits_size_fault s
 
 -- and so is a line: by its order, the sides of a mirror, its name, and its cells
 abbrev pub FirstLinesAreKept : Type 0
 FirstLinesAreKept = (ports : Option PortNameLists) (s : LayoutHeader) (before : List LayoutLine) (part : LayoutLine) →
     (layout_grammar First ports).item_fault s before part
     ≡ or_else (order_fault before part)
-    (or_else (first_mirror_fault part) (or_else (name_fault ports part) (cell_fault s before part)))
+    (or_else (first_limits_mirror_fault part) (or_else (name_fault ports part) (cell_fault s before part)))
 
 -- what passes the first limits passes the second ones
 pub record SecondLimitsAreWider : Type 0 where

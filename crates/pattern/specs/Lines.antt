@@ -36,9 +36,9 @@ abbrev pub is_mirror_side : ℕ → Bool
 is_mirror_side n = nat_le 1 n && nat_le n max_side
 
 -- the sides of a mirror are 1 to 4096
-unfoldable pub limit_fault : LayoutLine → Option RefusalCode
-limit_fault (Mirror r) = code_if (not (is_mirror_side r.w && is_mirror_side r.h)) PastLimit
-limit_fault _ = None
+unfoldable pub largest_limit_code : LayoutLine → Option RefusalCode
+largest_limit_code (Mirror r) = code_if (not (is_mirror_side r.w && is_mirror_side r.h)) PastLimit
+largest_limit_code _ = None
 
 -- the code of a size outside the limits of its text
 unfoldable pub text_size_fault : Limits → LayoutHeader → Option RefusalCode
@@ -110,16 +110,16 @@ is_inside s (Out p) = in_layout s p.cell.x p.cell.y
 is_inside s (Waste c) = in_layout s c.x c.y
 
 -- mirrors, balls and input cells take their cells at the start
-unfoldable pub takes_at_start : LayoutLine → Bool
-takes_at_start (Out p) = false
-takes_at_start (Waste c) = false
-takes_at_start _ = true
+unfoldable pub takes_cells_at_start : LayoutLine → Bool
+takes_cells_at_start (Out p) = false
+takes_cells_at_start (Waste c) = false
+takes_cells_at_start _ = true
 
 -- mirrors, output cells and waste cells take theirs at the end
-unfoldable pub takes_at_end : LayoutLine → Bool
-takes_at_end (Ball c) = false
-takes_at_end (In p) = false
-takes_at_end _ = true
+unfoldable pub takes_cells_at_end : LayoutLine → Bool
+takes_cells_at_end (Ball c) = false
+takes_cells_at_end (In p) = false
+takes_cells_at_end _ = true
 
 -- whether the line has the cell (x, y)
 abbrev pub holds : LayoutLine → State
@@ -127,16 +127,16 @@ holds part x y = list_any (λ c. is_at c x y) (cells_of part)
 
 -- the cells that are taken at the start, and at the end
 unfoldable pub cells_taken_at_start : List LayoutLine → State
-cells_taken_at_start parts x y = list_any (λ b. takes_at_start b && holds b x y) parts
+cells_taken_at_start parts x y = list_any (λ b. takes_cells_at_start b && holds b x y) parts
 
 -- whether one of the lines takes the cell (x, y) at the end
 unfoldable pub cells_taken_at_end : List LayoutLine → State
-cells_taken_at_end parts x y = list_any (λ b. takes_at_end b && holds b x y) parts
+cells_taken_at_end parts x y = list_any (λ b. takes_cells_at_end b && holds b x y) parts
 
 -- one of its cells is taken at the start, if it takes them then, or at the end
 unfoldable pub is_taken : List LayoutLine → LayoutLine → Bool
 is_taken before part =
-    if takes_at_start part then list_any (λ c. cells_taken_at_start before c.x c.y) (cells_of part)
+    if takes_cells_at_start part then list_any (λ c. cells_taken_at_start before c.x c.y) (cells_of part)
     else list_any (λ c. cells_taken_at_end before c.x c.y) (cells_of part)
 
 -- the code of a line with a cell outside the layout, or a cell that is taken
@@ -147,7 +147,8 @@ cell_fault s before part = code_if (not (is_inside s part) || is_taken before pa
 
 -- the code of the tests that come before those of the cells
 unfoldable pub line_fault : Option PortNameLists → List LayoutLine → LayoutLine → Option RefusalCode
-line_fault ports before part = or_else (order_fault before part) (or_else (limit_fault part) (name_fault ports part))
+line_fault ports before part =
+    or_else (order_fault before part) (or_else (largest_limit_code part) (name_fault ports part))
 
 -- the code of a line after those before it
 unfoldable pub layout_line_fault : Option PortNameLists → LayoutHeader → List LayoutLine → LayoutLine →
@@ -155,21 +156,21 @@ unfoldable pub layout_line_fault : Option PortNameLists → LayoutHeader → Lis
 layout_line_fault ports s before part = or_else (line_fault ports before part) (cell_fault s before part)
 
 -- each input and each output has a cell
-abbrev pub is_in_line_named : List ℕ → LayoutLine → Bool
-is_in_line_named n (In p) = bytes_eq n p.name
-is_in_line_named n _ = false
+abbrev pub is_input_cell_named : List ℕ → LayoutLine → Bool
+is_input_cell_named n (In p) = bytes_eq n p.name
+is_input_cell_named n _ = false
 
 -- whether the line is an output cell of this name
-abbrev pub is_out_line_named : List ℕ → LayoutLine → Bool
-is_out_line_named n (Out p) = bytes_eq n p.name
-is_out_line_named n _ = false
+abbrev pub is_output_cell_named : List ℕ → LayoutLine → Bool
+is_output_cell_named n (Out p) = bytes_eq n p.name
+is_output_cell_named n _ = false
 
 -- the code of a layout in which an input or an output has no cell
 unfoldable pub missing_fault : Option PortNameLists → List LayoutLine → Option RefusalCode
 missing_fault None parts = None
 missing_fault (Some names) parts =
-    code_if (not (list_all (λ n. list_any (is_in_line_named n) parts) names.ins
-    && list_all (λ n. list_any (is_out_line_named n) parts) names.outs)) SomethingMissing
+    code_if (not (list_all (λ n. list_any (is_input_cell_named n) parts) names.ins
+    && list_all (λ n. list_any (is_output_cell_named n) parts) names.outs)) SomethingMissing
 
 -- the names of the ports are good, and each input and each output that is asked for has a cell
 pub record AreNamed (ports : Option PortNameLists) (parts : List LayoutLine) : Type 0 where
@@ -180,4 +181,4 @@ pub record AreNamed (ports : Option PortNameLists) (parts : List LayoutLine) : T
 abbrev pub AreGoodAfter : LayoutHeader → List LayoutLine → List LayoutLine → Type 0
 AreGoodAfter s before [] = Unit {0}
 AreGoodAfter s before (part ∷ parts) =
-    (limit_fault part ≡ None) × (cell_fault s before part ≡ None) × AreGoodAfter s (before ++ part ∷ []) parts
+    (largest_limit_code part ≡ None) × (cell_fault s before part ≡ None) × AreGoodAfter s (before ++ part ∷ []) parts

@@ -76,7 +76,7 @@ impl<'a> Section for AssignReader<'a> {
 }
 
 // Reads the section, and lists the names that are on.
-fn read_names(
+fn read_assigned_names(
     alloc: Global,
     feed: &mut Feed,
     reading: &mut AssignReader,
@@ -117,5 +117,5 @@ pub fn read_assign(alloc: Global, feed: &mut Feed, ins: &[Name]) -> Result<Vec<N
     };
     let on = IndexSet::with_hasher(alloc, feed.seed());
     let mut reading = AssignReader { ins, known, on };
-    read_names(alloc, feed, &mut reading)
+    read_assigned_names(alloc, feed, &mut reading)
 }

@@ -2,7 +2,7 @@
 ghost use Rattle.std.specs.Prelude.{◌≡◌, ◌++◌, [], ◌∷◌, None, OnOk, OnErr, IfOk, IfErr};
 ghost use Rattle.section_text.specs.Adding.{HasRefusalCode};
 ghost use Rattle.pattern.specs.Layout.{parts_of};
-ghost use Rattle.pattern.specs.Lines.{cell_fault, limit_fault, order_fault, size_fault};
+ghost use Rattle.pattern.specs.Lines.{cell_fault, largest_limit_code, order_fault, size_fault};
 
 use crate::layout::Layout;
 use crate::layout_line::{LayoutHeader, LayoutLine};
@@ -84,7 +84,7 @@ impl Draft {
     /// Adds a line that is in its place and keeps the limits. A fault changes nothing.
     pub(crate) fn add(&mut self, part: LayoutLine) -> Result<(), LineFault>
         requires order { order_fault (parts_of self.old) part ≡ None }
-        requires limit { limit_fault part ≡ None }
+        requires limit { largest_limit_code part ≡ None }
         ensures cells_free { OnOk result (cell_fault self.old.size (parts_of self.old) part
             ≡ None) }
         ensures size { self.new.size ≡ self.old.size }
@@ -100,8 +100,16 @@ impl Draft {
         let Ok(()) = self.layout.add(part) else {
             return Err(LineFault::Memory);
         };
-        take_cells_if(part.takes_at_start(), &mut self.cells_taken_at_start, &part);
-        take_cells_if(part.takes_at_end(), &mut self.cells_taken_at_end, &part);
+        take_cells_if(
+            part.takes_cells_at_start(),
+            &mut self.cells_taken_at_start,
+            &part,
+        );
+        take_cells_if(
+            part.takes_cells_at_end(),
+            &mut self.cells_taken_at_end,
+            &part,
+        );
         Ok(())
     }
 }

@@ -1,7 +1,7 @@
 //! Layouts.
 ghost use Rattle.std.specs.Prelude.{◌≡◌, ◌++◌, [], ◌∷◌, None, OnOk, OnErr};
 ghost use Rattle.pattern.specs.Layout.{HaveDistinctCells, parts_of};
-ghost use Rattle.pattern.specs.Lines.{AreGoodAfter, cell_fault, limit_fault, has_later_kind_before, order_fault, size_fault};
+ghost use Rattle.pattern.specs.Lines.{AreGoodAfter, cell_fault, largest_limit_code, has_later_kind_before, order_fault, size_fault};
 
 use crate::layout_line::{LayoutHeader, LayoutLine, Port};
 use bbm_rule::{Box2, Cell};
@@ -85,7 +85,7 @@ impl Layout {
     // Adds a line that is good after the others. Without memory for it nothing changes.
     pub(crate) fn add(&mut self, part: LayoutLine) -> Result<(), AllocError>
         requires order { order_fault (parts_of self.old) part ≡ None }
-        requires limit { limit_fault part ≡ None }
+        requires limit { largest_limit_code part ≡ None }
         requires cells { cell_fault self.old.size (parts_of self.old) part ≡ None }
         ensures size { self.new.size ≡ self.old.size }
         ensures parts { OnOk result (parts_of self.new ≡ parts_of self.old ++ part ∷ []) }

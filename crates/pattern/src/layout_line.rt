@@ -10,7 +10,7 @@
 //! - `Waste`: a cell that may be live or dead at the end.
 ghost use Rattle.std.specs.Prelude.{◌≡◌, ◌+◌, ◌&&◌, nat_le};
 ghost use Rattle.pattern.specs.Layout.{in_layout};
-ghost use Rattle.pattern.specs.Lines.{takes_at_start, takes_at_end, is_inside, is_layout_side, is_mirror_side, limit_fault, size_fault, text_limit_fault, text_size_fault};
+ghost use Rattle.pattern.specs.Lines.{takes_cells_at_start, takes_cells_at_end, is_inside, is_layout_side, is_mirror_side, largest_limit_code, size_fault, text_limit_fault, text_size_fault};
 
 use bbm_rule::{Box2, Cell};
 use section_text::{Limits, MAX_SIDE, MAX_STEPS, Name, RefusalCode};
@@ -62,7 +62,7 @@ fn fits(r: Box2, size: LayoutHeader) -> bool
 impl LayoutHeader {
     /// Returns code 2 if a side or the steps are outside their limits.
     #[tactic(auto, unfolding(crate::specs::Lines::size_fault))]
-    pub(crate) fn limit_code(self) -> Option<RefusalCode>
+    pub(crate) fn largest_limit_code(self) -> Option<RefusalCode>
         ensures { result ≡ size_fault self }
     {
         if is_side_in_limits(self.w) && is_side_in_limits(self.h) && self.steps <= MAX_STEPS {
@@ -102,9 +102,9 @@ impl LayoutHeader {
 
 impl LayoutLine {
     /// Returns whether its cells are taken at the start.
-    #[tactic(auto, unfolding(crate::specs::Lines::takes_at_start))]
-    pub(crate) fn takes_at_start(&self) -> bool
-        ensures { result ≡ takes_at_start self.now }
+    #[tactic(auto, unfolding(crate::specs::Lines::takes_cells_at_start))]
+    pub(crate) fn takes_cells_at_start(&self) -> bool
+        ensures { result ≡ takes_cells_at_start self.now }
     {
         match self {
             LayoutLine::Mirror(_) => true,
@@ -116,9 +116,9 @@ impl LayoutLine {
     }
 
     /// Returns whether its cells are taken at the end.
-    #[tactic(auto, unfolding(crate::specs::Lines::takes_at_end))]
-    pub(crate) fn takes_at_end(&self) -> bool
-        ensures { result ≡ takes_at_end self.now }
+    #[tactic(auto, unfolding(crate::specs::Lines::takes_cells_at_end))]
+    pub(crate) fn takes_cells_at_end(&self) -> bool
+        ensures { result ≡ takes_cells_at_end self.now }
     {
         match self {
             LayoutLine::Mirror(_) => true,
@@ -130,9 +130,9 @@ impl LayoutLine {
     }
 
     /// Returns code 2 if a side of a mirror is outside its limits.
-    #[tactic(auto, unfolding(crate::specs::Lines::limit_fault))]
-    pub(crate) fn limit_code(&self) -> Option<RefusalCode>
-        ensures { result ≡ limit_fault self.now }
+    #[tactic(auto, unfolding(crate::specs::Lines::largest_limit_code))]
+    pub(crate) fn largest_limit_code(&self) -> Option<RefusalCode>
+        ensures { result ≡ largest_limit_code self.now }
     {
         match self {
             LayoutLine::Mirror(r) => {

@@ -22,7 +22,7 @@ fn push_whether_on(
 }
 
 /// Returns for each of the names whether it is on, that is, one of the names `on`.
-pub fn are_on(alloc: Global, names: &[Name], on: &[Name]) -> Result<Vec<bool>, AllocError>
+pub fn which_are_on(alloc: Global, names: &[Name], on: &[Name]) -> Result<Vec<bool>, AllocError>
     ensures { IfOk result (λ bits. bits.items ≡ map (λ n. has on.now n) names.now) }
 {
     let on = name_set(alloc, Seed::of_names(on), on)?;

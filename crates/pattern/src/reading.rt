@@ -4,10 +4,10 @@ ghost use Rattle.std.specs.List.{list_all};
 ghost use Rattle.pattern.specs.Layout.{parts_of};
 ghost use Rattle.indexmap.specs.IndexSet.{spare};
 ghost use Rattle.section_text.specs.Section.{Reads};
-ghost use Rattle.section_text.specs.Ports.{named_ports};
+ghost use Rattle.section_text.specs.Ports.{port_name_lists};
 ghost use Rattle.section_text.specs.Words.{has};
 ghost use Rattle.section_text.specs.declared.limits.Limits.TheVariants.{First};
-ghost use Rattle.pattern.specs.Lines.{AreNamed, allows_any_name, is_in_line_named, is_out_line_named, may_name_input, may_name_output, line_fault, name_fault};
+ghost use Rattle.pattern.specs.Lines.{AreNamed, allows_any_name, is_input_cell_named, is_output_cell_named, may_name_input, may_name_output, line_fault, name_fault};
 ghost use Rattle.pattern.specs.Grammars.{layout_grammar, layout_section};
 
 use crate::draft::Draft;
@@ -53,7 +53,7 @@ impl<'a> Model for Reading<'a> {
 }
 
 fn allows_any_name(ports: &PortNames) -> bool
-    ensures { result ≡ allows_any_name (named_ports ports.now) }
+    ensures { result ≡ allows_any_name (port_name_lists ports.now) }
 {
     match ports {
         PortNames::Any => true,
@@ -94,9 +94,9 @@ fn note_port_name_seen(
     requires room_in { 0 < spare ins.old }
     requires room_out { 0 < spare outs.old }
     ensures ins { (n : List ℕ) →
-        has ins.new.keys n ≡ (has ins.old.keys n || is_in_line_named n part.now) }
+        has ins.new.keys n ≡ (has ins.old.keys n || is_input_cell_named n part.now) }
     ensures outs { (n : List ℕ) →
-        has outs.new.keys n ≡ (has outs.old.keys n || is_out_line_named n part.now) }
+        has outs.new.keys n ≡ (has outs.old.keys n || is_output_cell_named n part.now) }
 {
     match part {
         LayoutLine::In(port) => {
@@ -123,7 +123,7 @@ impl<'a> Reading<'a> {
         ports: &'a PortNames,
     ) -> Result<Reading<'a>, AllocError>
         ensures limits { IfOk result (λ reading. reading.limits ≡ limits) }
-        ensures ports { IfOk result (λ reading. reading.ports ≡ named_ports ports.now) }
+        ensures ports { IfOk result (λ reading. reading.ports ≡ port_name_lists ports.now) }
         ensures parts { IfOk result (λ reading. parts_of reading.layout ≡ []) }
     {
         let (known_ins, known_outs) = allowed_port_names(alloc, seed, ports)?;
@@ -199,7 +199,7 @@ impl<'a> Reading<'a> {
         if let Some(code) = self.draft.order_code(part) {
             return Some(code);
         }
-        if let Some(code) = part.limit_code() {
+        if let Some(code) = part.largest_limit_code() {
             return Some(code);
         }
         self.name_code(part)
@@ -213,11 +213,11 @@ fn allowed_port_names(
     ports: &PortNames,
 ) -> Result<(IndexSet<Name, Seed>, IndexSet<Name, Seed>), AllocError>
     ensures ins { IfOk result (λ known. (n : List ℕ) →
-        may_name_input (named_ports ports.now) n
-        ≡ (allows_any_name (named_ports ports.now) || has known.0.keys n)) }
+        may_name_input (port_name_lists ports.now) n
+        ≡ (allows_any_name (port_name_lists ports.now) || has known.0.keys n)) }
     ensures outs { IfOk result (λ known. (n : List ℕ) →
-        may_name_output (named_ports ports.now) n
-        ≡ (allows_any_name (named_ports ports.now) || has known.1.keys n)) }
+        may_name_output (port_name_lists ports.now) n
+        ≡ (allows_any_name (port_name_lists ports.now) || has known.1.keys n)) }
 {
     match ports {
         PortNames::Any => Ok((name_set(alloc, seed, &[])?, name_set(alloc, seed, &[])?)),
@@ -258,7 +258,7 @@ impl<'a> Section for Reading<'a> {
         if let Some(code) = size.text_limit_code(self.limits) {
             return Err(LineFault::Code(code));
         }
-        if let Some(code) = size.limit_code() {
+        if let Some(code) = size.largest_limit_code() {
             return Err(LineFault::Code(code));
         }
         let Ok(draft) = Draft::new(self.alloc, size) else {
@@ -314,9 +314,9 @@ impl<'a> Section for Reading<'a> {
 /// Reads a layout section as `read_layout_within` does, of at most 512 by 512 cells and 65,536 steps.
 pub fn read_layout(alloc: Global, feed: &mut Feed, ports: &PortNames) -> Result<Layout, ReadFault>
     requires { feed.old.closed ≡ true }
-    ensures reads { Reads (layout_grammar First (named_ports ports.now)) layout_section
+    ensures reads { Reads (layout_grammar First (port_name_lists ports.now)) layout_section
         feed.old feed.new result }
-    ensures names { IfOk result (λ l. AreNamed (named_ports ports.now) (parts_of l)) }
+    ensures names { IfOk result (λ l. AreNamed (port_name_lists ports.now) (parts_of l)) }
 {
     read_layout_within(alloc, feed, Limits::First, ports)
 }
@@ -346,9 +346,9 @@ pub fn read_layout_within(
     ports: &PortNames,
 ) -> Result<Layout, ReadFault>
     requires { feed.old.closed ≡ true }
-    ensures reads { Reads (layout_grammar limits (named_ports ports.now)) layout_section
+    ensures reads { Reads (layout_grammar limits (port_name_lists ports.now)) layout_section
         feed.old feed.new result }
-    ensures names { IfOk result (λ l. AreNamed (named_ports ports.now) (parts_of l)) }
+    ensures names { IfOk result (λ l. AreNamed (port_name_lists ports.now) (parts_of l)) }
 {
     let Ok(mut reading) = Reading::new(alloc, limits, feed.seed(), ports) else {
         return Err(feed.starve());

@@ -52,7 +52,7 @@ fn push_cells_of_ports_on(
 }
 
 // The cells of the ports whose name is on.
-fn push_ports_on(
+fn push_cells_of_ports_named_in(
     alloc: Global,
     out: &mut Vec<Cell>,
     ports: &[Port],
@@ -77,7 +77,7 @@ pub fn start_cells(alloc: Global, layout: &Layout, on: &[Name]) -> Result<Vec<Ce
     let mut cells = Vec::new(alloc);
     push_mirror_cells(&mut cells, layout.mirrors.as_slice())?;
     cells.extend_from_slice(layout.balls.as_slice())?;
-    push_ports_on(alloc, &mut cells, layout.ins.as_slice(), on)?;
+    push_cells_of_ports_named_in(alloc, &mut cells, layout.ins.as_slice(), on)?;
     Ok(cells)
 }
 
@@ -109,7 +109,12 @@ fn run_until_leaving(grid: &mut Grid, size: LayoutHeader) -> Option<u32>
 }
 
 // Puts the live ones of the first w cells of row y behind the others.
-fn push_live_row(out: &mut Vec<Cell>, grid: &Grid, w: u32, y: u32) -> Result<(), AllocError>
+fn push_live_cells_of_row(
+    out: &mut Vec<Cell>,
+    grid: &Grid,
+    w: u32,
+    y: u32,
+) -> Result<(), AllocError>
     requires columns { (w ≤ grid.now.width) × (w ≤ max_side) }
     requires row { (y < grid.now.height) × (y < max_side) }
     ensures { OnOk result (out.new.items
@@ -140,7 +145,7 @@ fn live_cells_in_order(
 {
     let mut cells = Vec::new(alloc);
     for y in 0..size.h {
-        push_live_row(&mut cells, grid, size.w, y)?;
+        push_live_cells_of_row(&mut cells, grid, size.w, y)?;
     }
     Ok(cells)
 }

@@ -3,7 +3,7 @@ ghost use Rattle.std.specs.Prelude.{◌≡◌, ◌||◌, ◌&&◌, ℤ, if◌the
 ghost use Rattle.std.specs.List.{list_any};
 ghost use Rattle.bbm_rule.specs.Board.{live, HasSameSize};
 ghost use Rattle.bbm_rule.specs.CellLists.{in_cells};
-ghost use Rattle.pattern.specs.Lines.{takes_at_start, cells_of};
+ghost use Rattle.pattern.specs.Lines.{takes_cells_at_start, cells_of};
 ghost use Rattle.pattern.specs.DraftBoards.{LiesOn};
 
 use crate::layout_line::LayoutLine;
@@ -15,7 +15,7 @@ pub(crate) fn is_any_cell_taken(at_start: &Grid, at_end: &Grid, part: &LayoutLin
     requires start_on_part { LiesOn at_start.now part.now }
     requires end_on_part { LiesOn at_end.now part.now }
     ensures { result
-        ≡ (if takes_at_start part.now then list_any (λ c. live at_start.now c.x c.y)
+        ≡ (if takes_cells_at_start part.now then list_any (λ c. live at_start.now c.x c.y)
         (cells_of part.now) else list_any (λ c. live at_end.now c.x c.y) (cells_of part.now)) }
 {
     match part {

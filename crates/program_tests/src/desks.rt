@@ -37,7 +37,7 @@ fn draw_in_threads<R: Threads + Sync>(rt: &R, desk: &Desk, seats: &mut [DeskSeat
 }
 
 /// Returns whether two new seats draw three numbers and the end in turn.
-fn are_turns_draws_right(desk: &Desk, first: &mut DeskSeat, second: &mut DeskSeat) -> bool
+fn are_draws_in_turn_right(desk: &Desk, first: &mut DeskSeat, second: &mut DeskSeat) -> bool
     requires { IsSeatOf desk.now first.old × IsSeatOf desk.now second.old }
     ensures { IsSeatOf desk.now first.new × IsSeatOf desk.now second.new }
 {
@@ -66,7 +66,7 @@ fn are_draws_equal_to(draws: &[Vec<usize>], first: &[usize], second: &[usize]) -
 fn two_seats_draw_three_numbers(rt: HostRuntime) {
     let (desk, mut seats) = Desk::open(rt.alloc(), 3, 2).expect(&rt, "a desk");
     let mut second = seats.remove(1);
-    assert!(rt; are_turns_draws_right(&desk, &mut seats[0], &mut second));
+    assert!(rt; are_draws_in_turn_right(&desk, &mut seats[0], &mut second));
     let Err(fault) = desk.close(rt.alloc(), seats) else {
         panic!(rt; "closed without the second seat")
     };

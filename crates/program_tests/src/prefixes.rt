@@ -9,7 +9,7 @@ use std::thread::Threads;
 use test_support::GOOD_BUNDLE;
 
 /// Returns what `check` does over the first `length` bytes of the bundle, in pieces of `piece` bytes.
-fn check_of_front<T: Threads + Wait + RandomSource + Sync>(
+fn check_of_first_bytes<T: Threads + Wait + RandomSource + Sync>(
     rt: &T,
     alloc: Global,
     length: usize,
@@ -31,7 +31,7 @@ fn each_cut_text_is_refused(rt: HostRuntime) {
     for (length, byte) in GOOD_BUNDLE.bytes().enumerate() {
         let wanted = format!(in rt.alloc(); "refused {line} 12\n").expect(&rt, "a line");
         for piece in [1, 2, 7, 4096] {
-            let seen = check_of_front(&rt, rt.alloc(), length, piece);
+            let seen = check_of_first_bytes(&rt, rt.alloc(), length, piece);
             assert!(rt; seen.is(3, wanted.as_bytes(), ""), "{length} {piece}");
         }
         if byte == b'\n' {

@@ -12,21 +12,21 @@ use std::sync::atomic::{AtomicU64, Ordering};
 
 /// Gives one byte again and again, and counts how many it gave.
 #[derive(Drop)]
-struct OneByte {
+struct RepeatedByteSource {
     byte: u8,
     given: AtomicU64,
 }
 
-impl OneByte {
-    fn new(byte: u8) -> OneByte {
-        OneByte {
+impl RepeatedByteSource {
+    fn new(byte: u8) -> RepeatedByteSource {
+        RepeatedByteSource {
             byte,
             given: AtomicU64::new(0),
         }
     }
 }
 
-impl RandomSource for OneByte {
+impl RandomSource for RepeatedByteSource {
     fn fill_bytes(&self, buf: &mut [u8]) -> io::Result<()> {
         self.given.fetch_add(buf.len() as u64, Ordering::SeqCst);
         buf.fill(self.byte);
@@ -43,16 +43,16 @@ fn hash_of_name(seed: Seed) -> Option<u64> {
 #[test]
 fn drawn_seeds_differ(rt: HostRuntime) {
     let known = hash_of_name(Seed::known());
-    let zero = hash_of_name(Seed::drawn(&OneByte::new(0)));
-    let first = hash_of_name(Seed::drawn(&OneByte::new(1)));
-    let second = hash_of_name(Seed::drawn(&OneByte::new(2)));
+    let zero = hash_of_name(Seed::drawn(&RepeatedByteSource::new(0)));
+    let first = hash_of_name(Seed::drawn(&RepeatedByteSource::new(1)));
+    let second = hash_of_name(Seed::drawn(&RepeatedByteSource::new(2)));
     assert!(rt; known.is_some() && zero == known);
     assert!(rt; first != known && second != known && first != second);
 }
 
 #[test]
 fn feed_keeps_its_seed(rt: HostRuntime) {
-    let source = OneByte::new(3);
+    let source = RepeatedByteSource::new(3);
     let feed = Feed::seeded(rt.alloc(), Seed::drawn(&source));
     let own = hash_of_name(feed.seed());
     assert!(rt; own == hash_of_name(Seed::drawn(&source)) && own != hash_of_name(Seed::known()));
@@ -60,7 +60,11 @@ fn feed_keeps_its_seed(rt: HostRuntime) {
 }
 
 /// Answers an empty text by the command of this number.
-fn answer_empty_text(source: &OneByte, alloc: Global, command: u8) -> Result<Outcome, CheckFault> {
+fn answer_empty_text(
+    source: &RepeatedByteSource,
+    alloc: Global,
+    command: u8,
+) -> Result<Outcome, CheckFault> {
     let empty: &[u8] = b"";
     let (mut reader, mut writer) = (Over::new(empty), Over::new(Vec::new(alloc)));
     match command {
@@ -74,7 +78,7 @@ fn answer_empty_text(source: &OneByte, alloc: Global, command: u8) -> Result<Out
 #[test]
 fn each_text_draws_a_seed(rt: HostRuntime) {
     for command in 0..4u8 {
-        let source = OneByte::new(5);
+        let source = RepeatedByteSource::new(5);
         let answered = answer_empty_text(&source, rt.alloc(), command);
         assert!(rt; answered == Ok(Outcome::Refused), "{command}");
         assert!(rt; source.given.load(Ordering::SeqCst) == 16, "{command}");

@@ -45,15 +45,15 @@ abbrev pub border_words : BorderFault → List (List ℕ)
 border_words f = decimal f.time ∷ signed_decimal f.cell.x ∷ signed_decimal f.cell.y ∷ []
 
 -- how many steps a delay takes, if that can be said
-abbrev pub gap_word : StopGap → List ℕ
-gap_word (Steps m) = decimal m
-gap_word Missing = codes "missing"
-gap_word Before = codes "before"
+abbrev pub gap_steps_word : StopGap → List ℕ
+gap_steps_word (Steps m) = decimal m
+gap_steps_word Missing = codes "missing"
+gap_steps_word Before = codes "before"
 
 -- when inputs meet, if they do
-abbrev pub meet_word : Option ℕ → List ℕ
-meet_word (Some t) = decimal t
-meet_word None = codes "differ"
+abbrev pub meeting_time_word : Option ℕ → List ℕ
+meeting_time_word (Some t) = decimal t
+meeting_time_word None = codes "differ"
 
 -- a keep fault: its gate and its assignment
 abbrev pub keep_words : KeepFault → List (List ℕ)
@@ -65,8 +65,8 @@ report_line_text (Local m f) = line_text (codes "local") (decimal m ∷ fault_wo
 report_line_text (Keep m f) = line_text (codes "keep") (decimal m ∷ keep_words f)
 report_line_text (Border m f) = line_text (codes "border") (decimal m ∷ border_words f)
 report_line_text (Unkept gate) = line_text (codes "unkept") (decimal gate ∷ [])
-report_line_text (Delay k n gap) = line_text (codes "delay") (decimal k ∷ decimal n ∷ gap_word gap ∷ [])
-report_line_text (Meet k at) = line_text (codes "meet") (decimal k ∷ meet_word at ∷ [])
+report_line_text (Delay k n gap) = line_text (codes "delay") (decimal k ∷ decimal n ∷ gap_steps_word gap ∷ [])
+report_line_text (Meet k at) = line_text (codes "meet") (decimal k ∷ meeting_time_word at ∷ [])
 
 -- `yes` and then these lines of delays and meetings, or `no` and then the lines of the verdict
 abbrev pub verdict_lines : List TimeLine → Verdict → List ℕ

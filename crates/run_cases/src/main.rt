@@ -22,7 +22,7 @@ const FILES: [&str; 4] = ["cases.txt", "by_hand.txt", "reports.txt", "front_line
 fn main(rt: HostRuntime) -> ExitCode {
     let mut all_hold = true;
     for name in FILES {
-        match try_file(&rt, rt.alloc(), name) {
+        match count_failed_cases_in_file(&rt, rt.alloc(), name) {
             Ok(0) => {}
             Ok(_) => all_hold = false,
             Err(error) => {
@@ -39,7 +39,7 @@ fn main(rt: HostRuntime) -> ExitCode {
 }
 
 // How many cases of a file do not hold.
-fn try_file<R: Runtime + Threads + Wait + RandomSource + Sync>(
+fn count_failed_cases_in_file<R: Runtime + Threads + Wait + RandomSource + Sync>(
     rt: &R,
     alloc: Global,
     name: &str,

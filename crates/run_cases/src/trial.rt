@@ -50,18 +50,18 @@ pub fn difference_of<R: Threads + Wait + RandomSource + Sync>(
             got,
         });
     }
-    if let Some(equal_lines) = equal_lines_before_difference(
+    if let Some(equal_lines) = equal_line_count_before_difference(
         &case.output,
         streams.writer.get_ref(),
     ) {
         return Some(Difference::Output { equal_lines });
     }
-    let equal_lines = equal_lines_before_difference(&case.errors, streams.errors.get_ref())?;
+    let equal_lines = equal_line_count_before_difference(&case.errors, streams.errors.get_ref())?;
     Some(Difference::Errors { equal_lines })
 }
 
 // How many lines are equal before the first that is not, where the texts differ.
-fn equal_lines_before_difference(wanted: &Option<Vec<u8>>, got: &[u8]) -> Option<usize> {
+fn equal_line_count_before_difference(wanted: &Option<Vec<u8>>, got: &[u8]) -> Option<usize> {
     let wanted = wanted.as_ref()?.as_slice();
     if wanted == got {
         return None;

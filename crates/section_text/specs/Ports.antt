@@ -9,6 +9,6 @@ pub record PortNameLists : Type 0 where
   pub outs : List (List ℕ)
 
 -- what port names say: `None` if any name is good
-abbrev pub named_ports : PortNames → Option PortNameLists
-named_ports Any = None
-named_ports (Only ins outs) = Some (record { ins = ins.items; outs = outs.items })
+abbrev pub port_name_lists : PortNames → Option PortNameLists
+port_name_lists Any = None
+port_name_lists (Only ins outs) = Some (record { ins = ins.items; outs = outs.items })

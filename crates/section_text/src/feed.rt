@@ -21,8 +21,8 @@ use crate::names::Names;
 use crate::number::read_number;
 use crate::seed::Seed;
 use crate::words::{
-    FiveWords, FourWords, ThreeWords, count_words_in, is_one_word, name_after_keyword_in,
-    names_beside_arrow_in, next_word, number_after_keyword_in, split_five_words, split_four_words,
+    FiveWords, FourWords, ThreeWords, count_words_in, is_one_word, name_of_two_word_line,
+    names_beside_arrow_in, next_word, number_of_two_word_line, split_five_words, split_four_words,
     split_three_words, word_in,
 };
 use memchr::memchr;
@@ -74,11 +74,11 @@ fn line_length(bytes: &[u8], at: usize) -> Option<usize>
     requires { at ≤ length bytes.now }
     ensures { result ≡ position is_line_feed (drop at bytes.now) }
 {
-    first_line_feed(&bytes[at..])
+    first_line_feed_place(&bytes[at..])
 }
 
 #[tactic(auto, using(crate::proofs::LineFeeds::first_is_position))]
-fn first_line_feed(bytes: &[u8]) -> Option<usize>
+fn first_line_feed_place(bytes: &[u8]) -> Option<usize>
     ensures { result ≡ position is_line_feed bytes.now }
 {
     memchr(b'\n', bytes)
@@ -235,7 +235,7 @@ impl Feed {
 
     // Whether the next line is this one.
     #[tactic(auto, using(crate::proofs::Lines::first_line, crate::proofs::Lines::no_line, crate::proofs::Lines::next_ahead))]
-    fn is_next(&self, line: &[u8]) -> bool
+    fn is_next_line(&self, line: &[u8]) -> bool
         ensures { result ≡ is_first_line line.now (ahead self.now) }
     {
         match line_length(&self.bytes, self.at) {
@@ -251,7 +251,7 @@ impl Feed {
         ensures limits { result ≡ limits_of (ahead self.old) }
         ensures feed { self.new ≡ feed_after_lines (front_lines result) self.old }
     {
-        if !self.is_next(b"limits 2") {
+        if !self.is_next_line(b"limits 2") {
             return Limits::First;
         }
         match self.take() {
@@ -367,7 +367,7 @@ impl Feed {
         ensures number { result ≡ number_after_keyword (words_of (line_bytes self.now line.now)) }
         ensures below_a_billion { IfSome result (λ n. n < 10 ^ 9) }
     {
-        number_after_keyword_in(self.line(line))
+        number_of_two_word_line(self.line(line))
     }
 
     /// Returns the name of a line of two words, a keyword and a name, or `None` for any other line.
@@ -375,7 +375,7 @@ impl Feed {
         requires { IsLine self.now line.now }
         ensures { result ≡ name_after_keyword (words_of (line_bytes self.now line.now)) }
     {
-        name_after_keyword_in(self.line(line))
+        name_of_two_word_line(self.line(line))
     }
 
     /// Returns the names on both sides of an arrow: `before` from index `from` on, and `after` to the line's end.

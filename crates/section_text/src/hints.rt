@@ -24,7 +24,7 @@ fn slot_count_for(name_count: usize) -> usize {
 
 // The last four bytes of a name, read as digits. Most names end in a number, so names near each other in a list seldom
 // share a slot.
-fn last_digits(name: &Name) -> usize {
+fn last_four_digits(name: &Name) -> usize {
     match name.bytes() {
         [.., a, b, c, d] => 1000 * *a as usize + 100 * *b as usize + 10 * *c as usize + *d as usize,
         [b, c, d] => 100 * *b as usize + 10 * *c as usize + *d as usize,
@@ -34,14 +34,14 @@ fn last_digits(name: &Name) -> usize {
     }
 }
 
-// As `last_digits`, for five bytes. Tables of both sizes agree on the slot's lower bits, so a table that grows keeps
-// its guesses.
+// As `last_four_digits`, for five bytes. Tables of both sizes agree on the slot's lower bits, so a table that grows
+// keeps its guesses.
 fn last_five_digits(name: &Name) -> usize {
     let fifth = match name.bytes() {
         [.., e, _, _, _, _] => *e as usize,
         _ => 0,
     };
-    (FOUR_DIGIT_SLOTS * fifth).wrapping_add(last_digits(name))
+    (FOUR_DIGIT_SLOTS * fifth).wrapping_add(last_four_digits(name))
 }
 
 // Returns a table of `slot_count` slots in which each name has the guess that it has in `places`.
@@ -80,7 +80,7 @@ impl NameHints {
         let digits = if slots > FOUR_DIGIT_SLOTS {
             last_five_digits(name)
         } else {
-            last_digits(name)
+            last_four_digits(name)
         };
         digits & slots.wrapping_sub(1)
     }

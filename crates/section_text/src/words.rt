@@ -118,7 +118,7 @@ pub(crate) fn is_one_word(line: &[u8]) -> bool
 
 // The name of a line of two words. A name has no space, so what stands behind the first word is not split.
 #[tactic(auto, using(crate::proofs::Splitting::lone_name_is, crate::proofs::Splitting::one_word_is_no_name))]
-pub(crate) fn name_after_keyword_in(line: &[u8]) -> Option<Name>
+pub(crate) fn name_of_two_word_line(line: &[u8]) -> Option<Name>
     ensures { result ≡ name_after_keyword (words_of line.now) }
 {
     let (_, rest) = split_word(line)?;
@@ -127,7 +127,7 @@ pub(crate) fn name_after_keyword_in(line: &[u8]) -> Option<Name>
 
 // The number of a line of two words. A number has no space, so what stands behind the first word is not split.
 #[tactic(auto, using(crate::proofs::Splitting::lone_number_is, crate::proofs::Splitting::one_word_is_no_number))]
-pub(crate) fn number_after_keyword_in(line: &[u8]) -> Option<u32>
+pub(crate) fn number_of_two_word_line(line: &[u8]) -> Option<u32>
     ensures number { result ≡ number_after_keyword (words_of line.now) }
     ensures below_a_billion { IfSome result (λ n. n < 10 ^ 9) }
 {

@@ -5,11 +5,11 @@ use Rattle.soundness.proofs.Imports.{cells_of, cells_taken_at_end, circuit_of, c
 use Rattle.soundness.proofs.Imports.{event_at, in_box, in_halo, in_ring, in_span, is_inside, is_taken, job_demand}
 use Rattle.soundness.proofs.Imports.{job_start, local_run, map, netlist_of, number, place_of, port_at, rectangle_cells}
 use Rattle.soundness.proofs.Imports.{refl, setting_of, signal_at, size_fault, some_neighbour, start_signal, step}
-use Rattle.soundness.proofs.Imports.{takes_at_end, takes_at_start, whole, with_halo, ℕ, ◌∷◌}
+use Rattle.soundness.proofs.Imports.{takes_cells_at_end, takes_cells_at_start, whole, with_halo, ℕ, ◌∷◌}
 use Rattle.bbm_rule.specs.Plane.{partner, turned}
 use Rattle.section_text.proofs.Good.{IsFaultless}
 use Rattle.bbm_rule.specs.CellLists.{cell}
-use Rattle.pattern.specs.Lines.{limit_fault, cells_taken_at_start}
+use Rattle.pattern.specs.Lines.{largest_limit_code, cells_taken_at_start}
 use Rattle.certificate_lines.specs.declared.certificate_line.CertificateLine.{CertificateLine}
 use Rattle.certificate_lines.specs.declared.certificate_line.CertificateLine.TheVariants.{Module, Cut}
 use Rattle.certificate.specs.Grammars.{certificate_grammar}
@@ -74,7 +74,8 @@ are_jobs : AreJobsOf (circuit_of lines) layout modules jobs
 are_jobs = are_jobs_of lines layout modules is_ordered (λ k m at. (are_modules.each k m at, are_modules.ports k m at))
 
 is_bundle : BelongTogether lines layout modules jobs
-unfolding size_fault limit_fault cell_fault is_inside is_taken takes_at_start takes_at_end cells_of cells_taken_at_start
+unfolding size_fault largest_limit_code cell_fault is_inside is_taken takes_cells_at_start takes_cells_at_end cells_of
+    cells_taken_at_start
     cells_taken_at_end in_span
 is_bundle = grind (arith, common_steps, is_ordered, are_modules, are_jobs)
 
@@ -82,7 +83,7 @@ pass : PassTests (setting_of lines layout) modules jobs
 unfolding place_of number rectangle_cells in_box in_ring in_halo some_neighbour in_span entries.change_last
     entries.add_line entries.modules_of start_signal end_demand port_at places placed_gates place_among numbered
     numbered_signals demanded placed_stop bit evaluate job_start job_demand local_run local_step with_halo step partner
-    turned signal_at all_times_at event_at times.lines_by_number
+    turned signal_at all_times_at event_at times.time_lines_by_number
 pass = record { jobs = refl; kept = refl; borders = refl; on_time = refl }
 
 pub example : SomeAcceptedBundle

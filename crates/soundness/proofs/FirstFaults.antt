@@ -2,13 +2,13 @@
 use Rattle.soundness.proofs.Imports.{All, All-cons, All-contains, All-nil, BelongTogether, Bool, Cell, Circuit}
 use Rattle.soundness.proofs.Imports.{CircuitLine, Contains, Demand, Fault, IsModuleAssignmentOf, HasGoodBorders}
 use Rattle.soundness.proofs.Imports.{HasInputNames, IsAsCertified, IsAssignmentOf, IsCorrect, IsFaultUnder}
-use Rattle.soundness.proofs.Imports.{IsFirstFault, IsJobOf, IsModule, IsRunOfJobs, IsStop, JobView, Kind, List}
+use Rattle.soundness.proofs.Imports.{IsAllowedStop, IsFirstFault, IsJobOf, IsModule, IsRunOfJobs, JobView, Kind, List}
 use Rattle.soundness.proofs.Imports.{LocalNet, LooksAsAsked, MeetsDemand, ModuleLines, None, Option, Pattern, Port}
 use Rattle.soundness.proofs.Imports.{Satisfies, Some, State, StopLine, Valuation, [], ap, ap₂, arith, bit}
 use Rattle.soundness.proofs.Imports.{cases_Bool, cell_same, circuit_of, circuit_wire, common_steps, cut_wires, cuts}
 use Rattle.soundness.proofs.Imports.{demand_outside_mirrors, end_demand, false, flat_map, get_or_from_slice_get, in_box}
 use Rattle.soundness.proofs.Imports.{in_cells, in_ports, in_rectangles, inl, inr, is_at, job_demand, kept}
-use Rattle.soundness.proofs.Imports.{known, length, local_run, local_values_agree, netlist_of, none_stands}
+use Rattle.soundness.proofs.Imports.{known, length, local_run, local_values_agree_with_circuit, netlist_of, none_stands}
 use Rattle.soundness.proofs.Imports.{nothing_prop, option_map_or, option_to_list, passed, port_at, port_stands, refl}
 use Rattle.soundness.proofs.Imports.{renumber_demand, renumber_stop, run_under, same_Some, setting_of, slice_get}
 use Rattle.soundness.proofs.Imports.{slice_get_within, slice_index, some_at, stop_with_wire_number, stops}
@@ -17,7 +17,7 @@ use Rattle.soundness.proofs.Imports.{wire_of, wire_or_dead, zero, ℕ, ℤ, ∥�
 use Rattle.lemmas.proofs.Common.{all_unmapped}
 use Rattle.local_run.specs.Faults.{HasFault}
 use Rattle.local_run.proofs.Decided.{fault_same}
-use Rattle.soundness.specs.FirstFaults.{EndFaultMeansIncorrect, FirstFaultIsReal, IsReal}
+use Rattle.soundness.specs.FirstFaults.{EndFaultMeansIncorrect, FirstFaultIsReal, IsRealFault}
 use Rattle.soundness.proofs.InputRuns.{at_place, inputs_decide}
 use Rattle.soundness.proofs.JobSignals.{Known, edge_by_circuit}
 use Rattle.soundness.proofs.StopParts.{all_flat}
@@ -89,8 +89,8 @@ real lines p ms jobs inputs v i m j t AtStop x y b atm atj s good f said =
     let P : listed.Stop → Type 0 = IsStopThere p m v (run_under (circuit_of lines) p v t) t x y in
     let its : P (renumber_stop (circuit_wire j.locals) f.stop) = stop_by_lines (circuit_of lines) p m j P is
     (λ k s at w named.
-    let line : IsStop (setting_of lines p) m.area (known (circuit_of lines) m) s = at_place
-    (IsStop (setting_of lines p) m.area (known (circuit_of lines) m)) (stops m) k s
+    let line : IsAllowedStop (setting_of lines p) m.area (known (circuit_of lines) m) s = at_place
+    (IsAllowedStop (setting_of lines p) m.area (known (circuit_of lines) m)) (stops m) k s
     (b.are_modules.each i m atm).stop_lines at in
     record {
       time = line.time;
@@ -120,7 +120,8 @@ pub seen_fault : (lines : List CircuitLine) (p : Pattern) (m : ModuleLines) (inp
     Satisfies (netlist_of lines) inputs v → IsAssignmentOf j v f.assignment → HasFault j f →
     IsFaultUnder j (values_by_local_number j.locals v) f.time f.kind f.cell.x f.cell.y
 seen_fault lines p m inputs v j f is s under h =
-    let agree = local_values_agree (netlist_of lines) j.locals inputs v f.assignment is.locals s under.bits in
+    let agree = local_values_agree_with_circuit
+    (netlist_of lines) j.locals inputs v f.assignment is.locals s under.bits in
     fault_same j h.values (values_by_local_number j.locals v) f.time f.kind f.cell.x f.cell.y is.own
     (agree.only h.values h.local)
     h.differs
@@ -191,7 +192,7 @@ correct_meets lines p inputs v x y named s correct =
 -- a first fault is real
 pub first_means : (lines : List CircuitLine) (p : Pattern) (ms : List ModuleLines) (jobs : List JobView)
     (inputs v : Valuation) (i : ℕ) (m : ModuleLines) (f : Fault) → HasInputNames lines p →
-    IsFirstFault lines p ms jobs inputs v i m f → IsReal lines p m inputs v f
+    IsFirstFault lines p ms jobs inputs v i m f → IsRealFault lines p m inputs v f
 first_means lines p ms jobs inputs v i m f named first =
     let c = circuit_of lines in
     let j : JobView = first.job in

@@ -4,14 +4,14 @@ pub use Rattle.bbm_rule.specs.declared.block.Cell.{Cell}
 pub use Rattle.border_match.proofs.Bridge.{halo_same}
 pub use Rattle.border_match.proofs.Imports.{All-head, All-tail, AreModules, IfSome, IsBorderFault, IsJob}
 pub use Rattle.border_match.proofs.Imports.{IsLeastBorderFault, Signals, and_parts, ap₂, cases_Bool, circuit_wire}
-pub use Rattle.border_match.proofs.Imports.{edge_signal, events_of_line, false≢true, get_or_from_slice_get, halo_signal}
+pub use Rattle.border_match.proofs.Imports.{edge_signal, event_if_timed, false≢true, get_or_from_slice_get, halo_signal}
 pub use Rattle.border_match.proofs.Imports.{is_among, is_at, line_signals, mapped_from, pos, renumber_event}
 pub use Rattle.border_match.proofs.Imports.{renumber_signal, renumber_signals, setting_of, some_at, take, unwrap_or}
 pub use Rattle.border_match.proofs.Imports.{whole, ℤ, ◌%◌, ◌&&◌, ◌⊎◌}
 unfoldable pub use Rattle.border_match.proofs.Imports.{all_times_at, border_cmp, event_at, in_box, in_halo, signal_at}
 pub use Rattle.border_match.specs.declared.fault.BorderFault.{BorderFault}
-pub use Rattle.certificate.proofs.Imports.{All-append, All-cons, All-nil, Circuit, Gate, IsEven, IsJobOf, IsModule}
-pub use Rattle.certificate.proofs.Imports.{LocalNet, Pattern, all_stops, all_times_of_line, any_at, cell_same}
+pub use Rattle.certificate.proofs.Imports.{All-append, All-cons, All-nil, Circuit, Gate, IsEvenBox, IsJobOf, IsModule}
+pub use Rattle.certificate.proofs.Imports.{LocalNet, Pattern, all_stops, any_at, cell_same, signal_if_starred}
 pub use Rattle.certificate.proofs.Imports.{circuit_of, cut_wires, cuts, demand_outside_mirrors, edges, eqb, eqb-true}
 pub use Rattle.certificate.proofs.Imports.{flat_map, halos, in_cells, in_rectangles, is_inverse, is_kept, is_local}
 pub use Rattle.certificate.proofs.Imports.{keeps, known, list_all, list_any, netlist_of, one_or_named_wire}
@@ -21,14 +21,14 @@ unfoldable pub use Rattle.certificate.proofs.Imports.{Each, end_demand, port_at,
 unfoldable pub use Rattle.certificate.proofs.Imports.{start_signal, unkept_from}
 pub use Rattle.certificate.proofs.StopLemmas.{stops_stand}
 pub use Rattle.certificate.specs.Jobs.{AreJobsOf, stop_with_wire_number, wire_of_optional_name, wire_or_dead}
-pub use Rattle.certificate.specs.Times.{are_all_obeyed, first_seen, last_seen}
+pub use Rattle.certificate.specs.Times.{are_all_timings_obeyed, first_seen_time, last_seen_time}
 pub use Rattle.certificate.specs.declared.times.StopGap.{StopGap}
 pub use Rattle.certificate.specs.declared.times.TimeLine.{TimeLine}
 pub use Rattle.certificate_lines.proofs.BoxPlaces.{box_place, skipped}
 pub use Rattle.certificate_lines.proofs.Imports.{IsTotalOrder, bytes_eq, code_if, is_local_wire, or-false}
 pub use Rattle.certificate_lines.proofs.LayoutPorts.{none_stands, port_stands}
 pub use Rattle.certificate_lines.proofs.Lists.{kept, passed}
-pub use Rattle.certificate_lines.specs.Modules.{IsStop}
+pub use Rattle.certificate_lines.specs.Modules.{IsAllowedStop}
 pub use Rattle.certificate_lines.specs.declared.certificate_line.BorderLine.{BorderLine}
 pub use Rattle.certificate_lines.specs.declared.certificate_line.StopLine.{StopLine}
 pub use Rattle.circuit.proofs.Imports.{as_values, defined, defines, get_or-map-range_with_len, input_names}
@@ -41,7 +41,7 @@ unfoldable pub use Rattle.circuit.specs.Meaning.{place_of}
 pub use Rattle.circuit.specs.declared.circuit_line.CircuitLine.{CircuitLine}
 pub use Rattle.circuit.specs.declared.circuit_line.GateKind.{GateKind}
 pub use Rattle.circuit.specs.declared.circuit_line.GateKind.TheVariants.{Delay, Source}
-pub use Rattle.circuit.specs.declared.circuit_line.Kind.TheVariants.{Input, Output}
+pub use Rattle.circuit.specs.declared.circuit_line.CircuitLineKind.TheVariants.{Input, Output}
 pub use Rattle.core_book.proofs.Imports.{All, AreLeastFaultsOfJob, Bool, IsLeastFault, IsLeastKeepFault, JobView, List}
 pub use Rattle.core_book.proofs.Imports.{ModuleLines, None, Option, Setting, Some, [], ap, append-nil, append_assoc}
 pub use Rattle.core_book.proofs.Imports.{arith, common_steps, cond, delay_and_meet_lines, false, get_or, if◌then◌else◌}
@@ -74,7 +74,8 @@ pub use Rattle.meaning.specs.Implements.{IsCorrect, LooksAsAsked, in_ports, run_
 pub use Rattle.module_box.proofs.Imports.{AreDistinct, AreLocalsOf, length-range_with_len}
 unfoldable pub use Rattle.module_box.proofs.Imports.{some_neighbour}
 pub use Rattle.module_box.proofs.Neighbours.{halo_parts}
-pub use Rattle.module_box.proofs.SeenValues.{choices_are_assignments, local_values_agree, undefined_is_seen}
+pub use Rattle.module_box.proofs.SeenValues.{choices_are_assignments, local_values_agree_with_circuit}
+pub use Rattle.module_box.proofs.SeenValues.{undefined_is_seen}
 pub use Rattle.module_box.specs.LocalValues.{values_by_local_number}
 pub use Rattle.module_box.specs.Locals.{circuit_gate}
 pub use Rattle.module_box.specs.declared.schedules.AllTimesSignal.{AllTimesSignal}
@@ -86,7 +87,7 @@ pub use Rattle.module_job.specs.Signals.{renumber_stop}
 pub use Rattle.module_job.specs.declared.job.Demand.{Demand}
 pub use Rattle.pattern.proofs.Imports.{AreGoodAfter, PortNameLists, has, in_ports_on, parts_of}
 unfoldable pub use Rattle.pattern.proofs.Imports.{cell_fault, cells_of, cells_taken_at_end, is_inside, is_taken}
-unfoldable pub use Rattle.pattern.proofs.Imports.{name_fault, run, start, takes_at_end, takes_at_start}
+unfoldable pub use Rattle.pattern.proofs.Imports.{name_fault, run, start, takes_cells_at_end, takes_cells_at_start}
 pub use Rattle.pattern.specs.declared.layout_line.LayoutHeader.{LayoutHeader}
 pub use Rattle.pattern.specs.declared.layout_line.LayoutLine.{LayoutLine}
 pub use Rattle.pattern.specs.declared.layout_line.LayoutLine.TheVariants.{Ball, In, Mirror, Out, Waste}

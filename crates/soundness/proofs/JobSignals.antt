@@ -2,9 +2,9 @@
 use Rattle.soundness.proofs.Imports.{All, All-head, All-tail, AllTimesSignal, BelongTogether, Bool, BorderLine, Box2}
 use Rattle.soundness.proofs.Imports.{Cell, Circuit, CircuitLine, Demand, IsJobOf, IsModule, JobView, List, LocalNet}
 use Rattle.soundness.proofs.Imports.{MeetsDemand, ModuleLines, None, Option, Pattern, Signal, Some, TimedSignal}
-use Rattle.soundness.proofs.Imports.{Valuation, Zero, [], all_times_at, all_times_of_line, ap, arith, cases_Bool}
+use Rattle.soundness.proofs.Imports.{Valuation, Zero, [], all_times_at, ap, arith, cases_Bool, signal_if_starred}
 use Rattle.soundness.proofs.Imports.{cell_same, circuit_of, circuit_wire, common_steps, edge_signal, edges, event_at}
-use Rattle.soundness.proofs.Imports.{events_of_line, false, flat_map, halo_same, halo_signal, halos, in_box, in_ring}
+use Rattle.soundness.proofs.Imports.{event_if_timed, false, flat_map, halo_same, halo_signal, halos, in_box, in_ring}
 use Rattle.soundness.proofs.Imports.{is_at, is_live, line_signals, mapped_from, one_or_named_wire, refl}
 use Rattle.soundness.proofs.Imports.{renumber_demand, renumber_signal, setting_of, signal_at, slice_get}
 use Rattle.soundness.proofs.Imports.{slice_get_within, some_at, sym, true, true≢false, values_by_local_number, whole, ℕ}
@@ -74,13 +74,13 @@ owner_of lines p ms jobs x y b h =
 one_all_times : (e : BorderLine) (time : Option ℕ) (s : Signal) (rest : List AllTimesSignal) (x y : ℤ) →
     is_at e.cell x y ≡ false →
     all_times_at rest x y ≡ None →
-    all_times_at (all_times_of_line e time s ++ rest) x y ≡ None
+    all_times_at (signal_if_starred e time s ++ rest) x y ≡ None
 unfolding all_times_at
 one_all_times e time s rest x y h1 h2 = grind (arith, common_steps, cond-false)
 
 one_event : (e : BorderLine) (time : Option ℕ) (s : Signal) (rest : List TimedSignal) (t : ℕ) (x y : ℤ) →
     is_at e.cell x y ≡ false → event_at rest t x y ≡ None →
-    event_at (events_of_line e time s ++ rest) t x y ≡ None
+    event_at (event_if_timed e time s ++ rest) t x y ≡ None
 unfolding event_at
 one_event e time s rest t x y h1 h2 = grind (arith, common_steps, cond-false, and-false)
 
@@ -88,7 +88,7 @@ abbrev NamesNot : ℤ → ℤ → BorderLine → Type 0
 NamesNot x y e = is_at e.cell x y ≡ false
 
 no_all_times : (c : Circuit) (es : List BorderLine) (x y : ℤ) → All (NamesNot x y) es →
-    all_times_at (flat_map (λ e. all_times_of_line e e.time (one_or_named_wire c e.signal)) es) x y ≡ None
+    all_times_at (flat_map (λ e. signal_if_starred e e.time (one_or_named_wire c e.signal)) es) x y ≡ None
 unfolding all_times_at
 no_all_times c [] x y all = refl
 no_all_times c (e ∷ es) x y all =
@@ -96,7 +96,7 @@ no_all_times c (e ∷ es) x y all =
     (no_all_times c es x y (All-tail (NamesNot x y) e es all))
 
 no_event : (c : Circuit) (es : List BorderLine) (t : ℕ) (x y : ℤ) → All (NamesNot x y) es →
-    event_at (flat_map (λ e. events_of_line e e.time (one_or_named_wire c e.signal)) es) t x y ≡ None
+    event_at (flat_map (λ e. event_if_timed e e.time (one_or_named_wire c e.signal)) es) t x y ≡ None
 unfolding event_at
 no_event c [] t x y all = refl
 no_event c (e ∷ es) t x y all =

@@ -1,13 +1,14 @@
 -- The cells of a layout: their ports, the start, and the demand at the end
-use Rattle.soundness.proofs.Imports.{AreGoodAfter, Ball, Bool, Box2, Cell, Circuit, In, IsEven, LayoutHeader}
+use Rattle.soundness.proofs.Imports.{AreGoodAfter, Ball, Bool, Box2, Cell, Circuit, In, IsEvenBox, LayoutHeader}
 use Rattle.soundness.proofs.Imports.{LayoutLine, List, MeetsDemand, Mirror, None, Option, Out, Pattern, Port, Some}
 use Rattle.soundness.proofs.Imports.{Valuation, Waste, [], and_from, and_parts, any_at, ap, arith, cell_fault}
 use Rattle.soundness.proofs.Imports.{cell_same, cells_of, cells_taken_at_end, common_steps, end_demand, false}
 use Rattle.soundness.proofs.Imports.{false≢true, in_box, in_cells, in_ports, in_ports_on, in_rectangles, is_at}
 use Rattle.soundness.proofs.Imports.{is_inside, is_live, is_taken, kept, map, none_stands, option_map, option_map_or}
 use Rattle.soundness.proofs.Imports.{parts_of, passed, port_at, port_stands, refl, same_Some, same_truth, size_fault}
-use Rattle.soundness.proofs.Imports.{slice_get, slice_get-map, start, start_signal, suc, sym, takes_at_end}
-use Rattle.soundness.proofs.Imports.{takes_at_start, true, true≢false, values_by_name, whole, wire_or_dead, zero, ℕ, ℤ}
+use Rattle.soundness.proofs.Imports.{slice_get, slice_get-map, start, start_signal, suc, sym, takes_cells_at_end}
+use Rattle.soundness.proofs.Imports.{takes_cells_at_start, true, true≢false, values_by_name, whole, wire_or_dead, zero}
+use Rattle.soundness.proofs.Imports.{ℕ, ℤ}
 use Rattle.soundness.proofs.Imports.{◌&&◌, ◌++◌, ◌||◌, ◌∙◌, ◌∷◌, ◌≡◌}
 use Rattle.lemmas.proofs.Common.{left_is_false}
 use Rattle.bbm_rule.specs.Boxes.{in_box}
@@ -87,7 +88,7 @@ pub whole_inside : (s : LayoutHeader) (x y : ℤ) → in_box (whole s) x y ≡ i
 unfolding in_box
 whole_inside s x y = refl
 
-pub whole_even : (s : LayoutHeader) → size_fault s ≡ None → IsEven (whole s)
+pub whole_even : (s : LayoutHeader) → size_fault s ≡ None → IsEvenBox (whole s)
 whole_even s limits = let sized = is_sized s limits in
     record { x = refl; y = refl; w = sized.width.2; h = sized.height.2 }
 
@@ -114,7 +115,7 @@ record IsFree (s : LayoutHeader) (before : List LayoutLine) (q : Port) : Type 0 
 
 free_here : (s : LayoutHeader) (before : List LayoutLine) (q : Port) → cell_fault s before (Out q) ≡ None →
     IsFree s before q
-unfolding cell_fault is_taken cells_of takes_at_start is_inside
+unfolding cell_fault is_taken cells_of takes_cells_at_start is_inside
 free_here s before q e = grind (arith, common_steps)
 
 all_free : (s : LayoutHeader) (before : List LayoutLine) (ports : List Port) (rest : List LayoutLine) →
@@ -139,8 +140,8 @@ output_free p good i q e =
     (good_behind p.size (map Mirror p.mirrors ++ map Ball p.balls) (map In p.ins) outs ins) i q e
 
 mirror_ends : (r : Box2) (x y : ℤ) → in_box r x y ≡ true →
-    (takes_at_end (Mirror r) && holds (Mirror r) x y) ≡ true
-unfolding takes_at_end cells_of
+    (takes_cells_at_end (Mirror r) && holds (Mirror r) x y) ≡ true
+unfolding takes_cells_at_end cells_of
 mirror_ends r x y h = in_box_cells r x y ∙ h
 
 mirror_ended : (p : Pattern) (x y : ℤ) → in_rectangles p.mirrors x y ≡ true →

@@ -2,10 +2,11 @@
 use Rattle.soundness.proofs.Imports.{Accepts, AreDistinct, AreJobsOf, AreModules, Bool, BorderLine, Box2, Circuit}
 use Rattle.soundness.proofs.Imports.{CircuitLine, Fault, IfSome, IsFault, IsJobOf, IsKeepFault, IsModule}
 use Rattle.soundness.proofs.Imports.{IsSignalWireBelow, IsTrue, JobView, KeepFault, List, ModuleLines, None, Option}
-use Rattle.soundness.proofs.Imports.{Pattern, Setting, Signal, Some, Wire, Zero, [], ap, are_all_obeyed, arith}
+use Rattle.soundness.proofs.Imports.{Pattern, Setting, Signal, Some, Wire, Zero, [], ap, are_all_timings_obeyed, arith}
 use Rattle.soundness.proofs.Imports.{cases_Bool, circuit_of, circuit_wire, common_steps, edge_signal, edges, false}
-use Rattle.soundness.proofs.Imports.{first_seen, halo_same, halo_signal, halos, in_box, in_halo, inl, inr, is_among}
-use Rattle.soundness.proofs.Imports.{is_local, is_local_wire, job_demand, job_start, known, last_seen, length}
+use Rattle.soundness.proofs.Imports.{first_seen_time, halo_same, halo_signal, halos, in_box, in_halo, inl, inr}
+use Rattle.soundness.proofs.Imports.{is_among}
+use Rattle.soundness.proofs.Imports.{is_local, is_local_wire, job_demand, job_start, known, last_seen_time, length}
 use Rattle.soundness.proofs.Imports.{length-map, line_signals, list_any, map, mapped_from, modules, nat_lt, nat_tests}
 use Rattle.soundness.proofs.Imports.{not, one_or_named_wire, refl, renumber_signal, renumber_signals, setting}
 use Rattle.soundness.proofs.Imports.{setting_of, signal_at, slice_get, slice_get_within, slice_index, some_at, stops}
@@ -242,7 +243,7 @@ module _ (lines : List CircuitLine) (p : Pattern) (ms : List ModuleLines) (jobs 
           (are.each number (with_halos g ms m.0) k (mapped_at (with_halos g ms) ms number m.0 m.1) at) f is);
       kept = λ number gate at inverse. kept_of_all g ms ms number ∙ ok.kept number gate at inverse;
       on_time = subst (λ ss. IsTrue
-          (are_all_obeyed (time_lines_of_gates (first_seen c ss) (last_seen c ss) c.netlist.gates)))
+          (are_all_timings_obeyed (time_lines_of_gates (first_seen_time c ss) (last_seen_time c ss) c.netlist.gates)))
           (sym (stops_of_all g ms ms)) ok.on_time;
     };
   }

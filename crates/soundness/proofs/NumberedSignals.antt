@@ -1,7 +1,7 @@
 -- The wires that signals name, by their places in a list of wires
 use Rattle.soundness.proofs.Imports.{AllTimesSignal, Bool, BorderLine, Circuit, Each, IfSome, IsSignalWireBelow, IsTrue}
 use Rattle.soundness.proofs.Imports.{List, None, One, Option, Signal, Signals, Some, TimedSignal, Wire, Zero, []}
-use Rattle.soundness.proofs.Imports.{all_times_of_line, arith, common_steps, events_of_line, false, false≢true}
+use Rattle.soundness.proofs.Imports.{arith, common_steps, event_if_timed, false, false≢true, signal_if_starred}
 use Rattle.soundness.proofs.Imports.{if◌then◌else◌, is_among, is_local, is_local_wire, length, line_signals, map}
 use Rattle.soundness.proofs.Imports.{nat_tests, one_or_named_wire, refl, renumber_all_times, renumber_event}
 use Rattle.soundness.proofs.Imports.{renumber_signal, slice_index, suc, true, wire_of, wire_or_zero, ℕ, ◌++◌, ◌<◌, ◌==◌}
@@ -76,7 +76,7 @@ module _ (c : Circuit) (ws : List ℕ) where
 
   back_from : (e : BorderLine) (time : Option ℕ) (s : Signal) (hs : List AllTimesSignal) (es : List TimedSignal) →
       IsNumbered ws s →
-      IsBack hs es → IsBack (all_times_of_line e time s ++ hs) (events_of_line e time s ++ es)
+      IsBack hs es → IsBack (signal_if_starred e time s ++ hs) (event_if_timed e time s ++ es)
   unfolding numbered_all_times numbered_event Each
   back_from e None s hs es is more = grind (arith, common_steps)
   back_from e (Some t) s hs es is more = grind (arith, common_steps)

@@ -5,15 +5,17 @@ use Rattle.soundness.proofs.Imports.{BorderFault, Circuit, CircuitLine, Contains
 use Rattle.soundness.proofs.Imports.{Gate, IsModuleAssignmentOf, Greater, HasGoodBorders, HasInputNames}
 use Rattle.soundness.proofs.Imports.{IsAcceptedBundle, IsAsCertified, IsAssignmentOf, IsBorderFault, IsCorrect, IsFault}
 use Rattle.soundness.proofs.Imports.{IsFaultUnder, IsFirstFault, IsInputName, IsJobOf, IsKeepFault, IsLeastBorderFault}
-use Rattle.soundness.proofs.Imports.{IsLeastFault, IsLeastKeepFault, IsRunOfJobs, IsStop, IsVerdict, JobView, KeepFault}
+use Rattle.soundness.proofs.Imports.{IsAllowedStop, IsLeastFault, IsLeastKeepFault, IsRunOfJobs, IsVerdict, JobView}
+use Rattle.soundness.proofs.Imports.{KeepFault}
 use Rattle.soundness.proofs.Imports.{Kind, LeastFaults, List, ModuleLines, None, Option, Pattern, ReportLine, Satisfies}
 use Rattle.soundness.proofs.Imports.{Some, StopGap, StopHolds, StopLine, TimeLine, Valuation, Zero, [], all_stops}
-use Rattle.soundness.proofs.Imports.{and_from, ap, append-nil, ap₂, are_all_obeyed, arith, assignments, bit}
+use Rattle.soundness.proofs.Imports.{and_from, ap, append-nil, ap₂, are_all_timings_obeyed, arith, assignments, bit}
 use Rattle.soundness.proofs.Imports.{border_line, cases_Bool, circuit_gate, circuit_of, common_steps, cut_wires, cuts}
 use Rattle.soundness.proofs.Imports.{defines, delay_and_meet_lines, edge_signal, eq-eqb, eqb, eqb-true, false}
 use Rattle.soundness.proofs.Imports.{false≢true, fault_cmp, halo_parts, has_valuation, if◌then◌else◌, in_ring, inl, inr}
 use Rattle.soundness.proofs.Imports.{is_among, is_inverse, is_live, keep_line, keeps, kept, known, length, list_all}
-use Rattle.soundness.proofs.Imports.{local_line, local_run, local_values_agree, map, netlist_of, not, nothing_prop}
+use Rattle.soundness.proofs.Imports.{local_line, local_run, local_values_agree_with_circuit, map, netlist_of, not}
+use Rattle.soundness.proofs.Imports.{nothing_prop}
 use Rattle.soundness.proofs.Imports.{only_inverse, option_map, option_map_or, option_to_list, ordering_then, props}
 use Rattle.soundness.proofs.Imports.{refl, renumber_keep, report_lines_from, same_Some, setting_of, signal_at}
 use Rattle.soundness.proofs.Imports.{slice_get, slice_get_within, some_at, stops, subst, suc, sym, timing_report_line}
@@ -22,12 +24,14 @@ use Rattle.soundness.proofs.Imports.{values_by_local_number, whole, wire_of, zer
 use Rattle.soundness.proofs.Imports.{◌||◌, ◌∙◌, ◌∷◌, ◌≡◌, ◌≢◌, ◌≤◌}
 use Rattle.lemmas.proofs.Common.{nat_cmp}
 use Rattle.circuit.specs.Gates.{uses}
-use Rattle.certificate.specs.Arrivals.{AreOnTime, IsFirstTime, IsLastTime, TakesSteps, IsTimeLineTrue, IsDelayGapTrue}
+use Rattle.certificate.specs.Arrivals.{AreOnTime, IsFirstStopTime, IsLastStopTime, TakesStepsBetweenStops}
+use Rattle.certificate.specs.Arrivals.{IsTimeLineTrue, IsDelayGapTrue}
 use Rattle.certificate.specs.Times.{is_obeyed}
 use Rattle.certificate.specs.declared.times.StopGap.TheVariants.{Steps, Missing, Before}
 use Rattle.certificate.proofs.ArrivalLemmas.{lines_tell}
 use Rattle.local_run.specs.Faults.{IsEdgeFault}
-use Rattle.soundness.specs.PlainCertificates.{IsPlain, IsWrongDesign, PlainCertificateDecides, PlainNoMeansWrong}
+use Rattle.soundness.specs.PlainCertificates.{IsPlainModule, IsWrongDesign, PlainNoMeansWrong}
+use Rattle.soundness.specs.PlainCertificates.{PlainVerdictDecidesDesign}
 use Rattle.soundness.specs.PlainCertificates.{TouchesRim, UntimedIsOnTime, IsLiveOnRim, KeepLineMeans, LineMeans}
 use Rattle.soundness.specs.PlainCertificates.{DelayLineMeans, MeetLineMeans, PlainReportLinesHaveMeaning}
 use Rattle.soundness.specs.PlainCertificates.{LocalLineMeans}
@@ -102,14 +106,16 @@ delay_wires m n (f ∷ gs) zero g ordered at is =
     subst HasOneWire same (grind (arith, common_steps))
 delay_wires m n (f ∷ gs) (suc k) g ordered at is = delay_wires (m + defines f.kind) n gs k g ordered.3 at is
 
-same_steps : (c : Circuit) (ss : List StopLine) (m n a b : ℕ) → TakesSteps c ss m a b → TakesSteps c ss n a b → m ≡ n
+same_steps : (c : Circuit) (ss : List StopLine) (m n a b : ℕ) → TakesStepsBetweenStops c ss m a b →
+    TakesStepsBetweenStops c ss n a b → m ≡ n
 same_steps c ss m n a b s t = grind (arith, common_steps)
 
-not_before : (c : Circuit) (ss : List StopLine) (n a b s t : ℕ) → TakesSteps c ss n a b → IsLastTime c ss a s →
-    IsFirstTime c ss b t → t < s → ⊥
+not_before : (c : Circuit) (ss : List StopLine) (n a b s t : ℕ) → TakesStepsBetweenStops c ss n a b →
+    IsLastStopTime c ss a s →
+    IsFirstStopTime c ss b t → t < s → ⊥
 not_before c ss n a b s t takes last first lt = grind (arith, common_steps)
 
-kept_gap : (c : Circuit) (ss : List StopLine) (k n a b : ℕ) (gap : StopGap) → TakesSteps c ss n a b →
+kept_gap : (c : Circuit) (ss : List StopLine) (k n a b : ℕ) (gap : StopGap) → TakesStepsBetweenStops c ss n a b →
     IsDelayGapTrue c ss gap a b → is_obeyed (times.Delay k n gap) ≡ true
 kept_gap c ss k n a b (Steps m) takes tells = eq-eqb m n (same_steps c ss m n a b tells takes)
 kept_gap c ss k n a b Missing takes tells = absurd (tells takes.leaves (takes.leaves + n) takes.last takes.first)
@@ -134,7 +140,7 @@ all_true P test (l ∷ ls) h all = and_from (test l) (list_all test ls) (h l (Al
 
 timed_is_kept : (lines : List CircuitLine) (ms : List ModuleLines) → AreOrdered (netlist_of lines).given
     (netlist_of lines).gates → AreOnTime (circuit_of lines) (all_stops ms) →
-    are_all_obeyed (delay_and_meet_lines (circuit_of lines) ms) ≡ true
+    are_all_timings_obeyed (delay_and_meet_lines (circuit_of lines) ms) ≡ true
 timed_is_kept lines ms ordered timed =
     all_true (IsTimeLineTrue (circuit_of lines) (all_stops ms)) is_obeyed (delay_and_meet_lines (circuit_of lines) ms)
     (λ l.
@@ -206,7 +212,7 @@ only_number m k n h1 = grind (arith, common_steps)
 
 module _ (lines : List CircuitLine) (p : Pattern) (m : ModuleLines) (jobs : List JobView)
     (named : HasInputNames lines p)
-    (b : BelongTogether lines p (m ∷ []) jobs) (plain : IsPlain lines p m) where
+    (b : BelongTogether lines p (m ∷ []) jobs) (plain : IsPlainModule lines p m) where
   abbrev c : Circuit
   c = circuit_of lines
 
@@ -317,7 +323,8 @@ module _ (lines : List CircuitLine) (p : Pattern) (m : ModuleLines) (jobs : List
 
   in_time : (j : JobView) → IsJobOf c p m j → (s : listed.Stop) → Contains j.stops s → s.at.time ≤ p.size.steps
   in_time j is s has = stop_by_lines c p m j (λ r. r.at.time ≤ p.size.steps) is (λ k s at w e.
-      (at_place (IsStop (setting_of lines p) m.area (known c m)) (stops m) k s (b.are_modules.each 0 m refl).stop_lines
+      (at_place (IsAllowedStop (setting_of lines p) m.area (known c m)) (stops m) k s
+      (b.are_modules.each 0 m refl).stop_lines
       at).time) s has
 
   -- the stops hold
@@ -365,7 +372,8 @@ module _ (lines : List CircuitLine) (p : Pattern) (m : ModuleLines) (jobs : List
       ¬ Satisfies (netlist_of lines) (its_inputs f.assignment) v
   no_values j f is fault v s =
       let under = induced j f.assignment v is fault.in_range s in
-      let agree = local_values_agree (netlist_of lines) j.locals (its_inputs f.assignment) v f.assignment is.locals
+      let agree = local_values_agree_with_circuit (netlist_of lines) j.locals
+      (its_inputs f.assignment) v f.assignment is.locals
       s under.bits in
       ∥∥₁_elim fault.shown nothing_prop (λ u. undefined_has_none j.locals.netlist (bit f.assignment)
       (values_by_local_number j.locals v) f.gate is.locals.ordered u agree.is_local)
@@ -385,7 +393,7 @@ module _ (lines : List CircuitLine) (p : Pattern) (m : ModuleLines) (jobs : List
 
   accepts : ((n : ℕ) (j : JobView) (f : Fault) → slice_get jobs n ≡ Some j → ¬ IsFault j f) →
       ((n : ℕ) (j : JobView) (f : KeepFault) → slice_get jobs n ≡ Some j → ¬ IsKeepFault j f) →
-      are_all_obeyed (delay_and_meet_lines c (m ∷ [])) ≡ true → Accepts (setting_of lines p) (m ∷ []) jobs
+      are_all_timings_obeyed (delay_and_meet_lines c (m ∷ [])) ≡ true → Accepts (setting_of lines p) (m ∷ []) jobs
   accepts none no_keep timed = record {
     no_fault = none;
     no_border_fault = no_border;
@@ -484,7 +492,7 @@ module _ (lines : List CircuitLine) (p : Pattern) (m : ModuleLines) (jobs : List
   its_own n j k it at = same_Some k j (sym at ∙ ap (slice_get jobs) (its_job n k at).first ∙ it.at)
 
   decide : (o : Option Fault) (q : Option KeepFault) (timed : Bool) (j : JobView) → IsItsJob 0 j → IsLeastFault j o →
-      IsLeastKeepFault j q → are_all_obeyed (delay_and_meet_lines c (m ∷ [])) ≡ timed →
+      IsLeastKeepFault j q → are_all_timings_obeyed (delay_and_meet_lines c (m ∷ [])) ≡ timed →
       ¬ Accepts (setting_of lines p) (m ∷ []) jobs → IsWrongDesign lines p m
   decide (Some f) q timed j it least least_keep e not = by_kind f f.kind refl (shows f j it least.0 least.1)
   decide None (Some g) timed j it least least_keep e not = inl (λ right. no_keep right 0 j g it.at least_keep.0)
@@ -510,7 +518,7 @@ module _ (lines : List CircuitLine) (p : Pattern) (m : ModuleLines) (jobs : List
       let w = delay_wires (netlist_of lines).given n (netlist_of lines).gates k g b.ordered at is in
       let same : g ≡ record { kind = Delay n; ins = w.used ∷ []; outs = w.made ∷ [] } = grind (arith, common_steps) in
       let takes : IsDelayGapTrue c ss gap w.used w.made = tells w.used w.made w.ins w.outs in
-      let kept : TakesSteps c ss n w.used w.made → gap ≡ Steps n =
+      let kept : TakesStepsBetweenStops c ss n w.used w.made → gap ≡ Steps n =
       λ steps. gap_is k n gap (kept_gap c ss k n w.used w.made gap steps takes) in
       record {
         used = w.used;
@@ -571,7 +579,7 @@ module _ (lines : List CircuitLine) (p : Pattern) (m : ModuleLines) (jobs : List
       (all_timed Means (IsTimeLineTrue c (all_stops (m ∷ []))) (delay_and_meet_lines c (m ∷ [])) time_means
       (lines_tell c (m ∷ []))))
 
-pub plain_decides : PlainCertificateDecides
+pub plain_decides : PlainVerdictDecidesDesign
 plain_decides lines p m jobs named ports b plain = (
   (λ is.
       let all : IsAcceptedBundle lines p (m ∷ []) jobs = record { bundle = b; accepted = is } in (

@@ -6,7 +6,7 @@ use Rattle.soundness.proofs.Imports.{kept, length, list_all, list_any, map, name
 use Rattle.soundness.proofs.Imports.{output_names, parts_of, refl, same_truth, skipped, slice_get, slice_get-map, subst}
 use Rattle.soundness.proofs.Imports.{suc, sym, true, ℕ, ◌++◌, ◌+◌, ◌||◌, ◌∙◌, ◌∷◌, ◌≡◌}
 use Rattle.lemmas.proofs.Common.{bytes_eq-Decides, list_any-append}
-use Rattle.pattern.specs.Lines.{is_in_line_named, is_out_line_named, missing_fault}
+use Rattle.pattern.specs.Lines.{is_input_cell_named, is_output_cell_named, missing_fault}
 use Rattle.soundness.specs.HeadlineLaws.{ReadLayoutHasPortNames}
 use Rattle.soundness.proofs.InputRuns.{at_place, in_known, in_stands}
 use Rattle.section_text.proofs.Codes.{no_code}
@@ -54,11 +54,12 @@ five_parts : (f : LayoutLine → Bool) (a b c d e : List LayoutLine) →
     ≡ (list_any f a || (list_any f b || (list_any f c || (list_any f d || list_any f e))))
 five_parts f a b c d e = grind (arith, common_steps, list_any-append)
 
-pub in_lines : (p : Pattern) (n : List ℕ) → list_any (is_in_line_named n) (parts_of p) ≡ has (map (λ q. q.name) p.ins) n
+pub in_lines : (p : Pattern) (n : List ℕ) →
+    list_any (is_input_cell_named n) (parts_of p) ≡ has (map (λ q. q.name) p.ins) n
 in_lines p n = grind (arith, common_steps, five_parts, none_in, all_in, or-false)
 
 pub out_lines : (p : Pattern) (n : List ℕ) →
-    list_any (is_out_line_named n) (parts_of p) ≡ has (map (λ q. q.name) p.outs) n
+    list_any (is_output_cell_named n) (parts_of p) ≡ has (map (λ q. q.name) p.outs) n
 out_lines p n = grind (arith, common_steps, five_parts, none_in, all_in, or-false)
 
 -- ---- output cells
@@ -84,8 +85,8 @@ out_stands p i q e =
 -- ---- the whole
 
 all_stand : (names : PortNameLists) (parts : List LayoutLine) → missing_fault (Some names) parts ≡ None →
-    (list_all (λ n. list_any (is_in_line_named n) parts) names.ins ≡ true)
-    × (list_all (λ n. list_any (is_out_line_named n) parts) names.outs ≡ true)
+    (list_all (λ n. list_any (is_input_cell_named n) parts) names.ins ≡ true)
+    × (list_all (λ n. list_any (is_output_cell_named n) parts) names.outs ≡ true)
 unfolding missing_fault
 all_stand names parts e = grind (arith, common_steps, and_parts, no_code)
 
@@ -99,11 +100,12 @@ read_layout-is_named lines p named =
           (λ i q e. in_known names.ins names.outs q
           (at_place (λ (part : LayoutLine). name_fault (Some names) part ≡ None) (parts_of p) _ (In q) named.good
           (in_stands p i q e))))
-          (λ h. sym (in_lines p n) ∙ all_have (λ n. list_any (is_in_line_named n) (parts_of p)) names.ins n all.0 h);
+          (λ h. sym (in_lines p n) ∙ all_have (λ n. list_any (is_input_cell_named n) (parts_of p)) names.ins n all.0 h);
       outs = λ n. same_truth _ _
           (ports_known names.outs p.outs n
           (λ i q e. out_known names q (at_place (λ (part : LayoutLine). name_fault (Some names) part ≡ None)
           (parts_of p)
           (out_place p i) (Out q) named.good (out_stands p i q e))))
-          (λ h. sym (out_lines p n) ∙ all_have (λ n. list_any (is_out_line_named n) (parts_of p)) names.outs n all.1 h);
+          (λ h. sym (out_lines p n) ∙ all_have
+          (λ n. list_any (is_output_cell_named n) (parts_of p)) names.outs n all.1 h);
     }

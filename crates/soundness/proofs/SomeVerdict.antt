@@ -1,8 +1,10 @@
 -- The modules of a certificate have jobs and a verdict
 use Rattle.soundness.proofs.Imports.{AreJobsOf, AreLeastFaultsOfJob, AreModules, AreOrdered, Bool, BorderFault, Box2}
-use Rattle.soundness.proofs.Imports.{CircuitLine, Gate, IsEven, IsJob, IsJobOf, IsLeastBorderFault, IsModule, IsVerdict}
+use Rattle.soundness.proofs.Imports.{CircuitLine, Gate, IsEvenBox, IsJob, IsJobOf, IsLeastBorderFault, IsModule}
+use Rattle.soundness.proofs.Imports.{IsVerdict}
 use Rattle.soundness.proofs.Imports.{JobView, LeastFaults, List, ModuleLines, None, Option, Pattern, ReportLine}
-use Rattle.soundness.proofs.Imports.{Setting, Some, TimeLine, Yes, [], ap, append-nil, append_assoc, are_all_obeyed}
+use Rattle.soundness.proofs.Imports.{Setting, Some, TimeLine, Yes, [], ap, append-nil, append_assoc}
+use Rattle.soundness.proofs.Imports.{are_all_timings_obeyed}
 use Rattle.soundness.proofs.Imports.{arith, circuit_of, common_steps, cond, defined, delay_and_meet_lines, false}
 use Rattle.soundness.proofs.Imports.{get_or, in_box, inl, inr, is_inverse, is_kept, length, length-append, length-map}
 use Rattle.soundness.proofs.Imports.{map, nat_lt, nat_tests, netlist_of, not, option_map, option_to_list, refl}
@@ -12,11 +14,11 @@ use Rattle.soundness.proofs.Imports.{timing_report_line, true, unkept_from, unke
 use Rattle.soundness.proofs.Imports.{◌<◌, ◌||◌, ◌∙◌, ◌∷◌, ◌≡◌, ◌≤◌}
 use Rattle.lemmas.proofs.Common.{◌^◌, Global, Vec, nat_le}
 use Rattle.circuit.specs.Bridge.{AreGoodCircuitLines, AreGoodAfter}
-use Rattle.circuit.specs.Rules.{added_line_code, gate_count, is_gate, is_wrong_delay, exceeds_limit}
+use Rattle.circuit.specs.Rules.{limit_or_name_code, gate_count, is_gate, is_wrong_delay, exceeds_largest_limit}
 use Rattle.circuit.proofs.Bridging.{count_append, gates_are_ordered}
 use Rattle.circuit.proofs.Naming.{gates_counted}
 use Rattle.certificate.specs.StopLists.{AreStops}
-use Rattle.certificate.specs.Times.{lines_by_number}
+use Rattle.certificate.specs.Times.{time_lines_by_number}
 use Rattle.certificate.proofs.JobLemmas.{within_512}
 use Rattle.certificate.proofs.StopLemmas.{stops_rise}
 use Rattle.border_match.specs.BorderFaults.{AreBorderFaultsOf}
@@ -61,8 +63,8 @@ one_each ms n (g ∷ gs) =
     at_most n b = grind (arith, common_steps)
 
 line_each : (f : ℕ → Gate → List TimeLine) → ((k : ℕ) (g : Gate) → length (f k g) ≤ 1) → (k : ℕ) (gs : List Gate) →
-    length (lines_by_number f k gs) ≤ length gs
-unfolding lines_by_number
+    length (time_lines_by_number f k gs) ≤ length gs
+unfolding time_lines_by_number
 line_each f few k [] = omega arith
 line_each f few k (g ∷ gs) = grind (arith, common_steps, length-append, (line_each f few (k + 1) gs))
 
@@ -80,10 +82,10 @@ one_gate_more false n e le = omega (arith, le)
 
 gates_below : (before rest : List CircuitLine) → AreGoodAfter before rest → gate_count before ≤ max_gates →
     gate_count (before ++ rest) ≤ max_gates
-unfolding AreGoodAfter added_line_code
+unfolding AreGoodAfter limit_or_name_code
 gates_below before [] good h = subst (λ l. gate_count l ≤ max_gates) (sym (append-nil before)) h
 gates_below before (r ∷ rest) good h =
-    let passes = no_code (exceeds_limit before r) _ (no_code_first _ _ good.0.adds) in
+    let passes = no_code (exceeds_largest_limit before r) _ (no_code_first _ _ good.0.adds) in
     let last = last_false (is_wrong_delay r.kind) (nat_lt max_wires (length (defined before) + length r.outs))
     (is_gate r.kind && nat_le max_gates (gate_count before)) passes in
     let count : gate_count (before ++ r ∷ []) ≡ gate_count before + cond (is_gate r.kind) 1 0 =
@@ -181,7 +183,7 @@ job_good lines p m j limits own is =
     let said : AreStops c j.locals (stops m) j.stops = record { same = is.stops; own = is.own.stops } in
     let area = sym is.area in
     record {
-      even = subst IsEven area own.even;
+      even = subst IsEvenBox area own.even;
       width = subst (λ (b : Box2). (2 ≤ b.w) × (b.w ≤ 64) × (b.x + b.w ≤ max_side)) area
           (own.wide.0, own.wide.1, fits.0);
       height = subst (λ (b : Box2). (2 ≤ b.h) × (b.h ≤ 64) × (b.y + b.h ≤ max_side)) area
@@ -286,7 +288,7 @@ module _ (lines : List CircuitLine) (p : Pattern) (ms : List ModuleLines) (good 
   verdict : (v : Verdict) × IsVerdict g ms js v
   unfolding IsVerdict
   verdict = elim (both_decided (empty_decided (report_lines_from 0 fs bs ++ unkept_lines g ms))
-      (λ _. true_decided (are_all_obeyed (delay_and_meet_lines g.circuit ms)))) [
+      (λ _. true_decided (are_all_timings_obeyed (delay_and_meet_lines g.circuit ms)))) [
         | inl h ↦ (Yes, accepted g ms js fs bs reasons.1 are_borders same_count h.0 h.1)
         | inr not_so ↦
             let v = vec_of all_lines few_lines in (

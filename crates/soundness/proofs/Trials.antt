@@ -5,7 +5,8 @@ use Rattle.soundness.proofs.Imports.{Accepts, AreJobsOf, AreModules, AreOrdered,
 use Rattle.soundness.proofs.Imports.{CircuitLine, Demand, Edge, End, Fault, Gate, IsBorderFault, IsFault, IsFaultUnder}
 use Rattle.soundness.proofs.Imports.{IsJob, IsKeepFault, IsTrue, JobView, KeepFault, Kind, List, MeetsDemand}
 use Rattle.soundness.proofs.Imports.{ModuleLines, None, Option, Pattern, Setting, Some, Stop, Valuation, [], and_parts}
-use Rattle.soundness.proofs.Imports.{ap, are_all_obeyed, arith, as_values, assignments, bit, box_place, circuit_of}
+use Rattle.soundness.proofs.Imports.{ap, are_all_timings_obeyed, arith, as_values, assignments, bit, box_place}
+use Rattle.soundness.proofs.Imports.{circuit_of}
 use Rattle.soundness.proofs.Imports.{common_steps, decided, delay_and_meet_lines, edge_signal, evaluate, evaluated}
 use Rattle.soundness.proofs.Imports.{false, false≢true, get_or-map-range_with_len, halo_signal, in_box, in_halo}
 use Rattle.soundness.proofs.Imports.{in_ring, is_inverse, is_kept, is_live, job_demand, length, length-map}
@@ -193,7 +194,7 @@ pub record PassTests (g : Setting) (ms : List ModuleLines) (js : List JobView) :
   pub jobs : list_all job_test js ≡ true
   pub kept : kept_test g ms ≡ true
   pub borders : at_odd_times g.size.steps (border_test g ms) ≡ true
-  pub on_time : are_all_obeyed (delay_and_meet_lines g.circuit ms) ≡ true
+  pub on_time : are_all_timings_obeyed (delay_and_meet_lines g.circuit ms) ≡ true
 
 pub accepts : (lines : List CircuitLine) (p : Pattern) (ms : List ModuleLines) (js : List JobView) →
     size_fault p.size ≡ None → AreModules (setting_of lines p) ms → AreJobsOf (circuit_of lines) p ms js →

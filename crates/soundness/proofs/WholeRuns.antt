@@ -1,11 +1,13 @@
 -- The run of the whole plane is that of the jobs
 use Rattle.soundness.proofs.Imports.{All, BelongTogether, Bool, CircuitLine, Contains, Demand, Fault, HasGoodBorders}
 use Rattle.soundness.proofs.Imports.{HasInputNames, IsAcceptedBundle, IsAssignmentOf, IsFault, IsFaultUnder, IsJobOf}
-use Rattle.soundness.proofs.Imports.{IsRunOfJobs, IsStop, JobView, Kind, List, LooksAsAsked, MeetsDemand, ModuleLines}
+use Rattle.soundness.proofs.Imports.{IsAllowedStop, IsRunOfJobs, JobView, Kind, List, LooksAsAsked, MeetsDemand}
+use Rattle.soundness.proofs.Imports.{ModuleLines}
 use Rattle.soundness.proofs.Imports.{Pattern, Satisfies, Some, State, StopHolds, StopLine, Valuation, and_parts, ap}
 use Rattle.soundness.proofs.Imports.{arith, cases_Bool, choices_are_assignments, circuit_of, circuit_wire, common_steps}
 use Rattle.soundness.proofs.Imports.{end_demand, false, false≢true, halo_parts, in_box, in_halo, in_ring, inl, inr}
-use Rattle.soundness.proofs.Imports.{is_live, job_demand, known, local_run, local_values_agree, netlist_of, not}
+use Rattle.soundness.proofs.Imports.{is_live, job_demand, known, local_run, local_values_agree_with_circuit, netlist_of}
+use Rattle.soundness.proofs.Imports.{not}
 use Rattle.soundness.proofs.Imports.{option_map_or, refl, renumber_stop, run, run_under, setting_of, signal_at}
 use Rattle.soundness.proofs.Imports.{slice_get, slice_get-get_or, slice_get_within, some_at, some_neighbour, step}
 use Rattle.soundness.proofs.Imports.{stop_with_wire_number, stops, subst, suc, sym, true, true≢false}
@@ -87,7 +89,7 @@ own_fault : (lines : List CircuitLine) (p : Pattern) (ms : List ModuleLines) (in
     IsFaultUnder j (values_by_local_number j.locals v) t kind x y →
     IsFault j (fault_at t kind x y a)
 own_fault lines p ms inputs v i t a j kind x y k s is differs =
-    let agree = local_values_agree (netlist_of lines) j.locals inputs v a k.is_job.locals s is.bits in
+    let agree = local_values_agree_with_circuit (netlist_of lines) j.locals inputs v a k.is_job.locals s is.bits in
     grind (arith, common_steps)
 
 -- ---- local runs stay in their boxes
@@ -372,7 +374,7 @@ stop_holds : (lines : List CircuitLine) (p : Pattern) (ms : List ModuleLines) (j
     HasInputNames lines p →
     IsAcceptedBundle lines p ms jobs →
     (i k : ℕ) (m : ModuleLines) (s : StopLine) → slice_get ms i ≡ Some m → slice_get (stops m) k ≡ Some s →
-    IsStop (setting_of lines p) m.area (known (circuit_of lines) m) s → StopHolds (circuit_of lines) p s
+    IsAllowedStop (setting_of lines p) m.area (known (circuit_of lines) m) s → StopHolds (circuit_of lines) p s
 stop_holds lines p ms jobs named all i k m s at has line inputs v satisfied =
     let set : Faultless lines p ms jobs inputs v =
     record { bundle = all.bundle; right = right_of lines p ms jobs all; satisfied = satisfied } in

@@ -114,7 +114,7 @@ IsModuleAssignmentOf c m v a =
 -- The fault of module m is one of the whole plane, if the inputs have these values and the wires the values v: there
 -- the cell is not as certified. If it is a fault at the end, the plane does not look as asked after the last step, so
 -- the layout does not compute the circuit.
-pub record IsReal (lines : List CircuitLine) (p : Pattern) (m : ModuleLines) (inputs v : Valuation)
+pub record IsRealFault (lines : List CircuitLine) (p : Pattern) (m : ModuleLines) (inputs v : Valuation)
     (f : Fault) : Type 0 where
   pub differs : ¬ IsAsCertified (circuit_of lines) p m v f.time f.kind f.cell.x f.cell.y
   pub not_asked : f.kind ≡ End →
@@ -127,4 +127,4 @@ EarliestLineIsReal = (lines : List CircuitLine) (p : Pattern) (ms : List ModuleL
     (report : Vec ReportLine Global) (inputs v : Valuation) (i : ℕ) (m : ModuleLines) (f : Fault) →
     HasInputNames lines p → BelongTogether lines p ms jobs → IsVerdict (setting_of lines p) ms jobs (No report) →
     IsEarliestLine report.items i f → slice_get ms i ≡ Some m → Satisfies (netlist_of lines) inputs v →
-    IsModuleAssignmentOf (circuit_of lines) m v f.assignment → IsReal lines p m inputs v f
+    IsModuleAssignmentOf (circuit_of lines) m v f.assignment → IsRealFault lines p m inputs v f

@@ -2,7 +2,7 @@
 use Rattle.std.specs.Prelude.{◌≡◌, ℕ, suc, ℤ, ◌<◌, ◌≤◌, List, None, [], Some, slice_get, take, IsTrue, IsFalse}
 use Rattle.circuit.specs.Entries.{defined}
 use Rattle.circuit.specs.Bridge.{circuit_of, input_names, netlist_of, output_names}
-use Rattle.circuit.specs.Meaning.{AreOrdered, IsUndefined, Satisfies, Valuation, values_by_name, wire_of}
+use Rattle.circuit.specs.Meaning.{AreOrdered, IsFirstGateWithoutRow, Satisfies, Valuation, values_by_name, wire_of}
 use Rattle.circuit.specs.declared.circuit_line.CircuitLine.{CircuitLine}
 use Rattle.pattern.specs.Layout.{Pattern, parts_of}
 use Rattle.pattern.specs.Lines.{AreGoodAfter, AreNamed, size_fault}
@@ -90,7 +90,7 @@ abbrev pub AcceptedHasNoUndefinedGate : Type 0
 AcceptedHasNoUndefinedGate = (lines : List CircuitLine) (p : Pattern) (ms : List ModuleLines) (jobs : List JobView)
     (inputs : Valuation)
     (k : ℕ) →
-    IsAcceptedBundle lines p ms jobs → ¬ IsUndefined (netlist_of lines) inputs k
+    IsAcceptedBundle lines p ms jobs → ¬ IsFirstGateWithoutRow (netlist_of lines) inputs k
 
 -- so the circuit has a valuation, whatever its inputs are
 abbrev pub AcceptedHasValuation : Type 0

@@ -18,12 +18,13 @@ use Rattle.certificate_lines.specs.Rules.{whole}
 use Rattle.certificate_lines.specs.Settings.{setting_of}
 use Rattle.module_job.specs.Jobs.{JobView}
 use Rattle.certificate_lines.specs.declared.certificate_line.StopLine.{StopLine}
-use Rattle.certificate.specs.Arrivals.{AreOnTime, IsDelayBetweenWires, TakesSteps, IsDelayGapTrue, IsMeetingTimeTrue}
+use Rattle.certificate.specs.Arrivals.{AreOnTime, IsDelayBetweenWires, TakesStepsBetweenStops, IsDelayGapTrue}
+use Rattle.certificate.specs.Arrivals.{IsMeetingTimeTrue}
 use Rattle.certificate.specs.declared.times.StopGap.{StopGap}
 use Rattle.certificate.specs.declared.times.StopGap.TheVariants.{Steps}
 use Rattle.local_run.specs.declared.fault.Fault.{Fault}
 use Rattle.local_run.specs.declared.fault.Kind.TheVariants.{Edge, Stop}
-use Rattle.soundness.specs.FirstFaults.{IsModuleAssignmentOf, IsReal}
+use Rattle.soundness.specs.FirstFaults.{IsModuleAssignmentOf, IsRealFault}
 use Rattle.soundness.specs.HeadlineLaws.{BelongTogether, HasInputNames, IsInputName}
 use Rattle.meaning.specs.Implements.{IsCorrect, IsNamed, run_under}
 use Rattle.soundness.specs.OnTime.{IsOnTime, StopHolds}
@@ -37,7 +38,7 @@ use Rattle.core_book.specs.declared.verdict.ReportLine.TheVariants.{Meet}
 
 -- The one module of a certificate is plain: its box is the whole rectangle, it cuts inputs of the circuit alone, it
 -- keeps each inverse gate of the circuit, and it has no edge line.
-pub record IsPlain (lines : List CircuitLine) (p : Pattern) (m : ModuleLines) : Type 0 where
+pub record IsPlainModule (lines : List CircuitLine) (p : Pattern) (m : ModuleLines) : Type 0 where
   pub box : m.area ≡ whole p.size
   pub inputs : All (IsInputName lines) (cuts m)
   pub inverses : (number : ℕ) (gate : Gate) → slice_get (netlist_of lines).gates number ≡ Some gate →
@@ -67,9 +68,9 @@ AcceptedKeepsOffRim = (lines : List CircuitLine) (p : Pattern) (ms : List Module
 
 -- A plain certificate is accepted exactly if the layout computes the circuit and keeps off its rim, and the stops,
 -- delays and meetings are right on the whole plane.
-abbrev pub PlainCertificateDecides : Type 0
-PlainCertificateDecides = (lines : List CircuitLine) (p : Pattern) (m : ModuleLines) (jobs : List JobView) →
-    HasInputNames lines p → IsNamed lines p → BelongTogether lines p (m ∷ []) jobs → IsPlain lines p m →
+abbrev pub PlainVerdictDecidesDesign : Type 0
+PlainVerdictDecidesDesign = (lines : List CircuitLine) (p : Pattern) (m : ModuleLines) (jobs : List JobView) →
+    HasInputNames lines p → IsNamed lines p → BelongTogether lines p (m ∷ []) jobs → IsPlainModule lines p m →
     Accepts (setting_of lines p) (m ∷ []) jobs ↔ (IsCorrect lines p × IsOnTime (circuit_of lines) p
     (m ∷ []) × ¬ TouchesRim lines p)
 
@@ -81,7 +82,8 @@ IsWrongDesign lines p m = (¬ IsCorrect lines p) ⊎ ((¬ IsOnTime (circuit_of l
 abbrev pub PlainNoMeansWrong : Type 0
 PlainNoMeansWrong = (lines : List CircuitLine) (p : Pattern) (m : ModuleLines) (jobs : List JobView)
     (report : Vec ReportLine Global) →
-    HasInputNames lines p → BelongTogether lines p (m ∷ []) jobs → IsPlain lines p m → IsVerdict (setting_of lines p)
+    HasInputNames lines p → BelongTogether lines p (m ∷ []) jobs → IsPlainModule lines p m →
+    IsVerdict (setting_of lines p)
     (m ∷ []) jobs (No report) →
     IsWrongDesign lines p m
 
@@ -89,13 +91,13 @@ PlainNoMeansWrong = (lines : List CircuitLine) (p : Pattern) (m : ModuleLines) (
 
 -- The meaning of a `local` line: there are inputs that have its assignment, and values of the wires for these, under
 -- which its fault is real. If it is an edge line, its cell of the rim is live at its time. If it is a stop line, some
--- stop is wrong. If it is an end line, the layout does not compute the circuit (`IsReal`).
+-- stop is wrong. If it is an end line, the layout does not compute the circuit (`IsRealFault`).
 pub record LocalLineMeans (lines : List CircuitLine) (p : Pattern) (m : ModuleLines) (f : Fault) : Type 0 where
   pub inputs : Valuation
   pub under : IsModuleAssignmentOf (circuit_of lines) m inputs f.assignment
   pub values : Valuation
   pub satisfied : Satisfies (netlist_of lines) inputs values
-  pub real : IsReal lines p m inputs values f
+  pub real : IsRealFault lines p m inputs values f
   pub on_rim : f.kind ≡ Edge → IsLiveOnRim lines p inputs f.time f.cell.x f.cell.y
   pub wrong_stop : f.kind ≡ Stop → ¬ All (StopHolds (circuit_of lines) p) (stops m)
 
@@ -116,7 +118,7 @@ pub record DelayLineMeans (lines : List CircuitLine) (ss : List StopLine) (numbe
   pub made : ℕ
   pub is_delay : IsDelayBetweenWires (circuit_of lines) number wanted used made
   pub takes : IsDelayGapTrue (circuit_of lines) ss gap used made
-  pub wrong : gap ≢ Steps wanted → ¬ TakesSteps (circuit_of lines) ss wanted used made
+  pub wrong : gap ≢ Steps wanted → ¬ TakesStepsBetweenStops (circuit_of lines) ss wanted used made
   pub late : gap ≢ Steps wanted → ¬ AreOnTime (circuit_of lines) ss
 
 -- The meaning of a `meet` line by these stops. The inputs of gate `number` meet at the time of the line. If it has no
@@ -141,7 +143,7 @@ LineMeans lines p m (Meet gate at) = MeetLineMeans lines (stops m) gate at
 abbrev pub PlainReportLinesHaveMeaning : Type 0
 PlainReportLinesHaveMeaning = (lines : List CircuitLine) (p : Pattern) (m : ModuleLines) (jobs : List JobView)
     (report : Vec ReportLine Global) → HasInputNames lines p → BelongTogether lines p (m ∷ []) jobs →
-    IsPlain lines p m →
+    IsPlainModule lines p m →
     IsVerdict (setting_of lines p) (m ∷ []) jobs (No report) → All (LineMeans lines p m) report.items
 
 -- if the module has no stop and the circuit no delay, nothing is asked of times

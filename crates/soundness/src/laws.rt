@@ -1,7 +1,7 @@
 //! Laws of the whole plane, each the contract of a function without a body.
 ghost use Rattle.soundness.specs.HeadlineLaws.{AcceptedHasValuation, AcceptedIsCorrect, AcceptedIsOnTime, PlaneEndsAsAsked, SomeAcceptedBundle, InputsDecideTheRun, AcceptedHasNoUndefinedGate, ReadLayoutHasInputNames, ReadLayoutHasPortNames, PlaneStartsAsJobs, PlaneStepsAsJobs, SomeWrongLayout};
 ghost use Rattle.soundness.specs.FirstFaults.{EarliestLineIsFirstFault, EarliestLineIsReal, EndFaultMeansIncorrect, FirstFaultIsReal, StepsWithGoodBorders};
-ghost use Rattle.soundness.specs.PlainCertificates.{AcceptedKeepsOffRim, PlainCertificateDecides, PlainReportLinesHaveMeaning, PlainNoMeansWrong, UntimedIsOnTime};
+ghost use Rattle.soundness.specs.PlainCertificates.{AcceptedKeepsOffRim, PlainVerdictDecidesDesign, PlainReportLinesHaveMeaning, PlainNoMeansWrong, UntimedIsOnTime};
 ghost use Rattle.soundness.specs.ModuleLaws.{ModuleHasOneJob, ModuleHasSomeJob, VerdictExists};
 ghost use Rattle.soundness.specs.MigrationLaws.{AcceptedWithoutHalos, MigrationKeepsAcceptance};
 
@@ -37,9 +37,9 @@ pub fn first_fault_is_real()
 /// It is accepted exactly if the layout computes the circuit, no run touches the rim at an odd time, and the stops,
 /// delays and meetings are right. So a no on it says that one of these is wrong. Each line of its report says which,
 /// and for which inputs.
-pub fn plain_certificate_decides()
+pub fn plain_verdict_decides_design()
     ensures off_rim { AcceptedKeepsOffRim }
-    ensures decides { PlainCertificateDecides }
+    ensures decides { PlainVerdictDecidesDesign }
     ensures plain_no_is_wrong { PlainNoMeansWrong }
     ensures lines { PlainReportLinesHaveMeaning }
     ensures untimed { UntimedIsOnTime }

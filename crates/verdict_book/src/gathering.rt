@@ -1,6 +1,6 @@
 //! The end of a locked book.
 ghost use Rattle.std.specs.Prelude.{◌≡◌, ◌<◌, ◌↔◌, false, length, sum_by, vec_len, IfErr, IfOk, IsErr};
-ghost use Rattle.core_book.specs.Book.{IsReplayed, accepted_in};
+ghost use Rattle.core_book.specs.Book.{IsReplayed, held_count};
 ghost use Rattle.core_book.specs.Replay.{has_closing};
 
 use crate::book::Book;
@@ -44,7 +44,7 @@ pub fn gather<F: Filings, A: Ledger>(
     ensures still_open { IfOk result (λ g. g.state.closed ≡ false) }
     ensures filed { IfOk result (λ g. g.filed ≡ length g.state.history) }
     ensures all_filed { IfOk result (λ g. g.filed ≡ sum_by (λ s. s.filed) shares.items) }
-    ensures accepted { IfOk result (λ g. g.accepted ≡ accepted_in g.state) }
+    ensures accepted { IfOk result (λ g. g.accepted ≡ held_count g.state) }
     ensures all_accepted { IfOk result (λ g. g.accepted ≡ sum_by (λ s. s.accepted) shares.items) }
 {
     if shares.len() < book.shares {

@@ -127,7 +127,7 @@ const ADDED: [AddedLine; 12] = [
 fn add_line_once(rt: &impl Abort, draft: &mut Draft, line: AddedLine) -> Result<(), LineFault> {
     match line {
         AddedLine::Input(word) => {
-            assert!(rt; draft.takes_inputs());
+            assert!(rt; draft.may_add_inputs());
             draft.add_input(name(rt, word.as_bytes()))
         }
         AddedLine::Source(word) => draft.add_source(true, name(rt, word.as_bytes())),

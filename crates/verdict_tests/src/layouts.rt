@@ -18,7 +18,7 @@ const TEXTS: [&str; 5] = [
 ];
 
 /// Returns whether a text is printed as it was read.
-fn is_reprinted(rt: &impl Abort, alloc: Global, text: &[u8]) -> bool {
+fn is_printed_as_read(rt: &impl Abort, alloc: Global, text: &[u8]) -> bool {
     let layout = layout_of(alloc, text).expect(rt, "a layout");
     let printed = print_layout(alloc, &layout).expect(rt, "a text");
     printed.as_slice() == text
@@ -37,10 +37,13 @@ fn text_of_half_full_layout(alloc: Global) -> Result<Vec<u8>, AllocError> {
 #[test]
 fn layouts_are_reprinted(rt: HostRuntime) {
     for text in TEXTS {
-        assert!(rt; is_reprinted(&rt, rt.alloc(), text.as_bytes()), "{text}");
+        assert!(rt;
+            is_printed_as_read(&rt, rt.alloc(), text.as_bytes()),
+            "{text}"
+        );
     }
     let text = text_of_half_full_layout(rt.alloc()).expect(&rt, "a text");
-    assert!(rt; is_reprinted(&rt, rt.alloc(), &text));
+    assert!(rt; is_printed_as_read(&rt, rt.alloc(), &text));
 }
 
 /// A layout, the names that are on, whether or not it has them, and its cells at the start: those of mirrors row by

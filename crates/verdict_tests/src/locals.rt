@@ -213,7 +213,10 @@ fn assignments_without_row(rt: HostRuntime) {
     );
     assert!(rt; rows.defined.as_slice() == [0x0111_0111_0111_0111].as_slice());
     assert!(rt;
-        !job.keeps_gate(0) && !job.keeps_gate(1) && job.keeps_gate(2) && job.gate_number(2) == 2
+        !job.keeps_gate(0)
+            && !job.keeps_gate(1)
+            && job.keeps_gate(2)
+            && job.circuit_gate_number(2) == 2
     );
 }
 

@@ -7,7 +7,7 @@ use Rattle.certificate_lines.specs.Settings.{setting_of}
 use Rattle.answers.specs.BundleReading.{bundle_of_certificate}
 use Rattle.answers.specs.MigrateText.{layout_section_text}
 use Rattle.answers.specs.Questions.{AnswersQuestion}
-use Rattle.answers.specs.BundleText.{bundle_with}
+use Rattle.answers.specs.BundleText.{bundle_with_limits}
 use Rattle.answers.proofs.Bundles.{bundle_answers, bundle_goes_on, bundle_read, certificate_failed, going_3}
 use Rattle.answers.proofs.Bundles.{refusal_answers}
 use Rattle.answers.proofs.SectionLines.{bytes_before, bytes_taken, design_bytes, longer, section_lines}
@@ -17,7 +17,7 @@ pub returns-in-Err : goal.returns-in-Err
 returns-in-Err c =
     IfOk-weaker c.refusal_answer.result _ _
     (λ answered told. refusal_answers (AnswersQuestion c.args.limits c.args.question)
-    (bundle_with c.args.limits c.args.text.now.text) c.in-Err.fault answered.output.items answered.outcome
+    (bundle_with_limits c.args.limits c.args.text.now.text) c.in-Err.fault answered.output.items answered.outcome
     c.in-Err.ensures.fault told)
     c.refusal_answer.ensures.refusal_told
 
@@ -28,7 +28,7 @@ returns-in-Err-read_certificate c =
     c.read_certificate.new.text c.in-Err-read_certificate.fault c.in-Err-read_certificate.ensures.reads in
     IfOk-weaker c.refusal_answer-in-Err-read_certificate.result _ _
     (λ answered told. refusal_answers (AnswersQuestion c.args.limits c.args.question)
-    (bundle_with c.args.limits c.args.text.now.text) c.in-Err-read_certificate.fault answered.output.items
+    (bundle_with_limits c.args.limits c.args.text.now.text) c.in-Err-read_certificate.fault answered.output.items
     answered.outcome fails told)
     c.refusal_answer-in-Err-read_certificate.ensures.refusal_told
 
@@ -43,7 +43,8 @@ returns-in-Err-finish c =
     c.in-Err-finish.fault (c.in-Err-finish.ensures.more_is_left going) (c.in-Err-finish.ensures.fault going).0 in
     IfOk-weaker c.refusal_answer-in-Err-finish.result _ _
     (λ answered told. refusal_answers (AnswersQuestion c.args.limits c.args.question)
-    (bundle_with c.args.limits c.args.text.now.text) c.in-Err-finish.fault answered.output.items answered.outcome fails
+    (bundle_with_limits c.args.limits c.args.text.now.text) c.in-Err-finish.fault answered.output.items answered.outcome
+    fails
     told)
     c.refusal_answer-in-Err-finish.ensures.refusal_told
 
@@ -72,7 +73,7 @@ returns-in-Modules c =
     c.in-Ok-read_certificate.ensures.circuit c.in-Ok-read_certificate.ensures.layout done.0 done.1 in
     IfOk-weaker c.list_modules.result _ _
     (λ answered says. bundle_answers (AnswersQuestion c.args.limits c.args.question)
-    (bundle_with c.args.limits c.args.text.now.text) cert answered.output.items answered.outcome was_read
+    (bundle_with_limits c.args.limits c.args.text.now.text) cert answered.output.items answered.outcome was_read
     (subst (λ q. AnswersQuestion c.args.limits q (bundle_of_certificate cert) answered.output.items answered.outcome)
     (sym c.in-Modules.is) says))
     c.list_modules.ensures.says
@@ -102,7 +103,7 @@ returns-in-Migration c =
     c.taken_text-from.result.now c.taken_text.result.now c.taken_text-from.ensures are_after in
     IfOk-weaker c.migrate.result _ _
     (λ answered says. bundle_answers (AnswersQuestion c.args.limits c.args.question)
-    (bundle_with c.args.limits c.args.text.now.text) cert answered.output.items answered.outcome was_read
+    (bundle_with_limits c.args.limits c.args.text.now.text) cert answered.output.items answered.outcome was_read
     (subst (λ q. AnswersQuestion c.args.limits q (bundle_of_certificate cert) answered.output.items answered.outcome)
     (sym c.in-Migration.is)
     (says c.args.limits (bundle_of_certificate cert) (record { design = design; section = section }))))

@@ -9,7 +9,7 @@ use Rattle.circuit.specs.Text.{circuit_text}
 use Rattle.certificate_lines.specs.Versions.{without_halos}
 use Rattle.certificate.specs.Text.{entry_text, form_text}
 use Rattle.answers.specs.BundleText.{Bundle}
-use Rattle.answers.specs.KeptLines.{lines_without_h}
+use Rattle.answers.specs.KeptLines.{lines_not_beginning_with_h}
 use Rattle.answers.specs.MigrateText.{bundle_text, certificate_section_text, layout_section_text, migrate_of}
 use Rattle.answers.proofs.KeptLines.{header_line, section_kept}
 use Rattle.answers.proofs.migration.migrate.Goals as goal
@@ -34,13 +34,13 @@ returns c limits bundle is =
     let design = circuit_text bundle.circuit ++ layout_section_text bundle.size bundle.parts in
     let lines = flat_map entry_text (without_halos bundle.entries) in
     record {
-      says = c.in_ok-push_lines_without_h.ensures
+      says = c.in_ok-push_lines_not_beginning_with_h.ensures
           ∙ ap₂ (λ a b. a ++ b)
           (c.in_ok-extend_from_slice-2.ensures.items
           ∙ ap₂ (λ a b. a ++ b) (c.in_ok-extend_from_slice.ensures.items
           ∙ ap₂ (λ a b. a ++ b) c.new-output.ensures.items is.design) header_line)
-          (ap (λ ls. flat_map with_line_feed (lines_without_h ls))
-          (c.behind_first_line.ensures ∙ ap (λ t. drop 1 (lines_of t)) (take_rest text from))
+          (ap (λ ls. flat_map with_line_feed (lines_not_beginning_with_h ls))
+          (c.text_after_first_line.ensures ∙ ap (λ t. drop 1 (lines_of t)) (take_rest text from))
           ∙ section_kept (lines_of (drop from text)) bundle.version bundle.entries is.section)
           ∙ in_turn front design (form_text (Header 2)) lines (form_text End)
           ∙ ap (λ t. front ++ t) (joined bundle);

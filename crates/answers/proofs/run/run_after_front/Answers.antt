@@ -1,6 +1,6 @@
 -- The line of a refusal is the answer to what fails so.
 use Rattle.lemmas.proofs.Common.{IfOk-weaker}
-use Rattle.answers.specs.RunText.{SaysRunEnd, run_sections_with}
+use Rattle.answers.specs.RunText.{SaysRunEnd, run_sections_with_limits}
 use Rattle.answers.proofs.Bundles.{refusal_answers}
 use Rattle.answers.proofs.run.run_after_front.Goals as goal
 
@@ -8,6 +8,6 @@ pub returns-in-Err : goal.returns-in-Err
 returns-in-Err c =
     IfOk-weaker c.refusal_answer.result _ _
     (λ answered told. refusal_answers SaysRunEnd
-    (run_sections_with c.args.limits c.args.feed.now.text) c.in-Err.fault answered.output.items answered.outcome
+    (run_sections_with_limits c.args.limits c.args.feed.now.text) c.in-Err.fault answered.output.items answered.outcome
     c.in-Err.ensures told)
     c.refusal_answer.ensures.refusal_told

@@ -1,7 +1,7 @@
 use Rattle.lemmas.proofs.Common.{◌+◌, ◌∙◌, ◌≡◌, None, Some, ap, arith, inl, inr, length, refl, subst, sym}
 use Rattle.lemmas.proofs.Common.{arc_value, length-map, slice_get_cases}
 use Rattle.std.specs.Option.{option_copied}
-use Rattle.core_book.specs.Book.{found_in}
+use Rattle.core_book.specs.Book.{held_finding}
 use Rattle.core_book.proofs.HeldJobs.{AreFaultsBelow, one-more}
 use Rattle.audit_core.proofs.concluding.faults_in_full_book.Goals as goal
 
@@ -16,7 +16,7 @@ loop-number-preserved c =
 pub unreachable-requires : goal.unreachable-requires
 unreachable-requires c =
     let b = c.args.book.now in
-    let none : found_in b c.loop-number.number ≡ None = sym c.found.ensures.held ∙ ap option_copied c.in-None.is in
+    let none : held_finding b c.loop-number.number ≡ None = sym c.found.ensures.held ∙ ap option_copied c.in-None.is in
     let count : length c.jobs-count.result.now ≡ length b.jobs =
     sym (length-map c.jobs-count.result.now arc_value) ∙ ap length c.jobs-count.ensures in
     elim (slice_get_cases b.jobs c.loop-number.number).1 [

@@ -2,7 +2,7 @@ use Rattle.lemmas.proofs.Common.{◌++◌, ◌==◌, ◌∙◌, ◌≡◌, List,
 use Rattle.lemmas.proofs.Common.{and_parts, arc_value, refl}
 use Rattle.std.specs.Vec.{vec_len}
 use Rattle.module_job.specs.Jobs.{JobView}
-use Rattle.certificate.specs.Times.{are_all_obeyed, delay_and_meet_lines}
+use Rattle.certificate.specs.Times.{are_all_timings_obeyed, delay_and_meet_lines}
 use Rattle.core_book.specs.Concluding.{modules, setting}
 use Rattle.core_book.specs.Verdicts.{report_lines_from, timing_report_line, unkept_lines}
 use Rattle.core_book.specs.declared.verdict.ReportLine.TheVariants.{Unkept}
@@ -23,9 +23,10 @@ all c =
 
 -- the test of the lines of delays and meetings
 kept_is : (c : After-is_empty) →
-    c.are_all_obeyed-obeyed.result
-    ≡ are_all_obeyed (delay_and_meet_lines (setting c.args.cert.now).circuit (modules c.args.cert.now))
-kept_is c = c.are_all_obeyed-obeyed.ensures ∙ ap are_all_obeyed (c.deref-2.ensures.value ∙ c.in_ok-times.ensures)
+    c.are_all_timings_obeyed-obeyed.result
+    ≡ are_all_timings_obeyed (delay_and_meet_lines (setting c.args.cert.now).circuit (modules c.args.cert.now))
+kept_is c = c.are_all_timings_obeyed-obeyed.ensures
+    ∙ ap are_all_timings_obeyed (c.deref-2.ensures.value ∙ c.in_ok-times.ensures)
 
 -- the lines on the modules, and on gates that are not kept
 lines_are : (c : After-is_empty) →
@@ -38,7 +39,7 @@ lines_are c = c.in_ok-lines.ensures
 pub returns-then-obeyed-is_empty-clause-verdict : goal.returns-then-obeyed-is_empty-clause-verdict
 returns-then-obeyed-is_empty-clause-verdict c =
     let d = (goal.at.returns-then-obeyed-is_empty-clause-verdict c).After-is_empty in
-    let parts = and_parts c.are_all_obeyed-obeyed.result c.is_empty.result c.if-obeyed-is_empty.true in
+    let parts = and_parts c.are_all_timings_obeyed-obeyed.result c.is_empty.result c.if-obeyed-is_empty.true in
     let empty : c.is_empty.result ≡ true = parts.1 in
     let none : length c.in_ok-lines.lines.items ≡ 0 = search rules in
     verdict-yes c.args.cert.now (map arc_value c.args.jobs.now) c.args.faults.now c.args.borders.now (all d)
@@ -79,13 +80,13 @@ returns-clause-verdict c =
     let d = (goal.at.returns-clause-verdict c).After-is_empty in
     let m = map timing_report_line (delay_and_meet_lines (setting c.args.cert.now).circuit (modules c.args.cert.now)) in
     verdict-no c.args.cert.now (map arc_value c.args.jobs.now) c.args.faults.now c.args.borders.now
-    c.push_time_lines.new.lines (all d)
-    (c.in_ok-push_time_lines.ensures ∙ ap (λ ts. c.in_ok-lines.lines.items ++ map timing_report_line ts)
+    c.push_timing_report_lines.new.lines (all d)
+    (c.in_ok-push_timing_report_lines.ensures ∙ ap (λ ts. c.in_ok-lines.lines.items ++ map timing_report_line ts)
     (c.deref-3.ensures.value ∙ c.in_ok-times.ensures) ∙ ap (λ xs. xs ++ m) (lines_are d))
     (λ e.
     let none : length c.in_ok-lines.lines.items ≡ 0 = ap length (lines_are d ∙ e.0) in
     let len : vec_len c.in_ok-lines.lines ≡ 0 = search rules in
     let empty : c.is_empty.result ≡ true = c.is_empty.ensures ∙ ap (λ n. n == 0) len in
-    let obeyed : c.are_all_obeyed-obeyed.result ≡ true = kept_is d ∙ e.1 in
-    let both = and_from c.are_all_obeyed-obeyed.result c.is_empty.result obeyed empty in
+    let obeyed : c.are_all_timings_obeyed-obeyed.result ≡ true = kept_is d ∙ e.1 in
+    let both = and_from c.are_all_timings_obeyed-obeyed.result c.is_empty.result obeyed empty in
     cc)

@@ -1,4 +1,4 @@
-use Rattle.certificate.proofs.Imports.{All, HasOwnWire, HasOwnWires, append_assoc, circuit_of, subst}
+use Rattle.certificate.proofs.Imports.{All, HasCircuitWire, HasCircuitWires, append_assoc, circuit_of, subst}
 use Rattle.certificate.proofs.Imports.{Module, ap, ap₂, body_lines_with, entry_text, flat_map, lines_of_modules, sym}
 use Rattle.certificate.proofs.Imports.{take, ◌++◌, ◌∙◌, ◌∷◌}
 use Rattle.sha2.specs.Hashers.{Holds256}
@@ -8,13 +8,13 @@ use Rattle.certificate.proofs.digest.hash_modules.Goals as goal
 
 pub print_module_lines-requires-clause-wires : goal.print_module_lines-requires-clause-wires
 print_module_lines-requires-clause-wires c =
-    all_at (HasOwnWires (circuit_of c.args.circuit.now)) c.args.modules.now c.requires c.loop-module.module-index
+    all_at (HasCircuitWires (circuit_of c.args.circuit.now)) c.args.modules.now c.requires c.loop-module.module-index
     c.module-item.result c.loop-module-test.true c.module-item.is
 
 pub print_module_lines-requires-clause-halo_wires : goal.print_module_lines-requires-clause-halo_wires
 print_module_lines-requires-clause-halo_wires c =
-    subst (All (HasOwnWire (circuit_of c.args.circuit.now))) (sym c.deref.ensures.value)
-    (all_at (HasOwnWires (circuit_of c.args.circuit.now)) c.args.modules.now c.requires c.loop-module.module-index
+    subst (All (HasCircuitWire (circuit_of c.args.circuit.now))) (sym c.deref.ensures.value)
+    (all_at (HasCircuitWires (circuit_of c.args.circuit.now)) c.args.modules.now c.requires c.loop-module.module-index
     c.module-item.result c.loop-module-test.true c.module-item.is).halos
 
 pub loop-module-preserved : goal.loop-module-preserved

@@ -1,4 +1,4 @@
-use Rattle.certificate.proofs.Imports.{HasOwnWire, IsPermutation, arith, border_line, border_line_cmp, common_steps}
+use Rattle.certificate.proofs.Imports.{HasCircuitWire, IsPermutation, arith, border_line, border_line_cmp, common_steps}
 use Rattle.certificate.proofs.Imports.{edge_lines_at, edge_lines_beside, is_lt, line_total, map, module_lines, ranks_by}
 use Rattle.certificate.proofs.Imports.{rules, subst}
 use Rattle.std.proofs.lemmas.List.Sorted.{IsPermutation-map}
@@ -27,5 +27,5 @@ pub returns-clause-wires : goal.returns-clause-wires
 returns-clause-wires c g own =
     let same : IsPermutation (edge_lines_at c.args.modules.now c.args.places.now) c.sort_by.new.self.items =
     grind (arith, common_steps) in
-    All-permutation (HasOwnWire g.circuit) _ _ same
+    All-permutation (HasCircuitWire g.circuit) _ _ same
     (own_edges_at g.circuit c.args.modules.now c.args.places.now own)

@@ -1,5 +1,6 @@
 use Rattle.certificate.proofs.Imports.{IsGoodModule, IsJobOf, ap, arc_value, arith, circuit_of, length-map, map}
-use Rattle.certificate.proofs.Imports.{map-append, mapped_at, module_lines, module_lines_with, subst, sym, with_lines}
+use Rattle.certificate.proofs.Imports.{all_module_lines, map-append, mapped_at, module_lines, module_lines_with, subst}
+use Rattle.certificate.proofs.Imports.{sym}
 use Rattle.certificate.proofs.Imports.{◌+◌, ◌∙◌}
 use Rattle.lemmas.proofs.Common.{map-id}
 use Rattle.certificate.specs.Jobs.{AreJobsOf}
@@ -21,10 +22,11 @@ loop-module-preserved c =
     let m = c.module-item.result in
     let at = mapped_at (module_lines circuit) c.args.modules.now c.loop-module.module-index m
     (element_at c.args.modules.now c.loop-module.module-index m c.loop-module-test.true c.module-item.is) in
-    subst (PartJobs circuit p.layout (λ m. m) (with_lines p.circuit c.args.modules.now)
+    subst (PartJobs circuit p.layout (λ m. m) (all_module_lines p.circuit c.args.modules.now)
     (c.loop-module.module-index + 1))
     (sym (ap (map arc_value) c.in_ok-push.ensures.items ∙ map-append arc_value c.loop-module.jobs.items _))
-    (one_part_more circuit p.layout (λ m. m) (with_lines p.circuit c.args.modules.now) c.loop-module.module-index _ _
+    (one_part_more circuit p.layout (λ m. m)
+    (all_module_lines p.circuit c.args.modules.now) c.loop-module.module-index _ _
     (arc_value c.in_ok-job.job) at
     (subst (λ hs. IsJobOf circuit p.layout (module_lines_with circuit m hs) (arc_value c.in_ok-job.job))
     c.deref.ensures.value c.in_ok-job.ensures) c.loop-module.invariant)
@@ -32,7 +34,7 @@ loop-module-preserved c =
 pub returns : goal.returns
 returns c =
     let p = c.args.tables.now in
-    let ms = with_lines p.circuit c.args.modules.now in
+    let ms = all_module_lines p.circuit c.args.modules.now in
     let long = length-map c.args.modules.now (module_lines (circuit_of p.circuit)) in
     subst (λ ns. AreJobsOf (circuit_of p.circuit) p.layout ns (map arc_value c.loop-module.jobs.items)) (map-id ms)
     (parts_done (circuit_of p.circuit) p.layout (λ m. m) ms c.loop-module.module-index _

@@ -1,13 +1,13 @@
 -- The modules before have their jobs, and the others have their lists of places.
-use Rattle.certificate.proofs.Imports.{HaveListsFrom, arc_value, map, setting_of, with_halos, with_lines}
+use Rattle.certificate.proofs.Imports.{HaveEdgePlacesFrom, all_module_lines, arc_value, map, setting_of, with_halos}
 use Rattle.certificate.proofs.JobsSoFar.{PartJobs}
 use Rattle.certificate.proofs.jobs.jobs_with_implied_halos.Given as goal
 
 abbrev pub invariant-loop-number : goal.invariant-loop-number
 invariant-loop-number l =
     let g = setting_of l.tables.circuit l.tables.layout in
-    let ms = with_lines l.tables.circuit l.modules in
+    let ms = all_module_lines l.tables.circuit l.modules in
     record {
       jobs : PartJobs g.circuit l.tables.layout (with_halos g ms) ms l.number (map arc_value l.jobs.items);
-      lists : HaveListsFrom g l.modules l.number (map (λ l. l.items) l.places.items);
+      lists : HaveEdgePlacesFrom g l.modules l.number (map (λ l. l.items) l.places.items);
     }

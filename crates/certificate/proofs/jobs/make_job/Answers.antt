@@ -2,7 +2,8 @@ use Rattle.certificate.proofs.Imports.{All, AreStops, Box2, Demand, IsInShiftRan
 use Rattle.certificate.proofs.Imports.{Signal, Signals, StoredBorder, StoredStop, ap, arc_value, arith, cell_at}
 use Rattle.certificate.proofs.Imports.{circuit_of, common_steps, edges, get_or, halos, in_box, is_among, keeps, length}
 use Rattle.certificate.proofs.Imports.{map, module_lines_with, netlist_of, refl, setting_of, stops, stops_in_plane}
-use Rattle.certificate.proofs.Imports.{subst, sym, true, AreLocalLines, IsTrue, HasLocalWire, AreRising, gates}
+use Rattle.certificate.proofs.Imports.{subst, sym, true, AreLocalLines, IsTrue, HasLocalWire, AreBorderLinesRising}
+use Rattle.certificate.proofs.Imports.{gates}
 use Rattle.certificate.proofs.Imports.{stored_signals, stored_stop, IsWithinMaxSize, ℕ, ◌<◌, ◌∙◌, ◌≡◌, ◌≤◌, CircuitLine}
 use Rattle.lemmas.proofs.Common.{slice_index}
 use Rattle.module_box.specs.Locals.{AreLocalsOf}
@@ -39,25 +40,25 @@ new-requires c =
     (subst (AreLocalLines (n c.args.tables.now.circuit) c.args.stored.now.cuts.items) (sym c.deref-4.ensures.value)
     (local_lines c.requires)))
 
-pub cell_lists-requires-clause-columns : goal.cell_lists-requires-clause-columns
-cell_lists-requires-clause-columns c =
+pub start_and_demand_lists-requires-clause-columns : goal.start_and_demand_lists-requires-clause-columns
+start_and_demand_lists-requires-clause-columns c =
     (inside_layout c.requires (c.size-size.ensures.size ∙ ap (λ p. p.size) c.layout.ensures)
     c.size-size.ensures.limits).0
 
-pub cell_lists-requires-clause-rows : goal.cell_lists-requires-clause-rows
-cell_lists-requires-clause-rows c =
+pub start_and_demand_lists-requires-clause-rows : goal.start_and_demand_lists-requires-clause-rows
+start_and_demand_lists-requires-clause-rows c =
     (inside_layout c.requires (c.size-size.ensures.size ∙ ap (λ p. p.size) c.layout.ensures)
     c.size-size.ensures.limits).1
 
-pub cell_lists-requires-clause-ins : goal.cell_lists-requires-clause-ins
-cell_lists-requires-clause-ins c =
+pub start_and_demand_lists-requires-clause-ins : goal.start_and_demand_lists-requires-clause-ins
+start_and_demand_lists-requires-clause-ins c =
     let p = c.args.tables.now in
     (locals_have_ports p.circuit p.layout (module_lines_with (circuit_of p.circuit) c.args.stored.now c.args.halos.now)
     c.requires.ports _ (known_wires c.requires c.circuit.ensures c.deref-3.ensures.value
     c.deref-4.ensures.value c.in_ok-locals.ensures.wires)).0
 
-pub cell_lists-requires-clause-outs : goal.cell_lists-requires-clause-outs
-cell_lists-requires-clause-outs c =
+pub start_and_demand_lists-requires-clause-outs : goal.start_and_demand_lists-requires-clause-outs
+start_and_demand_lists-requires-clause-outs c =
     let p = c.args.tables.now in
     (locals_have_ports p.circuit p.layout (module_lines_with (circuit_of p.circuit) c.args.stored.now c.args.halos.now)
     c.requires.ports _ (known_wires c.requires c.circuit.ensures c.deref-3.ensures.value
@@ -65,7 +66,7 @@ cell_lists-requires-clause-outs c =
 
 pub schedule_from_corner-requires-clause-order : goal.schedule_from_corner-requires-clause-order
 schedule_from_corner-requires-clause-order c =
-    subst AreRising (sym c.deref-5.ensures.value) (edges_rising c.requires)
+    subst AreBorderLinesRising (sym c.deref-5.ensures.value) (edges_rising c.requires)
 
 pub schedule_from_corner-requires-clause-local : goal.schedule_from_corner-requires-clause-local
 schedule_from_corner-requires-clause-local c =

@@ -6,16 +6,16 @@ use Rattle.certificate.proofs.JobsSoFar.{element_at}
 use Rattle.certificate.proofs.StoredSignals.{all_at}
 use Rattle.certificate.proofs.neighbour_edges.push_edge_places.Goals as goal
 
-pub push_module_places-requires-clause-inner : goal.push_module_places-requires-clause-inner
-push_module_places-requires-clause-inner c =
+pub push_edge_places_of_module-requires-clause-inner : goal.push_edge_places_of_module-requires-clause-inner
+push_edge_places_of_module-requires-clause-inner c =
     subst (All (λ (e : StoredBorder). IsInnerCell (rectangle c.args.owners.now) (line_cell e)))
     (sym c.deref.ensures.value)
     (all_at (λ (m : StoredModule). All (λ (e : StoredBorder). IsInnerCell (rectangle c.args.owners.now) (line_cell e))
     m.edges.items) c.args.modules.now c.requires.inner c.loop-number.number c.index-modules-number.result
     c.loop-number-test.true c.index-modules-number.is)
 
-pub push_module_places-requires-clause-few : goal.push_module_places-requires-clause-few
-push_module_places-requires-clause-few c =
+pub push_edge_places_of_module-requires-clause-few : goal.push_edge_places_of_module-requires-clause-few
+push_edge_places_of_module-requires-clause-few c =
     subst (λ (es : List StoredBorder). length es ≤ 65536) (sym c.deref.ensures.value)
     (all_at (λ (m : StoredModule). length m.edges.items ≤ 65536) c.args.modules.now c.requires.few_lines
     c.loop-number.number c.index-modules-number.result c.loop-number-test.true c.index-modules-number.is)
@@ -27,9 +27,10 @@ loop-number-preserved c =
     let all = λ (n : StoredModule). n.edges.items in
     let old = map (λ l. l.items) c.args.lists.now.items in
     let now = map (λ l. l.items) c.loop-number.lists.items in
-    let new = map (λ l. l.items) c.push_module_places.new.lists.items in
+    let new = map (λ l. l.items) c.push_edge_places_of_module.new.lists.items in
     let here = element_at c.args.modules.now c.loop-number.number m c.loop-number-test.true c.index-modules-number.is in
-    let added = c.in_ok-push_module_places.ensures.places c.args.modules.now m here (sym c.deref.ensures.value) in
+    let added = c.in_ok-push_edge_places_of_module.ensures.places c.args.modules.now m here
+    (sym c.deref.ensures.value) in
     record {
       table = still_ready boxes c.args.owners.now now new c.loop-number.invariant.table added.count;
       lists = subst (λ es. AddsEdgePlaces c.args.modules.now boxes es old new)

@@ -1,5 +1,5 @@
 -- What was read makes good modules.
-use Rattle.certificate.proofs.Imports.{All, AreModules, CertificateLine, HasOwnWires, List, Setting, ap, arith}
+use Rattle.certificate.proofs.Imports.{All, AreModules, CertificateLine, HasCircuitWires, List, Setting, ap, arith}
 use Rattle.certificate.proofs.Imports.{common_steps, false, is_haloless_version, lacks_edge_wire_beside}
 use Rattle.certificate.proofs.Imports.{lines_of_modules}
 use Rattle.certificate.proofs.Imports.{map, module_lines, modules_of, setting_of, subst, sym, ℕ, ◌&&◌, ◌∙◌, ◌≡◌}
@@ -33,7 +33,7 @@ invariant_of-result c =
     let modules = subst (AreModules g) are (faultless_modules c.args.limits g _ _ faultless) in
     record {
       good = record {
-        wires = subst (λ (s : Setting). All (HasOwnWires s.circuit) ms) same c.into_parts-modules.ensures.wires;
+        wires = subst (λ (s : Setting). All (HasCircuitWires s.circuit) ms) same c.into_parts-modules.ensures.wires;
         modules = modules;
         few_lines = subst (All IsWithinLineLimit) are (faultless_lines c.args.limits g _ _ faultless);
       };

@@ -1,4 +1,4 @@
-use Rattle.certificate.proofs.Imports.{IsOwnWire, IsStopTimeTable, StoredStop, get_or, map, stop_line, subst, take}
+use Rattle.certificate.proofs.Imports.{IsCircuitWire, IsStopTimeTable, StoredStop, get_or, map, stop_line, subst, take}
 use Rattle.certificate.proofs.Imports.{take_all, ◌++◌, ◌∙◌}
 use Rattle.certificate.proofs.StoredSignals.{all_at, item_is}
 use Rattle.certificate.proofs.TimeLemmas.{stop_more}
@@ -14,7 +14,7 @@ loop-stop-preserved c =
           subst (λ all. IsStopTimeTable c.args.choice d all c.note_stop.new.table)
           (stop_more d ss c.args.stops.now c.loop-stop.stop-index s c.loop-stop-test.true is)
           (c.note_stop.ensures.table d (ss ++ before)
-          (all_at (λ (s : StoredStop). IsOwnWire d s.wire) c.args.stops.now own c.loop-stop.stop-index s
+          (all_at (λ (s : StoredStop). IsCircuitWire d s.wire) c.args.stops.now own c.loop-stop.stop-index s
           c.loop-stop-test.true is) (c.loop-stop.invariant.table d ss own h));
       long = c.note_stop.ensures.long ∙ c.loop-stop.invariant.long;
     }

@@ -1,4 +1,5 @@
-use Rattle.certificate.proofs.Imports.{All, HasOwnWires, IsOwnWire, IsStopTimeTable, StoredStop, all_stops, ap, arith}
+use Rattle.certificate.proofs.Imports.{All, HasCircuitWires, IsCircuitWire, IsStopTimeTable, StoredStop, all_stops, ap}
+use Rattle.certificate.proofs.Imports.{arith}
 use Rattle.certificate.proofs.Imports.{circuit_of, common_steps, drop, get_or, length, map, module_lines, stop_line}
 use Rattle.certificate.proofs.Imports.{subst, sym, take, ◌++◌, ◌<◌, ◌∙◌, ◌≡◌}
 use Rattle.certificate_lines.proofs.StoredLemmas.{wire_within}
@@ -9,7 +10,8 @@ use Rattle.certificate.proofs.times.stop_time_table.Goals as goal
 pub note_times_of_stops-requires : goal.note_times_of_stops-requires
 note_times_of_stops-requires c =
     let circuit = circuit_of c.args.circuit.now in
-    let own = all_at (HasOwnWires circuit) c.args.modules.now c.requires c.loop-module.module-index c.module-item.result
+    let own = all_at (HasCircuitWires circuit) c.args.modules.now c.requires c.loop-module.module-index
+    c.module-item.result
     c.loop-module-test.true c.module-item.is in
     let long = ap length c.deref_mut.ensures.value ∙ c.loop-module.invariant.long in
     subst (All (λ (s : StoredStop). s.wire < length c.deref_mut.result.now)) (sym c.deref.ensures.value)
@@ -19,7 +21,8 @@ note_times_of_stops-requires c =
 pub loop-module-preserved : goal.loop-module-preserved
 loop-module-preserved c =
     let circuit = circuit_of c.args.circuit.now in
-    let own = all_at (HasOwnWires circuit) c.args.modules.now c.requires c.loop-module.module-index c.module-item.result
+    let own = all_at (HasCircuitWires circuit) c.args.modules.now c.requires c.loop-module.module-index
+    c.module-item.result
     c.loop-module-test.true c.module-item.is in
     let before = all_stops (map (module_lines circuit) (take c.loop-module.module-index c.args.modules.now)) in
     let noted = c.note_times_of_stops.new.table in
@@ -33,7 +36,7 @@ loop-module-preserved c =
           ∙ sym (stops_more circuit c.args.modules.now c.loop-module.module-index c.module-item.result
           c.loop-module-test.true c.module-item.is))
           (c.note_times_of_stops.ensures.table circuit before
-          (subst (All (λ (s : StoredStop). IsOwnWire circuit s.wire)) (sym c.deref.ensures.value) own.stops)
+          (subst (All (λ (s : StoredStop). IsCircuitWire circuit s.wire)) (sym c.deref.ensures.value) own.stops)
           (subst (IsStopTimeTable c.args.choice circuit before) (sym c.deref_mut.ensures.value)
           c.loop-module.invariant.table)));
       long = ap length kept ∙ long ∙ c.loop-module.invariant.long;

@@ -6,7 +6,7 @@ use Rattle.clap.specs.Words.{HasKind, IsAmong, kind_of}
 use Rattle.clap.specs.declared.error.Error.{Error}
 use Rattle.clap.specs.declared.error.kind.ErrorKind.TheVariants.{DisplayHelp, DisplayVersion, OutOfMemory}
 use Rattle.command_line.specs.declared.Request.{Request}
-use Rattle.check_main.specs.Program.{IsHelp}
+use Rattle.check_main.specs.Program.{IsHelpOrVersion}
 use Rattle.check_main.proofs.Ends.{outcome_of}
 use Rattle.check_main.proofs.RightStreams.{nothing_promised}
 use Rattle.streams.specs.declared.streams.Source.{Ghosts as Source}
@@ -18,7 +18,7 @@ of_memory kinds error none (inl memory) = memory
 of_memory kinds error none (inr among) = absurd (subst (λ (k : Kinds). IsAmong (kind_of error) k) none among)
 
 -- an error that is help is among the kinds
-help_is_asked : (kinds : Kinds) (error : Error) → IsHelp (kind_of error) → HasKind kinds error →
+help_is_asked : (kinds : Kinds) (error : Error) → IsHelpOrVersion (kind_of error) → HasKind kinds error →
     IsAmong DisplayHelp kinds ⊎ IsAmong DisplayVersion kinds
 help_is_asked kinds error (inl help) (inl memory) = absurd cc
 help_is_asked kinds error (inl help) (inr among) = inl (subst (λ k. IsAmong k kinds) help among)
@@ -36,9 +36,9 @@ pub returns-in-Ok-clause-ran : goal.returns-in-Ok-clause-ran
 returns-in-Ok-clause-ran g c accepted = ran_for _ _ _ _ _ c.in-Ok.ensures.request (record {
   ended = c.run_request-ended.result;
   served = c.run_request-ended.ensures.serves;
-  status_of_end = c.status_of.ensures.status;
-  said = c.status_of.ensures.fault_line_written;
-  quiet = c.status_of.ensures.errors_unchanged;
+  status_of_end = c.write_fault_and_get_status.ensures.status;
+  said = c.write_fault_and_get_status.ensures.fault_line_written;
+  quiet = c.write_fault_and_get_status.ensures.errors_unchanged;
 })
 
 -- the promise of a yes, by the status
@@ -53,23 +53,23 @@ promised ended status is promise = record {
 
 pub returns-in-Ok-clause-in_full : goal.returns-in-Ok-clause-in_full
 returns-in-Ok-clause-in_full g c check =
-    promised c.run_request-ended.result c.status_of.result c.status_of.ensures.status
+    promised c.run_request-ended.result c.write_fault_and_get_status.result c.write_fault_and_get_status.ensures.status
     (c.run_request-ended.ensures.in_full (c.in-Ok.ensures.request ∙ check.asked))
 
 pub returns-in-Ok-clause-wrong : goal.returns-in-Ok-clause-wrong
 returns-in-Ok-clause-wrong g c check one =
     c.run_request-ended.ensures.wrong (c.in-Ok.ensures.request ∙ check.asked)
-    (outcome_of No c.run_request-ended.result (sym c.status_of.ensures.status ∙ one))
+    (outcome_of No c.run_request-ended.result (sym c.write_fault_and_get_status.ensures.status ∙ one))
 
 pub returns-in-Ok-clause-lines : goal.returns-in-Ok-clause-lines
 returns-in-Ok-clause-lines g c check one =
     c.run_request-ended.ensures.lines (c.in-Ok.ensures.request ∙ check.asked)
-    (outcome_of No c.run_request-ended.result (sym c.status_of.ensures.status ∙ one))
+    (outcome_of No c.run_request-ended.result (sym c.write_fault_and_get_status.ensures.status ∙ one))
 
 pub returns-in-Ok-clause-refused_not_small : goal.returns-in-Ok-clause-refused_not_small
 returns-in-Ok-clause-refused_not_small g c check three =
     c.run_request-ended.ensures.refused_not_small (c.in-Ok.ensures.request ∙ check.asked)
-    (outcome_of Refused c.run_request-ended.result (sym c.status_of.ensures.status ∙ three))
+    (outcome_of Refused c.run_request-ended.result (sym c.write_fault_and_get_status.ensures.status ∙ three))
 
 pub returns-in-Err-clause-ran : goal.returns-in-Err-clause-ran
 returns-in-Err-clause-ran g c accepted =

@@ -1,5 +1,5 @@
 use Rattle.std.proofs.Common.{rules}
-use Rattle.answers.specs.RunText.{IsRunOf}
+use Rattle.answers.specs.RunText.{IsRunAnswerOf}
 use Rattle.check_main.proofs.RightStreams.{broken_off}
 use Rattle.check_main.proofs.stream.run_stream.Goals as goal
 
@@ -11,7 +11,7 @@ returns g c = record {
     read = search rules;
     too_long = search rules;
     write = search rules;
-    prefix = broken_off IsRunOf _ _ _ _ c.in_ok-feed.feed.text c.in_ok-answered.answered.output.items
+    prefix = broken_off IsRunAnswerOf _ _ _ _ c.in_ok-feed.feed.text c.in_ok-answered.answered.output.items
         c.in_ok-answered.answered.outcome c.write_answer.result c.in_ok-feed.ensures.read_all (search rules)
         c.write_answer.ensures.prefix;
     unwritten = search rules;

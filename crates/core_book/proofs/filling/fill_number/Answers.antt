@@ -1,4 +1,4 @@
-use Rattle.core_book.proofs.Imports.{IsHeldOrFiled, arc_value, false, found_in, is_some, rules, subst, sym, ◌≡◌}
+use Rattle.core_book.proofs.Imports.{IsHeldOrFiled, arc_value, false, held_finding, is_some, rules, subst, sym, ◌≡◌}
 use Rattle.lemmas.proofs.Common.{OnOk}
 use Rattle.core_book.proofs.Fillings.{filed-for}
 use Rattle.core_book.proofs.filling.fill_number.Goals.{in-Ok, in-Err}
@@ -7,7 +7,7 @@ use Rattle.core_book.proofs.filling.fill_number.Goals as goal
 pub returns-clause-held_or_filed : goal.returns-clause-held_or_filed
 returns-clause-held_or_filed c =
     let b = c.args.state.now in
-    let lacks : is_some (found_in b c.args.number) ≡ false = search rules in
+    let lacks : is_some (held_finding b c.args.number) ≡ false = search rules in
     elim c.match-file.branch [
       | in-Ok w ↦
           let f = c.in_ok-finding.finding in

@@ -14,5 +14,6 @@ returns c = λ h. right_edge c.args.job.now c.args.values.now c.args.marked_plan
     c.args.y c.edge_signal-signal.result c.requires.shows c.edge_signal-signal.ensures.signal_is_exact
     (none_from (assignments c.args.job.now) (λ a. (is_defined_under c.args.values.now a ≡ true)
     × (lane c.args.marked_planes.now.planes a c.args.x c.args.y
-    ≢ is_live (valuation c.args.values.now a) c.edge_signal-signal.result)) c.first_difference.result
-    (c.is_none.ensures ∙ ap not h) (rw (c.planes.ensures, c.requires.job_ready.count) at c.first_difference.ensures))
+    ≢ is_live (valuation c.args.values.now a) c.edge_signal-signal.result)) c.first_difference_where_defined.result
+    (c.is_none.ensures ∙ ap not h)
+    (rw (c.planes.ensures, c.requires.job_ready.count) at c.first_difference_where_defined.ensures))

@@ -1,8 +1,8 @@
 use Rattle.local_run.proofs.Imports.{arith, ◌+◌, ◌∙◌}
 use Rattle.local_run.proofs.border.set_halo_cell.Goals as goal
 
-pub returns-then-is_different-clause-shows : goal.returns-then-is_different-clause-shows
-returns-then-is_different-clause-shows c =
+pub returns-then-differs_from_signal-clause-shows : goal.returns-then-differs_from_signal-clause-shows
+returns-then-differs_from_signal-clause-shows c =
     let e = c.put.ensures.puts in
     let shows = c.requires.shows in
     let room = c.requires.job_ready.room in

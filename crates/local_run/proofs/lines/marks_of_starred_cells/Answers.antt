@@ -11,11 +11,11 @@ returns-clause-marks c =
     let j = c.args.job.now in
     let shape : c.deref.result.now ≡ shape_of j = c.deref.ensures ∙ c.shape.ensures in
     let v = c.deref_mut.ensures.value in
-    let zeros = ap length c.in_ok-marks.ensures ∙ length-replicate (5 * c.number_words.result) 0 in
+    let zeros = ap length c.in_ok-marks.ensures ∙ length-replicate (5 * c.number_mark_word_count.result) 0 in
     let items = with_items_is c.in_ok-marks.marks c.mark_stars_of_shape.new.marks
     (omega (arith, ap length v, c.in_ok-marks.marks.ok.0)) in
     let m = rw shape at c.mark_stars_of_shape.ensures in
-    let long : length c.mark_stars_of_shape.new.marks ≡ 5 * c.number_words.result =
+    let long : length c.mark_stars_of_shape.new.marks ≡ 5 * c.number_mark_word_count.result =
     omega
     (arith, c.mark_stars_of_shape.auto.marks, ap length v, zeros) in
     let q = c.requires in
@@ -28,7 +28,7 @@ returns-clause-marks c =
         q.height.1,
         q.even.w,
         q.even.h,
-        room _ _ _ c.number_words.ensures long,
+        room _ _ _ c.number_mark_word_count.ensures long,
       );
       edges = m.edges;
       halos = m.halos;

@@ -8,6 +8,6 @@ pub returns-clause-halo : goal.returns-clause-halo
 returns-clause-halo c = λ odd. elim c.if-time-eq1.branch [
   | then-time-eq1+in_default w ↦
       subst (λ (m : MarkedPlanes). IsHaloSet c.args.job.now c.args.values.now c.args.time m.planes)
-      (sym w.marked_planes-is) w.set_halo_find_edge_fault.ensures.halo
+      (sym w.marked_planes-is) w.set_halo_and_find_edge_fault.ensures.halo
   | else-time-eq1 w ↦ absurd (omega (arith, odd, w.if-time-eq1.false))
 ]

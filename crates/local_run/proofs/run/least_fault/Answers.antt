@@ -1,4 +1,4 @@
-use Rattle.local_run.proofs.Imports.{HasNoFaultOfKind, IsFirstOfKind, Stop, ap, arith, common_steps, subst, ℕ, ◌≡◌}
+use Rattle.local_run.proofs.Imports.{HasNoFaultOfKind, IsFirstFaultOfKind, Stop, ap, arith, common_steps, subst, ℕ, ◌≡◌}
 use Rattle.local_run.proofs.Leasts.{AreFreeBefore, early_least, end_least_fault, last_stop_least}
 use Rattle.local_run.proofs.LeapRuns.{next_run}
 use Rattle.local_run.proofs.Steady.{steady_next}
@@ -58,7 +58,7 @@ returns-in-Some-first_stop_fault c =
     let time : c.loop-time.time ≡ j.steps = omega (arith, c.loop-time-test.false, c.steps-steps.ensures, early) in
     last_stop_least j vs c.in-Some-first_stop_fault.fault c.requires
     (subst (AreFreeBefore j vs) time c.loop-time.invariant.run.free)
-    (subst (λ (n : ℕ). IsFirstOfKind j vs n Stop c.in-Some-first_stop_fault.fault) c.steps-steps.ensures
+    (subst (λ (n : ℕ). IsFirstFaultOfKind j vs n Stop c.in-Some-first_stop_fault.fault) c.steps-steps.ensures
     c.in-Some-first_stop_fault.ensures)
 
 pub returns : goal.returns

@@ -4,7 +4,8 @@ use Rattle.module_job.proofs.Imports.{shape_summary, slice_get, slice_index, sub
 use Rattle.module_job.proofs.Imports.{◌∷◌, ◌≡◌}
 use Rattle.module_job.proofs.FirstKeys.{IsFirstOf, found_within, known_more}
 use Rattle.module_job.proofs.FirstShapes.{all_groups, group_more, value_twice}
-use Rattle.module_job.proofs.FirstSummaries.{first_equal_shape, head_like, head_same, heads_more, is_head, others_more}
+use Rattle.module_job.proofs.FirstSummaries.{first_equal_shape_number, head_like, head_same, heads_more, is_head}
+use Rattle.module_job.proofs.FirstSummaries.{others_more}
 use Rattle.module_job.proofs.FirstSummaries.{AreHeadsBefore}
 use Rattle.module_job.proofs.groups.job_groups.Goals.{then-not-have_same_shape+in_ok-key+in_ok-first}
 use Rattle.module_job.proofs.groups.job_groups.Goals.{else-not-have_same_shape}
@@ -20,8 +21,8 @@ have_same_shape-requires c =
       other_below_count = c.loop-number-test.true;
     }
 
-pub first_of_shape-group-requires : goal.first_of_shape-group-requires
-first_of_shape-group-requires c =
+pub first_job_of_same_shape-group-requires : goal.first_job_of_same_shape-group-requires
+first_job_of_same_shape-group-requires c =
     let js = c.args.jobs.now in
     let shapes = map shape_of (map arc_value js) in
     let n : ℕ = c.loop-number.number in
@@ -63,9 +64,9 @@ loop-number-preserved c =
     let g : ℕ = c.if-not-have_same_shape.group in
     let here : IsFirstLike shapes n g = elim c.if-not-have_same_shape.branch [
       | then-not-have_same_shape+in_ok-key+in_ok-first w ↦
-          subst (IsFirstLike shapes n) (sym w.group-is) w.first_of_shape-group.ensures
+          subst (IsFirstLike shapes n) (sym w.group-is) w.first_job_of_same_shape-group.ensures
       | else-not-have_same_shape w ↦ subst (IsFirstLike shapes n) (sym w.group-is)
-          (first_equal_shape shape_summary shapes n head like
+          (first_equal_shape_number shape_summary shapes n head like
           (c.have_same_shape.ensures.0 w.if-not-have_same_shape.false))
     ] in
     let items = c.in_ok-push.ensures.items in

@@ -17,8 +17,8 @@ push_mirror_cells-requires c =
     (sym c.as_slice.ensures.value)
     (mirrors_fit p.size p.mirrors all.mirrors sides.0.most sides.1.most)
 
-list_of_five_words : (c : goal.In_ok-push_ports_on) →
-    c.push_ports_on.new.out.items ≡ start_cells_by_kind c.args.layout.now (has c.args.on.now)
+list_of_five_words : (c : goal.In_ok-push_cells_of_ports_named_in) →
+    c.push_cells_of_ports_named_in.new.out.items ≡ start_cells_by_kind c.args.layout.now (has c.args.on.now)
 list_of_five_words c =
     let p : Pattern = pattern_of c.layout.inside in
     let ports = λ (qs : List Port). map (λ (q : Port). q.cell) (filter (λ (q : Port). has c.args.on.now q.name) qs) in
@@ -29,10 +29,11 @@ list_of_five_words c =
     let balls : c.extend_from_slice.new.self.items ≡ c.push_mirror_cells.new.out.items ++ p.balls =
     c.in_ok-extend_from_slice.ensures.items
     ∙ ap (λ (l : List Cell). c.push_mirror_cells.new.out.items ++ l) c.as_slice-2.ensures.value in
-    let ins : c.push_ports_on.new.out.items ≡ c.extend_from_slice.new.self.items ++ ports p.ins =
-    c.in_ok-push_ports_on.ensures
+    let ins : c.push_cells_of_ports_named_in.new.out.items ≡ c.extend_from_slice.new.self.items ++ ports p.ins =
+    c.in_ok-push_cells_of_ports_named_in.ensures
     ∙ ap (λ (l : List Port). c.extend_from_slice.new.self.items ++ ports l) c.as_slice-3.ensures.value in
-    subst (λ (p : Pattern). c.push_ports_on.new.out.items ≡ start_cells_by_kind p (has c.args.on.now)) c.layout.view_is
+    subst (λ (p : Pattern). c.push_cells_of_ports_named_in.new.out.items ≡ start_cells_by_kind p (has c.args.on.now))
+    c.layout.view_is
     (start_list_made p (has c.args.on.now) _ _ _ mirrors balls ins)
 
 pub returns-clause-order : goal.returns-clause-order

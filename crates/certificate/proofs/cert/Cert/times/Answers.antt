@@ -1,4 +1,4 @@
-use Rattle.certificate.proofs.Imports.{All, CertView, HasOwnWires, ap, circuit_of, delay_and_meet_lines, map}
+use Rattle.certificate.proofs.Imports.{All, CertView, HasCircuitWires, ap, circuit_of, delay_and_meet_lines, map}
 use Rattle.certificate.proofs.Imports.{module_lines, modules_of, setting_of, subst, sym, ◌∙◌, ◌≡◌}
 use Rattle.lemmas.proofs.Common.{IfOk}
 use Rattle.certificate_lines.proofs.StoredLemmas.{modules_stored}
@@ -9,7 +9,7 @@ use Rattle.certificate.proofs.cert.Cert.times.Goals as goal
 
 pub timing_lines_of-requires : goal.timing_lines_of-requires
 timing_lines_of-requires c =
-    subst (All (HasOwnWires (circuit_of c.self.inside.circuit.now))) (sym c.deref.ensures.value)
+    subst (All (HasCircuitWires (circuit_of c.self.inside.circuit.now))) (sym c.deref.ensures.value)
     c.self.invariant.good.wires
 
 pub returns : goal.returns

@@ -12,8 +12,8 @@ wires_at t x y = option_map (wire_of t.circuit) (port_at t.ports x y)
 pub returns-then-is_live-clause-same_demand : goal.returns-then-is_live-clause-same_demand
 returns-then-is_live-clause-same_demand c = grind (arith, common_steps, end_live)
 
-pub local_wire-requires : goal.local_wire-requires
-local_wire-requires c =
+pub local_wire_number-requires : goal.local_wire_number-requires
+local_wire_number-requires c =
     port_known (circuit_of c.self.inside.circuit.now) c.args.locals.now.circuit_wires
     (port_at c.self.inside.layout.now.outs c.args.cell.x c.args.cell.y) c.in-Some-port.wire
     (subst (λ (s : LayoutTablesView). IsPortWireLocalAt
@@ -24,9 +24,9 @@ local_wire-requires c =
 pub returns-in-Some-port-clause-same_demand : goal.returns-in-Some-port-clause-same_demand
 returns-in-Some-port-clause-same_demand c =
     let a = c.self.inside in let x = c.args.cell.x in let y = c.args.cell.y in
-    subst (λ (s : LayoutTablesView). Wire (circuit_wire c.args.locals.now c.local_wire.result)
+    subst (λ (s : LayoutTablesView). Wire (circuit_wire c.args.locals.now c.local_wire_number.result)
     ≡ end_demand (circuit_of s.circuit) s.layout x y) c.self.view_is
-    (ap Wire c.local_wire.ensures.same_wire
+    (ap Wire c.local_wire_number.ensures.same_wire
     ∙ demand_of_port (circuit_of a.circuit.now) (port_at a.layout.now.outs x y)
     (Some c.in-Some-port.wire) _ (grind (arith, common_steps))
     ∙ end_port (circuit_of a.circuit.now) a.layout.now x y c.is_live.result

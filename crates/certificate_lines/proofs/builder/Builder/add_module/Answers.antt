@@ -19,7 +19,7 @@ invariant_of-self-2 c =
     rw (
       c.in-Ok-move_wires_to_earlier.ensures.earlier,
       c.in-Ok-move_wires_to_earlier.ensures.known_emptied,
-      c.first_key-self-inside.ensures,
+      c.module_line_key-self-inside.ensures,
       c.truncate-2.ensures.keys,
       c.truncate-3.ensures.keys,
     )

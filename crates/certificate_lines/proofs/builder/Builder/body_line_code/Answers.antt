@@ -1,4 +1,4 @@
-use Rattle.certificate_lines.proofs.Imports.{BuilderView, OutOfOrder, Some, ap, body_line_code, content_code}
+use Rattle.certificate_lines.proofs.Imports.{BuilderView, OutOfOrder, Some, ap, body_line_code, code_but_for_order}
 use Rattle.certificate_lines.proofs.Imports.{last_module, option_map, refl, subst, sym, ◌∙◌, ◌≡◌}
 use Rattle.certificate_lines.specs.StoredModules.{module_lines}
 use Rattle.certificate_lines.specs.declared.stored_module.StoredModule.{StoredModule}
@@ -24,8 +24,8 @@ returns-then-not-may_follow c =
     (sym c.last_module.ensures.module ∙ ap (option_map (λ (m : Bor StoredModule).
     module_lines c.args.self.now.setting.circuit m.now)) c.in-Some.is)
 
-pub content_code-requires-clause-within_limit : goal.content_code-requires-clause-within_limit
-content_code-requires-clause-within_limit c = c.in-Some.ensures.within_limit
+pub code_but_for_order-requires-clause-within_limit : goal.code_but_for_order-requires-clause-within_limit
+code_but_for_order-requires-clause-within_limit c = c.in-Some.ensures.within_limit
 
 pub returns : goal.returns
 returns c =
@@ -33,10 +33,10 @@ returns c =
     let some = sym c.last_module.ensures.module ∙ ap (option_map (λ (m : Bor StoredModule).
     module_lines c.args.self.now.setting.circuit m.now)) c.in-Some.is in
     subst (λ (s : BuilderView). last_module s.entries ≡ Some (module_lines s.setting.circuit n) →
-    c.content_code.result ≡ content_code s.setting (module_lines s.setting.circuit n) c.args.entry.now →
-    c.content_code.result ≡ body_line_code s.setting (last_module s.entries) c.args.entry.now) c.self.view_is
+    c.code_but_for_order.result ≡ code_but_for_order s.setting (module_lines s.setting.circuit n) c.args.entry.now →
+    c.code_but_for_order.result ≡ body_line_code s.setting (last_module s.entries) c.args.entry.now) c.self.view_is
     (λ l good. in_place _ _ _ _ _ _ _ c.self.invariant.tracked.kept (module_lines c.self.inside.tables.circuit n)
-    c.args.entry.now c.may_follow.result c.content_code.result l
+    c.args.entry.now c.may_follow.result c.code_but_for_order.result l
     (λ lines order last. c.may_follow.ensures _ lines c.self.invariant.tracked.key_is order last)
     c.if-not-may_follow.false good)
-    some (c.content_code.ensures (module_lines c.args.self.now.setting.circuit n) some refl)
+    some (c.code_but_for_order.ensures (module_lines c.args.self.now.setting.circuit n) some refl)

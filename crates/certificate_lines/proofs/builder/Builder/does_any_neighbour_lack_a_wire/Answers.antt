@@ -2,7 +2,7 @@ use Rattle.certificate_lines.proofs.Imports.{All, Bool, BuilderView, List, ap, a
 use Rattle.certificate_lines.proofs.Imports.{does_neighbour_lack_wire, edges, flat_map, get_or, lacks_edge_wire, length}
 use Rattle.certificate_lines.proofs.Imports.{list_any, list_any_at, modules_of, subst, sym, take, take_all, true, ◌<◌}
 use Rattle.certificate_lines.proofs.Imports.{◌∙◌, ◌≡◌}
-use Rattle.certificate_lines.specs.StoredModules.{HasOwnWire, HasOwnWires, IsWithin, border_line}
+use Rattle.certificate_lines.specs.StoredModules.{HasCircuitWire, HasCircuitWires, IsWithin, border_line}
 use Rattle.certificate_lines.specs.declared.stored_module.StoredModule.{StoredModule}
 use Rattle.certificate_lines.proofs.StoredEdges.{lacked_stored, lines_on_layout}
 use Rattle.certificate_lines.proofs.builder.Builder.does_any_neighbour_lack_a_wire.Goals as goal
@@ -11,11 +11,11 @@ pub do_neighbours_lack_a_wire-requires-clause-own : goal.do_neighbours_lack_a_wi
 do_neighbours_lack_a_wire-requires-clause-own c =
     let d = c.self.inside.tables.circuit in
     let n = c.module-item.result in
-    let all = subst (All (HasOwnWires d)) (sym c.deref-module-items.ensures.value) c.self.invariant.wires in
-    let here = subst (HasOwnWires d) (sym c.module-item.is)
+    let all = subst (All (HasCircuitWires d)) (sym c.deref-module-items.ensures.value) c.self.invariant.wires in
+    let here = subst (HasCircuitWires d) (sym c.module-item.is)
     (all c.loop-module.module-index n c.loop-module-test.true) in
-    subst (λ (s : BuilderView). All (HasOwnWire s.setting.circuit) c.as_slice.result.now) c.self.view_is
-    (subst (All (HasOwnWire d)) (sym c.as_slice.ensures.value) here.edges)
+    subst (λ (s : BuilderView). All (HasCircuitWire s.setting.circuit) c.as_slice.result.now) c.self.view_is
+    (subst (All (HasCircuitWire d)) (sym c.as_slice.ensures.value) here.edges)
 
 pub do_neighbours_lack_a_wire-requires-clause-inside : goal.do_neighbours_lack_a_wire-requires-clause-inside
 do_neighbours_lack_a_wire-requires-clause-inside c =

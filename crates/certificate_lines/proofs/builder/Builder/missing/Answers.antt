@@ -7,10 +7,10 @@ pub returns-then-lacks-full : goal.returns-then-lacks-full
 returns-then-lacks-full c =
     rw (← c.self.view_is) (sym (end_by c.self.inside.tables (builder_lines c.self.inside) c.self.inside.owners
     c.self.invariant.tracked.kept.built.owners _ _ (rw (← c.self.view_is) at c.has_nonlocal_port-lacks.ensures)
-    c.are_all_taken-full.ensures ∙ ap (λ b. code_if b SomethingMissing) c.if-lacks-full.true))
+    c.are_all_blocks_taken-full.ensures ∙ ap (λ b. code_if b SomethingMissing) c.if-lacks-full.true))
 
 pub returns-else-lacks-full : goal.returns-else-lacks-full
 returns-else-lacks-full c =
     rw (← c.self.view_is) (sym (end_by c.self.inside.tables (builder_lines c.self.inside) c.self.inside.owners
     c.self.invariant.tracked.kept.built.owners _ _ (rw (← c.self.view_is) at c.has_nonlocal_port-lacks.ensures)
-    c.are_all_taken-full.ensures ∙ ap (λ b. code_if b SomethingMissing) c.if-lacks-full.false))
+    c.are_all_blocks_taken-full.ensures ∙ ap (λ b. code_if b SomethingMissing) c.if-lacks-full.false))

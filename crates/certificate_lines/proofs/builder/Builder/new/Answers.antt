@@ -1,5 +1,5 @@
 use Rattle.certificate_lines.proofs.Imports.{All, All-nil, LayoutHeader, ap, size_sides, subst, sym, ◌∙◌}
-use Rattle.certificate_lines.specs.StoredModules.{HasOwnWires, lines_of_modules}
+use Rattle.certificate_lines.specs.StoredModules.{HasCircuitWires, lines_of_modules}
 use Rattle.certificate_lines.proofs.Keeping.{with_none}
 use Rattle.certificate_lines.proofs.builder.Builder.new.Goals as goal
 
@@ -18,7 +18,7 @@ invariant_of-result c = record {
       (with_none c.args.tables c.in_ok-owners.owners
       (c.in_ok-owners.ensures.width ∙ ap (λ (s : LayoutHeader). s.w) c.size-size.ensures.size)
       (c.in_ok-owners.ensures.height ∙ ap (λ (s : LayoutHeader). s.h) c.size-size.ensures.size)
-      c.in_ok-owners.ensures.no_box _ _ _ c.first_key.ensures);
-  wires = subst (All (HasOwnWires c.args.tables.circuit)) (sym c.new-2.ensures.items)
-      (All-nil (HasOwnWires c.args.tables.circuit));
+      c.in_ok-owners.ensures.no_box _ _ _ c.module_line_key.ensures);
+  wires = subst (All (HasCircuitWires c.args.tables.circuit)) (sym c.new-2.ensures.items)
+      (All-nil (HasCircuitWires c.args.tables.circuit));
 }

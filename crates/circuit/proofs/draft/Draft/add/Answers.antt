@@ -1,5 +1,6 @@
 use Rattle.circuit.proofs.Imports.{CircuitLine, IsNoInputAfterGate, List, None, [], ap, arith, common_steps}
-use Rattle.circuit.proofs.Imports.{consume_fault, consumed, define_fault, defined, exceeds_limit, false, gate_of}
+use Rattle.circuit.proofs.Imports.{consume_fault, consumed, define_fault, defined, exceeds_largest_limit, false}
+use Rattle.circuit.proofs.Imports.{gate_of}
 use Rattle.circuit.proofs.Imports.{gate_with_outs_from, length, length-map, map, number, rules, subst, sym, take}
 use Rattle.circuit.proofs.Imports.{with_marks_set, ℕ, ◌++◌, ◌∙◌, ◌∷◌, ◌≡◌}
 use Rattle.circuit.specs.DraftView.{DraftView}
@@ -7,8 +8,8 @@ use Rattle.circuit.proofs.Drafts.{added}
 use Rattle.circuit.proofs.WireMarks.{marks_reach}
 use Rattle.circuit.proofs.draft.Draft.add.Goals as goal
 
-pub mark_wires-requires : goal.mark_wires-requires
-mark_wires-requires c = grind (arith, common_steps, length-map, marks_reach)
+pub mark_wires_consumed-requires : goal.mark_wires_consumed-requires
+mark_wires_consumed-requires c = grind (arith, common_steps, length-map, marks_reach)
 
 pub invariant_of-self-then-is_gate : goal.invariant_of-self-then-is_gate
 invariant_of-self-then-is_gate c =
@@ -19,7 +20,7 @@ invariant_of-self-then-is_gate c =
     let wired : map gate_of c.push_line_and_gate.new.wired.items
     ≡ map gate_of c.self.inside.wired.items
     ++ gate_with_outs_from c.args.entry.kind c.in-Ok.ins (length c.self.inside.wires.keys) = search rules in
-    let used : c.mark_wires.new.consumed.items ≡ with_marks_set (take (length c.args.entry.ins) c.in-Ok.ins)
+    let used : c.mark_wires_consumed.new.consumed.items ≡ with_marks_set (take (length c.args.entry.ins) c.in-Ok.ins)
     (c.self.inside.consumed.items ++ map (λ (n : List ℕ). false) c.args.entry.outs) = search rules in
     let lines_are = ap (λ (d : DraftView). d.lines) c.self.view_is in
     let entries_are = sym lines_are in
@@ -27,8 +28,8 @@ invariant_of-self-then-is_gate c =
       entries = entries;
       wires = wires;
       used = used;
-      limit = ap (λ (l : List CircuitLine). exceeds_limit l c.args.entry) lines_are
-          ∙ sym c.if-exceeds_limit.ensures;
+      limit = ap (λ (l : List CircuitLine). exceeds_largest_limit l c.args.entry) lines_are
+          ∙ sym c.if-exceeds_largest_limit.ensures;
       ins_pass = subst (λ (l : List CircuitLine). consume_fault (defined l) (consumed l) c.args.entry.ins ≡ None)
           entries_are (search rules);
       outs_pass = outs_pass;
@@ -51,7 +52,7 @@ invariant_of-self-else-is_gate c =
     let wired : map gate_of c.push_line_and_gate.new.wired.items
     ≡ map gate_of c.self.inside.wired.items
     ++ gate_with_outs_from c.args.entry.kind c.in-Ok.ins (length c.self.inside.wires.keys) = search rules in
-    let used : c.mark_wires.new.consumed.items ≡ with_marks_set (take (length c.args.entry.ins) c.in-Ok.ins)
+    let used : c.mark_wires_consumed.new.consumed.items ≡ with_marks_set (take (length c.args.entry.ins) c.in-Ok.ins)
     (c.self.inside.consumed.items ++ map (λ (n : List ℕ). false) c.args.entry.outs) = search rules in
     let lines_are = ap (λ (d : DraftView). d.lines) c.self.view_is in
     let entries_are = sym lines_are in
@@ -59,8 +60,8 @@ invariant_of-self-else-is_gate c =
       entries = entries;
       wires = wires;
       used = used;
-      limit = ap (λ (l : List CircuitLine). exceeds_limit l c.args.entry) lines_are
-          ∙ sym c.if-exceeds_limit.ensures;
+      limit = ap (λ (l : List CircuitLine). exceeds_largest_limit l c.args.entry) lines_are
+          ∙ sym c.if-exceeds_largest_limit.ensures;
       ins_pass = subst (λ (l : List CircuitLine). consume_fault (defined l) (consumed l) c.args.entry.ins ≡ None)
           entries_are (search rules);
       outs_pass = outs_pass;

@@ -1,4 +1,4 @@
-use Rattle.job_pool.proofs.Imports.{HasRisen, IsSeatOf, drawn_by, due_count, false, past_last, ◌+◌, ◌-◌, ◌≡◌}
+use Rattle.job_pool.proofs.Imports.{HasRisen, IsSeatOf, drawn_by, due_finding_count, false, past_last, ◌+◌, ◌-◌, ◌≡◌}
 use Rattle.job_pool.proofs.worker.Worker.run.Given as goal
 
 -- so far as many findings were filed as were due
@@ -7,7 +7,8 @@ invariant-loop-number g l = record {
   seat : IsSeatOf l.shared_work.desk.now l.self.seat;
   starved : l.self.starved ≡ false;
   risen : HasRisen l.initial.self.share l.self.share;
-  filed : l.self.share.filed ≡ l.initial.self.share.filed + due_count l.shared_work.groups.now (drawn_by l.self.seat);
+  filed : l.self.share.filed ≡ l.initial.self.share.filed + due_finding_count l.shared_work.groups.now
+      (drawn_by l.self.seat);
 }
 
 abbrev pub decreases-loop-number : goal.decreases-loop-number

@@ -11,8 +11,8 @@ pub invariant_of-result-clause-all_inner : goal.invariant_of-result-clause-all_i
 invariant_of-result-clause-all_inner c =
     let p = c.in_ok-planes.planes in
     let v = c.deref_mut.ensures.value in
-    let items = with_items_is c.in_ok-border_marks.border_marks c.mark_border.new.marks
+    let items = with_items_is c.in_ok-border_marks.border_marks c.mark_ring_and_halo_numbers.new.marks
     (omega (arith, ap length v, c.in_ok-border_marks.border_marks.ok.0)) in
-    let box_coord = c.mark_border.ensures in
+    let box_coord = c.mark_ring_and_halo_numbers.ensures in
     let box_coord = rw (c.stride.ensures.stride_is_exact, c.rows.ensures.count_is_exact) at box_coord in
     subst (λ (m : List ℕ). AreUnmarkedAwayFromBorder p.stride p.rows m) (sym items) box_coord

@@ -13,8 +13,9 @@ invariant_of-self-clause-calm c =
       c.of_cell-changes.ensures.anti,
       c.stride-stride.ensures.stride_is_exact,
       c.cell_number-u.ensures.number_is_exact,
-    ) at c.mark_changes.ensures.marked in
-    still_stable _ _ _ f.block_marks c.mark_changes.new.self f.planes c.put-is_live.new.self e.cell_set.size e.cells
+    ) at c.mark_block_and_neighbours.ensures.marked in
+    still_stable _ _ _ f.block_marks c.mark_block_and_neighbours.new.self f.planes c.put-is_live.new.self
+    e.cell_set.size e.cells
     marks
     f.calm
 
@@ -35,6 +36,6 @@ returns-clause-settled c = λ u is.
       c.of_cell-changes.ensures.anti,
       c.stride-stride.ensures.stride_is_exact,
       c.cell_number-u.ensures.number_is_exact,
-    ) at c.mark_changes.ensures.marked in
+    ) at c.mark_block_and_neighbours.ensures.marked in
     let free = marks Odd u is.1 in
     ((is.0, free.0), kept_number _ _ _ f.planes _ u e.cell_set.size e.cells free.1)

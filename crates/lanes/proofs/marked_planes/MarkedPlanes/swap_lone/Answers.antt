@@ -10,9 +10,9 @@ invariant_of-self-clause-calm c =
     let f = c.args.self.now in
     let swap = rw c.block_places-block.ensures.block at c.swap-2.ensures.swapped in
     let marks = rw (c.of.ensures.main, c.of.ensures.anti, c.stride-stride.ensures.stride_is_exact)
-    at c.mark_changes.ensures.marked in
+    at c.mark_block_and_neighbours.ensures.marked in
     still_stable (is_main c.args.diagonal) (not (is_main c.args.diagonal))
-    (block_at c.args.partition f.planes.stride c.args.u) f.block_marks c.mark_changes.new.self f.planes
+    (block_at c.args.partition f.planes.stride c.args.u) f.block_marks c.mark_block_and_neighbours.new.self f.planes
     c.swap-2.new.self c.swap-2.ensures.size
     (swapped_cells c.args.diagonal (block_at c.args.partition f.planes.stride c.args.u) f.planes c.swap-2.new.self swap)
     marks f.calm
@@ -42,7 +42,7 @@ returns-clause-settled_if_even c = λ even u is.
     let f = c.args.self.now in
     let swap = rw c.block_places-block.ensures.block at c.swap-2.ensures.swapped in
     let marks = rw (c.of.ensures.main, c.of.ensures.anti, c.stride-stride.ensures.stride_is_exact)
-    at c.mark_changes.ensures.marked in
+    at c.mark_block_and_neighbours.ensures.marked in
     let free = marks Odd u is.1 in (
       (is.0, free.0),
       kept_number (is_main c.args.diagonal) (not (is_main c.args.diagonal))

@@ -1,4 +1,5 @@
-use Rattle.lanes.proofs.Imports.{Even, HasWordsStrideRows, IsPassed, TurnsBlocksWhere, trailing_zeros, w64, ◌+◌, ◌-◌}
+use Rattle.lanes.proofs.Imports.{Even, HasWordsStrideRows, IsPassedBlock, TurnsBlocksWhere, trailing_zeros, w64, ◌+◌}
+use Rattle.lanes.proofs.Imports.{◌-◌}
 use Rattle.lanes.proofs.Imports.{◌≡◌}
 use Rattle.lanes.proofs.Imports.{◌≤◌}
 use Rattle.lanes.specs.Settled.{KeepsSettled}
@@ -11,7 +12,7 @@ invariant-loop-rest l = record {
   stays : l.changed ≡ 0 → l.self.planes ≡ l.fn.self.planes;
   settled : l.partition ≡ Even → KeepsSettled l.fn.self l.self;
   count : (l.changed ≤ trailing_zeros w64 l.rest) × (l.first + l.changed ≤ l.end);
-  turned : TurnsBlocksWhere l.partition (IsPassed l.partition l.fn.self.planes.stride l.first l.end l.rest)
+  turned : TurnsBlocksWhere l.partition (IsPassedBlock l.partition l.fn.self.planes.stride l.first l.end l.rest)
       l.fn.self.planes l.self.planes;
 }
 

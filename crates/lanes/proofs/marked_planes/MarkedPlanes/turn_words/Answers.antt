@@ -19,8 +19,9 @@ invariant_of-self-2-clause-calm c =
     let f = c.args.self.now in
     let e = c.block_changes-changes.ensures in
     let marks = rw (c.stride-stride.ensures.stride_is_exact, sym c.block_places-block.ensures.block)
-    at c.mark_changes.ensures.marked in
-    still_stable _ _ c.block_places-block.result f.block_marks c.mark_changes.new.self f.planes c.turn_block.new.self
+    at c.mark_block_and_neighbours.ensures.marked in
+    still_stable _ _ c.block_places-block.result f.block_marks c.mark_block_and_neighbours.new.self f.planes
+    c.turn_block.new.self
     c.turn_block.ensures.size
     (block_cells _ _ c.block_places-block.result f.planes c.turn_block.new.self e.main e.anti
     c.turn_block.ensures.turned)
@@ -51,7 +52,7 @@ returns-clause-settled_if_even c = λ even u is.
     let f = c.args.self.now in
     let e = c.block_changes-changes.ensures in
     let marks = rw (c.stride-stride.ensures.stride_is_exact, sym c.block_places-block.ensures.block)
-    at c.mark_changes.ensures.marked in
+    at c.mark_block_and_neighbours.ensures.marked in
     let free = marks Odd u is.1 in (
       (is.0, free.0),
       kept_number _ _ c.block_places-block.result f.planes c.turn_block.new.self u c.turn_block.ensures.size

@@ -24,9 +24,10 @@ returns c =
     let count : 1 * 2 ^ c.cuts-count.result % 18446744073709551616 ≡ assignments c.args.job.now =
     shifted c.cuts-count.result c.cuts-count.ensures.at_most_12 ∙ ap (λ n. 2 ^ n) c.cuts-count.ensures.count
     ∙ ap (λ (l : Netlist). 2 ^ l.given) e in
-    let known = c.without_undefined-rows.ensures in
-    let rows : AreValueRows c.args.job.now.locals.netlist c.div_ceil-words.result c.without_undefined-rows.result =
-    subst (λ (m : Netlist). AreValueRows m c.div_ceil-words.result c.without_undefined-rows.result) e
+    let known = c.with_false_where_undefined-rows.ensures in
+    let rows : AreValueRows c.args.job.now.locals.netlist c.div_ceil-words.result
+    c.with_false_where_undefined-rows.result =
+    subst (λ (m : Netlist). AreValueRows m c.div_ceil-words.result c.with_false_where_undefined-rows.result) e
     (rows_kept _ c.div_ceil-words.result _ _ known.defined known.undefined known.length_unchanged known.keeps
     c.in_ok-value_rows.ensures) in
     record {

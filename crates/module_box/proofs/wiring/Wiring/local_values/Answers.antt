@@ -1,15 +1,16 @@
-use Rattle.module_box.proofs.Imports.{IsColumnAt, List, Netlist, ap, arith, bit, lane, length, refl, slice_index, subst}
+use Rattle.module_box.proofs.Imports.{AreModuleValuesAtBit, List, Netlist, ap, arith, bit, lane, length, refl}
+use Rattle.module_box.proofs.Imports.{slice_index, subst}
 use Rattle.module_box.proofs.Imports.{sym, true, ℕ, ◌%◌, ◌*◌, ◌+◌, ◌/◌, ◌<◌, ◌∙◌, ◌≡◌}
 use Rattle.circuit.specs.Bridge.{AreValues}
 use Rattle.module_box.proofs.LocalRows.{column_defined}
 use Rattle.module_box.proofs.wiring.Wiring.local_values.Goals as goal
 
 at : (l : Netlist) (bits defined : ℕ) (words undefined : List ℕ) →
-    ((b : ℕ) → b < 64 → IsColumnAt l (64 * (bits / 64) + b) words undefined defined b) →
-    IsColumnAt l bits words undefined defined (bits % 64)
+    ((b : ℕ) → b < 64 → AreModuleValuesAtBit l (64 * (bits / 64) + b) words undefined defined b) →
+    AreModuleValuesAtBit l bits words undefined defined (bits % 64)
 at l bits defined words undefined each =
     let sum : 64 * (bits / 64) + bits % 64 ≡ bits = omega arith in
-    subst (λ a. IsColumnAt l a words undefined defined (bits % 64)) sum (each (bits % 64) (omega arith))
+    subst (λ a. AreModuleValuesAtBit l a words undefined defined (bits % 64)) sum (each (bits % 64) (omega arith))
 
 pub returns-in-Some-clause-fault : goal.returns-in-Some-clause-fault
 returns-in-Some-clause-fault c =

@@ -37,12 +37,12 @@ invariant_of-self-2 c =
           c.self.invariant.cells_taken_at_start
           (λ x y. c.take_cells_if.ensures.cells_taken x y
           ∙ ap (λ b. live c.self.inside.cells_taken_at_start x y || (b && in_cells (cells_of c.args.part) x y))
-          c.takes_at_start.ensures);
+          c.takes_cells_at_start.ensures);
       cells_taken_at_end = ended_more c.self.inside.cells_taken_at_end c.take_cells_if-2.new.grid
           (parts_of c.self.inside.layout)
           (parts_of c.add.new.self) c.args.part
           (cells_of c.args.part) refl c.in-Ok.ensures.parts c.self.invariant.cells_taken_at_end
           (λ x y. c.take_cells_if-2.ensures.cells_taken x y
           ∙ ap (λ b. live c.self.inside.cells_taken_at_end x y || (b && in_cells (cells_of c.args.part) x y))
-          c.takes_at_end.ensures);
+          c.takes_cells_at_end.ensures);
     }

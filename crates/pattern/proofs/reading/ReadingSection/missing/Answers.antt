@@ -1,6 +1,7 @@
 -- Each name that is asked for was seen.
 use Rattle.pattern.proofs.Imports.{List, None, Some, SomethingMissing, ap, ap₂, arith, common_steps, false, has}
-use Rattle.pattern.proofs.Imports.{list_all, missing_fault, named_ports, parts_of, subst, sym, true, ℕ, ◌&&◌, ◌∙◌, ◌≡◌}
+use Rattle.pattern.proofs.Imports.{list_all, missing_fault, parts_of, port_name_lists, subst, sym, true, ℕ, ◌&&◌, ◌∙◌}
+use Rattle.pattern.proofs.Imports.{◌≡◌}
 use Rattle.pattern.specs.Readings.{ReadingView}
 use Rattle.pattern.specs.Lines.{allows_any_name}
 use Rattle.pattern.proofs.ReadingLemmas.{none_missing, missing_by}
@@ -15,7 +16,7 @@ returns-then-has_ins-has_outs c =
     ∙ ap (list_all (λ (n : List ℕ). has c.self.inside.seen_ins.keys n)) c.deref.ensures.value in
     let outs = c.has_all-has_outs.ensures
     ∙ ap (list_all (λ (n : List ℕ). has c.self.inside.seen_outs.keys n)) c.deref-in-Only.ensures.value in
-    let only = ap (λ p. allows_any_name (named_ports p)) c.in-Only.is in
+    let only = ap (λ p. allows_any_name (port_name_lists p)) c.in-Only.is in
     let both = sym (ap₂ (λ a b. a && b) ins outs) ∙ c.if-has_ins-has_outs.true in
     subst (λ (r : ReadingView). None ≡ missing_fault r.ports (parts_of r.layout)) c.self.view_is
     (missing_by c.self.inside.ports.now
@@ -28,7 +29,7 @@ returns-else-has_ins-has_outs c =
     ∙ ap (list_all (λ (n : List ℕ). has c.self.inside.seen_ins.keys n)) c.deref.ensures.value in
     let outs = c.has_all-has_outs.ensures
     ∙ ap (list_all (λ (n : List ℕ). has c.self.inside.seen_outs.keys n)) c.deref-in-Only.ensures.value in
-    let only = ap (λ p. allows_any_name (named_ports p)) c.in-Only.is in
+    let only = ap (λ p. allows_any_name (port_name_lists p)) c.in-Only.is in
     let both = sym (ap₂ (λ a b. a && b) ins outs) ∙ c.if-has_ins-has_outs.false in
     subst (λ (r : ReadingView). Some SomethingMissing ≡ missing_fault r.ports (parts_of r.layout)) c.self.view_is
     (missing_by c.self.inside.ports.now

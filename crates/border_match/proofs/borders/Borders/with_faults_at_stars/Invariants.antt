@@ -1,8 +1,0 @@
--- The cells of the lines so far are covered.
-use Rattle.border_match.proofs.Imports.{DiffersAtStarBelow, IsFaultOfSearchedJob, IsNextBest, map, moved_all_times, pos}
-use Rattle.border_match.proofs.borders.Borders.with_faults_at_stars.Given as goal
-
-abbrev pub invariant-loop-place : goal.invariant-loop-place
-invariant-loop-place l = IsNextBest (IsFaultOfSearchedJob l.self)
-    (DiffersAtStarBelow l.place l.self (map (moved_all_times (pos l.corner.x) (pos l.corner.y)) l.stars)) l.fn.best
-    l.least

@@ -1,5 +1,0 @@
-use Rattle.module_box.proofs.SeenValues.{choices_are_assignments, local_values_agree, undefined_is_seen}
-use Rattle.module_box.proofs.laws.local_values_agree.Goals as goal
-
-pub returns : goal.returns
-returns c = record { assignment = choices_are_assignments; agree = local_values_agree; undefined = undefined_is_seen }

@@ -1,6 +1,0 @@
--- At most every case so far has failed.
-use Rattle.lemmas.proofs.Common.{◌≤◌}
-use Rattle.run_cases.proofs.try_file.Given as goal
-
-abbrev pub invariant-loop-case : goal.invariant-loop-case
-invariant-loop-case g l = l.failed ≤ l.case-index
