@@ -12,6 +12,7 @@ use Rattle.core_book.proofs.Replays.{closed-by_its_history}
 use Rattle.core_book.specs.declared.log_entry.LogEntry.{LogEntry}
 use Rattle.core_book.specs.declared.log_entry.LogEntry.TheVariants.{Filed, Closing}
 use Rattle.module_job.specs.Jobs.{JobView}
+use Rattle.check_main.specs.Preparing.{IsNewBookOf}
 use Rattle.check_main.specs.Audits.{IsAuditOf, IsClosedOnce, IsFilledAndClosed, filings_in}
 use Rattle.core_book.specs.declared.reply.Reply.TheVariants as reply
 
@@ -19,13 +20,17 @@ pub no_history : (b : BookView) (digest : List ℕ) (jobs : List JobView) → b 
 unfolding new_book
 no_history b digest jobs is = ap (λ (v : BookView). v.history) is
 
-pub own_digest : (b : BookView) (digest : List ℕ) (jobs : List JobView) → b ≡ new_book digest jobs → b.digest ≡ digest
+pub new_book_of : (c : CertView) (b : BookView) (digest : List ℕ) (jobs : List JobView) → b ≡ new_book digest jobs →
+    digest ≡ sha256 (certificate_text c) → AreJobsOfCertificate c jobs → IsNewBookOf c b
 unfolding new_book
-own_digest b digest jobs is = ap (λ (v : BookView). v.digest) is
-
-pub own_jobs : (b : BookView) (digest : List ℕ) (jobs : List JobView) → b ≡ new_book digest jobs → b.jobs ≡ jobs
-unfolding new_book
-own_jobs b digest jobs is = ap (λ (v : BookView). v.jobs) is
+new_book_of c b digest jobs is own all =
+    let e : b.digest ≡ digest = ap (λ (v : BookView). v.digest) is in
+    let j : b.jobs ≡ jobs = ap (λ (v : BookView). v.jobs) is in
+    record {
+      digest = e ∙ own;
+      jobs = subst (AreJobsOfCertificate c) (sym j) all;
+      is_new = is ∙ ap (λ d. new_book d jobs) (sym e) ∙ ap (new_book b.digest) (sym j);
+    }
 
 -- without a closing entry there are only filings
 all_filings : (es : List LogEntry) → has_closing es ≡ false → es ≡ map Filed (filings_in es)

@@ -9,6 +9,7 @@ ghost use Rattle.module_job.specs.Groups.{AreGroups};
 ghost use Rattle.core_book.specs.Concluding.{AreJobsOfCertificate, modules};
 ghost use Rattle.core_book.specs.Replay.{has_closing};
 ghost use Rattle.core_book.specs.Filling.{shapes_of};
+ghost use Rattle.check_main.specs.Preparing.{IsNewBookOf};
 ghost use Rattle.check_main.specs.Audits.{IsAuditOf, IsClosedOnce, IsFilledAndClosed, filings_in};
 ghost use Rattle.lemmas.specs.Bounds.{max_modules};
 
@@ -60,35 +61,21 @@ pub fn audit<G: Gate + Sync, R: Threads + Wait + Sync>(
 {
     let digest = cert.digest(alloc)?;
     let jobs = cert.jobs(alloc)?;
-    audit_with_digest_and_jobs(
-        rt,
-        alloc,
-        cert,
-        DigestAndJobs { digest, jobs },
-        workers,
-        gate,
-    )
+    let state = BookState::new(alloc, digest, jobs)?;
+    audit_new_book(rt, alloc, cert, state, workers, gate)
 }
 
-/// The digest and the jobs that a book is opened with.
-#[derive(Drop)]
-pub(crate) struct DigestAndJobs {
-    pub(crate) digest: [u8; 32],
-    pub(crate) jobs: Vec<Arc<Job>>,
-}
-
-/// Runs the modules of a certificate as `audit` does, with the certificate's digest and jobs.
-pub(crate) fn audit_with_digest_and_jobs<G: Gate + Sync, R: Threads + Wait + Sync>(
+/// Runs the modules of a certificate as `audit` does, into a new book of its jobs under its digest.
+pub(crate) fn audit_new_book<G: Gate + Sync, R: Threads + Wait + Sync>(
     rt: &R,
     alloc: Global,
     cert: &Cert<'_>,
-    opening: DigestAndJobs,
+    state: BookState,
     workers: usize,
     gate: &G,
 ) -> Result<Audited, AllocError>
     requires workers { (0 < workers) × (workers ≤ 64) }
-    requires own_digest { opening.digest ≡ sha256 (certificate_text cert.now) }
-    requires own_jobs { AreJobsOfCertificate cert.now (map arc_value opening.jobs.items) }
+    requires book { IsNewBookOf cert.now state }
     ensures full { IfOk result (λ audited. IsAuditOf cert.now audited.state) }
     ensures replays { IfOk result (λ audited. IsReplayed audited.state) }
     ensures closed { IfOk result (λ audited. IsClosedOnce audited.state.history) }
@@ -96,17 +83,16 @@ pub(crate) fn audit_with_digest_and_jobs<G: Gate + Sync, R: Threads + Wait + Syn
         (filings_in audited.state.history)) }
 {
     cert.prove_valid();
-    let DigestAndJobs { digest, jobs } = opening;
-    let copies = jobs.clone()?;
+    let digest = state.digest();
+    let copies = state.jobs().to_vec(alloc)?;
     let groups = job_groups(alloc, &copies)?;
-    let state = BookState::new(alloc, digest, jobs)?;
     let unopened = BookToOpen {
         state,
         filings: Blank::new(workers as u64),
         acceptances: Blank::new(workers as u64),
         workers,
     };
-    let mut audited = audit_with_book::<Brand, Brand, G, R>(
+    let mut audited = work_on_new_book::<Brand, Brand, G, R>(
         rt, alloc, gate, &copies, &groups, unopened,
     )?;
     fill_and_close(alloc, &mut audited.state, digest, &copies)?;
@@ -141,7 +127,7 @@ struct BookToOpen {
 }
 
 // What the workers filed of these jobs into a book, over two ledgers. It is still open.
-fn audit_with_book<F: Filings + Sync, A: Ledger + Sync, G: Gate + Sync, R: Threads + Wait + Sync>(
+fn work_on_new_book<F: Filings + Sync, A: Ledger + Sync, G: Gate + Sync, R: Threads + Wait + Sync>(
     rt: &R,
     alloc: Global,
     gate: &G,

@@ -7,7 +7,7 @@ ghost use Rattle.core_book.specs.Concluding.{modules, setting};
 ghost use Rattle.check_main.specs.Audits.{IsAuditOf};
 ghost use Rattle.check_main.specs.Preparing.{IsPreparedFor};
 
-use crate::auditing::audit_with_digest_and_jobs;
+use crate::auditing::audit_new_book;
 use crate::preparing::Prepared;
 use answers::{Answered, Outcome};
 use audit_core::conclude_from_full_book;
@@ -34,8 +34,8 @@ pub(crate) fn report_on<G: Gate + Sync, R: Threads + Wait + Sync>(
     ensures says { IfOk result (λ answered. SaysReport (bundle_of_certificate cert.now)
         answered.output.items answered.outcome) }
 {
-    let Prepared { opening, borders } = prepared;
-    let audited = audit_with_digest_and_jobs(rt, alloc, cert, opening, workers, gate)?;
+    let Prepared { state, borders } = prepared;
+    let audited = audit_new_book(rt, alloc, cert, state, workers, gate)?;
     let verdict = verdict_from(alloc, cert, &borders, &audited.state)?;
     let output = report_with_digest(alloc, cert, audited.state.digest(), &verdict)?;
     Ok(Answered {

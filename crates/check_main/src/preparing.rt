@@ -4,21 +4,21 @@ ghost use Rattle.sha2.specs.Sha256.{sha256};
 ghost use Rattle.certificate.specs.Text.{certificate_text};
 ghost use Rattle.check_main.specs.Preparing.{IsPreparedFor, IsSectionOf, taken_bytes};
 
-use crate::auditing::DigestAndJobs;
 use border_match::{BorderFault, match_borders};
 use certificate::Cert;
+use core_book::BookState;
 use section_text::Feed;
 use sha2::{Digest, Sha256};
 use std::alloc::{AllocError, Global};
 
-/// The digest and the jobs of a certificate, and the faults of its borders.
+/// A new book of the jobs of a certificate under its digest, and the faults of its borders.
 #[derive(Drop)]
 pub(crate) struct Prepared {
-    pub(crate) opening: DigestAndJobs,
+    pub(crate) state: BookState,
     pub(crate) borders: Vec<Option<BorderFault>>,
 }
 
-/// Takes the digest of a certificate, unless it is given, makes the jobs and matches the borders.
+/// Takes the digest of a certificate, unless it is given, makes the jobs and their book, and matches the borders.
 ///
 /// The text is freed before the jobs are made, so that they and the modules can use its memory. The certificate's
 /// section is the last part of the text's lines, from the byte `from` on.
@@ -40,10 +40,8 @@ pub(crate) fn prepare(
     drop(text);
     let jobs = cert.jobs(alloc)?;
     let borders = match_borders(alloc, cert, &jobs)?;
-    Ok(Prepared {
-        opening: DigestAndJobs { digest, jobs },
-        borders,
-    })
+    let state = BookState::new(alloc, digest, jobs)?;
+    Ok(Prepared { state, borders })
 }
 
 fn certificate_section_in(text: &Feed, from: usize) -> &[u8]
