@@ -2,7 +2,7 @@
 use Rattle.lemmas.proofs.Common.{[], ◌+◌, ◌∙◌, ◌≡◌, ◌≢◌, Err, List, None, Ok, Result, ap, drop, subst, sym, ℕ}
 use Rattle.section_text.specs.Words.{lines_of, bytes_after_last_line_feed}
 use Rattle.section_text.specs.declared.limits.Limits.{Limits}
-use Rattle.section_text.specs.Limits.{front_lines}
+use Rattle.section_text.specs.Limits.{limits_line_count}
 use Rattle.section_text.specs.Feeds.{FeedView, ahead}
 use Rattle.section_text.specs.Section.{Grammar, Reads, FailsAsReading}
 use Rattle.section_text.specs.Sections.{section_then, value_if_at_end}
@@ -62,10 +62,10 @@ with_fails value Memory read fails = tt
 with_fails value (Refused r) read fails = ap (pair_with_result value) fails
 
 module _ {H I A V : Type 0} (g : Grammar H I) (view : A → H × List I) (value : H → List I → V)
-    (names : H → List I → List (List ℕ)) (l : Limits) (old mid : FeedView) (unread : old.taken ≡ front_lines l)
+    (names : H → List I → List (List ℕ)) (l : Limits) (old mid : FeedView) (unread : old.taken ≡ limits_line_count l)
     (going : old.stop ≡ None) where
   abbrev asked : List ℕ → Result (V × List (List ℕ)) Refusal
-  asked text = section_then g (front_lines l) (drop (front_lines l) (lines_of text))
+  asked text = section_then g (limits_line_count l) (drop (limits_line_count l) (lines_of text))
       (λ h items n ahead. value_and_names_on text (value h items) (names h items) n ahead)
 
   abbrev then_names : List ℕ → H → List I → ℕ → List (List ℕ) → Result (V × List (List ℕ)) Refusal

@@ -3,7 +3,7 @@ use Rattle.lemmas.proofs.Common.{[], ◌++◌, ◌+◌, ◌∙◌, ◌∷◌, �
 use Rattle.lemmas.proofs.Common.{append-nil, ap₂, drop, map, refl, subst, sym, ℕ}
 use Rattle.section_text.specs.Words.{lines_of, bytes_after_last_line_feed}
 use Rattle.section_text.specs.declared.limits.Limits.{Limits}
-use Rattle.section_text.specs.Limits.{front_lines}
+use Rattle.section_text.specs.Limits.{limits_line_count}
 use Rattle.section_text.specs.Feeds.{FeedView, ahead}
 use Rattle.section_text.specs.Faults.{refusal}
 use Rattle.section_text.specs.Section.{Reads, FailsAsReading}
@@ -103,7 +103,7 @@ module _ (l : Limits) (text : List ℕ) where
   after_circuit _ circuit n ahead =
       section_then (layout_grammar l (Some (port_names_of circuit))) n ahead (after_layout circuit)
 
-module _ (l : Limits) (f0 f1 : FeedView) (unread : f0.taken ≡ front_lines l) (going : f0.stop ≡ None) where
+module _ (l : Limits) (f0 f1 : FeedView) (unread : f0.taken ≡ limits_line_count l) (going : f0.stop ≡ None) where
   from_start : section_then (circuit_grammar l) f0.taken (ahead f0) (after_circuit l f0.text)
       ≡ bundle_with_limits l f0.text
   unfolding bundle_with_limits after_circuit after_layout ended whole
@@ -137,7 +137,7 @@ module _ (l : Limits) (f0 f1 : FeedView) (unread : f0.taken ≡ front_lines l) (
 
 -- ---- what follows a circuit and a layout that were read
 
-module _ (l : Limits) (f0 f2 : FeedView) (unread : f0.taken ≡ front_lines l) (going : f0.stop ≡ None)
+module _ (l : Limits) (f0 f2 : FeedView) (unread : f0.taken ≡ limits_line_count l) (going : f0.stop ≡ None)
     (circuit : List CircuitLine) (layout : Pattern) (design : IsDesignRead l f0 f2 circuit layout) where
   layout_read : bundle_with_limits l f0.text
       ≡ after_layout l f0.text circuit layout.size (parts_of layout) f2.taken (ahead f2)

@@ -12,8 +12,8 @@ use Rattle.section_text.proofs.MadeSections.{forms, items_said, no_lines, one_li
 unfoldable use Rattle.certificate_lines.specs.Forms.{form_of}
 unfoldable use Rattle.certificate_lines.proofs.Imports.{is_word_at}
 unfoldable use Rattle.pattern.proofs.Imports.{number_at}
-use Rattle.certificate_lines.specs.Versions.{is_halo}
-unfoldable use Rattle.certificate_lines.specs.Versions.{without_halos}
+use Rattle.certificate_lines.specs.Versions.{is_halo_line}
+unfoldable use Rattle.certificate_lines.specs.Versions.{without_halo_lines}
 use Rattle.certificate_lines.specs.declared.certificate_line.CertificateLine.{CertificateLine}
 use Rattle.certificate_lines.specs.declared.certificate_line.CertificateLine.TheVariants.{Cut, Edge, Halo, Keep}
 use Rattle.certificate_lines.specs.declared.certificate_line.CertificateLine.TheVariants.{Module, Stop, Use}
@@ -85,15 +85,15 @@ header_said = refl
 pub header_line : with_line_feed (codes "certificate 2") ≡ form_text (Header 2)
 header_line = form_line (codes "certificate 2") (Header 2) header_said
 
-pub without_halo : (i : CertificateLine) (items : List CertificateLine) → is_halo i ≡ true →
-    without_halos (i ∷ items) ≡ without_halos items
-unfolding without_halos
-without_halo i items e = ap (λ b. if not b then i ∷ without_halos items else without_halos items) e
+pub without_halo : (i : CertificateLine) (items : List CertificateLine) → is_halo_line i ≡ true →
+    without_halo_lines (i ∷ items) ≡ without_halo_lines items
+unfolding without_halo_lines
+without_halo i items e = ap (λ b. if not b then i ∷ without_halo_lines items else without_halo_lines items) e
 
-pub with_other : (i : CertificateLine) (items : List CertificateLine) → is_halo i ≡ false →
-    without_halos (i ∷ items) ≡ i ∷ without_halos items
-unfolding without_halos
-with_other i items e = ap (λ b. if not b then i ∷ without_halos items else without_halos items) e
+pub with_other : (i : CertificateLine) (items : List CertificateLine) → is_halo_line i ≡ false →
+    without_halo_lines (i ∷ items) ≡ i ∷ without_halo_lines items
+unfolding without_halo_lines
+with_other i items e = ap (λ b. if not b then i ∷ without_halo_lines items else without_halo_lines items) e
 
 first_of : (l bytes : List ℕ) (b : ℕ) → with_line_feed l ≡ b ∷ bytes → b ≢ 10 → begins_with_h l ≡ (b == 104)
 first_of [] bytes b e other = absurd (other cc)
@@ -105,8 +105,8 @@ other_than_10 : (b : ℕ) → 10 < b → b ≢ 10
 other_than_10 b h e = absurd (omega (arith, e))
 
 -- only a halo line begins so
-begins : (l : List ℕ) (i : CertificateLine) → with_line_feed l ≡ entry_text i → begins_with_h l ≡ is_halo i
-unfolding is_halo
+begins : (l : List ℕ) (i : CertificateLine) → with_line_feed l ≡ entry_text i → begins_with_h l ≡ is_halo_line i
+unfolding is_halo_line
 begins l (Module b) e = first_of l _ 109 e (other_than_10 109 (omega arith))
 begins l (Cut name) e = first_of l _ 99 e (other_than_10 99 (omega arith))
 begins l (Use number) e = first_of l _ 117 e (other_than_10 117 (omega arith))
@@ -117,22 +117,22 @@ begins l (Stop stop) e = first_of l _ 115 e (other_than_10 115 (omega arith))
 
 abbrev AreKept : List (List ℕ) → List CertificateLine → Type 0
 AreKept ls items = flat_map with_line_feed (lines_not_beginning_with_h ls)
-    ≡ flat_map entry_text (without_halos items) ++ form_text End
+    ≡ flat_map entry_text (without_halo_lines items) ++ form_text End
 
 one_more : (l : List ℕ) (i : CertificateLine) (ls : List (List ℕ)) (items : List CertificateLine) (b : Bool) →
-    is_halo i ≡ b → with_line_feed l ≡ entry_text i → AreKept ls items → AreKept (l ∷ ls) (i ∷ items)
+    is_halo_line i ≡ b → with_line_feed l ≡ entry_text i → AreKept ls items → AreKept (l ∷ ls) (i ∷ items)
 one_more l i ls items true halo e more =
     ap (flat_map with_line_feed) (dropped l ls (begins l i e ∙ halo)) ∙ more
     ∙ ap (λ is. flat_map entry_text is ++ form_text End) (sym (without_halo i items halo))
 one_more l i ls items false halo e more =
     ap (flat_map with_line_feed) (kept l ls (begins l i e ∙ halo))
     ∙ ap₂ (λ a t. a ++ t) e more
-    ∙ sym (append_assoc (entry_text i) (flat_map entry_text (without_halos items)) (form_text End))
+    ∙ sym (append_assoc (entry_text i) (flat_map entry_text (without_halo_lines items)) (form_text End))
     ∙ ap (λ is. flat_map entry_text is ++ form_text End) (sym (with_other i items halo))
 
 items_kept : (items : List CertificateLine) (ls : List (List ℕ)) → forms form_of ls ≡ items_said form_of items →
     AreKept ls items
-unfolding without_halos lines_not_beginning_with_h
+unfolding without_halo_lines lines_not_beginning_with_h
 items_kept [] ls e =
     let one = one_line form_of (Some End) [] ls e in
     let end = form_line one.line End one.first_form in
@@ -143,7 +143,7 @@ items_kept [] ls e =
 items_kept (i ∷ items) ls e =
     let one = one_line form_of (Some (Item i)) (items_said form_of items) ls e in
     ap (λ ks. flat_map with_line_feed (lines_not_beginning_with_h ks)) one.lines
-    ∙ one_more one.line i one.rest items (is_halo i) refl (form_line one.line (Item i) one.first_form)
+    ∙ one_more one.line i one.rest items (is_halo_line i) refl (form_line one.line (Item i) one.first_form)
     (items_kept items one.rest one.other_forms)
 
 pub section_kept : (ls : List (List ℕ)) (version : ℕ) (items : List CertificateLine) →

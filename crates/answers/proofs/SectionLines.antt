@@ -3,7 +3,7 @@ use Rattle.lemmas.proofs.Common.{◌++◌, ◌+◌, ◌∙◌, ◌≡◌, ◌≤
 use Rattle.lemmas.proofs.Common.{drop, drop-append_seam, flat_map, flat_map-append, length, length-append, refl, subst}
 use Rattle.lemmas.proofs.Common.{sym, take, take-add, take-append_seam, ℕ}
 use Rattle.section_text.specs.Feeds.{FeedView, ahead}
-use Rattle.section_text.specs.Limits.{front_lines, limits_of}
+use Rattle.section_text.specs.Limits.{limits_line_count, limits_of}
 use Rattle.section_text.specs.SaidSection.{IsSection}
 use Rattle.section_text.specs.Section.{Grammar, Reads, ReadsSection, with_line_feed}
 use Rattle.section_text.specs.Words.{lines_of}
@@ -63,11 +63,11 @@ section_bytes before after text e =
 
 -- a circuit and a layout that were read from the lines behind those of the limits
 module _ (l : Limits) (f0 f2 : FeedView) (circuit : List CircuitLine) (layout : Pattern)
-    (own : l ≡ limits_of (lines_of f0.text)) (unread : f0.taken ≡ front_lines l)
+    (own : l ≡ limits_of (lines_of f0.text)) (unread : f0.taken ≡ limits_line_count l)
     (design : IsDesignRead l f0 f2 circuit layout) where
   front : bytes_taken f0 ≡ front_text l
   front =
-      ap (λ (n : ℕ). flat_map with_line_feed (take n (lines_of f0.text))) (unread ∙ ap front_lines own)
+      ap (λ (n : ℕ). flat_map with_line_feed (take n (lines_of f0.text))) (unread ∙ ap limits_line_count own)
       ∙ front_spelled (lines_of f0.text) ∙ ap front_text (sym own)
 
   circuit_bytes : bytes_taken design.between ≡ front_text l ++ circuit_text circuit

@@ -1,7 +1,7 @@
 -- A bundle: a circuit, a layout for it, and a certificate for both.
 use Rattle.std.specs.Prelude.{ℕ, List, Result, Some, drop}
 use Rattle.section_text.specs.Words.{lines_of, bytes_after_last_line_feed}
-use Rattle.section_text.specs.Limits.{front_lines, limits_of}
+use Rattle.section_text.specs.Limits.{limits_line_count, limits_of}
 use Rattle.section_text.specs.declared.limits.Limits.{Limits}
 use Rattle.section_text.specs.Sections.{section_then, value_if_at_end}
 use Rattle.section_text.specs.declared.fault.Refusal.{Refusal}
@@ -28,7 +28,8 @@ pub record Bundle : Type 0 where
 -- outputs, a certificate section for both, and nothing more.
 unfoldable pub bundle_with_limits : Limits → List ℕ → Result Bundle Refusal
 bundle_with_limits l text =
-    section_then (circuit_grammar l) (front_lines l) (drop (front_lines l) (lines_of text)) (λ _ circuit n ahead.
+    section_then (circuit_grammar l) (limits_line_count l) (drop (limits_line_count l) (lines_of text))
+    (λ _ circuit n ahead.
     section_then (layout_grammar l (Some (port_names_of circuit))) n ahead (λ size parts m later.
     section_then (certificate_grammar l (setting_of circuit (layout_of size parts))) m later (λ version entries k last.
     value_if_at_end k last (bytes_after_last_line_feed text)

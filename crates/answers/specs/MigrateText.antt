@@ -13,7 +13,7 @@ use Rattle.pattern.specs.declared.layout_line.LayoutHeader.{LayoutHeader}
 use Rattle.pattern.specs.declared.layout_line.LayoutLine.{LayoutLine}
 use Rattle.certificate.specs.Text.{entry_text}
 use Rattle.certificate_lines.specs.Forms.{form_of}
-use Rattle.certificate_lines.specs.Versions.{without_halos}
+use Rattle.certificate_lines.specs.Versions.{without_halo_lines}
 use Rattle.certificate_lines.specs.declared.certificate_line.CertificateLine.{CertificateLine}
 use Rattle.answers.specs.declared.outcome.Outcome.{Outcome}
 use Rattle.answers.specs.declared.outcome.Outcome.TheVariants.{Yes}
@@ -43,7 +43,7 @@ pub record IsBundleText (l : Limits) (bundle : Bundle) (text : List ℕ) (from :
 
 -- a bundle with a certificate of version 2, which has no halo lines
 abbrev pub migrated_bundle : Bundle → Bundle
-migrated_bundle bundle = record bundle { version = 2; entries = without_halos bundle.entries }
+migrated_bundle bundle = record bundle { version = 2; entries = without_halo_lines bundle.entries }
 
 -- the text of the bundle in version 2
 abbrev pub migrate_of : Bundle → List ℕ

@@ -3,7 +3,7 @@ use Rattle.pattern.specs.Text.{box_words}
 use Rattle.std.specs.Prelude.{◌≡◌, ℕ, ◌+◌, List, [], ◌∷◌, ◌++◌, map, codes}
 use Rattle.std.specs.Fmt.{decimal}
 use Rattle.section_text.specs.Spelling.{line_text}
-use Rattle.certificate_lines.specs.Entries.{counts_of, modules_of}
+use Rattle.certificate_lines.specs.Entries.{line_counts_of, modules_of}
 use Rattle.certificate_lines.specs.declared.certificate_line.Counts.{Counts}
 use Rattle.answers.specs.declared.outcome.Outcome.{Outcome}
 use Rattle.answers.specs.declared.outcome.Outcome.TheVariants.{Yes}
@@ -27,7 +27,7 @@ module_lines n (k ∷ ks) = module_line n k ++ module_lines (n + 1) ks
 
 -- the box of each module and how many lines of each kind it has, in order
 pub record SaysModules (bundle : Bundle) (output : List ℕ) (outcome : Outcome) : Type 0 where
-  pub says : output ≡ module_lines 0 (map counts_of (modules_of bundle.entries))
+  pub says : output ≡ module_lines 0 (map line_counts_of (modules_of bundle.entries))
   pub ends : outcome ≡ Yes
 
 -- what `modules` writes for a text, and how it ends

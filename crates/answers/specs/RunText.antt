@@ -3,7 +3,7 @@ use Rattle.std.specs.Prelude.{◌≡◌, ℕ, List, [], ◌∷◌, ◌++◌, len
 use Rattle.std.specs.List.{flat_map}
 use Rattle.std.specs.Fmt.{decimal, signed_decimal}
 use Rattle.section_text.specs.Words.{lines_of, has}
-use Rattle.section_text.specs.Limits.{front_lines, limits_of}
+use Rattle.section_text.specs.Limits.{limits_line_count, limits_of}
 use Rattle.section_text.specs.declared.limits.Limits.{Limits}
 use Rattle.section_text.specs.Spelling.{line_text}
 use Rattle.section_text.specs.Sections.{section_then}
@@ -36,7 +36,7 @@ RunQuestion = (LayoutHeader × List LayoutLine) × List (List ℕ)
 -- on, and nothing more.
 unfoldable pub run_sections_with_limits : Limits → List ℕ → Result RunQuestion Refusal
 run_sections_with_limits l text =
-    section_then (layout_grammar l None) (front_lines l) (drop (front_lines l) (lines_of text))
+    section_then (layout_grammar l None) (limits_line_count l) (drop (limits_line_count l) (lines_of text))
     (λ size parts n ahead. value_and_names_on text (size, parts) (flat_map input_name_of_line parts) n ahead)
 
 -- with the limits that the text has

@@ -1,7 +1,7 @@
 -- The answer of `value` to a text: each wire's value under an assignment of the inputs, or the refusal of the text.
 use Rattle.std.specs.Prelude.{◌≡◌, ◌⊎◌, ℕ, ◌++◌, ◌∷◌, [], Bool, List, codes, drop, map, Result}
 use Rattle.std.specs.Fmt.{decimal}
-use Rattle.section_text.specs.Limits.{front_lines, limits_of}
+use Rattle.section_text.specs.Limits.{limits_line_count, limits_of}
 use Rattle.section_text.specs.declared.limits.Limits.{Limits}
 use Rattle.section_text.specs.Spelling.{line_text}
 use Rattle.circuit.specs.Entries.{defined}
@@ -10,8 +10,8 @@ use Rattle.section_text.specs.Sections.{section_then}
 use Rattle.section_text.specs.declared.fault.Refusal.{Refusal}
 use Rattle.circuit.specs.declared.circuit_line.CircuitLine.{CircuitLine}
 use Rattle.circuit.specs.Grammars.{circuit_grammar}
-use Rattle.circuit.specs.Bridge.{AreValues, ValuesStopAt, input_names, netlist_of, as_values}
-use Rattle.circuit.specs.Meaning.{AreOrdered, Valuation}
+use Rattle.circuit.specs.Bridge.{AreWireValues, ValuesStopAt, input_names, netlist_of, as_values}
+use Rattle.circuit.specs.Meaning.{AreGatesOrdered, Valuation}
 use Rattle.circuit.specs.Text.{value_lines}
 use Rattle.answers.specs.declared.outcome.Outcome.TheVariants.{No, Yes}
 use Rattle.answers.specs.declared.outcome.Outcome.{Outcome}
@@ -25,7 +25,7 @@ ValueQuestion = List CircuitLine × List (List ℕ)
 -- more
 unfoldable pub value_sections_with_limits : Limits → List ℕ → Result ValueQuestion Refusal
 value_sections_with_limits l text =
-    section_then (circuit_grammar l) (front_lines l) (drop (front_lines l) (lines_of text))
+    section_then (circuit_grammar l) (limits_line_count l) (drop (limits_line_count l) (lines_of text))
     (λ _ entries n ahead. value_and_names_on text entries (input_names entries) n ahead)
 
 -- with the limits that the text has
@@ -39,7 +39,7 @@ assigned_inputs asked = as_values (map (λ n. has asked.1 n) (input_names asked.
 -- if the circuit has a valuation: a line for each wire, in order of definition
 pub record SaysAllValues (asked : ValueQuestion) (output : List ℕ) (outcome : Outcome) : Type 0 where
   pub values : List Bool
-  pub are : AreValues (netlist_of asked.0) (assigned_inputs asked) values
+  pub are : AreWireValues (netlist_of asked.0) (assigned_inputs asked) values
   pub says : output ≡ value_lines (defined asked.0) values
   pub ends : outcome ≡ Yes
 
@@ -53,7 +53,7 @@ pub record SaysValuesBeforeGate (asked : ValueQuestion) (output : List ℕ) (out
 
 -- each gate uses wires that are defined before it, so no more than one of these two can be said
 pub record SaysValues (asked : ValueQuestion) (output : List ℕ) (outcome : Outcome) : Type 0 where
-  pub ordered : AreOrdered (netlist_of asked.0).given (netlist_of asked.0).gates
+  pub ordered : AreGatesOrdered (netlist_of asked.0).given (netlist_of asked.0).gates
   pub says : SaysAllValues asked output outcome ⊎ SaysValuesBeforeGate asked output outcome
 
 -- what `value` writes for a text, and how it ends

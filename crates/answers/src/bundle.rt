@@ -3,7 +3,7 @@ ghost use Rattle.std.specs.Prelude.{◌≡◌, true, None, IfOk};
 ghost use Rattle.section_text.specs.Words.{lines_of};
 ghost use Rattle.answers.specs.Answers.{AnswersOrRefuses as AnsweredAs};
 ghost use Rattle.answers.specs.BundleText.{bundle_of, bundle_with_limits};
-ghost use Rattle.section_text.specs.Limits.{front_lines, limits_of};
+ghost use Rattle.section_text.specs.Limits.{limits_line_count, limits_of};
 ghost use Rattle.answers.specs.MigrateText.{IsMigrationOf};
 ghost use Rattle.answers.specs.ModulesText.{IsModulesAnswerOf};
 ghost use Rattle.answers.specs.Questions.{AnswersQuestion};
@@ -76,7 +76,7 @@ fn answer_after_front(
 ) -> Result<Answered, AllocError>
     requires text_closed { text.old.closed ≡ true }
     requires own_limits { limits ≡ limits_of (lines_of text.old.text) }
-    requires front_taken { text.old.taken ≡ front_lines limits }
+    requires front_taken { text.old.taken ≡ limits_line_count limits }
     requires feed_not_stopped { text.old.stop ≡ None }
     ensures { IfOk result (λ answered. AnsweredAs (AnswersQuestion limits question)
         (bundle_with_limits limits text.old.text) answered.output.items answered.outcome) }

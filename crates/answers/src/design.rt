@@ -1,6 +1,6 @@
 //! The first two sections of a bundle.
 ghost use Rattle.std.specs.Prelude.{◌≡◌, true, None, IfErr, IfOk};
-ghost use Rattle.section_text.specs.Limits.{front_lines};
+ghost use Rattle.section_text.specs.Limits.{limits_line_count};
 ghost use Rattle.section_text.specs.Section.{FailsAsReading, Reads};
 ghost use Rattle.certificate.specs.Grammars.{certificate_grammar, certificate_section};
 ghost use Rattle.certificate_lines.specs.Settings.{setting_of};
@@ -46,7 +46,7 @@ impl Design {
 /// The fault of reading the bundle, if one of its first two sections has one; or out of memory.
 pub fn read_design(alloc: Global, text: &mut Feed, limits: Limits) -> Result<Design, ReadFault>
     requires text_closed { text.old.closed ≡ true }
-    requires front_taken { text.old.taken ≡ front_lines limits }
+    requires front_taken { text.old.taken ≡ limits_line_count limits }
     requires feed_not_stopped { text.old.stop ≡ None }
     ensures closed { text.new.closed ≡ true }
     ensures read { IfOk result (λ design. IsDesignRead limits text.old text.new design.circuit

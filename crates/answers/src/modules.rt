@@ -3,7 +3,7 @@ ghost use Rattle.std.specs.Prelude.{◌≡◌, ◌++◌, [], ◌∷◌, map, OnO
 ghost use Rattle.section_text.specs.Spelling.{space_and_word};
 ghost use Rattle.std.specs.Fmt.{decimal};
 ghost use Rattle.std.specs.List.{flat_map};
-ghost use Rattle.certificate_lines.specs.Entries.{counts_of, modules_of};
+ghost use Rattle.certificate_lines.specs.Entries.{line_counts_of, modules_of};
 ghost use Rattle.answers.specs.BundleReading.{bundle_of_certificate};
 ghost use Rattle.answers.specs.ModulesText.{SaysModules, words_of_counts, module_line, module_lines};
 
@@ -71,7 +71,7 @@ fn print_module(
 // The lines of the certificate's modules.
 fn print_modules(alloc: Global, cert: &Cert) -> Result<Vec<u8>, AllocError>
     ensures { IfOk result (λ out. out.items
-        ≡ module_lines 0 (map counts_of (modules_of cert.now.entries))) }
+        ≡ module_lines 0 (map line_counts_of (modules_of cert.now.entries))) }
 {
     let mut out = Vec::new(alloc);
     for number in 0..cert.modules() {

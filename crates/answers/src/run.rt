@@ -7,7 +7,7 @@ ghost use Rattle.section_text.specs.Spelling.{line_text};
 ghost use Rattle.pattern.specs.Grammars.{layout_section};
 ghost use Rattle.answers.specs.RunText.{IsRunAnswerOf, SaysRunEnd, live_cell_line, run_end_outcome, run_end_text, run_sections_with_limits};
 ghost use Rattle.answers.specs.Answers.{AnswersOrRefuses};
-ghost use Rattle.section_text.specs.Limits.{front_lines};
+ghost use Rattle.section_text.specs.Limits.{limits_line_count};
 
 use crate::asking::read_assign_and_end;
 use crate::outcome::{Answered, Outcome};
@@ -31,7 +31,7 @@ fn read_layout_and_assign(
     limits: Limits,
 ) -> Result<(Layout, Vec<Name>), ReadFault>
     requires text_closed { feed.old.closed ≡ true }
-    requires front_taken { feed.old.taken ≡ front_lines limits }
+    requires front_taken { feed.old.taken ≡ limits_line_count limits }
     requires feed_not_stopped { feed.old.stop ≡ None }
     ensures { ReaderReturnsSection (λ asked. (layout_section asked.0, asked.1.items)) result
         (run_sections_with_limits limits feed.old.text) }
@@ -122,7 +122,7 @@ fn answer(alloc: Global, layout: &Layout, on: &[Name]) -> Result<Answered, Alloc
 // Runs the layout of a text with these limits, of which the lines before the first section were taken, as `run` does.
 fn run_after_front(alloc: Global, feed: &mut Feed, limits: Limits) -> Result<Answered, AllocError>
     requires text_closed { feed.old.closed ≡ true }
-    requires front_taken { feed.old.taken ≡ front_lines limits }
+    requires front_taken { feed.old.taken ≡ limits_line_count limits }
     requires feed_not_stopped { feed.old.stop ≡ None }
     ensures { IfOk result (λ answered. AnswersOrRefuses SaysRunEnd
         (run_sections_with_limits limits feed.old.text) answered.output.items answered.outcome) }

@@ -9,13 +9,13 @@ ghost use Rattle.section_text.specs.Section.{ReaderReturnsSection};
 ghost use Rattle.circuit.specs.Bridge.{input_names, netlist_of};
 ghost use Rattle.answers.specs.ValueText.{IsValueAnswerOf, SaysValues, value_sections_with_limits};
 ghost use Rattle.answers.specs.Answers.{AnswersOrRefuses};
-ghost use Rattle.section_text.specs.Limits.{front_lines};
+ghost use Rattle.section_text.specs.Limits.{limits_line_count};
 
 use crate::asking::read_assign_and_end;
 use crate::outcome::{Answered, Outcome};
 use crate::refusing::refusal_answer;
-use circuit::{Circuit, ValuesFault, port_names, print_values, read_circuit_within};
-use pattern::which_are_on;
+use circuit::{Circuit, ValuesFault, port_names, print_all_wire_values, read_circuit_within};
+use pattern::which_names_are_on;
 use section_text::{Feed, Limits, Name, PortNames, ReadFault};
 use std::alloc::{AllocError, Global};
 
@@ -37,7 +37,7 @@ fn read_circuit_and_assign(
     limits: Limits,
 ) -> Result<(Circuit, Vec<Name>), ReadFault>
     requires text_closed { feed.old.closed ≡ true }
-    requires front_taken { feed.old.taken ≡ front_lines limits }
+    requires front_taken { feed.old.taken ≡ limits_line_count limits }
     requires feed_not_stopped { feed.old.stop ≡ None }
     ensures { ReaderReturnsSection (λ asked. (asked.0, asked.1.items)) result
         (value_sections_with_limits limits feed.old.text) }
@@ -67,7 +67,7 @@ fn values_up_to_gate_text(
         ≡ value_lines (defined circuit.now) before.now
         ++ line_text (codes "undefined") (decimal gate ∷ [])) }
 {
-    let mut output = print_values(alloc, circuit, before)?;
+    let mut output = print_all_wire_values(alloc, circuit, before)?;
     let line = format!(in alloc; "undefined {gate}\n")?;
     output.extend_from_slice(line.as_bytes())?;
     Ok(output)
@@ -79,11 +79,11 @@ fn answer(alloc: Global, circuit: &Circuit, on: &[Name]) -> Result<Answered, All
         answered.outcome) }
 {
     let ins = input_name_list(alloc, circuit)?;
-    let bits = which_are_on(alloc, &ins, on)?;
+    let bits = which_names_are_on(alloc, &ins, on)?;
     circuit.prove_valid();
     match circuit.values(alloc, &bits) {
         Ok(values) => {
-            let output = print_values(alloc, circuit, &values)?;
+            let output = print_all_wire_values(alloc, circuit, &values)?;
             Ok(Answered {
                 outcome: Outcome::Yes,
                 output,
@@ -104,7 +104,7 @@ fn answer(alloc: Global, circuit: &Circuit, on: &[Name]) -> Result<Answered, All
 // does.
 fn value_after_front(alloc: Global, feed: &mut Feed, limits: Limits) -> Result<Answered, AllocError>
     requires text_closed { feed.old.closed ≡ true }
-    requires front_taken { feed.old.taken ≡ front_lines limits }
+    requires front_taken { feed.old.taken ≡ limits_line_count limits }
     requires feed_not_stopped { feed.old.stop ≡ None }
     ensures { IfOk result (λ answered. AnswersOrRefuses SaysValues
         (value_sections_with_limits limits feed.old.text) answered.output.items answered.outcome) }

@@ -4,13 +4,13 @@ ghost use Rattle.std.specs.Arc.{arc_value};
 ghost use Rattle.std.specs.Option.{option_to_list};
 ghost use Rattle.circuit.specs.Bridge.{circuit_of};
 ghost use Rattle.pattern.specs.Layout.{parts_of};
-ghost use Rattle.pattern.specs.Lines.{AreNamed};
+ghost use Rattle.pattern.specs.Lines.{ArePortsNamed};
 ghost use Rattle.border_match.specs.BorderFaults.{AreBorderFaultsOf};
 ghost use Rattle.certificate.specs.Times.{are_all_timings_obeyed};
 ghost use Rattle.core_book.specs.Concluding.{AreJobsOfCertificate, modules, port_names_of, setting};
 ghost use Rattle.meaning.specs.Implements.{IsCorrect};
-ghost use Rattle.soundness.specs.OnTime.{IsOnTime};
-ghost use Rattle.core_book.specs.Verdicts.{AreFindingsHeldBelow, AreLeastFaults, IsFirstMissing, AreLeastFaultsOfJob, IsVerdict, border_line, keep_line, report_lines_from, local_line, timing_report_line};
+ghost use Rattle.soundness.specs.OnTime.{AreStopsTrueAndOnTime};
+ghost use Rattle.core_book.specs.Verdicts.{AreFindingsHeldBelow, AreLeastFaults, IsFirstMissingFinding, AreLeastFaultsOfJob, IsVerdict, border_line, keep_line, report_lines_from, local_line, timing_report_line};
 ghost use Rattle.local_run.specs.Shown.{job_of};
 ghost use Rattle.core_book.specs.declared.verdict.ReportLine.TheVariants.{Unkept};
 ghost use Rattle.core_book.specs.declared.verdict.Unfinished.TheVariants.{Missing};
@@ -53,13 +53,13 @@ pub fn conclude(
     ensures verdict { IfOk result (λ v. IsVerdict (setting cert.now) (modules cert.now)
         (map arc_value jobs.now) v) }
     ensures missing { (number : ℕ) → result ≡ Err (Missing number) →
-        IsFirstMissing book.now (map arc_value jobs.now) number }
+        IsFirstMissingFinding book.now (map arc_value jobs.now) number }
     ensures correct { result ≡ Ok Yes →
-        AreNamed (Some (port_names_of cert.now.circuit)) (parts_of cert.now.layout) →
+        ArePortsNamed (Some (port_names_of cert.now.circuit)) (parts_of cert.now.layout) →
         IsCorrect cert.now.circuit cert.now.layout }
     ensures on_time { result ≡ Ok Yes →
-        AreNamed (Some (port_names_of cert.now.circuit)) (parts_of cert.now.layout) →
-        IsOnTime (circuit_of cert.now.circuit) cert.now.layout (modules cert.now) }
+        ArePortsNamed (Some (port_names_of cert.now.circuit)) (parts_of cert.now.layout) →
+        AreStopsTrueAndOnTime (circuit_of cert.now.circuit) cert.now.layout (modules cert.now) }
 {
     let faults = faults_of_held_findings(alloc, jobs, book)?;
     Ok(verdict_of(alloc, cert, jobs, &faults, borders)?)
@@ -80,11 +80,11 @@ pub fn conclude_from_full_book(
     ensures verdict { IfOk result (λ v. IsVerdict (setting cert.now) (modules cert.now)
         book.now.jobs v) }
     ensures correct { result ≡ Ok Yes →
-        AreNamed (Some (port_names_of cert.now.circuit)) (parts_of cert.now.layout) →
+        ArePortsNamed (Some (port_names_of cert.now.circuit)) (parts_of cert.now.layout) →
         IsCorrect cert.now.circuit cert.now.layout }
     ensures on_time { result ≡ Ok Yes →
-        AreNamed (Some (port_names_of cert.now.circuit)) (parts_of cert.now.layout) →
-        IsOnTime (circuit_of cert.now.circuit) cert.now.layout (modules cert.now) }
+        ArePortsNamed (Some (port_names_of cert.now.circuit)) (parts_of cert.now.layout) →
+        AreStopsTrueAndOnTime (circuit_of cert.now.circuit) cert.now.layout (modules cert.now) }
 {
     let faults = faults_in_full_book(alloc, book)?;
     verdict_of(alloc, cert, book.jobs(), &faults, borders)
@@ -104,11 +104,11 @@ fn verdict_of(
     ensures verdict { IfOk result (λ v. IsVerdict (setting cert.now) (modules cert.now)
         (map arc_value jobs.now) v) }
     ensures correct { result ≡ Ok Yes →
-        AreNamed (Some (port_names_of cert.now.circuit)) (parts_of cert.now.layout) →
+        ArePortsNamed (Some (port_names_of cert.now.circuit)) (parts_of cert.now.layout) →
         IsCorrect cert.now.circuit cert.now.layout }
     ensures on_time { result ≡ Ok Yes →
-        AreNamed (Some (port_names_of cert.now.circuit)) (parts_of cert.now.layout) →
-        IsOnTime (circuit_of cert.now.circuit) cert.now.layout (modules cert.now) }
+        ArePortsNamed (Some (port_names_of cert.now.circuit)) (parts_of cert.now.layout) →
+        AreStopsTrueAndOnTime (circuit_of cert.now.circuit) cert.now.layout (modules cert.now) }
 {
     cert.prove_valid();
     let unkept = cert.unkept(alloc)?;
@@ -126,7 +126,7 @@ fn verdict_of(
 fn are_all_timings_obeyed(times: &[TimeLine]) -> bool
     ensures { result ≡ are_all_timings_obeyed times.now }
 {
-    times.iter().all(|line| line.is_obeyed())
+    times.iter().all(|line| line.is_timing_obeyed())
 }
 
 // What stops say of a gate, as a line of the report.
@@ -162,7 +162,7 @@ fn faults_of_held_findings(
         (length jobs.now)) }
     ensures least { IfOk result (λ fs. AreLeastFaults (map arc_value jobs.now) fs.items) }
     ensures missing { (number : ℕ) → result ≡ Err (Missing number) →
-        IsFirstMissing book.now (map arc_value jobs.now) number }
+        IsFirstMissingFinding book.now (map arc_value jobs.now) number }
 {
     let mut faults = Vec::with_capacity(alloc, jobs.len())?;
     for (number, job) in jobs.iter().enumerate() {

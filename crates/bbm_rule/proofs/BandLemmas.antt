@@ -1,9 +1,11 @@
 -- Pairs of rows that stay, while others are turned
-use Rattle.bbm_rule.proofs.Imports.{AreSameBits, AreSameCells, AreUnmarkedPairsStable, HasNoSetBit}
-use Rattle.bbm_rule.proofs.Imports.{HasWordAt, IsUnmarked, List, MarksOne, SetsPlace, SetsWordAt, TurnsRowPart, inl}
+use Rattle.bbm_rule.proofs.Imports.{AreSameBits, AreSameCells, AreUnmarkedRowPairsStable, HasNoSetBit}
+use Rattle.bbm_rule.proofs.Imports.{HasWordAt, IsNumberUnmarked, List, MarksOneNumber, SetsCellAtPlace, SetsWordAt}
+use Rattle.bbm_rule.proofs.Imports.{TurnsRowPart, inl}
 use Rattle.bbm_rule.proofs.Imports.{inr, ◌⊎◌}
 use Rattle.bbm_rule.proofs.Imports.{TurnsRows, arith, bit, bit_or, cell_at, common_steps, false, get_or, length}
-use Rattle.bbm_rule.proofs.Imports.{length-set, mate, mul-le-mul_right, nat_eq, nat_tests, not, set, suc, sym, zero, ℕ}
+use Rattle.bbm_rule.proofs.Imports.{length-set, mul-le-mul_right, nat_eq, nat_tests, not, paired_place, set, suc, sym}
+use Rattle.bbm_rule.proofs.Imports.{zero, ℕ}
 use Rattle.bbm_rule.proofs.Imports.{◌%◌, ◌*◌, ◌+◌, ◌-◌, ◌/◌, ◌<◌, ◌∙◌, ◌≡◌, ◌≢◌, ◌≤◌}
 use Rattle.lemmas.proofs.Common.{or_parts}
 use Rattle.bbm_rule.proofs.BitLemmas.{by_lt_or_le, by_eq_or_not, bit-or, bit-zero}
@@ -69,7 +71,7 @@ after_pair k i s l = let h : (k + 1) * s ≤ i * s = mul-le-mul_right s (omega a
 
 -- the other pairs of a partition stay while pair k is turned
 pub others_kept : (p s r k : ℕ) (marks old new : List ℕ) → s % 2 ≡ 0 → TurnsRowPart (p + 2 * (k * s)) s s old new →
-    AreUnmarkedPairsStable p s r marks old → (i : ℕ) → i < r → i ≢ k → IsUnmarked marks i →
+    AreUnmarkedRowPairsStable p s r marks old → (i : ℕ) → i < r → i ≢ k → IsNumberUnmarked marks i →
     TurnsRowPart (p + 2 * (i * s)) s s new new
 others_kept p s r k marks old new whole run calm i l other free =
     pair_kept (p + 2 * (i * s)) s old new whole same (calm i l free)
@@ -80,37 +82,39 @@ others_kept p s r k marks old new whole run calm i l other free =
 -- all of them but pair k, which gets a mark
 pub calm_marked : (p s r k : ℕ) (marks marks' old new : List ℕ) → s % 2 ≡ 0 →
     TurnsRowPart (p + 2 * (k * s)) s s old new →
-    MarksOne k marks marks' → AreUnmarkedPairsStable p s r marks old → AreUnmarkedPairsStable p s r marks' new
+    MarksOneNumber k marks marks' → AreUnmarkedRowPairsStable p s r marks old →
+    AreUnmarkedRowPairsStable p s r marks' new
 calm_marked p s r k marks marks' old new whole run marked calm i l free = grind (arith, common_steps, others_kept)
 
 -- and pair k too, where no cell of it changed
 pub calm_settled : (p s r k : ℕ) (marks marks' old new : List ℕ) → s % 2 ≡ 0 →
     TurnsRowPart (p + 2 * (k * s)) s s old new →
-    AreSameCells old new → SetsPlace k false marks marks' → AreUnmarkedPairsStable p s r marks old →
-    AreUnmarkedPairsStable p s r marks' new
+    AreSameCells old new → SetsCellAtPlace k false marks marks' → AreUnmarkedRowPairsStable p s r marks old →
+    AreUnmarkedRowPairsStable p s r marks' new
 calm_settled p s r k marks marks' old new whole run same sets calm i l free =
     grind (arith, common_steps, common_steps, by_eq_or_not, pair_settled, others_kept)
 
 -- pairs stay where no cell changed
 pub calm_same : (p s r : ℕ) (marks old new : List ℕ) → s % 2 ≡ 0 → AreSameCells old new →
-    AreUnmarkedPairsStable p s r marks old →
-    AreUnmarkedPairsStable p s r marks new
+    AreUnmarkedRowPairsStable p s r marks old →
+    AreUnmarkedRowPairsStable p s r marks new
 calm_same p s r marks old new whole same calm i l free = grind (arith, common_steps, pair_kept)
 
 -- Pairs stay, but for those that reach the cells that change. `second` has the marks then.
 but_marked : (p s r from to : ℕ) (first second old new : List ℕ) → s % 2 ≡ 0 →
     ((q : ℕ) → q < from → cell_at new q ≡ cell_at old q) → ((q : ℕ) → to ≤ q → cell_at new q ≡ cell_at old q) →
-    ((i : ℕ) → IsUnmarked second i →
-    IsUnmarked first i × ((p + 2 * (i * s) + 2 * s ≤ from) ⊎ (to ≤ p + 2 * (i * s)))) →
-    AreUnmarkedPairsStable p s r first old → AreUnmarkedPairsStable p s r second new
+    ((i : ℕ) → IsNumberUnmarked second i →
+    IsNumberUnmarked first i × ((p + 2 * (i * s) + 2 * s ≤ from) ⊎ (to ≤ p + 2 * (i * s)))) →
+    AreUnmarkedRowPairsStable p s r first old → AreUnmarkedRowPairsStable p s r second new
 but_marked p s r from to first second old new whole before after apart calm i l free =
     grind (arith, common_steps, pair_kept)
 
 -- the pairs of the odd partition stay, while pair k of the even partition is turned, but for the two that share its
 -- rows
 pub odd_kept : (s r k : ℕ) (first second third old new : List ℕ) → s % 2 ≡ 0 → 0 < s →
-    TurnsRowPart (s + 1 + 2 * (k * s)) s s old new → MarksOne k first second → MarksOne (k + 1) second third →
-    AreUnmarkedPairsStable 0 s r first old → AreUnmarkedPairsStable 0 s r third new
+    TurnsRowPart (s + 1 + 2 * (k * s)) s s old new → MarksOneNumber k first second →
+    MarksOneNumber (k + 1) second third →
+    AreUnmarkedRowPairsStable 0 s r first old → AreUnmarkedRowPairsStable 0 s r third new
 odd_kept s r k first second third old new whole positive run one two =
     but_marked 0 s r (s + 1 + 2 * (k * s)) (s + 1 + 2 * (k * s) + s + s) first third old new whole run.before run.after
     (λ i free.
@@ -123,9 +127,10 @@ odd_kept s r k first second third old new whole positive run one two =
 
 -- and those of the even partition, while pair k of the odd partition is turned
 pub even_kept : (s r k : ℕ) (first second third old new : List ℕ) → s % 2 ≡ 0 → 0 < s →
-    TurnsRowPart (0 + 2 * (k * s)) s s old new → MarksOne k first second →
-    ((i : ℕ) → IsUnmarked third i → IsUnmarked second i × (i + 1 ≢ k)) → AreUnmarkedPairsStable (s + 1) s r first old →
-    AreUnmarkedPairsStable (s + 1) s r third new
+    TurnsRowPart (0 + 2 * (k * s)) s s old new → MarksOneNumber k first second →
+    ((i : ℕ) → IsNumberUnmarked third i → IsNumberUnmarked second i × (i + 1 ≢ k)) →
+    AreUnmarkedRowPairsStable (s + 1) s r first old →
+    AreUnmarkedRowPairsStable (s + 1) s r third new
 even_kept s r k first second third old new whole positive run one two =
     but_marked (s + 1) s r (0 + 2 * (k * s)) (0 + 2 * (k * s) + s + s) first third old new whole run.before run.after
     (λ i free.
@@ -148,7 +153,8 @@ rows_passed p s a (suc d) old new whole rows calm =
 
 -- up to the next pair that may have a mark
 pub rows_until : (p s r a b : ℕ) (marks old new : List ℕ) → s % 2 ≡ 0 → a ≤ b → b ≤ r → TurnsRows p s a old new →
-    AreUnmarkedPairsStable p s r marks new → ((u : ℕ) → a ≤ u → u < b → IsUnmarked marks u) → TurnsRows p s b old new
+    AreUnmarkedRowPairsStable p s r marks new → ((u : ℕ) → a ≤ u → u < b → IsNumberUnmarked marks u) →
+    TurnsRows p s b old new
 rows_until p s r a b marks old new whole le within rows calm free =
     let e : a + (b - a) ≡ b = omega arith in
     rw e at (rows_passed p s a (b - a) old new whole rows
@@ -169,9 +175,9 @@ pair_same p s r i old new whole within rows calm q low high = by_lt_or_le q (at 
     upper j l =
         let m = mate_lt j s whole l in
         let own = rows.upper i j within l in
-        let across = rows.upper i (mate j) within m in
+        let across = rows.upper i (paired_place j) within m in
         let down = rows.lower i j within l in
-        let opposite = rows.lower i (mate j) within m in
+        let opposite = rows.lower i (paired_place j) within m in
         let across = rw (mate_twice j) at across in
         let opposite = rw (mate_twice j) at opposite in
         calm.upper j l ∙ rw (own, across, down, opposite) (turned_twice _ _ _ _)
@@ -180,9 +186,9 @@ pair_same p s r i old new whole within rows calm q low high = by_lt_or_le q (at 
     lower j l =
         let m = mate_lt j s whole l in
         let own = rows.lower i j within l in
-        let across = rows.lower i (mate j) within m in
+        let across = rows.lower i (paired_place j) within m in
         let down = rows.upper i j within l in
-        let opposite = rows.upper i (mate j) within m in
+        let opposite = rows.upper i (paired_place j) within m in
         let across = rw (mate_twice j) at across in
         let opposite = rw (mate_twice j) at opposite in
         calm.lower j l ∙ rw (own, across, down, opposite) (turned_twice _ _ _ _)
@@ -198,8 +204,8 @@ place_before s i v l = let h : v * s ≤ 2 * i * s = mul-le-mul_right s l in ome
 -- place p, and the cells begin in its column x.
 pub row_changed : (p s r x y n place : ℕ) (first second old new : List ℕ) → s % 2 ≡ 0 → x + n ≤ s →
     place ≡ p + s * y + x → ((q : ℕ) → q < place → cell_at new q ≡ cell_at old q) →
-    ((q : ℕ) → place + n ≤ q → cell_at new q ≡ cell_at old q) → MarksOne (y / 2) first second →
-    AreUnmarkedPairsStable p s r first old → AreUnmarkedPairsStable p s r second new
+    ((q : ℕ) → place + n ≤ q → cell_at new q ≡ cell_at old q) → MarksOneNumber (y / 2) first second →
+    AreUnmarkedRowPairsStable p s r first old → AreUnmarkedRowPairsStable p s r second new
 row_changed p s r x y n place first second old new whole wide at before after marked =
     but_marked p s r place (place + n) first second old new whole before after (λ i free.
     let was = marked i free in (
@@ -210,5 +216,5 @@ row_changed p s r x y n place first second old new whole wide at before after ma
 
 -- ---- where nothing is live, every pair stays
 pub none_calm : (p s r : ℕ) (marks words : List ℕ) → ((q : ℕ) → cell_at words q ≡ false) →
-    AreUnmarkedPairsStable p s r marks words
+    AreUnmarkedRowPairsStable p s r marks words
 none_calm p s r marks words none i l free = grind (arith, common_steps, dead_block)

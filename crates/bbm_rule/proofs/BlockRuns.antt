@@ -1,12 +1,13 @@
 -- Runs of blocks along two rows, and rows of runs.
-use Rattle.bbm_rule.proofs.Imports.{ArePairsTurned, HasWordAt, List, SetsWordAt, TurnsRowPart, TurnsRows, ap, arith}
+use Rattle.bbm_rule.proofs.Imports.{HasWordAt, IsWordPairTurned, List, SetsWordAt, TurnsRowPart, TurnsRows, ap, arith}
 use Rattle.bbm_rule.proofs.Imports.{cell_at, common_steps, get_or, get_or-set_other, get_or-set_same, length}
-use Rattle.bbm_rule.proofs.Imports.{length-set, mate, mul-le-mul_right, refl, set, sym, turned, ℕ, ◌%◌, ◌*◌, ◌+◌, ◌-◌}
+use Rattle.bbm_rule.proofs.Imports.{length-set, mul-le-mul_right, paired_place, refl, set, sym, turned, ℕ, ◌%◌, ◌*◌}
+use Rattle.bbm_rule.proofs.Imports.{◌+◌, ◌-◌}
 use Rattle.bbm_rule.proofs.Imports.{◌<◌, ◌∙◌, ◌≡◌, ◌≢◌, ◌≤◌}
 use Rattle.bbm_rule.proofs.BitLemmas.{by_lt_or_le, by_eq_or_not}
 use Rattle.bbm_rule.proofs.PairLemmas.{cell_in_word, by_place, mate_even, mate_odd}
 
-pub mate_lt : (j n : ℕ) → n % 2 ≡ 0 → j < n → mate j < n
+pub mate_lt : (j n : ℕ) → n % 2 ≡ 0 → j < n → paired_place j < n
 mate_lt j n whole l =
     by_eq_or_not (j % 2) 0
     (λ even. rw (mate_even j even) (omega arith))
@@ -15,7 +16,7 @@ mate_lt j n whole l =
     let e : j ≡ 1 + i = omega arith in
     rw (e, mate_odd i (omega arith)) (omega arith))
 
-pub mate_add : (n j : ℕ) → n % 2 ≡ 0 → mate (n + j) ≡ n + mate j
+pub mate_add : (n j : ℕ) → n % 2 ≡ 0 → paired_place (n + j) ≡ n + paired_place j
 mate_add n j whole =
     by_eq_or_not (j % 2) 0
     (λ even. rw (mate_even j even, mate_even (n + j) (omega arith)) (omega arith))
@@ -42,7 +43,7 @@ word_set words i v room = record {
     elsewhere k b l other = grind (arith, common_steps, cell_in_word, get_or-set_other)
 
 pub windows_turned : (p s : ℕ) (va vb a b : ℕ) (old mid new : List ℕ) → 64 ≤ s → HasWordAt old p va →
-    HasWordAt old (p + s) vb → ArePairsTurned va vb a b → SetsWordAt p a old mid → SetsWordAt (p + s) b mid new →
+    HasWordAt old (p + s) vb → IsWordPairTurned va vb a b → SetsWordAt p a old mid → SetsWordAt (p + s) b mid new →
     TurnsRowPart p 64 s old new
 windows_turned p s va vb a b old mid new wide has_a has_b pairs set_a set_b = grind (arith, common_steps, mate_lt)
 
@@ -68,8 +69,8 @@ run_join p n s first second third whole within one two = record {
     lower_kept i l = one.after (p + n + s + i) (omega arith) ∙ ap (cell_at first) (omega arith)
 
     upper_at : (i j : ℕ) → j ≡ n + i → i < 64 →
-        cell_at third (p + j) ≡ turned (cell_at first (p + j)) (cell_at first (p + s + mate j))
-        (cell_at first (p + mate j)) (cell_at first (p + s + j))
+        cell_at third (p + j) ≡ turned (cell_at first (p + j)) (cell_at first (p + s + paired_place j))
+        (cell_at first (p + paired_place j)) (cell_at first (p + s + j))
     upper_at i j e l =
         let m = mate_lt i 64 refl l in
         let place : p + (n + i) ≡ p + n + i = omega arith in
@@ -77,15 +78,15 @@ run_join p n s first second third whole within one two = record {
           e,
           mate_add n i whole,
           sym (upper_kept i l),
-          sym (upper_kept (mate i) m),
+          sym (upper_kept (paired_place i) m),
           sym (lower_kept i l),
-          sym (lower_kept (mate i) m),
+          sym (lower_kept (paired_place i) m),
           place,
         ) (two.upper i l)
 
     lower_at : (i j : ℕ) → j ≡ n + i → i < 64 →
-        cell_at third (p + s + j) ≡ turned (cell_at first (p + s + j)) (cell_at first (p + mate j))
-        (cell_at first (p + s + mate j)) (cell_at first (p + j))
+        cell_at third (p + s + j) ≡ turned (cell_at first (p + s + j)) (cell_at first (p + paired_place j))
+        (cell_at first (p + s + paired_place j)) (cell_at first (p + j))
     lower_at i j e l =
         let m = mate_lt i 64 refl l in
         let place : p + s + (n + i) ≡ p + n + s + i = omega arith in
@@ -93,9 +94,9 @@ run_join p n s first second third whole within one two = record {
           e,
           mate_add n i whole,
           sym (upper_kept i l),
-          sym (upper_kept (mate i) m),
+          sym (upper_kept (paired_place i) m),
           sym (lower_kept i l),
-          sym (lower_kept (mate i) m),
+          sym (lower_kept (paired_place i) m),
           place,
         ) (two.lower i l)
 
@@ -124,20 +125,20 @@ rows_join p s r first second third whole rows run = record {
 
     upper_at : (i j : ℕ) → i ≡ r → j < s →
         cell_at third (p + 2 * (i * s) + j)
-        ≡ turned (cell_at first (p + 2 * (i * s) + j)) (cell_at first (p + 2 * (i * s) + s + mate j))
-        (cell_at first (p + 2 * (i * s) + mate j)) (cell_at first (p + 2 * (i * s) + s + j))
+        ≡ turned (cell_at first (p + 2 * (i * s) + j)) (cell_at first (p + 2 * (i * s) + s + paired_place j))
+        (cell_at first (p + 2 * (i * s) + paired_place j)) (cell_at first (p + 2 * (i * s) + s + j))
     upper_at i j e m = grind (arith, common_steps, kept)
 
     lower_at : (i j : ℕ) → i ≡ r → j < s →
         cell_at third (p + 2 * (i * s) + s + j)
-        ≡ turned (cell_at first (p + 2 * (i * s) + s + j)) (cell_at first (p + 2 * (i * s) + mate j))
-        (cell_at first (p + 2 * (i * s) + s + mate j)) (cell_at first (p + 2 * (i * s) + j))
+        ≡ turned (cell_at first (p + 2 * (i * s) + s + j)) (cell_at first (p + 2 * (i * s) + paired_place j))
+        (cell_at first (p + 2 * (i * s) + s + paired_place j)) (cell_at first (p + 2 * (i * s) + j))
     lower_at i j e m = grind (arith, common_steps, kept)
 
 -- ---- the steps of the loops
 pub aligned_step : (upper k stride : ℕ) (first second : List ℕ) (a b : ℕ) → k < stride →
     upper + stride + stride ≤ length second → TurnsRowPart (64 * upper) (64 * k) (64 * stride) first second →
-    ArePairsTurned (get_or second (upper + k) 0) (get_or second (upper + k + stride) 0) a b →
+    IsWordPairTurned (get_or second (upper + k) 0) (get_or second (upper + k + stride) 0) a b →
     TurnsRowPart (64 * upper) (64 * (k + 1)) (64 * stride) first (set (set second (upper + k) a) (upper + k + stride) b)
 aligned_step upper k stride first second a b l room run pairs =
     let place : 64 * (upper + k) ≡ 64 * upper + 64 * k = omega arith in

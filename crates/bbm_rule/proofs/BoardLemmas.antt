@@ -1,7 +1,8 @@
 -- The board that the rows of a grid stand for.
 use Rattle.bbm_rule.proofs.Imports.{Board, List, TurnsRows, [], and-false, ap, arith, board, cell_at, common_steps}
 use Rattle.bbm_rule.proofs.Imports.{div-add-mod, div-mul-add, false, inl, inr, is_board_cell, is_inside, live, map}
-use Rattle.bbm_rule.proofs.Imports.{mate, mod-mul-add, mul-le-mul_right, nat_tests, not_lt_test, pos, refl, step, suc}
+use Rattle.bbm_rule.proofs.Imports.{mod-mul-add, mul-le-mul_right, nat_tests, not_lt_test, paired_place, pos, refl}
+use Rattle.bbm_rule.proofs.Imports.{step, suc}
 use Rattle.bbm_rule.proofs.Imports.{sym, true, turned, zero, ℕ, ◌%◌, ◌*◌, ◌+◌, ◌-◌, ◌/◌, ◌<◌, ◌∙◌, ◌∷◌, ◌≡◌, ◌≤◌}
 use Rattle.lemmas.proofs.Common.{nat_le, div_below, get_or-map-range_with_len, mod_below, mul-le-mul_left, lt_test}
 use Rattle.lemmas.proofs.Common.{not_le_test}
@@ -54,8 +55,8 @@ live_ext w h s words plane (suc x) (suc y) l =
 -- one cell of the rows after the blocks from place p on are turned, where cells stand `at` their column and row
 turned_cell : (p s r : ℕ) (at : ℕ → ℕ → ℕ) (old new : List ℕ) → ((x y : ℕ) → at x y ≡ p + s * y + x) →
     TurnsRows p s r old new → (x y : ℕ) → x < s → y < 2 * r →
-    cell_at new (at x y) ≡ turned (cell_at old (at x y)) (cell_at old (at (mate x) (mate y)))
-    (cell_at old (at (mate x) y)) (cell_at old (at x (mate y)))
+    cell_at new (at x y) ≡ turned (cell_at old (at x y)) (cell_at old (at (paired_place x) (paired_place y)))
+    (cell_at old (at (paired_place x) y)) (cell_at old (at x (paired_place y)))
 turned_cell p s r at old new is rows x y lx ly =
     by_eq_or_not (y % 2) 0 (λ even. at_even (y / 2) (omega arith) (omega arith))
     (λ odd. at_odd (y / 2) (omega arith) (omega arith))
@@ -67,8 +68,9 @@ turned_cell p s r at old new is rows x y lx ly =
     second i j = is j (1 + 2 * i) ∙ omega arith
 
     IsTurned : ℕ → Type 0
-    IsTurned y = cell_at new (at x y) ≡ turned (cell_at old (at x y)) (cell_at old (at (mate x) (mate y)))
-        (cell_at old (at (mate x) y)) (cell_at old (at x (mate y)))
+    IsTurned y = cell_at new (at x y)
+        ≡ turned (cell_at old (at x y)) (cell_at old (at (paired_place x) (paired_place y)))
+        (cell_at old (at (paired_place x) y)) (cell_at old (at x (paired_place y)))
 
     at_even : (i : ℕ) → y ≡ 2 * i → i < r → IsTurned y
     at_even i e l = grind (arith, common_steps, mate_even, first, second)
@@ -78,8 +80,8 @@ turned_cell p s r at old new is rows x y lx ly =
 
 -- ---- the odd step
 aligned_cell : (s r : ℕ) (old new : List ℕ) → TurnsRows 0 s r old new → (x y : ℕ) → x < s → y < 2 * r →
-    cell_at new (s * y + x) ≡ turned (cell_at old (s * y + x)) (cell_at old (s * mate y + mate x))
-    (cell_at old (s * y + mate x)) (cell_at old (s * mate y + x))
+    cell_at new (s * y + x) ≡ turned (cell_at old (s * y + x)) (cell_at old (s * paired_place y + paired_place x))
+    (cell_at old (s * y + paired_place x)) (cell_at old (s * paired_place y + x))
 aligned_cell s r old new = turned_cell 0 s r (λ x y. s * y + x) old new (λ x y. omega arith)
 
 pub odd_cell : (t w h s r : ℕ) (old new : List ℕ) → t % 2 ≡ 1 → IsPlane w h s old → TurnsRows 0 s r old new →
@@ -88,14 +90,14 @@ pub odd_cell : (t w h s r : ℕ) (old new : List ℕ) → t % 2 ≡ 1 → IsPlan
 unfolding step
 odd_cell t w h s r old new at_odd plane rows e x y lx ly =
     let wide : x < s = omega (arith, plane.room) in
-    let mx : mate x < s = mate_lt x s plane.row wide in
+    let mx : paired_place x < s = mate_lt x s plane.row wide in
     rw (
       partner-odd_ext t x at_odd,
       partner-odd_ext t y at_odd,
       live_ext w h s old plane x y wide,
-      live_ext w h s old plane (mate x) y mx,
-      live_ext w h s old plane x (mate y) wide,
-      live_ext w h s old plane (mate x) (mate y) mx,
+      live_ext w h s old plane (paired_place x) y mx,
+      live_ext w h s old plane x (paired_place y) wide,
+      live_ext w h s old plane (paired_place x) (paired_place y) mx,
     ) (sym (aligned_cell s r old new rows x y wide (omega arith)))
 
 pub odd_plane : (w h s r : ℕ) (old new : List ℕ) → IsPlane w h s old → TurnsRows 0 s r old new → 2 * r ≡ h + 2 →
@@ -110,14 +112,14 @@ odd_plane w h s r old new plane rows e dead =
 
     right : (x y : ℕ) → x < s → w + 2 ≤ x → y < h + 2 → cell_at new (s * y + x) ≡ false
     right x y l le ly =
-        let ge : w + 2 ≤ mate x = mate_ge x (w + 2) (omega (arith, plane.width)) le in
-        let mx : mate x < s = mate_lt x s plane.row l in
+        let ge : w + 2 ≤ paired_place x = mate_ge x (w + 2) (omega (arith, plane.width)) le in
+        let mx : paired_place x < s = mate_lt x s plane.row l in
         let none : (y : ℕ) → cell_at old (s * y + x) ≡ false =
         λ y. plane.margin x y l (not_inner_column w h x y (omega arith)) in
-        let none' : (y : ℕ) → cell_at old (s * y + mate x) ≡ false =
-        λ y. plane.margin (mate x) y mx (not_inner_column w h (mate x) y (omega arith)) in
+        let none' : (y : ℕ) → cell_at old (s * y + paired_place x) ≡ false =
+        λ y. plane.margin (paired_place x) y mx (not_inner_column w h (paired_place x) y (omega arith)) in
         aligned_cell s r old new rows x y l (omega arith)
-        ∙ rw (none y, none' y, none (mate y), none' (mate y)) dead_block
+        ∙ rw (none y, none' y, none (paired_place y), none' (paired_place y)) dead_block
 
     margin : (x y : ℕ) → x < s → is_board_cell w h x y ≡ false → cell_at new (s * y + x) ≡ false
     margin x y l outer = grind (arith, common_steps, beyond, right)
@@ -160,19 +162,20 @@ undone s r first second third whole positive one two p =
   where
     at_place : (x y : ℕ) → x < s → y < 2 * r → cell_at third (s * y + x) ≡ cell_at first (s * y + x)
     at_place x y lx ly =
-        let mx : mate x < s = mate_lt x s whole lx in
-        let my : mate y < 2 * r = mate_lt y (2 * r) (omega arith) ly in
+        let mx : paired_place x < s = mate_lt x s whole lx in
+        let my : paired_place y < 2 * r = mate_lt y (2 * r) (omega arith) ly in
         let own = aligned_cell s r first second one x y lx ly in
-        let across = aligned_cell s r first second one (mate x) y mx ly in
-        let down = aligned_cell s r first second one x (mate y) lx my in
-        let opposite = aligned_cell s r first second one (mate x) (mate y) mx my in
+        let across = aligned_cell s r first second one (paired_place x) y mx ly in
+        let down = aligned_cell s r first second one x (paired_place y) lx my in
+        let opposite = aligned_cell s r first second one (paired_place x) (paired_place y) mx my in
         let across = rw (mate_twice x) at across in
         let down = rw (mate_twice y) at down in
         let opposite = rw (mate_twice x, mate_twice y) at opposite in
         aligned_cell s r second third two x y lx ly
         ∙ rw (own, across, down, opposite)
-        (turned_twice (cell_at first (s * y + x)) (cell_at first (s * y + mate x)) (cell_at first (s * mate y + x))
-        (cell_at first (s * mate y + mate x)))
+        (turned_twice (cell_at first (s * y + x)) (cell_at first (s * y + paired_place x))
+        (cell_at first (s * paired_place y + x))
+        (cell_at first (s * paired_place y + paired_place x)))
 
     inside : (p : ℕ) → p < 2 * (r * s) → cell_at third p ≡ cell_at first p
     inside p l =
@@ -196,8 +199,8 @@ plane_same w h s old new same plane = grind (arith, common_steps)
 -- ---- the even step
 shifted_cell : (s r : ℕ) (old new : List ℕ) → TurnsRows (s + 1) s r old new → (x y : ℕ) → x < s → y < 2 * r →
     cell_at new (s * (y + 1) + (x + 1))
-    ≡ turned (cell_at old (s * (y + 1) + (x + 1))) (cell_at old (s * (mate y + 1) + (mate x + 1)))
-    (cell_at old (s * (y + 1) + (mate x + 1))) (cell_at old (s * (mate y + 1) + (x + 1)))
+    ≡ turned (cell_at old (s * (y + 1) + (x + 1))) (cell_at old (s * (paired_place y + 1) + (paired_place x + 1)))
+    (cell_at old (s * (y + 1) + (paired_place x + 1))) (cell_at old (s * (paired_place y + 1) + (x + 1)))
 shifted_cell s r old new = turned_cell (s + 1) s r (λ x y. s * (y + 1) + (x + 1)) old new (λ x y. omega arith)
 
 even_cell : (t w h s r : ℕ) (old new : List ℕ) → t % 2 ≡ 0 → IsPlane w h s old → TurnsRows (s + 1) s r old new →
@@ -205,15 +208,15 @@ even_cell : (t w h s r : ℕ) (old new : List ℕ) → t % 2 ≡ 0 → IsPlane w
     step t (live (board w h s old)) (pos x) (pos y) ≡ cell_at new (s * (y + 1) + (x + 1))
 unfolding step
 even_cell t w h s r old new at_even plane rows e x y lx ly =
-    let mx : mate x < w = mate_lt x w plane.width lx in
-    let my : mate y < h = mate_lt y h plane.height ly in
+    let mx : paired_place x < w = mate_lt x w plane.width lx in
+    let my : paired_place y < h = mate_lt y h plane.height ly in
     rw (
       partner-even_pos t x at_even,
       partner-even_pos t y at_even,
       live_inner w h s old x y lx ly,
-      live_inner w h s old (mate x) y mx ly,
-      live_inner w h s old x (mate y) lx my,
-      live_inner w h s old (mate x) (mate y) mx my,
+      live_inner w h s old (paired_place x) y mx ly,
+      live_inner w h s old x (paired_place y) lx my,
+      live_inner w h s old (paired_place x) (paired_place y) mx my,
     ) (sym (shifted_cell s r old new rows x y (omega (arith, plane.room)) (omega arith)))
 
 pub even_plane : (w h s r : ℕ) (old new : List ℕ) → IsPlane w h s old → TurnsRows (s + 1) s r old new → 2 * r ≡ h →
@@ -232,14 +235,14 @@ even_plane w h s r old new plane rows e =
 
     still_dead : (j y : ℕ) → w ≤ j → j < s → y < h → cell_at new (s * (y + 1) + (j + 1)) ≡ false
     still_dead j y le l ly =
-        let ge : w ≤ mate j = mate_ge j w plane.width le in
-        let mj : mate j < s = mate_lt j s plane.row l in
+        let ge : w ≤ paired_place j = mate_ge j w plane.width le in
+        let mj : paired_place j < s = mate_lt j s plane.row l in
         shifted_cell s r old new rows j y l (omega arith)
         ∙ rw (
           dead_from j y le l,
-          dead_from (mate j) y ge mj,
-          dead_from j (mate y) le l,
-          dead_from (mate j) (mate y) ge mj,
+          dead_from (paired_place j) y ge mj,
+          dead_from j (paired_place y) le l,
+          dead_from (paired_place j) (paired_place y) ge mj,
         ) dead_block
 
     before : (x y : ℕ) → x < s → is_board_cell w h x y ≡ false → s * y + x < s + 1 → cell_at new (s * y + x) ≡ false

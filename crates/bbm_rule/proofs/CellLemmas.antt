@@ -1,5 +1,6 @@
 -- Single cells.
-use Rattle.bbm_rule.proofs.Imports.{Bool, List, SetsPlace, arith, bit, bit_and, bit_or, cell_at, common_steps, false}
+use Rattle.bbm_rule.proofs.Imports.{Bool, List, SetsCellAtPlace, arith, bit, bit_and, bit_or, cell_at, common_steps}
+use Rattle.bbm_rule.proofs.Imports.{false}
 use Rattle.bbm_rule.proofs.Imports.{get_or, get_or-set_other, get_or-set_same, length, nat_eq, refl, set, sym, true}
 use Rattle.bbm_rule.proofs.Imports.{w64, ℕ, ◌%◌, ◌*◌, ◌+◌, ◌-◌, ◌/◌, ◌<◌, ◌^◌, ◌≡◌, ◌≢◌}
 use Rattle.lemmas.proofs.Common.{bit_at_clear_other, bit_at_clear_same, bit_at_set_other, bit_at_set_same, shr_and_one}
@@ -16,13 +17,13 @@ cell_is words p = rw (shr_and_one (get_or words (p / 64) 0) (p % 64)) (sym (bit-
 
 word_changed : (words : List ℕ) (p v : ℕ) (value : Bool) → p / 64 < length words → bit v (p % 64) ≡ value →
     ((j : ℕ) → j < 64 → j ≢ p % 64 → bit v j ≡ bit (get_or words (p / 64) 0) j) →
-    SetsPlace p value words (set words (p / 64) v)
+    SetsCellAtPlace p value words (set words (p / 64) v)
 unfolding cell_at
 word_changed words p v value room own others =
     grind (arith, common_steps, get_or-set_same, by_eq_or_not, get_or-set_other)
 
 pub cell_set : (words : List ℕ) (p : ℕ) → p / 64 < length words →
-    SetsPlace p true words (set words (p / 64)
+    SetsCellAtPlace p true words (set words (p / 64)
     (bit_or (get_or words (p / 64) 0) (1 * 2 ^ (p % 64) % 18446744073709551616)))
 cell_set words p room =
     let within : p % 64 < 64 = omega arith in
@@ -34,7 +35,7 @@ cell_set words p room =
     ) refl)
 
 pub cell_cleared : (words : List ℕ) (p : ℕ) → p / 64 < length words →
-    SetsPlace p false words (set words (p / 64)
+    SetsCellAtPlace p false words (set words (p / 64)
     (bit_and (get_or words (p / 64) 0) (18446744073709551615 - 1 * 2 ^ (p % 64) % 18446744073709551616)))
 cell_cleared words p room =
     let within : p % 64 < 64 = omega arith in

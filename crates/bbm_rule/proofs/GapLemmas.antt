@@ -1,5 +1,6 @@
 -- The first number without a mark: it is the first one with a mark in the complement of the words.
-use Rattle.bbm_rule.proofs.Imports.{IsUnmarked, List, arith, bit, bit_at, bit_at-lt, cell_at, common_steps, get_or, inl}
+use Rattle.bbm_rule.proofs.Imports.{IsNumberUnmarked, List, arith, bit, bit_at, bit_at-lt, cell_at, common_steps}
+use Rattle.bbm_rule.proofs.Imports.{get_or, inl}
 use Rattle.bbm_rule.proofs.Imports.{inr, length, map, not, refl, sym, trailing_zeros, true, w64, ℕ, ◌%◌, ◌*◌, ◌+◌, ◌/◌}
 use Rattle.bbm_rule.proofs.Imports.{◌<◌, ◌^◌, ◌∙◌, ◌≡◌, ◌≢◌, ◌≤◌}
 use Rattle.lemmas.proofs.Common.{bit_at_not, bit_not, get_or-map, false_from_not, true_from_not}
@@ -49,7 +50,7 @@ all_before words at u room fits some l h =
 -- which has none
 pub first_unmarked : (words : List ℕ) (at : ℕ) → at / 64 < length words → get_or words (at / 64) 0 < 2 ^ 64 →
     bit_not w64 (get_or words (at / 64) 0) / 2 ^ (at % 64) ≢ 0 →
-    IsUnmarked words (at + trailing_zeros w64 (bit_not w64 (get_or words (at / 64) 0) / 2 ^ (at % 64)))
+    IsNumberUnmarked words (at + trailing_zeros w64 (bit_not w64 (get_or words (at / 64) 0) / 2 ^ (at % 64)))
 first_unmarked words at room fits some =
     let gap = first_bit (bit_not w64 (get_or words (at / 64) 0)) (at % 64) some (omega arith) in
     let marked = first_marked (flipped words) at (rw (word_flipped words (at / 64) room) some)

@@ -1,18 +1,20 @@
 -- The names from outside this folder that two or more proofs of this crate use, in one file to import them from.
-pub use Rattle.bbm_rule.specs.Bands.{AreUnmarkedPairsStable}
+pub use Rattle.bbm_rule.specs.Bands.{AreUnmarkedRowPairsStable}
 pub use Rattle.bbm_rule.specs.Bits.{AreSameBits, HasNoSetBit}
 unfoldable pub use Rattle.bbm_rule.specs.Bits.{bit}
 pub use Rattle.bbm_rule.specs.Board.{Board, is_inside, live}
 pub use Rattle.bbm_rule.specs.GridView.{board}
-pub use Rattle.bbm_rule.specs.Marks.{IsUnmarked, MarksOne}
+pub use Rattle.bbm_rule.specs.Marks.{IsNumberUnmarked, MarksOneNumber}
 pub use Rattle.bbm_rule.specs.Plane.{State, parity}
 unfoldable pub use Rattle.bbm_rule.specs.Plane.{partner, step, turned}
-pub use Rattle.bbm_rule.specs.Rows.{AreFlips, ArePairsTurned, AreSameCells, FillsRowPart, HasDeadMarginInRow, HasWordAt}
-pub use Rattle.bbm_rule.specs.Rows.{SetsPlace, SetsWordAt, TurnsRowPart, TurnsRows, flip_carried_bits, is_board_cell}
-unfoldable pub use Rattle.bbm_rule.specs.Rows.{cell_at, mate}
+pub use Rattle.bbm_rule.specs.Rows.{AreFlipBitsForTurn, AreSameCells, FillsRowPart, HasDeadMarginInRow, HasWordAt}
+pub use Rattle.bbm_rule.specs.Rows.{IsWordPairTurned}
+pub use Rattle.bbm_rule.specs.Rows.{SetsCellAtPlace, SetsWordAt, TurnsRowPart, TurnsRows, flip_carried_bits}
+pub use Rattle.bbm_rule.specs.Rows.{is_board_cell}
+unfoldable pub use Rattle.bbm_rule.specs.Rows.{cell_at, paired_place}
 unfoldable pub use Rattle.bbm_rule.specs.Spans.{in_span}
-pub use Rattle.bbm_rule.specs.Words.{TurnsWordsBetween}
-unfoldable pub use Rattle.bbm_rule.specs.Words.{turn_of}
+pub use Rattle.bbm_rule.specs.Words.{TurnsCornerWordsBetween}
+unfoldable pub use Rattle.bbm_rule.specs.Words.{turned_block_number}
 pub use Rattle.lemmas.proofs.Common.{Bool, List, SFits, [], and-false, and_parts, ap, arith, bit_and, bit_at, bit_at-lt}
 pub use Rattle.lemmas.proofs.Common.{bit_or, bit_xor, cases_Bool, common_steps, cond-false, cond-true, div-add-mod}
 pub use Rattle.lemmas.proofs.Common.{div-mul-add, eqb-true, false, false≢true, get_or, get_or-set_other}

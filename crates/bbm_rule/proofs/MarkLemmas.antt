@@ -1,12 +1,13 @@
 -- Marks, and the next one
-use Rattle.bbm_rule.proofs.Imports.{IsUnmarked, List, MarksOne, SetsPlace, ap, arith, bit, bit_at, cell_at}
+use Rattle.bbm_rule.proofs.Imports.{IsNumberUnmarked, List, MarksOneNumber, SetsCellAtPlace, ap, arith, bit, bit_at}
+use Rattle.bbm_rule.proofs.Imports.{cell_at}
 use Rattle.bbm_rule.proofs.Imports.{common_steps, false, false≢true, get_or, refl, sym, trailing_zeros, true, w64, ℕ}
 use Rattle.bbm_rule.proofs.Imports.{◌%◌, ◌*◌, ◌+◌, ◌-◌, ◌/◌, ◌<◌, ◌^◌, ◌∙◌, ◌≡◌, ◌≢◌, ◌≤◌}
 use Rattle.lemmas.proofs.Common.{bit_at-trailing_zeros, bit_at_ones, div-le_self}
 use Rattle.bbm_rule.proofs.BitLemmas.{by_lt_or_le, by_eq_or_not, bit-is, bit-zero, bit-shr, bit_above}
 
 -- where one number is set, each number without a mark is another, and had none before
-pub one_marked : (p : ℕ) (old new : List ℕ) → SetsPlace p true old new → MarksOne p old new
+pub one_marked : (p : ℕ) (old new : List ℕ) → SetsCellAtPlace p true old new → MarksOneNumber p old new
 one_marked p old new sets u free = grind (arith, common_steps, by_eq_or_not, false≢true)
 
 pub bit_none : (n j : ℕ) → bit_at n j ≡ 0 → bit n j ≡ false
@@ -23,7 +24,7 @@ rest_bit marks at u l h = grind (arith, common_steps, cell_in, bit-shr)
 
 -- none is marked in the rest of a word that is zero
 pub none_in_word : (marks : List ℕ) (at u : ℕ) → get_or marks (at / 64) 0 / 2 ^ (at % 64) ≡ 0 → at ≤ u →
-    u < 64 * (at / 64 + 1) → IsUnmarked marks u
+    u < 64 * (at / 64 + 1) → IsNumberUnmarked marks u
 none_in_word marks at u e l h = rest_bit marks at u l h ∙ ap (λ n. bit n (u - at)) e ∙ bit-zero (u - at)
 
 pub bit_one : (n j : ℕ) → bit_at n j ≡ 1 → bit n j ≡ true
@@ -53,7 +54,7 @@ first_bit word k some small = grind (arith, common_steps, bit_one, bit_none, fou
 -- nor before the first set bit of one that is not
 pub none_before : (marks : List ℕ) (at u : ℕ) → get_or marks (at / 64) 0 / 2 ^ (at % 64) ≢ 0 →
     get_or marks (at / 64) 0 < 2 ^ 64 →
-    at ≤ u → u < at + trailing_zeros w64 (get_or marks (at / 64) 0 / 2 ^ (at % 64)) → IsUnmarked marks u
+    at ≤ u → u < at + trailing_zeros w64 (get_or marks (at / 64) 0 / 2 ^ (at % 64)) → IsNumberUnmarked marks u
 none_before marks at u some small l h =
     let first = first_bit (get_or marks (at / 64) 0) (at % 64) some small in
     rest_bit marks at u l (omega (arith, first.within)) ∙ first.none (u - at) (omega arith)
@@ -71,12 +72,13 @@ first_marked marks at some small =
     minus a b = omega arith
 
 -- each of these for a whole word
-pub whole_zero : (marks : List ℕ) (k u : ℕ) → get_or marks k 0 ≡ 0 → 64 * k ≤ u → u < 64 * k + 64 → IsUnmarked marks u
+pub whole_zero : (marks : List ℕ) (k u : ℕ) → get_or marks k 0 ≡ 0 → 64 * k ≤ u → u < 64 * k + 64 →
+    IsNumberUnmarked marks u
 whole_zero marks k u e l h =
     cell_in marks k (u % 64) u (omega arith) (omega arith) ∙ ap (λ n. bit n (u % 64)) e ∙ bit-zero (u % 64)
 
 pub whole_before : (marks : List ℕ) (k u : ℕ) → get_or marks k 0 ≢ 0 → get_or marks k 0 < 2 ^ 64 → 64 * k ≤ u →
-    u < 64 * k + trailing_zeros w64 (get_or marks k 0) → IsUnmarked marks u
+    u < 64 * k + trailing_zeros w64 (get_or marks k 0) → IsNumberUnmarked marks u
 whole_before marks k u some small l h =
     let found = bit_at-trailing_zeros w64 (get_or marks k 0) (omega arith) small in
     let under : trailing_zeros w64 (get_or marks k 0) < 64 = found.0 in

@@ -1,7 +1,9 @@
 -- Two words one above the other, and windows of 64 cells.
-use Rattle.bbm_rule.proofs.Imports.{AreFlips, ArePairsTurned, AreSameBits, Bool, HasNoSetBit, HasWordAt, List, arith}
+use Rattle.bbm_rule.proofs.Imports.{AreFlipBitsForTurn, AreSameBits, Bool, HasNoSetBit, HasWordAt, IsWordPairTurned}
+use Rattle.bbm_rule.proofs.Imports.{List, arith}
 use Rattle.bbm_rule.proofs.Imports.{bit, bit_or, bit_xor, cell_at, common_steps, div-add-mod, div-mul-add, false}
-use Rattle.bbm_rule.proofs.Imports.{get_or, mate, mod-mul-add, nat_eq, or-false, refl, suc, true, turned, zero, ℕ, ◌%◌}
+use Rattle.bbm_rule.proofs.Imports.{get_or, mod-mul-add, nat_eq, or-false, paired_place, refl, suc, true, turned, zero}
+use Rattle.bbm_rule.proofs.Imports.{ℕ, ◌%◌}
 use Rattle.bbm_rule.proofs.Imports.{◌*◌, ◌+◌, ◌-◌, ◌/◌, ◌<◌, ◌^◌, ◌||◌, ◌∙◌, ◌≡◌}
 use Rattle.bbm_rule.proofs.BitLemmas.{by_lt_or_le, by_eq_or_not, holds_below, below_from_test, bit-or, bit-shr, bit-mod}
 use Rattle.bbm_rule.proofs.BitLemmas.{bit-shl_low, bit-shl_high, bit_above, bit-xor, xor, xor_false}
@@ -45,23 +47,24 @@ joined_zero f s =
     rw (bit-or f (s * 2 % 2 ^ 64) 0, bit-mod (s * 2 ^ 1) 64 0 (omega arith), bit-shl_low s 1 0 (omega arith))
     (or-false (bit f 0))
 
-pub mate_even : (j : ℕ) → j % 2 ≡ 0 → mate j ≡ 1 + j
-unfolding mate
+pub mate_even : (j : ℕ) → j % 2 ≡ 0 → paired_place j ≡ 1 + j
+unfolding paired_place
 mate_even j even = rw even (omega arith)
 
-pub mate_odd : (i : ℕ) → i % 2 ≡ 0 → mate (1 + i) ≡ i
-unfolding mate
+pub mate_odd : (i : ℕ) → i % 2 ≡ 0 → paired_place (1 + i) ≡ i
+unfolding paired_place
 mate_odd i even = grind (arith, common_steps)
 
 -- the flips are those of the lower row and the upper one too
-pub flips_below : (f a n b m main anti : ℕ) → AreFlips f a n b m main anti → AreFlips f b m a n anti main
+pub flips_below : (f a n b m main anti : ℕ) → AreFlipBitsForTurn f a n b m main anti →
+    AreFlipBitsForTurn f b m a n anti main
 flips_below f a n b m main anti flips = grind (arith, common_steps)
 
 -- a row of 32 blocks is turned if the first and the second cell of each is
 pub cells_turned : (a b a' : ℕ) →
     ((i : ℕ) → i < 63 → i % 2 ≡ 0 → (bit a' i ≡ turned (bit a i) (bit b (1 + i)) (bit a (1 + i)) (bit b i))
     × (bit a' (1 + i) ≡ turned (bit a (1 + i)) (bit b i) (bit a i) (bit b (1 + i)))) →
-    (j : ℕ) → j < 64 → bit a' j ≡ turned (bit a j) (bit b (mate j)) (bit a (mate j)) (bit b j)
+    (j : ℕ) → j < 64 → bit a' j ≡ turned (bit a j) (bit b (paired_place j)) (bit a (paired_place j)) (bit b j)
 cells_turned a b a' each j l = by_eq_or_not (j % 2) 0
     (λ even. rw (mate_even j even) ((each j (omega arith) even).0))
     (λ odd.
@@ -80,9 +83,9 @@ row_flipped a first second j l = rw (
   bit-shl_high second 1 j (omega arith),
 ) refl
 
-side_turned : (a b main anti : ℕ) → AreFlips first_mask a (a / 2) b (b / 2) main anti → (j : ℕ) → j < 64 →
+side_turned : (a b main anti : ℕ) → AreFlipBitsForTurn first_mask a (a / 2) b (b / 2) main anti → (j : ℕ) → j < 64 →
     bit (bit_xor a (bit_or main (anti * 2 % 18446744073709551616))) j
-    ≡ turned (bit a j) (bit b (mate j)) (bit a (mate j)) (bit b j)
+    ≡ turned (bit a j) (bit b (paired_place j)) (bit a (paired_place j)) (bit b j)
 side_turned a b main anti flips = cells_turned a b _ (λ i l even. (
   first_at i l even ∙ flips.upper_first i (on i l even) ∙ rw (bit-shr a 1 i, bit-shr b 1 i) refl,
   second_at i l even ∙ flips.upper_second i (on i l even) ∙ rw (bit-shr a 1 i, bit-shr b 1 i) refl,
@@ -117,8 +120,8 @@ side_turned a b main anti flips = cells_turned a b _ (λ i l even. (
       bit-shr a 1 i,
     ) refl
 
-pub pairs_turned : (a b main anti : ℕ) → AreFlips first_mask a (a / 2) b (b / 2) main anti →
-    ArePairsTurned a b (bit_xor a (bit_or main (anti * 2 % 18446744073709551616)))
+pub pairs_turned : (a b main anti : ℕ) → AreFlipBitsForTurn first_mask a (a / 2) b (b / 2) main anti →
+    IsWordPairTurned a b (bit_xor a (bit_or main (anti * 2 % 18446744073709551616)))
     (bit_xor b (bit_or anti (main * 2 % 18446744073709551616)))
 pairs_turned a b main anti flips = grind (arith, common_steps, side_turned, flips_below)
 

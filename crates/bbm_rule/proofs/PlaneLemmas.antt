@@ -1,5 +1,6 @@
 -- Blocks on the plane
-use Rattle.bbm_rule.proofs.Imports.{Board, Bool, State, arith, common_steps, false, inl, inr, ints, live, mate, nat_lt}
+use Rattle.bbm_rule.proofs.Imports.{Board, Bool, State, arith, common_steps, false, inl, inr, ints, live, nat_lt}
+use Rattle.bbm_rule.proofs.Imports.{paired_place}
 use Rattle.bbm_rule.proofs.Imports.{nat_tests, negsuc, next_neg, not, partner, pos, pred_pos, refl, step, suc, true}
 use Rattle.bbm_rule.proofs.Imports.{turned, zero, ℕ, ℤ, ◌%◌, ◌+◌, ◌-◌, ◌<◌, ◌≡◌, ◌≤◌, ◌⊎◌}
 use Rattle.bbm_rule.proofs.Steps.{step_dead}
@@ -35,7 +36,7 @@ turned_twice false false true false = refl
 turned_twice false false false true = refl
 turned_twice false false false false = refl
 
-pub mate_twice : (j : ℕ) → mate (mate j) ≡ j
+pub mate_twice : (j : ℕ) → paired_place (paired_place j) ≡ j
 mate_twice j =
     by_eq_or_not (j % 2) 0
     (λ even. rw (mate_even j even) (mate_odd j even))
@@ -47,10 +48,10 @@ mate_twice j =
 
 -- ---- the partner of a coordinate
 
-mate_of_odd : (i : ℕ) → i % 2 ≡ 0 → mate (suc i) ≡ i
+mate_of_odd : (i : ℕ) → i % 2 ≡ 0 → paired_place (suc i) ≡ i
 mate_of_odd i even = let e : suc i ≡ 1 + i = omega arith in rw e (mate_odd i even)
 
-pub partner-even_pos : (t n : ℕ) → t % 2 ≡ 0 → partner t (pos n) ≡ pos (mate n)
+pub partner-even_pos : (t n : ℕ) → t % 2 ≡ 0 → partner t (pos n) ≡ pos (paired_place n)
 unfolding partner
 partner-even_pos t n at_even =
     by_eq_or_not (n % 2) 0
@@ -62,7 +63,7 @@ partner-even_pos t n at_even =
     let one : suc i % 2 ≡ 1 = omega arith in
     rw (at_even, e, one, mate_of_odd i even) (pred_pos i))
 
-pub partner-even_neg : (t n : ℕ) → t % 2 ≡ 0 → partner t (negsuc n) ≡ negsuc (mate n)
+pub partner-even_neg : (t n : ℕ) → t % 2 ≡ 0 → partner t (negsuc n) ≡ negsuc (paired_place n)
 unfolding partner
 partner-even_neg t n at_even =
     by_eq_or_not (n % 2) 0
@@ -74,7 +75,7 @@ partner-even_neg t n at_even =
     let none : (suc i + 1) % 2 ≡ 0 = omega arith in
     rw (at_even, e, none, mate_of_odd i even) (next_neg i))
 
-pub partner-odd_neg : (t n : ℕ) → t % 2 ≡ 1 → partner t (negsuc (suc n)) ≡ negsuc (suc (mate n))
+pub partner-odd_neg : (t n : ℕ) → t % 2 ≡ 1 → partner t (negsuc (suc n)) ≡ negsuc (suc (paired_place n))
 unfolding partner
 partner-odd_neg t n at_odd =
     by_eq_or_not (n % 2) 0
@@ -86,8 +87,8 @@ partner-odd_neg t n at_odd =
     let one : (suc (suc i) + 1) % 2 ≡ 1 = omega arith in
     rw (at_odd, e, one, mate_of_odd i even) (next_neg (suc i)))
 
-pub partner-odd_ext : (t n : ℕ) → t % 2 ≡ 1 → partner t (ext n) ≡ ext (mate n)
-unfolding partner mate
+pub partner-odd_ext : (t n : ℕ) → t % 2 ≡ 1 → partner t (ext n) ≡ ext (paired_place n)
+unfolding partner paired_place
 partner-odd_ext t (suc (suc n)) at_odd = grind (arith, common_steps, by_eq_or_not, ints)
 partner-odd_ext t _ at_odd = rw at_odd refl
 
@@ -98,12 +99,13 @@ partner_twice t u = by_eq_or_not (t % 2) 0 (λ even. at_even u even) (λ odd. at
     at_even u h1 = grind (arith, common_steps, partner-even_pos, mate_twice, partner-even_neg)
 
     at_ext : (n : ℕ) → t % 2 ≡ 1 → partner t (partner t (ext n)) ≡ ext n
-    at_ext n odd = rw (partner-odd_ext t n odd, partner-odd_ext t (mate n) odd, mate_twice n) refl
+    at_ext n odd = rw (partner-odd_ext t n odd, partner-odd_ext t (paired_place n) odd, mate_twice n) refl
 
     at_odd : (u : ℤ) → t % 2 ≡ 1 → partner t (partner t u) ≡ u
     at_odd (pos n) odd = at_ext (suc n) odd
     at_odd (negsuc zero) odd = at_ext zero odd
-    at_odd (negsuc (suc n)) odd = rw (partner-odd_neg t n odd, partner-odd_neg t (mate n) odd, mate_twice n) refl
+    at_odd (negsuc (suc n)) odd =
+        rw (partner-odd_neg t n odd, partner-odd_neg t (paired_place n) odd, mate_twice n) refl
 
 -- a step undoes itself
 pub step_twice : (t : ℕ) (s : State) (x y : ℤ) → step t (step t s) x y ≡ s x y
@@ -139,7 +141,7 @@ far_row t b u v far = grind (arith, common_steps, step_dead, row_dead)
 out_pos : (n x : ℕ) → n ≤ x → is_out n (pos x) ≡ true
 out_pos n x le = let e : nat_lt x n ≡ false = grind (arith, nat_tests) in rw e refl
 
-pub mate_ge : (j n : ℕ) → n % 2 ≡ 0 → n ≤ j → n ≤ mate j
+pub mate_ge : (j n : ℕ) → n % 2 ≡ 0 → n ≤ j → n ≤ paired_place j
 mate_ge j n whole le =
     by_eq_or_not (j % 2) 0
     (λ even. rw (mate_even j even) (omega arith))
@@ -162,7 +164,8 @@ pub odd_cases : (t n : ℕ) (u : ℤ) → t % 2 ≡ 1 → n % 2 ≡ 0 → IsWith
 odd_cases t n (pos x) at_odd whole =
     by_lt_or_le (suc x) (n + 2) (λ l. inl (suc x, refl, l)) (λ le. inr (record {
       own = out_pos n x (omega arith);
-      other = rw (partner-odd_ext t (suc x) at_odd) (out_ext (mate (suc x)) (mate_ge (suc x) (n + 2) (omega arith) le));
+      other = rw (partner-odd_ext t (suc x) at_odd)
+          (out_ext (paired_place (suc x)) (mate_ge (suc x) (n + 2) (omega arith) le));
     }))
   where
     out_ext : (y : ℕ) → n + 2 ≤ y → is_out n (ext y) ≡ true

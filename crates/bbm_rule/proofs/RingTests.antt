@@ -3,7 +3,7 @@ use Rattle.bbm_rule.proofs.Imports.{Bool, arith, common_steps, in_span, not, pos
 use Rattle.bbm_rule.proofs.Imports.{◌≡◌}
 use Rattle.lemmas.proofs.Common.{and_from, and_parts, ap₂, true, ℕ, ◌+◌, ◌<◌, ◌≤◌}
 use Rattle.bbm_rule.proofs.Spans.{span_from}
-use Rattle.bbm_rule.specs.Boxes.{in_box, some_neighbour, in_ring, in_halo}
+use Rattle.bbm_rule.specs.Boxes.{in_box, has_neighbour_in_set, in_ring, in_halo}
 use Rattle.bbm_rule.specs.declared.block.Box2.{Box2}
 
 ring_bits : (a b c d e f : Bool) →
@@ -20,13 +20,13 @@ halo_bits a b c d e f = grind arith
 ring_is : (b : Box2) (x y : ℤ) → in_ring b x y ≡ (in_box b x y && not
     ((in_span b.x b.w (x -ℤ pos 1) && in_span b.x b.w (x +ℤ pos 1))
     && (in_span b.y b.h (y -ℤ pos 1) && in_span b.y b.h (y +ℤ pos 1))))
-unfolding in_ring some_neighbour in_box
+unfolding in_ring has_neighbour_in_set in_box
 ring_is b x y = grind (arith, common_steps, ring_bits)
 
 halo_is : (b : Box2) (x y : ℤ) → in_halo b x y ≡ (not (in_box b x y) &&
     ((in_span b.x b.w (x -ℤ pos 1) || in_span b.x b.w x || in_span b.x b.w (x +ℤ pos 1))
     && (in_span b.y b.h (y -ℤ pos 1) || in_span b.y b.h y || in_span b.y b.h (y +ℤ pos 1))))
-unfolding in_halo some_neighbour in_box
+unfolding in_halo has_neighbour_in_set in_box
 halo_is b x y = grind (arith, common_steps, halo_bits)
 
 -- what the tests answer, from what they test

@@ -1,8 +1,10 @@
 -- Runs of blocks that begin at the second cell of each word
-use Rattle.bbm_rule.proofs.Imports.{AreFlips, ArePairsTurned, AreSameCells, HasNoSetBit, HasWordAt, List, SetsWordAt}
+use Rattle.bbm_rule.proofs.Imports.{AreFlipBitsForTurn, AreSameCells, HasNoSetBit, HasWordAt, IsWordPairTurned, List}
+use Rattle.bbm_rule.proofs.Imports.{SetsWordAt}
 use Rattle.bbm_rule.proofs.Imports.{TurnsRowPart, ap, arith, bit, bit_or, bit_xor, cell_at, common_steps, false}
 use Rattle.bbm_rule.proofs.Imports.{flip_carried_bits, get_or, get_or-set_other, get_or-set_same, length, length-set}
-use Rattle.bbm_rule.proofs.Imports.{mate, or-false, refl, set, sym, true, turned, ℕ, ◌%◌, ◌*◌, ◌+◌, ◌-◌, ◌/◌, ◌<◌, ◌^◌}
+use Rattle.bbm_rule.proofs.Imports.{or-false, paired_place, refl, set, sym, true, turned, ℕ, ◌%◌, ◌*◌, ◌+◌, ◌-◌, ◌/◌}
+use Rattle.bbm_rule.proofs.Imports.{◌<◌, ◌^◌}
 use Rattle.bbm_rule.proofs.Imports.{◌||◌, ◌∙◌, ◌≡◌, ◌≢◌, ◌≤◌}
 use Rattle.lemmas.proofs.Common.{set-set, set_comm, xor_assoc, xor_comm}
 use Rattle.bbm_rule.specs.Rows.{flip}
@@ -77,9 +79,10 @@ window_bit : (v main anti j : ℕ) → bit (bit_xor v (window_flips main anti)) 
 window_bit v main anti j =
     rw (bit-xor v (bit_or (main / 2) anti) j, bit-or (main / 2) anti j, bit-shr main 1 j) refl
 
-side_shifted : (a n b m main anti : ℕ) → AreFlips second_mask a n b m main anti →
+side_shifted : (a n b m main anti : ℕ) → AreFlipBitsForTurn second_mask a n b m main anti →
     ((j : ℕ) → j < 63 → bit n j ≡ bit a (1 + j)) → ((j : ℕ) → j < 63 → bit m j ≡ bit b (1 + j)) → (j : ℕ) → j < 64 →
-    bit (bit_xor n (window_flips main anti)) j ≡ turned (bit n j) (bit m (mate j)) (bit n (mate j)) (bit m j)
+    bit (bit_xor n (window_flips main anti)) j
+    ≡ turned (bit n j) (bit m (paired_place j)) (bit n (paired_place j)) (bit m j)
 side_shifted a n b m main anti flips above below = cells_turned n m _ (λ i l even. (
   rw (
     window_bit n main anti i,
@@ -101,9 +104,9 @@ side_shifted a n b m main anti flips above below = cells_turned n m _ (λ i l ev
     on : (j : ℕ) → j < 64 → j % 2 ≡ 1 → bit second_mask j ≡ true
     on j l odd = rw (bit_second j l, odd) refl
 
-windows_flipped : (a n b m main anti : ℕ) → AreFlips second_mask a n b m main anti →
+windows_flipped : (a n b m main anti : ℕ) → AreFlipBitsForTurn second_mask a n b m main anti →
     ((j : ℕ) → j < 63 → bit n j ≡ bit a (1 + j)) → ((j : ℕ) → j < 63 → bit m j ≡ bit b (1 + j)) →
-    ArePairsTurned n m (bit_xor n (window_flips main anti)) (bit_xor m (window_flips anti main))
+    IsWordPairTurned n m (bit_xor n (window_flips main anti)) (bit_xor m (window_flips anti main))
 windows_flipped a n b m main anti flips above below = grind (arith, common_steps, side_shifted, flips_below)
 
 -- a word of flips goes to a word, and its last cell to the next word
@@ -112,7 +115,7 @@ flip_window i main anti words = flip (i + 1) (anti / 9223372036854775808)
     (flip i (bit_or main (anti * 2 % 18446744073709551616)) words)
 
 window_set : (i v a n b m main anti : ℕ) (words : List ℕ) → i + 1 < length words →
-    AreFlips second_mask a n b m main anti → HasWordAt words (64 * i + 1) v →
+    AreFlipBitsForTurn second_mask a n b m main anti → HasWordAt words (64 * i + 1) v →
     SetsWordAt (64 * i + 1) (bit_xor v (window_flips main anti)) words (flip_window i main anti words)
 window_set i v a n b m main anti words room flips has = record {
   cells = λ j l. by_lt_or_le j 63 (λ low. inside j low) (λ high. let e : j ≡ 63 = omega arith in rw e last);
@@ -183,7 +186,8 @@ window_set i v a n b m main anti words room flips has = record {
 -- one word of each row
 pub word_shifted : (i s x y main anti m a : ℕ) (words : List ℕ) → 0 < s → i + s + 1 < length words →
     (s ≡ 1 → main ≡ 0) → main < 2 ^ 64 → anti < 2 ^ 64 → HasWordAt words (64 * i + 1) x →
-    HasWordAt words (64 * (i + s) + 1) y → AreFlips second_mask (get_or words i 0) x (get_or words (i + s) 0) y m a →
+    HasWordAt words (64 * (i + s) + 1) y →
+    AreFlipBitsForTurn second_mask (get_or words i 0) x (get_or words (i + s) 0) y m a →
     let old = flip_carried_bits i s main anti words in
     let new = flip_carried_bits (i + 1) s m a (set (set words i
     (bit_xor (bit_xor (get_or words i 0) (anti / 9223372036854775808)) (bit_or m (a * 2 % 18446744073709551616))))
@@ -236,7 +240,7 @@ word_shifted i s x y main anti m a words positive room alone small small' has_x 
     sets_below = window_set (i + s) y _ _ _ _ a m mid (omega (arith, long, length-set {A = ℕ}))
         (flips_below _ _ _ _ _ _ _ flips) has_mid
 
-    pairs : ArePairsTurned x y (bit_xor x (window_flips m a)) (bit_xor y (window_flips a m))
+    pairs : IsWordPairTurned x y (bit_xor x (window_flips m a)) (bit_xor y (window_flips a m))
     pairs = windows_flipped _ x _ y m a flips
         (λ j l. let e : 64 * i + 1 + j ≡ 64 * i + (1 + j) = omega arith in
         has_x.cells j (omega arith) ∙ ap (cell_at words) e ∙ cell_in_word words i (1 + j) (omega arith))

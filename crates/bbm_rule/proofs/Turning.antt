@@ -1,9 +1,11 @@
 -- The bitwise formula of a turn.
-use Rattle.bbm_rule.proofs.Imports.{AreFlips, Bool, HasNoSetBit, List, [], and-false, arith, bit, bit_and, bit_or}
-use Rattle.bbm_rule.proofs.Imports.{bit_xor, common_steps, eqb-true, false, get_or, nat_eq, refl, true, turn_of, turned}
+use Rattle.bbm_rule.proofs.Imports.{AreFlipBitsForTurn, Bool, HasNoSetBit, List, [], and-false, arith, bit, bit_and}
+use Rattle.bbm_rule.proofs.Imports.{bit_or}
+use Rattle.bbm_rule.proofs.Imports.{bit_xor, common_steps, eqb-true, false, get_or, nat_eq, refl, true, turned}
+use Rattle.bbm_rule.proofs.Imports.{turned_block_number}
 use Rattle.bbm_rule.proofs.Imports.{ℕ, ◌&&◌, ◌<◌, ◌||◌, ◌∷◌, ◌≡◌}
 use Rattle.lemmas.proofs.Common.{and-true}
-use Rattle.bbm_rule.specs.Words.{AreTurned}
+use Rattle.bbm_rule.specs.Words.{AreCornerWordsTurned}
 use Rattle.bbm_rule.proofs.BitLemmas.{holds_below, below_from_test, xor, bit-and, bit-or, bit-xor}
 
 -- where a block is one that is not as it was, and the flips of the two diagonals
@@ -36,7 +38,7 @@ unfolding turned
 by_cases_lr a b c d = grind (arith, common_steps)
 
 pub words_turned : (ul ur ll lr : ℕ) →
-    AreTurned ul ur ll lr (bit_xor ul (main_flips_of ul ur ll lr)) (bit_xor ur (anti_flips_of ul ur ll lr))
+    AreCornerWordsTurned ul ur ll lr (bit_xor ul (main_flips_of ul ur ll lr)) (bit_xor ur (anti_flips_of ul ur ll lr))
     (bit_xor ll (anti_flips_of ul ur ll lr)) (bit_xor lr (main_flips_of ul ur ll lr))
 words_turned ul ur ll lr =
     grind (arith, common_steps, bit-xor, bit-or, bit-and, by_cases_ul, by_cases_ur, by_cases_ll, by_cases_lr)
@@ -51,7 +53,7 @@ no_flips changed main anti none = (λ j. flip_none changed anti j (none j), λ j
 
 -- the flips of some blocks
 pub flips_found : (f a n b m : ℕ) → let changed = bit_and (changed_of a n b m) f in
-    AreFlips f a n b m (bit_xor changed (bit_and changed (bit_xor n b)))
+    AreFlipBitsForTurn f a n b m (bit_xor changed (bit_and changed (bit_xor n b)))
     (bit_xor changed (bit_and changed (bit_xor a m)))
 flips_found f a n b m = grind (
   arith,
@@ -70,9 +72,10 @@ flips_found f a n b m = grind (
 abbrev pub turns : List ℕ
 turns = 0 ∷ 8 ∷ 4 ∷ 3 ∷ 2 ∷ 5 ∷ 9 ∷ 7 ∷ 1 ∷ 6 ∷ 10 ∷ 11 ∷ 12 ∷ 13 ∷ 14 ∷ 15 ∷ []
 
-turns_tested : holds_below (λ n. nat_eq (get_or turns n 0) (turn_of n)) 16 ≡ true
-unfolding turn_of bit turned
+turns_tested : holds_below (λ n. nat_eq (get_or turns n 0) (turned_block_number n)) 16 ≡ true
+unfolding turned_block_number bit turned
 turns_tested = refl
 
-pub get_or-turns : (n : ℕ) → n < 16 → get_or turns n 0 ≡ turn_of n
-get_or-turns n l = eqb-true _ _ (below_from_test (λ n. nat_eq (get_or turns n 0) (turn_of n)) 16 turns_tested n l)
+pub get_or-turns : (n : ℕ) → n < 16 → get_or turns n 0 ≡ turned_block_number n
+get_or-turns n l = eqb-true _ _
+    (below_from_test (λ n. nat_eq (get_or turns n 0) (turned_block_number n)) 16 turns_tested n l)

@@ -10,19 +10,19 @@ unfoldable pub in_box : Box2 → State
 in_box b x y = in_area b.x b.y b.w b.h x y
 
 -- whether one of the eight neighbours of a cell is in a set of cells
-unfoldable pub some_neighbour : State → State
-some_neighbour s x y =
+unfoldable pub has_neighbour_in_set : State → State
+has_neighbour_in_set s x y =
     s (x -ℤ pos 1) (y -ℤ pos 1) || s x (y -ℤ pos 1) || s (x +ℤ pos 1) (y -ℤ pos 1)
     || s (x -ℤ pos 1) y || s (x +ℤ pos 1) y
     || s (x -ℤ pos 1) (y +ℤ pos 1) || s x (y +ℤ pos 1) || s (x +ℤ pos 1) (y +ℤ pos 1)
 
 -- the cells of the box with a neighbour outside it
 unfoldable pub in_ring : Box2 → State
-in_ring b x y = in_box b x y && some_neighbour (λ x' y'. not (in_box b x' y')) x y
+in_ring b x y = in_box b x y && has_neighbour_in_set (λ x' y'. not (in_box b x' y')) x y
 
 -- the cells outside the box with a neighbour in it
 unfoldable pub in_halo : Box2 → State
-in_halo b x y = not (in_box b x y) && some_neighbour (in_box b) x y
+in_halo b x y = not (in_box b x y) && has_neighbour_in_set (in_box b) x y
 
 -- the box's corner and its sides are even
 pub record IsEvenBox (b : Box2) : Type 0 where

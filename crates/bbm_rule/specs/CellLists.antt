@@ -1,13 +1,13 @@
 -- Lists of cells, and the cells of rows and rectangles
 use Rattle.std.specs.Prelude.{ℕ, pos, List, map}
 use Rattle.std.specs.List.{list_any, flat_map, range_with_len}
-use Rattle.bbm_rule.specs.Plane.{State, is_at}
+use Rattle.bbm_rule.specs.Plane.{State, is_cell_at}
 use Rattle.bbm_rule.specs.declared.block.Box2.{Box2}
 use Rattle.bbm_rule.specs.declared.block.Cell.{Cell}
 
 -- whether the cell (x, y) is in the list
 abbrev pub in_cells : List Cell → State
-in_cells cells x y = list_any (λ c. is_at c x y) cells
+in_cells cells x y = list_any (λ c. is_cell_at c x y) cells
 
 -- the cell at this column and row
 abbrev pub cell : ℕ → ℕ → Cell

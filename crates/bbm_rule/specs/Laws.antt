@@ -3,12 +3,13 @@ use Rattle.std.specs.Ordering.{int_eq}
 use Rattle.std.specs.List.{range_with_len}
 use Rattle.std.specs.Prelude.{true, false, pos, ◌&&◌, ◌||◌, if◌then◌else◌, [], ◌∷◌, ◌++◌, ◌≡◌, ℕ, ℤ, List, map}
 use Rattle.bbm_rule.specs.Plane.{State, partner, step, run}
-use Rattle.bbm_rule.specs.Words.{turn_of}
+use Rattle.bbm_rule.specs.Words.{turned_block_number}
 
 -- what the blocks 0 to 15 become
 abbrev pub TurnTable : Type 0
 TurnTable =
-    map turn_of (range_with_len 0 16) ≡ 0 ∷ 8 ∷ 4 ∷ 3 ∷ 2 ∷ 5 ∷ 9 ∷ 7 ∷ 1 ∷ 6 ∷ 10 ∷ 11 ∷ 12 ∷ 13 ∷ 14 ∷ 15 ∷ []
+    map turned_block_number (range_with_len 0 16)
+    ≡ 0 ∷ 8 ∷ 4 ∷ 3 ∷ 2 ∷ 5 ∷ 9 ∷ 7 ∷ 1 ∷ 6 ∷ 10 ∷ 11 ∷ 12 ∷ 13 ∷ 14 ∷ 15 ∷ []
 
 -- at time t the block of (x, y) has two balls, in that cell and in the opposite one
 pub record MeetsHeadOn (t : ℕ) (s : State) (x y : ℤ) : Type 0 where

@@ -9,8 +9,8 @@ abbrev pub State : Type 0
 State = ℤ → ℤ → Bool
 
 -- whether the cell is (x, y)
-abbrev pub is_at : Cell → State
-is_at c x y = int_eq c.x x && int_eq c.y y
+abbrev pub is_cell_at : Cell → State
+is_cell_at c x y = int_eq c.x x && int_eq c.y y
 
 -- 0 for an even number, 1 for an odd one
 abbrev pub parity : ℤ → ℕ

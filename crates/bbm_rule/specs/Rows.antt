@@ -9,12 +9,12 @@ unfoldable pub cell_at : List ℕ → ℕ → Bool
 cell_at words p = bit (slice_index words (p / 64)) (p % 64)
 
 -- the other place of a pair: 0 and 1, 2 and 3, and so on
-unfoldable pub mate : ℕ → ℕ
-mate j = if j % 2 == 0 then j + 1 else j - 1
+unfoldable pub paired_place : ℕ → ℕ
+paired_place j = if j % 2 == 0 then j + 1 else j - 1
 
 -- A bit of f is a block, whose upper cells are that bit of a and n, and its lower ones that of b and m. It turns if the
 -- cells of a and m flip where main has a bit, and those of n and b where anti has one.
-pub record AreFlips (f a n b m main anti : ℕ) : Type 0 where
+pub record AreFlipBitsForTurn (f a n b m main anti : ℕ) : Type 0 where
   pub upper_first : (j : ℕ) → bit f j ≡ true →
       bit (bit_xor a main) j ≡ turned (bit a j) (bit m j) (bit n j) (bit b j)
   pub upper_second : (j : ℕ) → bit f j ≡ true →
@@ -26,9 +26,9 @@ pub record AreFlips (f a n b m main anti : ℕ) : Type 0 where
   pub elsewhere : (j : ℕ) → bit f j ≡ false → (bit main j ≡ false) × (bit anti j ≡ false)
 
 -- two words one above the other, before and after each of their 32 blocks is turned
-pub record ArePairsTurned (a b a' b' : ℕ) : Type 0 where
-  pub upper : (j : ℕ) → j < 64 → bit a' j ≡ turned (bit a j) (bit b (mate j)) (bit a (mate j)) (bit b j)
-  pub lower : (j : ℕ) → j < 64 → bit b' j ≡ turned (bit b j) (bit a (mate j)) (bit b (mate j)) (bit a j)
+pub record IsWordPairTurned (a b a' b' : ℕ) : Type 0 where
+  pub upper : (j : ℕ) → j < 64 → bit a' j ≡ turned (bit a j) (bit b (paired_place j)) (bit a (paired_place j)) (bit b j)
+  pub lower : (j : ℕ) → j < 64 → bit b' j ≡ turned (bit b j) (bit a (paired_place j)) (bit b (paired_place j)) (bit a j)
 
 -- the 64 cells from place p on are the bits of v
 pub record HasWordAt (words : List ℕ) (p v : ℕ) : Type 0 where
@@ -52,11 +52,12 @@ flip_carried_bits i s main anti words = flip (i + s) (main / 2 ^ 63) (flip i (an
 -- changes.
 pub record TurnsRowPart (p n s : ℕ) (old new : List ℕ) : Type 0 where
   pub upper : (j : ℕ) → j < n →
-      cell_at new (p + j) ≡ turned (cell_at old (p + j)) (cell_at old (p + s + mate j)) (cell_at old (p + mate j))
+      cell_at new (p + j) ≡ turned (cell_at old (p + j)) (cell_at old (p + s + paired_place j))
+      (cell_at old (p + paired_place j))
       (cell_at old (p + s + j))
   pub lower : (j : ℕ) → j < n →
-      cell_at new (p + s + j) ≡ turned (cell_at old (p + s + j)) (cell_at old (p + mate j))
-      (cell_at old (p + s + mate j)) (cell_at old (p + j))
+      cell_at new (p + s + j) ≡ turned (cell_at old (p + s + j)) (cell_at old (p + paired_place j))
+      (cell_at old (p + s + paired_place j)) (cell_at old (p + j))
   pub before : (q : ℕ) → q < p → cell_at new q ≡ cell_at old q
   pub between : (q : ℕ) → p + n ≤ q → q < p + s → cell_at new q ≡ cell_at old q
   pub after : (q : ℕ) → p + s + n ≤ q → cell_at new q ≡ cell_at old q
@@ -64,11 +65,12 @@ pub record TurnsRowPart (p n s : ℕ) (old new : List ℕ) : Type 0 where
 -- The blocks of r pairs of rows of s cells are turned, the first at place p, and no other cell changes.
 pub record TurnsRows (p s r : ℕ) (old new : List ℕ) : Type 0 where
   pub upper : (i j : ℕ) → i < r → j < s → let q = p + 2 * (i * s) in
-      cell_at new (q + j) ≡ turned (cell_at old (q + j)) (cell_at old (q + s + mate j)) (cell_at old (q + mate j))
+      cell_at new (q + j) ≡ turned (cell_at old (q + j)) (cell_at old (q + s + paired_place j))
+      (cell_at old (q + paired_place j))
       (cell_at old (q + s + j))
   pub lower : (i j : ℕ) → i < r → j < s → let q = p + 2 * (i * s) in
-      cell_at new (q + s + j) ≡ turned (cell_at old (q + s + j)) (cell_at old (q + mate j))
-      (cell_at old (q + s + mate j)) (cell_at old (q + j))
+      cell_at new (q + s + j) ≡ turned (cell_at old (q + s + j)) (cell_at old (q + paired_place j))
+      (cell_at old (q + s + paired_place j)) (cell_at old (q + j))
   pub before : (q : ℕ) → q < p → cell_at new q ≡ cell_at old q
   pub after : (q : ℕ) → p + 2 * (r * s) ≤ q → cell_at new q ≡ cell_at old q
 
@@ -77,7 +79,7 @@ abbrev pub AreSameCells : List ℕ → List ℕ → Type 0
 AreSameCells old new = (q : ℕ) → cell_at new q ≡ cell_at old q
 
 -- only the cell at place p changes, to the value
-pub record SetsPlace (p : ℕ) (value : Bool) (old new : List ℕ) : Type 0 where
+pub record SetsCellAtPlace (p : ℕ) (value : Bool) (old new : List ℕ) : Type 0 where
   pub there : cell_at new p ≡ value
   pub elsewhere : (q : ℕ) → q ≢ p → cell_at new q ≡ cell_at old q
 

@@ -2,8 +2,8 @@
 
 ghost use Rattle.std.specs.Prelude.{◌≡◌, ◌<◌, ◌≤ℤ◌, pos};
 ghost use Rattle.bbm_rule.specs.Plane.{partner};
-ghost use Rattle.bbm_rule.specs.Words.{turn_of};
-ghost use Rattle.lemmas.specs.Bounds.{last_place};
+ghost use Rattle.bbm_rule.specs.Words.{turned_block_number};
+ghost use Rattle.lemmas.specs.Bounds.{last_column_or_row};
 
 /// A cell of the plane, by its column `x`, which grows rightwards, and its row `y`, which grows downwards.
 #[derive(Clone, Copy, Debug, PartialEq, Eq, Hash)]
@@ -30,7 +30,7 @@ const TURNS: [u8; 16] = [0, 8, 4, 3, 2, 5, 9, 7, 1, 6, 10, 11, 12, 13, 14, 15];
 /// and 8 the lower right one.
 pub fn turn(bits: u8) -> u8
     requires { bits < 16 }
-    ensures { result ≡ turn_of bits }
+    ensures { result ≡ turned_block_number bits }
 {
     TURNS[bits as usize]
 }
@@ -40,7 +40,7 @@ pub fn turn(bits: u8) -> u8
 /// It is the one beside this one that belongs to another block at even times.
 #[tactic(auto, unfolding(crate::specs::Plane::partner))]
 pub fn odd_partner(place: i32) -> i32
-    requires { (pos 0 ≤ℤ place) × (place ≤ℤ pos last_place) }
+    requires { (pos 0 ≤ℤ place) × (place ≤ℤ pos last_column_or_row) }
     ensures { result ≡ partner 1 place }
 {
     if place.unsigned_abs() % 2 == 1 {

@@ -2,9 +2,9 @@
 
 ghost use Rattle.std.specs.Prelude.{◌≡◌, ◌+◌, ◌*◌, ◌/◌, ◌<◌, ◌≤◌, ◌^◌, ◌%◌, ℕ, length, false, ℤ, pos, ◌≤ℤ◌, ◌<ℤ◌};
 ghost use Rattle.std.specs.Bool.{OnTrue};
-ghost use Rattle.bbm_rule.specs.Marks.{IsUnmarked};
-ghost use Rattle.bbm_rule.specs.Rows.{cell_at, FillsRowPart, SetsPlace, place_with_margin, HasLiveMargin, HasDeadMargin, HasDeadMarginInRow};
-ghost use Rattle.lemmas.specs.Bounds.{max_side, max_stride};
+ghost use Rattle.bbm_rule.specs.Marks.{IsNumberUnmarked};
+ghost use Rattle.bbm_rule.specs.Rows.{cell_at, FillsRowPart, SetsCellAtPlace, place_with_margin, HasLiveMargin, HasDeadMargin, HasDeadMarginInRow};
+ghost use Rattle.lemmas.specs.Bounds.{max_side, max_words_in_row};
 
 use crate::block::Cell;
 use crate::marks::next_marked;
@@ -14,7 +14,7 @@ use crate::marks::next_marked;
 pub(crate) fn place_with_margin(stride: usize, cell: Cell) -> usize
     requires columns { (pos 0 ≤ℤ cell.x) × (cell.x <ℤ pos max_side) }
     requires rows { (pos 0 ≤ℤ cell.y) × (cell.y <ℤ pos max_side) }
-    requires stride { stride ≤ max_stride }
+    requires stride { stride ≤ max_words_in_row }
     ensures { result ≡ place_with_margin (64 * stride) cell.x cell.y }
 {
     64 * stride * (cell.y as usize + 1) + (cell.x as usize + 1)
@@ -53,7 +53,7 @@ fn is_live_in(words: &[u64], i: usize, bit: usize) -> bool
 #[inline(always)]
 pub(crate) fn put_cell(words: &mut [u64], place: usize, value: bool)
     requires { place / 64 < length words.old }
-    ensures { SetsPlace place value words.old words.new }
+    ensures { SetsCellAtPlace place value words.old words.new }
 {
     let at = place / 64;
     let mask = 1u64 << (place % 64);
@@ -99,11 +99,11 @@ pub(crate) fn has_live_margin(
     width: usize,
     height: usize,
 ) -> bool
-    requires width { (width + 2 ≤ 64 * stride) × (stride ≤ max_stride) }
+    requires width { (width + 2 ≤ 64 * stride) × (stride ≤ max_words_in_row) }
     requires height { (height ≤ max_side) × (height % 2 ≡ 0) }
     requires word_count { length words.now ≡ stride * (height + 2) }
     requires marks { height / 2 + 1 ≤ 64 * length marks.now }
-    requires unmarked { (y : ℕ) → y < height + 2 → IsUnmarked marks.now (y / 2) →
+    requires unmarked { (y : ℕ) → y < height + 2 → IsNumberUnmarked marks.now (y / 2) →
         HasDeadMarginInRow width height (64 * stride) y words.now }
     ensures any_live { OnTrue result (HasLiveMargin width height (64 * stride) words.now) }
     ensures all_dead { result ≡ false → HasDeadMargin width height (64 * stride) words.now }
@@ -130,7 +130,7 @@ fn has_live_margin_in_row(
     height: usize,
     y: usize,
 ) -> bool
-    requires width { (width + 2 ≤ 64 * stride) × (stride ≤ max_stride) }
+    requires width { (width + 2 ≤ 64 * stride) × (stride ≤ max_words_in_row) }
     requires height { height ≤ max_side }
     requires row { y < height + 2 }
     requires word_count { length words.now ≡ stride * (height + 2) }

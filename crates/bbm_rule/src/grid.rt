@@ -42,11 +42,11 @@ impl Model for Grid {
 
     ghost Value = { Board };
 
-    ghost use Rattle.bbm_rule.specs.GridView.{board_of, IsGrid};
+    ghost use Rattle.bbm_rule.specs.GridView.{AreGridFields, board_of};
 
     ghost view = { board_of };
 
-    ghost invariant = { IsGrid };
+    ghost invariant = { AreGridFields };
 }
 
 impl Grid {

@@ -4,7 +4,7 @@ ghost use Rattle.bbm_rule.specs.Laws.{TurnTable, TwoBallsCollide, TwoBallsLeaveA
 ghost use Rattle.bbm_rule.specs.Moves.{StepCommutesWithEvenMoves};
 
 /// States what each of the sixteen blocks becomes.
-#[tactic(auto, unfolding(crate::proofs::Imports::bit, crate::proofs::Imports::turn_of, crate::proofs::Imports::turned))]
+#[tactic(auto, unfolding(crate::proofs::Imports::bit, crate::proofs::Imports::turned_block_number, crate::proofs::Imports::turned))]
 pub fn turn_table()
     ensures { TurnTable }
 {}

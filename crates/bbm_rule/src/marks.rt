@@ -1,15 +1,15 @@
 //! Marks on numbers: a bit for each.
 
 ghost use Rattle.std.specs.Prelude.{ℕ, ◌≡◌, ◌≢◌, ◌+◌, ◌*◌, ◌/◌, ◌^◌, ◌<◌, ◌≤◌, length, true, false};
-ghost use Rattle.bbm_rule.specs.Marks.{IsUnmarked, MarksOne};
-ghost use Rattle.bbm_rule.specs.Rows.{cell_at, SetsPlace};
+ghost use Rattle.bbm_rule.specs.Marks.{IsNumberUnmarked, MarksOneNumber};
+ghost use Rattle.bbm_rule.specs.Rows.{cell_at, SetsCellAtPlace};
 
 /// Returns the first number from `from` on that has a mark, or `end` if there is none below it.
 #[tactic(auto, using(crate::proofs::MarkLemmas::none_before, crate::proofs::MarkLemmas::whole_before, crate::proofs::MarkLemmas::whole_zero, crate::proofs::BitLemmas::by_lt_or_le))]
 pub fn next_marked(marks: &[u64], from: usize, end: usize) -> usize
     requires range_within_marks { (from ≤ end) × (end ≤ 64 * length marks.now) × (end < 2 ^ 32) }
     ensures range { (from ≤ result) × (result ≤ end) }
-    ensures passed_unmarked { (u : ℕ) → from ≤ u → u < result → IsUnmarked marks.now u }
+    ensures passed_unmarked { (u : ℕ) → from ≤ u → u < result → IsNumberUnmarked marks.now u }
     ensures marked { result < end → cell_at marks.now result ≡ true }
 {
     if from == end {
@@ -35,7 +35,7 @@ pub fn next_unmarked(marks: &[u64], from: usize, end: usize) -> usize
     requires range_within_marks { (from ≤ end) × (end ≤ 64 * length marks.now) × (end < 2 ^ 32) }
     ensures range { (from ≤ result) × (result ≤ end) }
     ensures passed_marked { (u : ℕ) → from ≤ u → u < result → cell_at marks.now u ≡ true }
-    ensures unmarked { result < end → IsUnmarked marks.now result }
+    ensures unmarked { result < end → IsNumberUnmarked marks.now result }
 {
     let mut at = from;
     while at < end {
@@ -53,7 +53,7 @@ pub fn next_unmarked(marks: &[u64], from: usize, end: usize) -> usize
 #[inline(always)]
 pub fn mark(marks: &mut [u64], at: usize)
     requires { at / 64 < length marks.old }
-    ensures { MarksOne at marks.old marks.new }
+    ensures { MarksOneNumber at marks.old marks.new }
 {
     marks[at / 64] |= 1u64 << (at % 64);
 }
@@ -62,7 +62,7 @@ pub fn mark(marks: &mut [u64], at: usize)
 #[inline(always)]
 pub fn unmark(marks: &mut [u64], at: usize)
     requires { at / 64 < length marks.old }
-    ensures { SetsPlace at false marks.old marks.new }
+    ensures { SetsCellAtPlace at false marks.old marks.new }
 {
     marks[at / 64] &= !(1u64 << (at % 64));
 }
@@ -71,7 +71,8 @@ pub fn unmark(marks: &mut [u64], at: usize)
 #[inline(always)]
 pub fn mark_number_before(marks: &mut [u64], at: usize, distance: usize)
     requires { at / 64 < length marks.old }
-    ensures { (u : ℕ) → IsUnmarked marks.new u → IsUnmarked marks.old u × (u + distance ≢ at) }
+    ensures { (u : ℕ) → IsNumberUnmarked marks.new u →
+        IsNumberUnmarked marks.old u × (u + distance ≢ at) }
 {
     if distance <= at {
         mark(marks, at - distance);
@@ -80,7 +81,7 @@ pub fn mark_number_before(marks: &mut [u64], at: usize, distance: usize)
 
 /// Marks all numbers.
 pub fn mark_all(marks: &mut [u64])
-    ensures { (u : ℕ) → u < 64 * length marks.new → IsUnmarked marks.new u → ⊥ }
+    ensures { (u : ℕ) → u < 64 * length marks.new → IsNumberUnmarked marks.new u → ⊥ }
 {
     for k in 0..marks.len() {
         marks[k] = 0xFFFF_FFFF_FFFF_FFFF;

@@ -2,9 +2,9 @@
 //! of word p / 64, and a row is `stride` words.
 
 ghost use Rattle.std.specs.Prelude.{◌≡◌, ◌+◌, ◌*◌, ◌<◌, ◌≤◌, ◌^◌, ◌-◌, length, false};
-ghost use Rattle.bbm_rule.specs.Bands.{AreUnmarkedPairsStable};
+ghost use Rattle.bbm_rule.specs.Bands.{AreUnmarkedRowPairsStable};
 ghost use Rattle.bbm_rule.specs.Bits.{AreSameBits, HasNoSetBit};
-ghost use Rattle.bbm_rule.specs.Rows.{AreFlips, ArePairsTurned, AreSameCells, HasWordAt, TurnsRowPart, TurnsRows, flip_carried_bits};
+ghost use Rattle.bbm_rule.specs.Rows.{AreFlipBitsForTurn, AreSameCells, HasWordAt, IsWordPairTurned, TurnsRowPart, TurnsRows, flip_carried_bits};
 
 use crate::marks::{mark, mark_number_before, next_marked, unmark};
 
@@ -24,7 +24,7 @@ fn block_flips(
     lower: u64,
     lower_next: u64,
 ) -> (u64, u64, u64)
-    ensures flips { AreFlips lefts upper upper_next lower lower_next result.0 result.1 }
+    ensures flips { AreFlipBitsForTurn lefts upper upper_next lower lower_next result.0 result.1 }
     ensures no_flips_if_zero { HasNoSetBit result.2 → HasNoSetBit result.0 × HasNoSetBit result.1 }
 {
     let main = upper ^ lower_next;
@@ -42,7 +42,7 @@ fn block_flips(
 #[inline(always)]
 #[tactic(auto, using(crate::proofs::PairLemmas::pairs_turned, crate::proofs::PairLemmas::flipped_same))]
 fn turn_word_pair(upper: u64, lower: u64) -> (u64, u64, u64)
-    ensures turned { ArePairsTurned upper lower result.0 result.1 }
+    ensures turned { IsWordPairTurned upper lower result.0 result.1 }
     ensures stays { HasNoSetBit result.2 → AreSameBits upper result.0 × AreSameBits lower result.1 }
 {
     let (main, anti, changed) = block_flips(FIRST_OF_PAIR, upper, upper >> 1, lower, lower >> 1);
@@ -159,12 +159,12 @@ pub(crate) fn turn_all_aligned(
     requires stride_positive { 0 < stride }
     requires word_count_fits_u32 { length words.old < 2 ^ 32 }
     requires marks { (pairs ≤ 64 * length own.old) × (pairs ≤ 64 * length others.old) }
-    requires own_calm { AreUnmarkedPairsStable 0 (64 * stride) pairs own.old words.old }
-    requires others_calm { AreUnmarkedPairsStable (64 * stride + 1) (64 * stride) (pairs - 1)
+    requires own_calm { AreUnmarkedRowPairsStable 0 (64 * stride) pairs own.old words.old }
+    requires others_calm { AreUnmarkedRowPairsStable (64 * stride + 1) (64 * stride) (pairs - 1)
         others.old words.old }
     ensures turned { TurnsRows 0 (64 * stride) pairs words.old words.new }
-    ensures own_calm { AreUnmarkedPairsStable 0 (64 * stride) pairs own.new words.new }
-    ensures others_calm { AreUnmarkedPairsStable (64 * stride + 1) (64 * stride) (pairs - 1)
+    ensures own_calm { AreUnmarkedRowPairsStable 0 (64 * stride) pairs own.new words.new }
+    ensures others_calm { AreUnmarkedRowPairsStable (64 * stride + 1) (64 * stride) (pairs - 1)
         others.new words.new }
 {
     let mut pair = next_marked(own, 0, pairs);
@@ -193,13 +193,15 @@ pub(crate) fn turn_all_shifted(
     requires stride_positive { 0 < stride }
     requires word_count_fits_u32 { length words.old < 2 ^ 32 }
     requires marks { (pairs ≤ 64 * length own.old) × (pairs + 1 ≤ 64 * length others.old) }
-    requires own_calm { AreUnmarkedPairsStable (64 * stride + 1) (64 * stride) pairs own.old
+    requires own_calm { AreUnmarkedRowPairsStable (64 * stride + 1) (64 * stride) pairs own.old
         words.old }
-    requires others_calm { AreUnmarkedPairsStable 0 (64 * stride) (pairs + 1) others.old words.old }
+    requires others_calm { AreUnmarkedRowPairsStable 0 (64 * stride) (pairs + 1) others.old
+        words.old }
     ensures turned { TurnsRows (64 * stride + 1) (64 * stride) pairs words.old words.new }
-    ensures own_calm { AreUnmarkedPairsStable (64 * stride + 1) (64 * stride) pairs own.new
+    ensures own_calm { AreUnmarkedRowPairsStable (64 * stride + 1) (64 * stride) pairs own.new
         words.new }
-    ensures others_calm { AreUnmarkedPairsStable 0 (64 * stride) (pairs + 1) others.new words.new }
+    ensures others_calm { AreUnmarkedRowPairsStable 0 (64 * stride) (pairs + 1) others.new
+        words.new }
 {
     let mut pair = next_marked(own, 0, pairs);
     while pair < pairs {

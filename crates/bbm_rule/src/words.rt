@@ -1,7 +1,7 @@
 //! Many blocks at a time, on words of bits.
 
 ghost use Rattle.std.specs.Prelude.{◌≡◌, ◌+◌, ◌<◌, ◌≤◌, ℕ, length};
-ghost use Rattle.bbm_rule.specs.Words.{AreTurned, AreTurnedAt, TurnsWordsBetween};
+ghost use Rattle.bbm_rule.specs.Words.{AreCornerWordsTurned, AreCornerWordsTurnedAt, TurnsCornerWordsBetween};
 
 use std::simd::prelude::*;
 
@@ -15,8 +15,8 @@ pub fn turn_words(
     lower_left: u64,
     lower_right: u64,
 ) -> (u64, u64, u64, u64)
-    ensures { AreTurned upper_left upper_right lower_left lower_right result.0 result.1 result.2
-        result.3 }
+    ensures { AreCornerWordsTurned upper_left upper_right lower_left lower_right result.0 result.1
+        result.2 result.3 }
 {
     // `a ^ (a & b)` stands for `a & !b`.
     let main = upper_left ^ lower_right;
@@ -42,8 +42,8 @@ fn turn_vectors(
     lower_rights: u64x4,
 ) -> (u64x4, u64x4, u64x4, u64x4)
     ensures lanes { (k : ℕ) → k < 4 →
-        AreTurnedAt k upper_lefts upper_rights lower_lefts lower_rights result.0 result.1 result.2
-        result.3 }
+        AreCornerWordsTurnedAt k upper_lefts upper_rights lower_lefts lower_rights result.0 result.1
+        result.2 result.3 }
     ensures lengths_are_4 { (length result.0 ≡ 4) × (length result.1 ≡ 4) × (length result.2 ≡ 4)
         × (length result.3 ≡ 4) }
 {
@@ -72,7 +72,7 @@ fn turn_four_words_at(
 )
     requires { (at + 4 ≤ length upper_left.old) × (at + 4 ≤ length upper_right.old)
         × (at + 4 ≤ length lower_left.old) × (at + 4 ≤ length lower_right.old) }
-    ensures { TurnsWordsBetween at (at + 4) upper_left.old upper_right.old lower_left.old
+    ensures { TurnsCornerWordsBetween at (at + 4) upper_left.old upper_right.old lower_left.old
         lower_right.old upper_left.new upper_right.new lower_left.new lower_right.new }
 {
     let (a, b, c, d) = turn_vectors(
@@ -98,7 +98,7 @@ fn turn_word_at(
 )
     requires { (at < length upper_left.old) × (at < length upper_right.old)
         × (at < length lower_left.old) × (at < length lower_right.old) }
-    ensures { TurnsWordsBetween at (at + 1) upper_left.old upper_right.old lower_left.old
+    ensures { TurnsCornerWordsBetween at (at + 1) upper_left.old upper_right.old lower_left.old
         lower_right.old upper_left.new upper_right.new lower_left.new lower_right.new }
 {
     let (a, b, c, d) = turn_words(
@@ -125,8 +125,8 @@ pub fn turn_lanes(
     requires left { length lower_left.old ≡ length upper_left.old }
     requires right { length lower_right.old ≡ length upper_left.old }
     ensures { (k : ℕ) → k < length upper_left.old →
-        AreTurnedAt k upper_left.old upper_right.old lower_left.old lower_right.old upper_left.new
-        upper_right.new lower_left.new lower_right.new }
+        AreCornerWordsTurnedAt k upper_left.old upper_right.old lower_left.old lower_right.old
+        upper_left.new upper_right.new lower_left.new lower_right.new }
 {
     let n = upper_left.len();
     let mut at = 0;

@@ -1,7 +1,8 @@
 -- From the jobs of modules to their lines
-use Rattle.border_match.proofs.Imports.{All, AreJobOwners, AreModules, BorderFault, BorderLine, Box2, Cell, Halo}
-use Rattle.border_match.proofs.Imports.{IfSome, IsBorderFault, IsBorderFaultOfJob, IsLeast, IsLeastBorderFault}
-use Rattle.border_match.proofs.Imports.{IsListed, JobView, List, ModuleLines, None, Option, Ring, Signal, Signals, Some}
+use Rattle.border_match.proofs.Imports.{All, AreModules, BorderFault, BorderLine, Box2, Cell, Halo, IsOwnerTableOfJobs}
+use Rattle.border_match.proofs.Imports.{IfSome, IsBorderFault, IsBorderFaultOfJob, IsLeastBorderFault, IsLeastCandidate}
+use Rattle.border_match.proofs.Imports.{IsEventListed, JobView, List, ModuleLines, None, Option, Ring, Signal, Signals}
+use Rattle.border_match.proofs.Imports.{Some}
 use Rattle.border_match.proofs.Imports.{TimedSignal, ap, ap₂, areas, arith, circuit_wire, common_steps, edge_signal}
 use Rattle.border_match.proofs.Imports.{event_at, event_if_timed, get_or_from_slice_get, halo_signal, in_box}
 use Rattle.border_match.proofs.Imports.{line_signals, mapped_from, option_map, owner_of, rectangle_of, renumber_event}
@@ -10,7 +11,7 @@ use Rattle.border_match.proofs.Imports.{slice_get_within, some_at, subst, sym, t
 use Rattle.circuit.specs.Bridge.{circuit_of}
 use Rattle.circuit.specs.declared.circuit_line.CircuitLine.{CircuitLine}
 use Rattle.pattern.specs.Layout.{Pattern}
-use Rattle.module_box.specs.Tiling.{OwnersView, AreOwners, rectangle}
+use Rattle.module_box.specs.Tiling.{OwnersView, IsTilingOwnerTable, rectangle}
 use Rattle.certificate_lines.specs.Entries.{edges}
 use Rattle.certificate_lines.proofs.FlatParts.{flat_all}
 use Rattle.certificate.specs.Jobs.{AreJobsOf, IsJobOf, one_or_named_wire}
@@ -45,7 +46,7 @@ module _ (cs : List CircuitLine) (p : Pattern) where
 
   listed_cell : (P : Cell → Type 0) (j : JobView) (s : Signals) (es : List BorderLine) (e : TimedSignal) →
       renumber_signals (circuit_wire j.locals) s ≡ line_signals (circuit_of cs) es → All (λ d. P d.cell) es →
-      IsListed s.events e → P e.at.cell
+      IsEventListed s.events e → P e.at.cell
   listed_cell P j s es e same all at =
       let f = renumber_event (circuit_wire j.locals) in
       let by : List TimedSignal = (line_signals (circuit_of cs) es).events in
@@ -62,7 +63,7 @@ module _ (cs : List CircuitLine) (p : Pattern) where
   quiet m j good is = grind (arith, common_steps, signals_quiet)
 
   module _ (ms : List ModuleLines) (js : List JobView) (o : OwnersView) (good : AreModules (setting_of cs p) ms)
-      (made : AreJobsOf (circuit_of cs) p ms js) (owners : AreOwners o (areas ms))
+      (made : AreJobsOf (circuit_of cs) p ms js) (owners : IsTilingOwnerTable o (areas ms))
       (w : o.width ≡ p.size.w) (h : o.height ≡ p.size.h) where
     same_rectangle : whole p.size ≡ rectangle o
     same_rectangle = ap₂ rectangle_of (sym w) (sym h)
@@ -74,12 +75,12 @@ module _ (cs : List CircuitLine) (p : Pattern) where
     lines_of k j e = some_at ms k (let lt = slice_get_within js k j e in let n = made.count in omega (arith, lt, n))
 
     -- the module that has a cell of the rectangle
-    record IsOnlyHolder (x y : ℤ) : Type 0 where
+    record IsOnlyBoxWithCell (x y : ℤ) : Type 0 where
       lines : ModuleLines
       numbered : slice_get ms (owner_of o x y) ≡ Some lines
       has : in_box lines.area x y ≡ true
 
-    holder : (x y : ℤ) → in_box (whole p.size) x y ≡ true → IsOnlyHolder x y
+    holder : (x y : ℤ) → in_box (whole p.size) x y ≡ true → IsOnlyBoxWithCell x y
     holder x y inside = grind (arith, common_steps, same_rectangle, mapped_from)
 
     pub quiet_job : (k : ℕ) (j : JobView) → slice_get js k ≡ Some j → HasNoEventAtStart j
@@ -94,7 +95,7 @@ module _ (cs : List CircuitLine) (p : Pattern) where
         owners.tile.once x y (owner_of o x y) k n.lines.area m.0.area (area_of ms _ n.lines n.numbered)
         (area_of ms k m.0 m.1) n.has (ap (λ (b : Box2). in_box b x y) (sym is.area) ∙ has)
 
-    edge_owned : (k : ℕ) (j : JobView) (e : TimedSignal) → slice_get js k ≡ Some j → IsListed j.edges.events e →
+    edge_owned : (k : ℕ) (j : JobView) (e : TimedSignal) → slice_get js k ≡ Some j → IsEventListed j.edges.events e →
         (in_box (whole p.size) e.at.cell.x e.at.cell.y ≡ true) × (owner_of o e.at.cell.x e.at.cell.y ≡ k)
     edge_owned k j e got at =
         let m = lines_of k j got in
@@ -105,7 +106,7 @@ module _ (cs : List CircuitLine) (p : Pattern) where
         let inside = good.tile.inside _ _ k m.0.area (area_of ms k m.0 m.1) has in
         (inside, only _ _ k j inside got (ap (λ (b : Box2). in_box b e.at.cell.x e.at.cell.y) is.area ∙ has))
 
-    pub board : AreJobOwners (whole p.size) o js
+    pub board : IsOwnerTableOfJobs (whole p.size) o js
     board = record {
       same = same_rectangle;
       holder = λ x y inside.
@@ -147,5 +148,5 @@ module _ (cs : List CircuitLine) (p : Pattern) where
         grind (arith, common_steps, halo_same, edge_same)
 
     pub least_by_lines : (i : ℕ) (j : JobView) (r : Option BorderFault) → slice_get js i ≡ Some j →
-        IsLeast (IsBorderFaultOfJob (whole p.size) o js j) r → IsLeastBorderFault (setting_of cs p) ms i r
+        IsLeastCandidate (IsBorderFaultOfJob (whole p.size) o js j) r → IsLeastBorderFault (setting_of cs p) ms i r
     least_by_lines i j r h1 h2 = grind (arith, common_steps, fault_by_jobs, fault_by_lines)

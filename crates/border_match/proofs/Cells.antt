@@ -1,6 +1,7 @@
 -- Cells of a halo, and the modules that have them
 use Rattle.border_match.proofs.Imports.{AreReadyBorders, BorderFault, Borders, Box2, Cell, IsFaultOfSearchedJob}
-use Rattle.border_match.proofs.Imports.{IsInOrAround, IsJob, JobView, List, Some, and_parts, ap, ap₂, arith, cases_Bool}
+use Rattle.border_match.proofs.Imports.{IsInOrAroundBox, IsJob, JobView, List, Some, and_parts, ap, ap₂, arith}
+use Rattle.border_match.proofs.Imports.{cases_Bool}
 use Rattle.border_match.proofs.Imports.{common_steps, false, false≢true, get_or, in_box, in_halo, ints, jobs_of, length}
 use Rattle.border_match.proofs.Imports.{length-map, map, option_map, owner_of, pos, same_some, slice_get}
 use Rattle.border_match.proofs.Imports.{slice_get-get_or, slice_get-map, slice_get_within, sym, true, ℕ, ℤ, ◌&&◌, ◌+ℤ◌}
@@ -8,7 +9,7 @@ use Rattle.border_match.proofs.Imports.{◌+◌, ◌-◌, ◌<◌, ◌∙◌, �
 use Rattle.lemmas.proofs.Common.{◌-ℤ◌, ◌||◌, and_from}
 use Rattle.bbm_rule.specs.Spans.{in_span}
 use Rattle.bbm_rule.proofs.Spans.{span_from, span_parts}
-use Rattle.module_box.specs.Moves.{IsInShiftRange}
+use Rattle.module_box.specs.Moves.{IsCellInShiftRange}
 use Rattle.module_box.proofs.BoxCells.{in_box_nats, in_span_nat, small_number}
 use Rattle.module_box.proofs.NearBoxes.{near_one, near_parts}
 
@@ -30,7 +31,7 @@ reached b f g = and_from _ _ g.inside g.halo
 
 -- a cell of the rectangle is in the box of a job
 pub owned_near : (b : Borders) (c : Cell) (owner : JobView) → AreReadyBorders b → in_box b.whole c.x c.y ≡ true →
-    slice_get (jobs_of b) (owner_of b.owners.now c.x c.y) ≡ Some owner → IsJob owner → IsInShiftRange c
+    slice_get (jobs_of b) (owner_of b.owners.now c.x c.y) ≡ Some owner → IsJob owner → IsCellInShiftRange c
 owned_near b c owner ready inside got is = grind (arith, common_steps, same_some, in_box_nats, small_number)
 
 -- ---- columns and rows of a halo
@@ -104,7 +105,7 @@ placed b f g = cell_placed b f.cell.x f.cell.y g.inside g.halo
 
 -- a fault is around the module's box
 pub fault_around : (b : Borders) (f : BorderFault) → IsFaultOfSearchedJob b f →
-    IsInOrAround b.job.now.area f.cell.x f.cell.y
+    IsInOrAroundBox b.job.now.area f.cell.x f.cell.y
 fault_around b f g =
     let p = placed b f g in
     let px = p.x in let py = p.y in

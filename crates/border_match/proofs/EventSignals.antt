@@ -1,5 +1,6 @@
 -- The signal of the cell and time of an event
-use Rattle.border_match.proofs.Imports.{IsListed, IsRising, List, Signals, TimedSignal, [], all_times_at, ap, arith}
+use Rattle.border_match.proofs.Imports.{IsEventListed, IsRising, List, Signals, TimedSignal, [], all_times_at, ap}
+use Rattle.border_match.proofs.Imports.{arith}
 use Rattle.border_match.proofs.Imports.{common_steps, ints, moment_cmp, moment_of, moment_total, moved_signals, pos}
 use Rattle.border_match.proofs.Imports.{shift_to_origin, signal_at, signals_back, subst, ℕ, ℤ, ◌+ℤ◌, ◌≡◌}
 use Rattle.module_box.proofs.MovedBoxes.{events_rising}
@@ -13,14 +14,14 @@ events_unmoved dx dy ex ey s p q rising =
     (events_rising ex ey (moved_signals dx dy s).events rising)
 
 signal_at_event : (s : Signals) (e : TimedSignal) → s.all_times ≡ [] → IsRising moment_cmp moment_of s.events →
-    IsListed s.events e → signal_at s e.at.time e.at.cell.x e.at.cell.y ≡ e.signal
+    IsEventListed s.events e → signal_at s e.at.time e.at.cell.x e.at.cell.y ≡ e.signal
 unfolding signal_at all_times_at
 signal_at_event s e none rising at = grind (arith, common_steps, event_some, is_first, moment_total)
 
 -- if no line with a star is among the signals, the event alone says it
 pub own_signal : (x y : ℕ) (s moved : Signals) (e : TimedSignal) → s.all_times ≡ [] →
     moved ≡ moved_signals (shift_to_origin x) (shift_to_origin y) s → IsRising moment_cmp moment_of moved.events →
-    IsListed s.events e → signal_at s e.at.time e.at.cell.x e.at.cell.y ≡ e.signal
+    IsEventListed s.events e → signal_at s e.at.time e.at.cell.x e.at.cell.y ≡ e.signal
 own_signal x y s moved e none are rising at =
     let R : List TimedSignal → Type 0 = IsRising moment_cmp moment_of in
     signal_at_event s e none

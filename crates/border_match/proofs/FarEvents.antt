@@ -5,7 +5,7 @@ use Rattle.border_match.proofs.Imports.{common_steps, get_or, ints, length, mome
 use Rattle.border_match.proofs.Imports.{moment_total, pos, same_some, slice_get, slice_get-get_or}
 use Rattle.border_match.proofs.Imports.{slice_get_within, ℕ, ℤ, ◌%◌, ◌+ℤ◌, ◌+◌, ◌<◌, ◌∙◌, ◌≡◌, ◌≢◌, ◌≤◌, ◌⊎◌}
 use Rattle.lemmas.proofs.Common.{int_equal, int_less, nat_equal, nat_less, same_or_higher, then_less, ◌<ℤ◌, ◌≤ℤ◌}
-use Rattle.border_match.specs.Surroundings.{AreMomentsFarBetween, IsInOrAroundFromCorner}
+use Rattle.border_match.specs.Surroundings.{HasNoWindowMomentBetween, IsInOrAroundFromCorner}
 
 -- ---- the order of moments by their parts
 
@@ -32,34 +32,34 @@ behind w c far left top bottom = grind (arith, common_steps, up_to_or_after)
 abbrev NoneSeen : Window → Moment → Moment → Type 0
 NoneSeen w at next = (m : Moment) → m.time % 2 ≡ 1 → IsBefore at m → IsBefore m next → IsInWindow w m.cell → ⊥
 
-far_between : (w : Window) (at next : Moment) → NoneSeen w at next → AreMomentsFarBetween w at next
+far_between : (w : Window) (at next : Moment) → NoneSeen w at next → HasNoWindowMomentBetween w at next
 far_between w at next none m after less odd g = none m odd (before at m after) (before m next less) g
 
 -- above the first row the next one is the first cell at the same time
 pub above_rows : (w : Window) (at next : Moment) → at.cell.y <ℤ w.first.y → next.time ≡ at.time →
-    next.cell.x ≡ w.first.x → next.cell.y ≡ w.first.y → AreMomentsFarBetween w at next
+    next.cell.x ≡ w.first.x → next.cell.y ≡ w.first.y → HasNoWindowMomentBetween w at next
 above_rows w at next up et ex ey = far_between w at next (λ m odd k h g. grind (arith, ints))
 
 -- in a row before the first column it is the row's first cell
 pub before_columns : (w : Window) (at next : Moment) → at.cell.x <ℤ w.first.x → next.time ≡ at.time →
-    next.cell.x ≡ w.first.x → next.cell.y ≡ at.cell.y → AreMomentsFarBetween w at next
+    next.cell.x ≡ w.first.x → next.cell.y ≡ at.cell.y → HasNoWindowMomentBetween w at next
 before_columns w at next left et ex ey = far_between w at next (λ m odd k h g. grind (arith, ints))
 
 -- behind the last column it is the first cell of the next row
 pub behind_columns : (w : Window) (at next : Moment) → ¬ IsInWindow w at.cell → w.first.x ≤ℤ at.cell.x →
     w.first.y ≤ℤ at.cell.y → at.cell.y ≤ℤ w.last.y → next.time ≡ at.time → next.cell.x ≡ w.first.x →
-    next.cell.y ≡ at.cell.y +ℤ pos 1 → AreMomentsFarBetween w at next
+    next.cell.y ≡ at.cell.y +ℤ pos 1 → HasNoWindowMomentBetween w at next
 behind_columns w at next far left top bottom et ex ey = grind (arith, common_steps, behind, far_between, ints)
 
 -- below the last row it is the first cell at the next odd time
 pub below_rows : (w : Window) (at next : Moment) → w.last.y <ℤ at.cell.y → next.time ≤ at.time + (1 + at.time % 2) →
-    next.cell.x ≡ w.first.x → next.cell.y ≡ w.first.y → AreMomentsFarBetween w at next
+    next.cell.x ≡ w.first.x → next.cell.y ≡ w.first.y → HasNoWindowMomentBetween w at next
 below_rows w at next down et ex ey = far_between w at next (λ m odd k h g. grind (arith, ints))
 
 -- and behind the last column of the last row too
 pub behind_rows : (w : Window) (at next : Moment) → ¬ IsInWindow w at.cell → w.first.x ≤ℤ at.cell.x →
     w.first.y ≤ℤ at.cell.y → at.cell.y ≡ w.last.y → next.time ≤ at.time + (1 + at.time % 2) →
-    next.cell.x ≡ w.first.x → next.cell.y ≡ w.first.y → AreMomentsFarBetween w at next
+    next.cell.x ≡ w.first.x → next.cell.y ≡ w.first.y → HasNoWindowMomentBetween w at next
 behind_rows w at next far left top last et ex ey = grind (arith, common_steps, behind, ints, far_between)
 
 -- ---- places of events

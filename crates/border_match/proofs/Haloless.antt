@@ -3,7 +3,7 @@ use Rattle.border_match.proofs.Imports.{AreModules, BorderFault, IsLeastBorderFa
 use Rattle.border_match.proofs.Imports.{Setting, Some, arith, common_steps, length, length-map, map, mapped_from}
 use Rattle.border_match.proofs.Imports.{replicate, slice_get, subst, suc, sym, zero, ℕ, ◌∙◌, ◌≡◌}
 use Rattle.lemmas.proofs.Common.{length-replicate}
-use Rattle.certificate_lines.specs.Versions.{with_halos}
+use Rattle.certificate_lines.specs.Versions.{with_halo_lines}
 use Rattle.certificate.proofs.FullModules.{full_area, full_edges}
 use Rattle.certificate.proofs.HaloSignals.{halo_is_edge_beside}
 use Rattle.border_match.specs.BorderFaults.{AreBorderFaultsOf}
@@ -19,9 +19,9 @@ none_at (suc n) zero f e = cc
 none_at (suc n) (suc i) f e = none_at n i f e
 
 pub none_for_each : (g : Setting) (ms : List ModuleLines) → AreModules g ms →
-    AreBorderFaultsOf g (map (with_halos g ms) ms) (replicate (length ms) None)
+    AreBorderFaultsOf g (map (with_halo_lines g ms) ms) (replicate (length ms) None)
 none_for_each g ms good = record {
-  count = length-replicate (length ms) None ∙ sym (length-map ms (with_halos g ms));
-  each = λ i f e. subst (IsLeastBorderFault g (map (with_halos g ms) ms) i) (none_at (length ms) i f e)
+  count = length-replicate (length ms) None ∙ sym (length-map ms (with_halo_lines g ms));
+  each = λ i f e. subst (IsLeastBorderFault g (map (with_halo_lines g ms) ms) i) (none_at (length ms) i f e)
       (haloless_match g ms good i);
 }

@@ -1,16 +1,17 @@
 -- The names from outside this folder that two or more proofs of this crate use, in one file to import them from.
 pub use Rattle.bbm_rule.specs.declared.block.Box2.{Box2}
 pub use Rattle.bbm_rule.specs.declared.block.Cell.{Cell}
-pub use Rattle.border_match.specs.Boards.{AreHaloMarks, AreHaloOwnersListed, AreJobOwners, AreModuleNumbers}
+pub use Rattle.border_match.specs.Boards.{AreHaloEventMarks, AreHaloOwnersListed, AreModuleNumbers, IsOwnerTableOfJobs}
 pub use Rattle.border_match.specs.Boards.{AreOwnersListedInRows, AreOwnersListedToColumn, AreReadyBorders}
-pub use Rattle.border_match.specs.Boards.{CellDiffersWithoutEvent, DiffersAtStarBelow, DiffersAtStarOfAny}
+pub use Rattle.border_match.specs.Boards.{DiffersAtStarBelow, DiffersAtStarOfAny, DiffersAtTimesWithoutEvent}
 pub use Rattle.border_match.specs.Boards.{IsAtEdgeEventOfAny, IsAtOwnersEdgeEvent, IsAtSomeEventBelow}
 pub use Rattle.border_match.specs.Boards.{IsAtUnmarkedEventBelow, IsBorderFaultOfJob, IsFaultOfSearchedJob}
-pub use Rattle.border_match.specs.Boards.{IsInOrAround, IsListed, KeepsAllNumbers, job_signals, jobs_of}
+pub use Rattle.border_match.specs.Boards.{IsEventListed, IsInOrAroundBox, KeepsAllModuleNumbers, job_signals, jobs_of}
 pub use Rattle.border_match.specs.BorderFaults.{IsBorderFault, IsLeastBorderFault, edge_signal, halo_signal}
-unfoldable pub use Rattle.border_match.specs.BorderFaults.{border_cmp}
-pub use Rattle.border_match.specs.Candidates.{HasCandidateAtMost, IsLeast, IsNextCandidate}
-pub use Rattle.border_match.specs.Surroundings.{AreEventsFarBetween, IsEdgeEventExtent, IsEventFarAt, IsExtent}
+unfoldable pub use Rattle.border_match.specs.BorderFaults.{border_fault_cmp}
+pub use Rattle.border_match.specs.Candidates.{HasCandidateAtMost, IsLeastCandidate, IsNextCandidate}
+pub use Rattle.border_match.specs.Surroundings.{HasNoWindowEventBetween, IsEdgeEventExtent, IsEventOutsideWindow}
+pub use Rattle.border_match.specs.Surroundings.{IsExtentOfEvents}
 pub use Rattle.border_match.specs.Surroundings.{IsInWindow}
 pub use Rattle.border_match.specs.Surroundings.{IsWindowAround}
 pub use Rattle.border_match.specs.declared.borders.Borders.{Borders}
@@ -21,7 +22,7 @@ pub use Rattle.certificate.proofs.Imports.{All, All-head, All-tail, AreModules, 
 pub use Rattle.certificate.proofs.Imports.{JobView, Less, List, ModuleLines, None, Option, Ordering, Setting, Signals}
 pub use Rattle.certificate.proofs.Imports.{Some, [], and_parts, ap, ap₂, arc_value, areas, arith, cases_Bool}
 pub use Rattle.certificate.proofs.Imports.{circuit_wire, common_steps, cond-false, cond-true, event_if_timed, false}
-pub use Rattle.certificate.proofs.Imports.{get_or, get_or_from_slice_get, inl, inr, ints, is_among, is_at, length}
+pub use Rattle.certificate.proofs.Imports.{get_or, get_or_from_slice_get, inl, inr, ints, is_among, is_cell_at, length}
 pub use Rattle.certificate.proofs.Imports.{length-map, line_signals, map, mapped_from, nat_tests, option_map, pos, refl}
 pub use Rattle.certificate.proofs.Imports.{renumber_event, renumber_signal, renumber_signals, replicate, rules}
 pub use Rattle.certificate.proofs.Imports.{setting_of, shift_to_origin, slice_get, slice_get-get_or, slice_get_within}

@@ -1,7 +1,9 @@
 -- Candidates for a least border fault
-use Rattle.border_match.proofs.Imports.{BorderFault, Greater, HasCandidateAtMost, IsLeast, IsNextCandidate, None}
+use Rattle.border_match.proofs.Imports.{BorderFault, Greater, HasCandidateAtMost, IsLeastCandidate, IsNextCandidate}
+use Rattle.border_match.proofs.Imports.{None}
 use Rattle.border_match.proofs.Imports.{Option}
-use Rattle.border_match.proofs.Imports.{Ordering, Some, arith, border_cmp, common_steps, false, tied_itself, ◌≡◌, ◌≢◌}
+use Rattle.border_match.proofs.Imports.{Ordering, Some, arith, border_fault_cmp, common_steps, false, tied_itself, ◌≡◌}
+use Rattle.border_match.proofs.Imports.{◌≢◌}
 use Rattle.border_match.proofs.Imports.{◌⊎◌}
 use Rattle.lemmas.proofs.Common.{is_gt, upto}
 use Rattle.border_match.proofs.FaultOrder.{border_total}
@@ -14,17 +16,19 @@ not_gt o h1 = grind (arith, common_steps)
 from_not_gt : (o : Ordering) → is_gt o ≡ false → o ≢ Greater
 from_not_gt o e g = grind (arith, common_steps)
 
-at_most_trans : (a b c : BorderFault) → border_cmp a b ≢ Greater → border_cmp b c ≢ Greater → border_cmp a c ≢ Greater
+at_most_trans : (a b c : BorderFault) → border_fault_cmp a b ≢ Greater → border_fault_cmp b c ≢ Greater →
+    border_fault_cmp a c ≢ Greater
 at_most_trans a b c p q = from_not_gt _ (upto border_total a b c (not_gt _ p) (not_gt _ q))
 
-pub at_most_itself : (a : BorderFault) → border_cmp a a ≢ Greater
+pub at_most_itself : (a : BorderFault) → border_fault_cmp a a ≢ Greater
 at_most_itself a g = grind (arith, common_steps, tied_itself, border_total)
 
-pub lesser_kept : (o m : BorderFault) (best : Option BorderFault) → best ≡ Some o → Greater ≡ border_cmp o m →
-    (h : BorderFault) → HasCandidateAtMost best h → border_cmp m h ≢ Greater
+pub lesser_kept : (o m : BorderFault) (best : Option BorderFault) → best ≡ Some o → Greater ≡ border_fault_cmp o m →
+    (h : BorderFault) → HasCandidateAtMost best h → border_fault_cmp m h ≢ Greater
 lesser_kept o m best is greater h c = grind (arith, common_steps, border_total, at_most_trans)
 
-pub covers_after : (o : Option BorderFault) (m h : BorderFault) → HasCandidateAtMost o m → border_cmp m h ≢ Greater →
+pub covers_after : (o : Option BorderFault) (m h : BorderFault) → HasCandidateAtMost o m →
+    border_fault_cmp m h ≢ Greater →
     HasCandidateAtMost o h
 covers_after o m h h1 h2 = grind (arith, common_steps, at_most_trans)
 
@@ -38,7 +42,7 @@ module _ (F : BorderFault → Type 0) where
 
   -- the new candidate is at most m, which is one of F and at most each of F with P
   pub better_with : (P : BorderFault → Type 0) (o o' : Option BorderFault) (m : BorderFault) → F m →
-      ((h : BorderFault) → F h → P h → border_cmp m h ≢ Greater) →
+      ((h : BorderFault) → F h → P h → border_fault_cmp m h ≢ Greater) →
       ((h : BorderFault) → HasCandidateAtMost o h → HasCandidateAtMost o' h) → (o' ≡ o) ⊎ (o' ≡ Some m) →
       HasCandidateAtMost o' m → IsNextCandidate F P o o'
   better_with P o o' m f least kept one covered = grind (arith, common_steps, covers_after)
@@ -58,5 +62,5 @@ module _ (F : BorderFault → Type 0) where
 
   pub least_by_three : (P Q R : BorderFault → Type 0) (a b c : Option BorderFault) → IsNextCandidate F P None a →
       IsNextCandidate F Q a b → IsNextCandidate F R b c →
-      ((h : BorderFault) → F h → P h ⊎ (Q h ⊎ R h)) → IsLeast F c
+      ((h : BorderFault) → F h → P h ⊎ (Q h ⊎ R h)) → IsLeastCandidate F c
   least_by_three P Q R a b c p q r all = grind (arith, common_steps)

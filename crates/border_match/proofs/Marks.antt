@@ -1,14 +1,14 @@
 -- Marks of the halo events that edges name
-use Rattle.border_match.proofs.Imports.{AreHaloMarks, AreReadyBorders, Bool, BorderFault, Borders, Cell}
-use Rattle.border_match.proofs.Imports.{CellDiffersWithoutEvent, IsAtOwnersEdgeEvent, IsAtUnmarkedEventBelow}
-use Rattle.border_match.proofs.Imports.{IsFaultOfSearchedJob, IsListed, JobView, List, Moment, Signals, Some}
+use Rattle.border_match.proofs.Imports.{AreHaloEventMarks, AreReadyBorders, Bool, BorderFault, Borders, Cell}
+use Rattle.border_match.proofs.Imports.{DiffersAtTimesWithoutEvent, IsAtOwnersEdgeEvent, IsAtUnmarkedEventBelow}
+use Rattle.border_match.proofs.Imports.{IsEventListed, IsFaultOfSearchedJob, JobView, List, Moment, Signals, Some}
 use Rattle.border_match.proofs.Imports.{TimedSignal, ap, ap₂, arith, below_or_same, cell_back, common_steps, false}
 use Rattle.border_match.proofs.Imports.{false≢true, inl, inr, ints, jobs_of, length, map, mapped_from, moved_cell}
 use Rattle.border_match.proofs.Imports.{moved_event, moved_signals, owner_of, pos, same_some, shift_to_origin}
 use Rattle.border_match.proofs.Imports.{slice_get, slice_get_within, some_at, sym, take, true, ℕ, ℤ, ◌++◌, ◌+◌, ◌∙◌}
 use Rattle.border_match.proofs.Imports.{◌≡◌, ◌≤◌, ◌⊎◌}
 use Rattle.lemmas.proofs.Common.{take-append_seam}
-use Rattle.border_match.specs.Boards.{AddsOnlyMarksAt, IsAtEvent, IsEventPlaceOf, IsAtUnmarkedEvent}
+use Rattle.border_match.specs.Boards.{AddsOnlyMarksOfEventsAt, IsAtEvent, IsEventPlaceOf, IsAtUnmarkedEvent}
 use Rattle.border_match.proofs.Steps.{fault_covered, same_fault}
 
 -- ---- one mark more
@@ -33,8 +33,9 @@ local_place x y dx dy cell s moved es at place ex ey by same are is =
 -- the edge that names what the new mark's event names
 pub still_marked : (b : Borders) (other : JobView) (event : TimedSignal) (old new : List Bool) →
     slice_get (jobs_of b) (owner_of b.owners.now event.at.cell.x event.at.cell.y) ≡ Some other →
-    IsListed other.edges.events event → AddsOnlyMarksAt b.job.now.halos.events event.at old new → AreHaloMarks b old →
-    AreHaloMarks b new
+    IsEventListed other.edges.events event → AddsOnlyMarksOfEventsAt b.job.now.halos.events event.at old new →
+    AreHaloEventMarks b old →
+    AreHaloEventMarks b new
 still_marked b other event old new owned listed adds marked = grind (arith, common_steps)
 
 -- ---- no mark at first
@@ -73,9 +74,9 @@ unmarked_all seen events k f le h =
 mark_cases : (o : Bool) → (o ≡ true) ⊎ (o ≡ false)
 mark_cases o = grind (arith, common_steps)
 
-pub fault_unmarked : (b : Borders) (seen : List Bool) (f : BorderFault) → AreReadyBorders b → AreHaloMarks b seen →
+pub fault_unmarked : (b : Borders) (seen : List Bool) (f : BorderFault) → AreReadyBorders b → AreHaloEventMarks b seen →
     IsFaultOfSearchedJob b f →
-    IsAtOwnersEdgeEvent b f ⊎ (IsAtUnmarkedEvent seen b.job.now.halos.events f ⊎ CellDiffersWithoutEvent b f)
+    IsAtOwnersEdgeEvent b f ⊎ (IsAtUnmarkedEvent seen b.job.now.halos.events f ⊎ DiffersAtTimesWithoutEvent b f)
 fault_unmarked b seen f ready marked g = elim (fault_covered b f ready g) [
   | inl h ↦
       let within = slice_get_within b.job.now.halos.events h.place h.event h.got in

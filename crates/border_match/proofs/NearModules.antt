@@ -1,7 +1,7 @@
 -- The numbers of the modules that have cells of a module's halo, noted box by box.
 use Rattle.border_match.proofs.Imports.{AreHaloOwnersListed, AreModuleNumbers, AreOwnersListedInRows}
 use Rattle.border_match.proofs.Imports.{AreOwnersListedToColumn, AreReadyBorders, Bool, Borders, Box2, JobView}
-use Rattle.border_match.proofs.Imports.{KeepsAllNumbers, List, Some, [], and_parts, ap₂, arith, below_or_from}
+use Rattle.border_match.proofs.Imports.{KeepsAllModuleNumbers, List, Some, [], and_parts, ap₂, arith, below_or_from}
 use Rattle.border_match.proofs.Imports.{cases_Bool, common_steps, cond-false, cond-true, false, false≢true, in_box}
 use Rattle.border_match.proofs.Imports.{in_halo, is_among, jobs_of, length, nat_tests, owner_of, pos, same_some}
 use Rattle.border_match.proofs.Imports.{slice_get, subst, sym, true, ℕ, ℤ, ◌++◌, ◌+◌, ◌-◌, ◌<◌, ◌==◌, ◌∙◌, ◌∷◌, ◌≡◌}
@@ -19,7 +19,7 @@ is_it w v = v == w
 pub among_more : (ks : List ℕ) (k w : ℕ) → is_among (ks ++ k ∷ []) w ≡ true → (is_among ks w ≡ true) ⊎ (w ≡ k)
 among_more ks k w h = grind (arith, common_steps, or_cases, list_any-append, is_it, nat_tests, false≢true)
 
-keeps_more : (ks : List ℕ) (k : ℕ) → KeepsAllNumbers ks (ks ++ k ∷ [])
+keeps_more : (ks : List ℕ) (k : ℕ) → KeepsAllModuleNumbers ks (ks ++ k ∷ [])
 keeps_more ks k w h = list_any-append (is_it w) ks (k ∷ []) ∙ or_left (is_among ks w) (is_among (k ∷ []) w) h
 
 last_among : (ks : List ℕ) (k : ℕ) → is_among (ks ++ k ∷ []) k ≡ true
@@ -30,7 +30,7 @@ with_either : (P : List ℕ → Type 0) (ks : List ℕ) (k : ℕ) → (is_among 
     P (with_number_once ks k)
 with_either P ks k old more = grind (arith, common_steps, cases_Bool, cond-true, cond-false)
 
-pub with_keeps : (ks new : List ℕ) (k : ℕ) → new ≡ with_number_once ks k → KeepsAllNumbers ks new
+pub with_keeps : (ks new : List ℕ) (k : ℕ) → new ≡ with_number_once ks k → KeepsAllModuleNumbers ks new
 with_keeps ks new k is = grind (arith, common_steps, with_either, keeps_more)
 
 pub with_among : (ks new : List ℕ) (k : ℕ) → new ≡ with_number_once ks k → is_among new k ≡ true
@@ -42,7 +42,7 @@ with_below b ks new k is below lt = grind (arith, common_steps, with_either)
 
 -- ---- columns and rows
 
-noted_still : (b : Borders) (old new : List ℕ) (x y : ℤ) → KeepsAllNumbers old new →
+noted_still : (b : Borders) (old new : List ℕ) (x y : ℤ) → KeepsAllModuleNumbers old new →
     IsOwnerListedIfOutsideBox b old x y →
     IsOwnerListedIfOutsideBox b new x y
 noted_still b old new x y keeps noted inside out = keeps _ (noted inside out)
@@ -62,7 +62,8 @@ no_column b ks y z x from c r left lt top under = absurd (omega (arith, lt, left
 
 -- the columns up to the last one of an area that has the cell (x, y), as far down as the area
 pub columns_more : (b : Borders) (old new : List ℕ) (y z z' x : ℕ) (a : Box2) (cx cy : ℤ) → cx ≡ pos x → cy ≡ pos y →
-    in_box a cx cy ≡ true → z' ≤ z → z' ≤ a.y + a.h → AreOwnersListedToColumn b old y z x → KeepsAllNumbers old new →
+    in_box a cx cy ≡ true → z' ≤ z → z' ≤ a.y + a.h → AreOwnersListedToColumn b old y z x →
+    KeepsAllModuleNumbers old new →
     AreOutsideOwnersListed b new a → AreOwnersListedToColumn b new y z' (a.x + a.w)
 columns_more b old new y z z' x a cx cy ex ey has le within before keeps here c r left lt top under =
     grind (arith, common_steps, area_at, below_or_from, noted_still, area_from)
@@ -78,7 +79,7 @@ pub no_row : (b : Borders) (ks : List ℕ) (y z : ℕ) → z ≡ y → AreOwners
 no_row b ks y z same c r left lt top under = absurd (omega (arith, top, under, same))
 
 pub rows_more : (b : Borders) (old new : List ℕ) (x y z : ℕ) → AreOwnersListedInRows b old x y →
-    KeepsAllNumbers old new →
+    KeepsAllModuleNumbers old new →
     AreOwnersListedInRows b new y z → AreOwnersListedInRows b new x z
 rows_more b old new x y z above keeps here c r left lt top under =
     grind (arith, common_steps, below_or_from, noted_still)

@@ -5,7 +5,7 @@ use Rattle.border_match.proofs.Imports.{◌≢◌}
 use Rattle.circuit.specs.Meaning.{Valuation}
 use Rattle.module_box.proofs.EqualTests.{signal_decides}
 use Rattle.module_job.specs.Signals.{is_live}
-use Rattle.border_match.specs.Laws.{IsHaloMomentOwnedBy, NoFaultMeansSameSignals}
+use Rattle.border_match.specs.Laws.{IsHaloMomentOwnedBy, NoBorderFaultMeansSameSignals}
 use Rattle.certificate_lines.proofs.OddBlocks.{area_of}
 
 -- signals that do not differ are the same
@@ -33,5 +33,5 @@ same_at g ms i k m owner t x y v none beside =
       differ = differ;
     })))
 
-pub same_signals : NoFaultMeansSameSignals
+pub same_signals : NoBorderFaultMeansSameSignals
 same_signals g ms i k m owner t x y v none beside = same_at g ms i k m owner t x y v (λ f at. none f) beside

@@ -1,15 +1,15 @@
 -- Cells of which a line with a star speaks
 use Rattle.border_match.proofs.Imports.{AllTimesSignal, AreHaloOwnersListed, AreReadyBorders, BorderFault, Borders}
-use Rattle.border_match.proofs.Imports.{Box2, Cell, CellDiffersWithoutEvent, DiffersAtStarBelow, DiffersAtStarOfAny}
-use Rattle.border_match.proofs.Imports.{IsFaultOfSearchedJob, IsInOrAround, JobView, List, None, Signals, Some, Zero}
+use Rattle.border_match.proofs.Imports.{Box2, Cell, DiffersAtStarBelow, DiffersAtStarOfAny, DiffersAtTimesWithoutEvent}
+use Rattle.border_match.proofs.Imports.{IsFaultOfSearchedJob, IsInOrAroundBox, JobView, List, None, Signals, Some, Zero}
 use Rattle.border_match.proofs.Imports.{[], all_times_at, ap, ap₂, arith, below_or_same, cases_Bool, circuit_wire}
-use Rattle.border_match.proofs.Imports.{common_steps, cond-false, event_at, get_or, inl, inr, ints, is_at, jobs_of}
+use Rattle.border_match.proofs.Imports.{common_steps, cond-false, event_at, get_or, inl, inr, ints, is_cell_at, jobs_of}
 use Rattle.border_match.proofs.Imports.{length, length-map, map, moved_all_times, moved_cell, moved_signals, pos, refl}
 use Rattle.border_match.proofs.Imports.{renumber_signal, same_some, shift_to_origin, signal_at, signals_back, slice_get}
 use Rattle.border_match.proofs.Imports.{slice_get-get_or, slice_get-map, slice_get_within, subst, suc, sym, take}
 use Rattle.border_match.proofs.Imports.{take_all, take_more, unwrap_or, ℕ, ℤ, ◌+◌, ◌<◌, ◌∙◌, ◌∷◌, ◌≡◌, ◌≤◌, ◌⊎◌}
 use Rattle.bbm_rule.proofs.SameCells.{cell_same}
-use Rattle.border_match.specs.Boards.{DiffersWithoutEventAt, DiffersAtStar}
+use Rattle.border_match.specs.Boards.{DiffersAtCellWithoutEvent, DiffersAtStar}
 use Rattle.border_match.proofs.Cells.{fault_around, reached}
 use Rattle.border_match.proofs.NearModules.{among_more}
 
@@ -26,7 +26,7 @@ star_at dx dy b stars k d f lt h same = grind (arith, common_steps, slice_get-ma
 pub star_far : (a corner : Box2) (b : Borders) (stars : List AllTimesSignal) (k : ℕ) (d : AllTimesSignal)
     (f : BorderFault) →
     a ≡ b.job.now.area → k < length stars →
-    (let at = moved_cell (pos corner.x) (pos corner.y) (get_or stars k d).cell in ¬ IsInOrAround a at.x at.y) →
+    (let at = moved_cell (pos corner.x) (pos corner.y) (get_or stars k d).cell in ¬ IsInOrAroundBox a at.x at.y) →
     IsFaultOfSearchedJob b f → DiffersAtStarBelow (k + 1) b
     (map (moved_all_times (pos corner.x) (pos corner.y)) stars) f →
     DiffersAtStarBelow k b (map (moved_all_times (pos corner.x) (pos corner.y)) stars) f
@@ -34,15 +34,16 @@ star_far a corner b stars k d f area lt far g h = elim (below_or_same h.starred.
   | inl lower ↦ record { starred = h.starred; below = lower }
   | inr same ↦
       let at = star_at (pos corner.x) (pos corner.y) b stars k d f lt h.starred same in
-      let around : IsInOrAround a f.cell.x f.cell.y =
-      subst (λ (z : Box2). IsInOrAround z f.cell.x f.cell.y) (sym area) (fault_around b f g) in
-      absurd (far (subst (λ (c : Cell). IsInOrAround a c.x c.y) (sym at) around))
+      let around : IsInOrAroundBox a f.cell.x f.cell.y =
+      subst (λ (z : Box2). IsInOrAroundBox z f.cell.x f.cell.y) (sym area) (fault_around b f g) in
+      absurd (far (subst (λ (c : Cell). IsInOrAroundBox a c.x c.y) (sym at) around))
 ]
 
 pub star_step : (corner : Box2) (b : Borders) (stars : List AllTimesSignal) (k : ℕ) (d : AllTimesSignal) (c : Cell)
     (f : BorderFault) → k < length stars → c ≡ moved_cell (pos corner.x) (pos corner.y) (get_or stars k d).cell →
     DiffersAtStarBelow (k + 1) b (map (moved_all_times (pos corner.x) (pos corner.y)) stars) f →
-    DiffersAtStarBelow k b (map (moved_all_times (pos corner.x) (pos corner.y)) stars) f ⊎ DiffersWithoutEventAt b c f
+    DiffersAtStarBelow k b (map (moved_all_times (pos corner.x) (pos corner.y)) stars) f
+    ⊎ DiffersAtCellWithoutEvent b c f
 star_step corner b stars k d c f lt is h = elim (below_or_same h.starred.place k h.below) [
   | inl lower ↦ inl (record { starred = h.starred; below = lower })
   | inr same ↦ inr (
@@ -93,7 +94,7 @@ record IsListed (stars : List AllTimesSignal) (c : Cell) : Type 0 where
 star_named : (stars : List AllTimesSignal) (c : Cell) → (all_times_at stars c.x c.y ≡ None) ⊎ IsListed stars c
 unfolding all_times_at
 star_named [] c = inl refl
-star_named (h ∷ hs) c = elim (cases_Bool (is_at h.cell c.x c.y)) [
+star_named (h ∷ hs) c = elim (cases_Bool (is_cell_at h.cell c.x c.y)) [
   | inl here ↦ inr (record { place = 0; star = h; got = refl; cell = cell_same h.cell c here })
   | inr other ↦ elim (star_named hs c) [
     | inl none ↦ inl (cond-false _ _ _ other ∙ none)
@@ -108,7 +109,7 @@ dead_signal s x y none quiet = ap₂ (λ h z. unwrap_or h (unwrap_or z Zero)) no
 
 pub star_covered : (b : Borders) (ks : List ℕ) (f : BorderFault) (n : ℕ) → AreReadyBorders b →
     AreHaloOwnersListed b ks →
-    length ks ≤ n → IsFaultOfSearchedJob b f → CellDiffersWithoutEvent b f → DiffersAtStarOfAny (take n ks) b f
+    length ks ≤ n → IsFaultOfSearchedJob b f → DiffersAtTimesWithoutEvent b f → DiffersAtStarOfAny (take n ks) b f
 star_covered b ks f n ready noted le g d =
     let x = f.cell.x in let y = f.cell.y in
     elim (star_named b.job.now.halos.all_times f.cell) [

@@ -1,10 +1,10 @@
 -- One more event, module or time
-use Rattle.border_match.proofs.Imports.{AreEventsFarBetween, AreReadyBorders, Bool, BorderFault, Borders}
-use Rattle.border_match.proofs.Imports.{Box2, Cell, CellDiffersWithoutEvent, Greater, HasCandidateAtMost}
+use Rattle.border_match.proofs.Imports.{AreReadyBorders, Bool, BorderFault, Borders, HasNoWindowEventBetween}
+use Rattle.border_match.proofs.Imports.{Box2, Cell, DiffersAtTimesWithoutEvent, Greater, HasCandidateAtMost}
 use Rattle.border_match.proofs.Imports.{IsAtOwnersEdgeEvent, IsAtSomeEventBelow}
-use Rattle.border_match.proofs.Imports.{IsFaultOfSearchedJob, IsInOrAround, IsRising, IsWindowAround, JobView, Less}
+use Rattle.border_match.proofs.Imports.{IsFaultOfSearchedJob, IsInOrAroundBox, IsRising, IsWindowAround, JobView, Less}
 use Rattle.border_match.proofs.Imports.{List, Moment, None, Option, Signals, Some, TimedSignal, Window, Zero, []}
-use Rattle.border_match.proofs.Imports.{all_times_at, ap, ap₂, arith, below_or_from, below_or_same, border_cmp}
+use Rattle.border_match.proofs.Imports.{all_times_at, ap, ap₂, arith, below_or_from, below_or_same, border_fault_cmp}
 use Rattle.border_match.proofs.Imports.{cases_Bool, cell_back, circuit_wire, common_steps, cond-false, event_at, false}
 use Rattle.border_match.proofs.Imports.{false≢true, inl, inr, ints, is_moment_at, jobs_of, length, length-map}
 use Rattle.border_match.proofs.Imports.{map, moment_cmp, moment_of, moved_cell, moved_event, option_map, pos, refl}
@@ -34,9 +34,9 @@ named_step events i e f got h = elim (below_or_same h.named.place i h.below) [
 ]
 
 -- a fault and a moment are compared alike
-compared_alike : (a b : Moment) → border_cmp (record { time = a.time; cell = a.cell })
+compared_alike : (a b : Moment) → border_fault_cmp (record { time = a.time; cell = a.cell })
     (record { time = b.time; cell = b.cell }) ≡ moment_cmp a b
-unfolding border_cmp moment_cmp
+unfolding border_fault_cmp moment_cmp
 compared_alike a b = refl
 
 -- if the candidate is at most what one event names, it is at most what the events behind it name
@@ -76,7 +76,7 @@ cornered_all dx dy es events k are le = grind (arith, common_steps, length-map)
 pub far_step : (b : Borders) (other : JobView) (a corner : Box2) (w : Window) (es : List TimedSignal) (i next : ℕ)
     (f : BorderFault) → a ≡ b.job.now.area → corner ≡ other.area → IsWindowAround a corner w →
     es ≡ map (moved_event (shift_to_origin other.area.x) (shift_to_origin other.area.y)) other.edges.events →
-    AreEventsFarBetween w es i next → IsFaultOfSearchedJob b f → IsAtSomeEventBelow next other.edges.events f →
+    HasNoWindowEventBetween w es i next → IsFaultOfSearchedJob b f → IsAtSomeEventBelow next other.edges.events f →
     IsAtSomeEventBelow i other.edges.events f
 far_step b other a corner w es i next f same_area same_corner is are far g h =
     elim (below_or_from h.named.place i) [
@@ -91,11 +91,11 @@ far_step b other a corner w es i next f same_area same_corner is are far g h =
           let back : moved_cell (pos corner.x) (pos corner.y) (moved_event dx dy h.named.event).at.cell ≡ f.cell =
           cell_back dx dy (pos corner.x) (pos corner.y) h.named.event.at.cell (omega (arith, ints, ex))
           (omega (arith, ints, ey)) ∙ h.named.cell in
-          let at : IsInOrAround a f.cell.x f.cell.y =
-          subst (λ (z : Box2). IsInOrAround z f.cell.x f.cell.y) (sym same_area) (fault_around b f g) in
+          let at : IsInOrAroundBox a f.cell.x f.cell.y =
+          subst (λ (z : Box2). IsInOrAroundBox z f.cell.x f.cell.y) (sym same_area) (fault_around b f g) in
           let odd : h.named.event.at.time % 2 ≡ 1 = ap (λ (t : ℕ). t % 2) h.named.time ∙ g.odd in
           absurd (far h.named.place _ from h.below there odd (seen a corner w _ is
-          (subst (λ (c : Cell). IsInOrAround a c.x c.y) (sym back) at)))
+          (subst (λ (c : Cell). IsInOrAroundBox a c.x c.y) (sym back) at)))
     ]
 
 -- ---- modules
@@ -113,12 +113,12 @@ edges_named b k other f e h = grind (arith, common_steps, other_is)
 lower_or_eq : (i m : ℕ) → i ≤ m → (i < m) ⊎ (i ≡ m)
 lower_or_eq i m h = grind arith
 
-time_less : (m n : BorderFault) → m.time < n.time → border_cmp m n ≡ Less
-unfolding border_cmp
+time_less : (m n : BorderFault) → m.time < n.time → border_fault_cmp m n ≡ Less
+unfolding border_fault_cmp
 time_less m n h = rw (less_nat m.time n.time h)
 
 pub first_is_least : (time : ℕ) (cell : Cell) (f : BorderFault) → time ≤ f.time → f.cell ≡ cell →
-    border_cmp (record { time = time; cell = cell }) f ≢ Greater
+    border_fault_cmp (record { time = time; cell = cell }) f ≢ Greater
 first_is_least time cell f le same g =
     grind (arith, common_steps, lower_or_eq, time_less, tied_itself, border_total, same_fault)
 
@@ -158,7 +158,7 @@ unfolding signal_at
 same_without s t t' x y e e' = ap (λ z. unwrap_or (all_times_at s.all_times x y) (unwrap_or z Zero)) (e ∙ sym e')
 
 pub fault_covered : (b : Borders) (f : BorderFault) → AreReadyBorders b → IsFaultOfSearchedJob b f →
-    IsAtSomeEvent b.job.now.halos.events f ⊎ (IsAtOwnersEdgeEvent b f ⊎ CellDiffersWithoutEvent b f)
+    IsAtSomeEvent b.job.now.halos.events f ⊎ (IsAtOwnersEdgeEvent b f ⊎ DiffersAtTimesWithoutEvent b f)
 fault_covered b f ready g =
     let x = f.cell.x in
     let y = f.cell.y in

@@ -52,18 +52,18 @@ pub record HasNoEventAtStart (j : JobView) : Type 0 where
   pub edges : (x y : ℤ) → event_at j.edges.events 0 x y ≡ None
 
 -- the event is one of the list
-abbrev pub IsListed : List TimedSignal → TimedSignal → Type 0
-IsListed es e = (k : ℕ) × (slice_get es k ≡ Some e)
+abbrev pub IsEventListed : List TimedSignal → TimedSignal → Type 0
+IsEventListed es e = (k : ℕ) × (slice_get es k ≡ Some e)
 
 -- The owner of each cell of the rectangle is the number of the one job whose box has the cell. The cells of a job's
 -- edge events are in the rectangle, and the job owns them.
-pub record AreJobOwners (w : Box2) (o : OwnersView) (jobs : List JobView) : Type 0 where
+pub record IsOwnerTableOfJobs (w : Box2) (o : OwnersView) (jobs : List JobView) : Type 0 where
   pub same : w ≡ rectangle o
   pub holder : (x y : ℤ) → IsTrue (in_box w x y) →
       (j : JobView) × (slice_get jobs (owner_of o x y) ≡ Some j) × IsTrue (in_box j.area x y)
   pub only : (x y : ℤ) (k : ℕ) (j : JobView) → IsTrue (in_box w x y) → slice_get jobs k ≡ Some j →
       IsTrue (in_box j.area x y) → owner_of o x y ≡ k
-  pub edges : (k : ℕ) (j : JobView) (e : TimedSignal) → slice_get jobs k ≡ Some j → IsListed j.edges.events e →
+  pub edges : (k : ℕ) (j : JobView) (e : TimedSignal) → slice_get jobs k ≡ Some j → IsEventListed j.edges.events e →
       IsTrue (in_box w e.at.cell.x e.at.cell.y) × (owner_of o e.at.cell.x e.at.cell.y ≡ k)
   pub quiet : (k : ℕ) (j : JobView) → slice_get jobs k ≡ Some j → HasNoEventAtStart j
 
@@ -75,7 +75,7 @@ jobs_of b = map arc_value b.jobs.now
 
 -- the owner of each cell is a job whose box has it, and no job has an event at time 0
 abbrev pub AreReadyBorders : Borders → Type 0
-AreReadyBorders b = AreJobOwners b.whole b.owners.now (jobs_of b) × HasNoEventAtStart b.job.now
+AreReadyBorders b = IsOwnerTableOfJobs b.whole b.owners.now (jobs_of b) × HasNoEventAtStart b.job.now
 
 -- a border fault of the job that is searched
 abbrev pub IsFaultOfSearchedJob : Borders → BorderFault → Type 0
@@ -93,7 +93,7 @@ abbrev pub SignalsDifferAt : Borders → ℕ → ℤ → ℤ → Type 0
 SignalsDifferAt b t x y = DiffersFromOwner b.owners.now (jobs_of b) b.job.now t x y
 
 -- the cell (x, y) is in the columns and rows of the box or next to them, as the cells of its halo are
-pub record IsInOrAround (a : Box2) (x y : ℤ) : Type 0 where
+pub record IsInOrAroundBox (a : Box2) (x y : ℤ) : Type 0 where
   pub left : pos a.x ≤ℤ (x +ℤ pos 1)
   pub right : x ≤ℤ pos (a.x + a.w)
   pub top : pos a.y ≤ℤ (y +ℤ pos 1)
@@ -133,16 +133,16 @@ abbrev pub IsAtEdgeEventOf : ℕ → Borders → BorderFault → Type 0
 IsAtEdgeEventOf k b f = IsAtOwnersEdgeEvent b f × (owner_of b.owners.now f.cell.x f.cell.y ≡ k)
 
 -- at time 0, which has no event, the signals of f's cell differ, and so at all times without one
-abbrev pub CellDiffersWithoutEvent : Borders → BorderFault → Type 0
-CellDiffersWithoutEvent b f = SignalsDifferAt b 0 f.cell.x f.cell.y
+abbrev pub DiffersAtTimesWithoutEvent : Borders → BorderFault → Type 0
+DiffersAtTimesWithoutEvent b f = SignalsDifferAt b 0 f.cell.x f.cell.y
 
 -- the signals of f's cell differ without an event, and c is that cell
-abbrev pub DiffersWithoutEventAt : Borders → Cell → BorderFault → Type 0
-DiffersWithoutEventAt b c f = CellDiffersWithoutEvent b f × (f.cell ≡ c)
+abbrev pub DiffersAtCellWithoutEvent : Borders → Cell → BorderFault → Type 0
+DiffersAtCellWithoutEvent b c f = DiffersAtTimesWithoutEvent b f × (f.cell ≡ c)
 
 -- the signals of f's cell differ without an event, and a line of the list says something of the cell at all times
 pub record DiffersAtStar (b : Borders) (stars : List AllTimesSignal) (f : BorderFault) : Type 0 where
-  pub differs : CellDiffersWithoutEvent b f
+  pub differs : DiffersAtTimesWithoutEvent b f
   pub place : ℕ
   pub star : AllTimesSignal
   pub got : slice_get stars place ≡ Some star
@@ -174,13 +174,13 @@ pub record IsEventPlaceOf (events : List TimedSignal) (at : Moment) (place : ℕ
   pub same : event.at ≡ at
 
 -- each mark is an old one, or one of an event at this time and cell
-pub record AddsOnlyMarksAt (events : List TimedSignal) (at : Moment) (old new : List Bool) : Type 0 where
+pub record AddsOnlyMarksOfEventsAt (events : List TimedSignal) (at : Moment) (old new : List Bool) : Type 0 where
   pub sized : length new ≡ length old
   pub marks : (p : ℕ) (e : TimedSignal) → slice_get new p ≡ Some true → slice_get events p ≡ Some e →
       (slice_get old p ≡ Some true) ⊎ (e.at ≡ at)
 
 -- there is a place for a mark for each halo event, and what a marked one names is named by an edge too
-pub record AreHaloMarks (b : Borders) (seen : List Bool) : Type 0 where
+pub record AreHaloEventMarks (b : Borders) (seen : List Bool) : Type 0 where
   pub sized : length seen ≡ length b.job.now.halos.events
   pub edges : (p : ℕ) (e : TimedSignal) (f : BorderFault) → slice_get seen p ≡ Some true →
       slice_get b.job.now.halos.events p ≡ Some e → IsAtEvent e f → IsAtOwnersEdgeEvent b f
@@ -203,8 +203,8 @@ abbrev pub AreModuleNumbers : Borders → List ℕ → Type 0
 AreModuleNumbers b ks = All (λ k. k < length b.jobs.now) ks
 
 -- each old number is a new one
-abbrev pub KeepsAllNumbers : List ℕ → List ℕ → Type 0
-KeepsAllNumbers old new = (k : ℕ) → IsTrue (is_among old k) → IsTrue (is_among new k)
+abbrev pub KeepsAllModuleNumbers : List ℕ → List ℕ → Type 0
+KeepsAllModuleNumbers old new = (k : ℕ) → IsTrue (is_among old k) → IsTrue (is_among new k)
 
 -- if the cell (x, y) is in the rectangle and in the halo, the number of the module that has it is one of these
 abbrev pub IsOwnerListedIfInHalo : Borders → List ℕ → ℤ → ℤ → Type 0

@@ -39,14 +39,14 @@ pub record IsBorderFault (g : Setting) (ms : List ModuleLines) (i : ℕ) (f : Bo
       ≢ edge_signal g.circuit owner f.time f.cell.x f.cell.y
 
 -- the order of border faults: by time, y and x
-unfoldable pub border_cmp : BorderFault → BorderFault → Ordering
-border_cmp a b = ordering_then (nat_cmp a.time b.time) (cell_cmp a.cell b.cell)
+unfoldable pub border_fault_cmp : BorderFault → BorderFault → Ordering
+border_fault_cmp a b = ordering_then (nat_cmp a.time b.time) (cell_cmp a.cell b.cell)
 
 -- the least border fault of module i, or `None` if it has none
 abbrev pub IsLeastBorderFault : Setting → List ModuleLines → ℕ → Option BorderFault → Type 0
 IsLeastBorderFault g ms i None = (f : BorderFault) → ¬ IsBorderFault g ms i f
 IsLeastBorderFault g ms i (Some f) =
-    IsBorderFault g ms i f × ((h : BorderFault) → IsBorderFault g ms i h → border_cmp f h ≢ Greater)
+    IsBorderFault g ms i f × ((h : BorderFault) → IsBorderFault g ms i h → border_fault_cmp f h ≢ Greater)
 
 -- the least border fault of each of the modules, or `None`
 pub record AreBorderFaultsOf (g : Setting) (ms : List ModuleLines) (fs : List (Option BorderFault)) : Type 0 where

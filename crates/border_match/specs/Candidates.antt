@@ -1,7 +1,7 @@
 -- Candidates for the least of some border faults
 use Rattle.std.specs.Prelude.{◌≢◌, Option, Some, None}
 use Rattle.std.specs.declared.cmp.Ordering.TheVariants.{Greater}
-use Rattle.border_match.specs.BorderFaults.{border_cmp}
+use Rattle.border_match.specs.BorderFaults.{border_fault_cmp}
 use Rattle.border_match.specs.declared.fault.BorderFault.{BorderFault}
 
 -- the candidate, if there is one, is one of F
@@ -12,10 +12,10 @@ CandidateSatisfies F (Some f) = F f
 -- there is a candidate, and it is at most h
 abbrev pub HasCandidateAtMost : Option BorderFault → BorderFault → Type 0
 HasCandidateAtMost None h = ⊥
-HasCandidateAtMost (Some f) h = border_cmp f h ≢ Greater
+HasCandidateAtMost (Some f) h = border_fault_cmp f h ≢ Greater
 
 -- the least of F, or `None` if F is empty
-pub record IsLeast (F : BorderFault → Type 0) (o : Option BorderFault) : Type 0 where
+pub record IsLeastCandidate (F : BorderFault → Type 0) (o : Option BorderFault) : Type 0 where
   pub sound : CandidateSatisfies F o
   pub least : (h : BorderFault) → F h → HasCandidateAtMost o h
 

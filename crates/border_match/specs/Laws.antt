@@ -6,7 +6,7 @@ use Rattle.certificate_lines.specs.Entries.{Setting, ModuleLines, areas}
 use Rattle.certificate_lines.specs.Modules.{AreModules}
 use Rattle.certificate_lines.specs.Rules.{whole}
 use Rattle.module_job.specs.Signals.{is_live}
-use Rattle.certificate_lines.specs.Versions.{with_halos}
+use Rattle.certificate_lines.specs.Versions.{with_halo_lines}
 use Rattle.border_match.specs.BorderFaults.{halo_signal, edge_signal, IsBorderFault, IsLeastBorderFault}
 use Rattle.border_match.specs.declared.fault.BorderFault.{BorderFault}
 
@@ -27,8 +27,9 @@ pub record IsHaloMomentOwnedBy (g : Setting) (ms : List ModuleLines) (i k : ℕ)
   pub owned : IsTrue (in_box owner.area x y)
 
 -- if module i has no border fault, its halo signal and the owner's edge signal are true under the same valuations
-abbrev pub NoFaultMeansSameSignals : Type 0
-NoFaultMeansSameSignals = (g : Setting) (ms : List ModuleLines) (i k : ℕ) (m owner : ModuleLines) (t : ℕ) (x y : ℤ)
+abbrev pub NoBorderFaultMeansSameSignals : Type 0
+NoBorderFaultMeansSameSignals =
+    (g : Setting) (ms : List ModuleLines) (i k : ℕ) (m owner : ModuleLines) (t : ℕ) (x y : ℤ)
     (v : Valuation) →
     IsLeastBorderFault g ms i None → IsHaloMomentOwnedBy g ms i k m owner t x y →
     is_live v (halo_signal g.circuit m t x y) ≡ is_live v (edge_signal g.circuit owner t x y)
@@ -36,4 +37,4 @@ NoFaultMeansSameSignals = (g : Setting) (ms : List ModuleLines) (i k : ℕ) (m o
 -- a module of version 2 has no border fault
 abbrev pub HalolessBordersMatch : Type 0
 HalolessBordersMatch = (g : Setting) (ms : List ModuleLines) → AreModules g ms → (i : ℕ) (f : BorderFault) →
-    ¬ IsBorderFault g (map (with_halos g ms) ms) i f
+    ¬ IsBorderFault g (map (with_halo_lines g ms) ms) i f

@@ -9,12 +9,12 @@ use Rattle.module_box.specs.declared.schedules.TimedSignal.{TimedSignal}
 use Rattle.module_box.specs.declared.schedules.Moment.{Moment}
 use Rattle.module_job.specs.Jobs.{JobView}
 use Rattle.module_job.specs.Shapes.{shape_of}
-use Rattle.border_match.specs.Boards.{IsInOrAround}
+use Rattle.border_match.specs.Boards.{IsInOrAroundBox}
 use Rattle.border_match.specs.declared.window.Window.{Window}
 
 -- the cell, which is counted from the corner of the second box, is around the first box
 abbrev pub IsInOrAroundFromCorner : Box2 → Box2 → Cell → Type 0
-IsInOrAroundFromCorner area corner c = IsInOrAround area (c.x +ℤ pos corner.x) (c.y +ℤ pos corner.y)
+IsInOrAroundFromCorner area corner c = IsInOrAroundBox area (c.x +ℤ pos corner.x) (c.y +ℤ pos corner.y)
 
 -- the window's columns and rows are those around the first box, counted from the corner of the second
 pub record IsWindowAround (area corner : Box2) (w : Window) : Type 0 where
@@ -31,12 +31,12 @@ pub record IsInWindow (w : Window) (c : Cell) : Type 0 where
   pub bottom : c.y ≤ℤ w.last.y
 
 -- the cells of the events are in the window's columns and rows
-abbrev pub IsExtent : List TimedSignal → Window → Type 0
-IsExtent events w = (k : ℕ) (e : TimedSignal) → slice_get events k ≡ Some e → IsInWindow w e.at.cell
+abbrev pub IsExtentOfEvents : List TimedSignal → Window → Type 0
+IsExtentOfEvents events w = (k : ℕ) (e : TimedSignal) → slice_get events k ≡ Some e → IsInWindow w e.at.cell
 
 -- the cells of the events of a job's ring, counted from the corner of its box, are in the window's columns and rows
 abbrev pub IsEdgeEventExtent : JobView → Window → Type 0
-IsEdgeEventExtent j = IsExtent (shape_of j).edges.events
+IsEdgeEventExtent j = IsExtentOfEvents (shape_of j).edges.events
 
 -- for each job a window that has the cells of the events of its ring
 pub record AreEdgeEventExtents (jobs : List JobView) (extents : List Window) : Type 0 where
@@ -45,17 +45,17 @@ pub record AreEdgeEventExtents (jobs : List JobView) (extents : List Window) : T
       IsEdgeEventExtent j w
 
 -- no moment after the first and before the second is at an odd time and at a cell of the window
-abbrev pub AreMomentsFarBetween : Window → Moment → Moment → Type 0
-AreMomentsFarBetween w at next =
+abbrev pub HasNoWindowMomentBetween : Window → Moment → Moment → Type 0
+HasNoWindowMomentBetween w at next =
     (m : Moment) → moment_cmp at m ≡ Less → moment_cmp m next ≡ Less → m.time % 2 ≡ 1 → ¬ IsInWindow w m.cell
 
 -- the event at the place is at no cell of the window
-abbrev pub IsEventFarAt : Window → List TimedSignal → ℕ → Type 0
-IsEventFarAt w events place = (e : TimedSignal) → slice_get events place ≡ Some e → ¬ IsInWindow w e.at.cell
+abbrev pub IsEventOutsideWindow : Window → List TimedSignal → ℕ → Type 0
+IsEventOutsideWindow w events place = (e : TimedSignal) → slice_get events place ≡ Some e → ¬ IsInWindow w e.at.cell
 
 -- no event of the list from the first place on and before the second is at an odd time and at a cell of the window
-abbrev pub AreEventsFarBetween : Window → List TimedSignal → ℕ → ℕ → Type 0
-AreEventsFarBetween w events place next =
+abbrev pub HasNoWindowEventBetween : Window → List TimedSignal → ℕ → ℕ → Type 0
+HasNoWindowEventBetween w events place next =
     (i : ℕ) (e : TimedSignal) → place ≤ i → i < next → slice_get events i ≡ Some e →
     e.at.time % 2 ≡ 1 → ¬ IsInWindow w e.at.cell
 

@@ -2,10 +2,10 @@
 
 ghost use Rattle.std.specs.Prelude.{◌+◌, ◌≡◌, ◌<◌, ◌↔◌, ◌&&◌, false, length, slice_get, slice_set, true, IsTrue, Some, IfSome, IfOk};
 ghost use Rattle.bbm_rule.specs.Boxes.{in_box, in_halo};
-ghost use Rattle.module_box.specs.Moves.{IsInShiftRange};
+ghost use Rattle.module_box.specs.Moves.{IsCellInShiftRange};
 ghost use Rattle.module_box.specs.Tiling.{owner_of};
-ghost use Rattle.border_match.specs.Boards.{AddsOnlyMarksAt, AreHaloMarks, AreModuleNumbers, AreHaloOwnersListed, SignalsDifferAt, IsFaultOfSearchedJob, IsAtOwnersEdgeEvent, IsAtEdgeEventOf, IsAtEvent, IsListed, IsAtSomeEvent, IsEventPlaceOf, IsAtUnmarkedEvent, AreReadyBorders, IsAtComparedMoment, job_signal, jobs_of};
-ghost use Rattle.border_match.specs.Candidates.{IsNextCandidate, IsLeast};
+ghost use Rattle.border_match.specs.Boards.{AddsOnlyMarksOfEventsAt, AreHaloEventMarks, AreModuleNumbers, AreHaloOwnersListed, SignalsDifferAt, IsFaultOfSearchedJob, IsAtOwnersEdgeEvent, IsAtEdgeEventOf, IsAtEvent, IsEventListed, IsAtSomeEvent, IsEventPlaceOf, IsAtUnmarkedEvent, AreReadyBorders, IsAtComparedMoment, job_signal, jobs_of};
+ghost use Rattle.border_match.specs.Candidates.{IsNextCandidate, IsLeastCandidate};
 ghost use Rattle.border_match.specs.Surroundings.{AreEdgeEventExtents, IsEdgeEventExtent};
 ghost use Rattle.border_match.specs.declared.fault.BorderFault.{BorderFault};
 ghost use Rattle.border_match.specs.declared.signals.RingOrHalo.TheVariants.{Halo};
@@ -89,7 +89,7 @@ impl<'a> Borders<'a> {
     fn halo_event_differs(&self, event: TimedSignal) -> bool
         requires borders_ready { AreReadyBorders self.now }
         requires cell_inside { IsTrue (in_box self.now.whole event.at.cell.x event.at.cell.y) }
-        requires event_listed { IsListed self.now.job.now.halos.events event }
+        requires event_listed { IsEventListed self.now.job.now.halos.events event }
         ensures { IsTrue result
             ↔ SignalsDifferAt self.now event.at.time event.at.cell.x event.at.cell.y }
     {
@@ -106,7 +106,7 @@ impl<'a> Borders<'a> {
         requires cell_inside { IsTrue (in_box self.now.whole event.at.cell.x event.at.cell.y) }
         requires owner { slice_get (jobs_of self.now)
             (owner_of self.now.owners.now event.at.cell.x event.at.cell.y) ≡ Some owner.now }
-        requires event_listed { IsListed owner.now.edges.events event }
+        requires event_listed { IsEventListed owner.now.edges.events event }
         requires own_is_halo_signal { own
             ≡ job_signal Halo self.now.job.now event.at.time event.at.cell.x event.at.cell.y }
         ensures { IsTrue result
@@ -144,7 +144,7 @@ impl<'a> Borders<'a> {
         event: TimedSignal,
     ) -> Option<BorderFault>
         requires borders_ready { AreReadyBorders self.now }
-        requires event_listed { IsListed self.now.job.now.halos.events event }
+        requires event_listed { IsEventListed self.now.job.now.halos.events event }
         ensures { IsNextCandidate (IsFaultOfSearchedJob self.now) (IsAtEvent event) best result }
     {
         let fault = possible_fault_at(event);
@@ -161,7 +161,7 @@ impl<'a> Borders<'a> {
     // meets none.
     #[inline(always)]
     fn halo_event_place(&self, at: Moment, walk: &mut EventWalk) -> Option<usize>
-        requires { IsInShiftRange at.cell }
+        requires { IsCellInShiftRange at.cell }
         ensures { IfSome result (IsEventPlaceOf self.now.job.now.halos.events at) }
     {
         let area = self.job.area();
@@ -182,10 +182,10 @@ impl<'a> Borders<'a> {
         seen: &mut [bool],
         walk: &mut EventWalk,
     ) -> Signal
-        requires cell_in_shift_range { IsInShiftRange at.cell }
+        requires cell_in_shift_range { IsCellInShiftRange at.cell }
         requires one_mark_per_event { length seen.old ≡ length self.now.job.now.halos.events }
         ensures signal { result ≡ job_signal Halo self.now.job.now at.time at.cell.x at.cell.y }
-        ensures marks { AddsOnlyMarksAt self.now.job.now.halos.events at seen.old seen.new }
+        ensures marks { AddsOnlyMarksOfEventsAt self.now.job.now.halos.events at seen.old seen.new }
     {
         match self.halo_event_place(at, walk) {
             Some(place) => {
@@ -213,11 +213,11 @@ impl<'a> Borders<'a> {
         requires cell_inside { IsTrue (in_box self.now.whole event.at.cell.x event.at.cell.y) }
         requires owner { slice_get (jobs_of self.now)
             (owner_of self.now.owners.now event.at.cell.x event.at.cell.y) ≡ Some owner.now }
-        requires event_listed { IsListed owner.now.edges.events event }
-        requires marked { AreHaloMarks self.now seen.old }
+        requires event_listed { IsEventListed owner.now.edges.events event }
+        requires marked { AreHaloEventMarks self.now seen.old }
         ensures better { IsNextCandidate (IsFaultOfSearchedJob self.now) (IsAtEvent event) best
             result }
-        ensures marked { AreHaloMarks self.now seen.new }
+        ensures marked { AreHaloEventMarks self.now seen.new }
     {
         owner.prove_valid();
         let own = self.read_and_mark_halo_event(event.at, seen, walk);
@@ -264,10 +264,10 @@ impl<'a> Borders<'a> {
         requires borders_ready { AreReadyBorders self.now }
         requires extent { IsEdgeEventExtent other.now extent.now }
         requires numbered { slice_get (jobs_of self.now) number ≡ Some other.now }
-        requires marked { AreHaloMarks self.now seen.old }
+        requires marked { AreHaloEventMarks self.now seen.old }
         ensures better { IsNextCandidate (IsFaultOfSearchedJob self.now)
             (IsAtSomeEvent other.now.edges.events) best result }
-        ensures marked { AreHaloMarks self.now seen.new }
+        ensures marked { AreHaloEventMarks self.now seen.new }
     {
         let window = Window::around(self.job.area(), other.area());
         let shape: &Shape = other.shape();
@@ -300,10 +300,10 @@ impl<'a> Borders<'a> {
         requires borders_ready { AreReadyBorders self.now }
         requires extents { AreEdgeEventExtents (jobs_of self.now) extents.now }
         requires number { number < length self.now.jobs.now }
-        requires marked { AreHaloMarks self.now seen.old }
+        requires marked { AreHaloEventMarks self.now seen.old }
         ensures better { IsNextCandidate (IsFaultOfSearchedJob self.now)
             (IsAtEdgeEventOf number self.now) best result }
-        ensures marked { AreHaloMarks self.now seen.new }
+        ensures marked { AreHaloEventMarks self.now seen.new }
     {
         self.least_with_edge_events(best, number, &self.jobs[number], &extents[number], seen)
     }
@@ -322,10 +322,10 @@ impl<'a> Borders<'a> {
         requires extents { AreEdgeEventExtents (jobs_of self.now) extents.now }
         requires owners_listed { AreHaloOwnersListed self.now near.now }
         requires numbers_exist { AreModuleNumbers self.now near.now }
-        requires marked { AreHaloMarks self.now seen.old }
+        requires marked { AreHaloEventMarks self.now seen.old }
         ensures better { IsNextCandidate (IsFaultOfSearchedJob self.now)
             (IsAtOwnersEdgeEvent self.now) best result }
-        ensures marked { AreHaloMarks self.now seen.new }
+        ensures marked { AreHaloEventMarks self.now seen.new }
     {
         let mut least = best;
         for number in near {
@@ -342,7 +342,7 @@ impl<'a> Borders<'a> {
     ) -> Result<Option<BorderFault>, AllocError>
         requires borders_ready { AreReadyBorders self.now }
         requires extents { AreEdgeEventExtents (jobs_of self.now) extents.now }
-        ensures { IfOk result (IsLeast (IsFaultOfSearchedJob self.now)) }
+        ensures { IfOk result (IsLeastCandidate (IsFaultOfSearchedJob self.now)) }
     {
         let near = self.near_modules(alloc)?;
         let mut seen = vec![in alloc; false; self.job.halo_event_count()]?;

@@ -4,7 +4,7 @@
 //! look at any of them.
 ghost use Rattle.std.specs.Prelude.{map, IfOk};
 ghost use Rattle.std.specs.Arc.{arc_value};
-ghost use Rattle.border_match.specs.Surroundings.{AreEdgeEventExtents, IsExtent, IsEdgeEventExtent};
+ghost use Rattle.border_match.specs.Surroundings.{AreEdgeEventExtents, IsExtentOfEvents, IsEdgeEventExtent};
 
 use crate::window::Window;
 use certificate::Job;
@@ -14,8 +14,8 @@ use std::alloc::{AllocError, Global};
 use std::sync::Arc;
 
 // Returns columns and rows that hold the cells of all these events.
-fn extent_of(events: &[TimedSignal]) -> Window
-    ensures { IsExtent events.now result }
+fn extent_of_events(events: &[TimedSignal]) -> Window
+    ensures { IsExtentOfEvents events.now result }
 {
     let mut extent = Window::EMPTY;
     for event in events {
@@ -29,7 +29,7 @@ fn edge_event_extent(job: &Job) -> Window
     ensures { IsEdgeEventExtent job.now result }
 {
     let shape: &Shape = job.shape();
-    extent_of(shape.edges().events())
+    extent_of_events(shape.edges().events())
 }
 
 /// Returns, for each job, columns and rows that hold the cells of the events of its ring, counted from the corner of

@@ -1,6 +1,6 @@
 //! Border faults, and their order.
 ghost use Rattle.std.specs.Prelude.{◌≡◌, ◌⊎◌, false, Some};
-ghost use Rattle.border_match.specs.BorderFaults.{border_cmp};
+ghost use Rattle.border_match.specs.BorderFaults.{border_fault_cmp};
 ghost use Rattle.border_match.specs.Candidates.{HasCandidateAtMost};
 ghost use Rattle.border_match.specs.declared.fault.BorderFault.{BorderFault};
 
@@ -21,9 +21,9 @@ pub struct BorderFault {
 
 impl BorderFault {
     /// Compares border faults by time, y and x.
-    #[tactic(auto, unfolding(crate::specs::BorderFaults::border_cmp))]
+    #[tactic(auto, unfolding(crate::specs::BorderFaults::border_fault_cmp))]
     pub fn compare(self, other: BorderFault) -> Ordering
-        ensures { result ≡ border_cmp self other }
+        ensures { result ≡ border_fault_cmp self other }
     {
         self.time
             .cmp(&other.time)

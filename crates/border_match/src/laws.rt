@@ -1,5 +1,5 @@
 //! Laws of border faults, each the contract of a function without a body.
-ghost use Rattle.border_match.specs.Laws.{HalolessBordersMatch, LeastBorderFaultIsUnique, NoFaultMeansSameSignals};
+ghost use Rattle.border_match.specs.Laws.{HalolessBordersMatch, LeastBorderFaultIsUnique, NoBorderFaultMeansSameSignals};
 
 /// States that a module has one least border fault, or none.
 #[tactic(auto, using(crate::proofs::Unique::least_unique))]
@@ -12,8 +12,8 @@ pub fn least_border_fault_is_unique()
 /// Its halo signal and the edge signal of the module that has the cell are then true under the same valuations, at each
 /// odd time below the steps.
 #[tactic(auto, using(crate::proofs::SameSignals::same_signals))]
-pub fn no_fault_means_same_signals()
-    ensures { NoFaultMeansSameSignals }
+pub fn no_border_fault_means_same_signals()
+    ensures { NoBorderFaultMeansSameSignals }
 {}
 
 /// States that no module has a border fault in version 2.

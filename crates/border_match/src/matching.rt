@@ -16,7 +16,10 @@ use std::alloc::{AllocError, Global};
 use std::sync::Arc;
 
 // No fault for each of `count` modules.
-fn no_fault_for_each(alloc: Global, count: usize) -> Result<Vec<Option<BorderFault>>, AllocError>
+fn no_border_fault_for_each(
+    alloc: Global,
+    count: usize,
+) -> Result<Vec<Option<BorderFault>>, AllocError>
     ensures { IfOk result (λ faults. faults.items ≡ replicate count None) }
 {
     vec![in alloc; None; count]
@@ -41,7 +44,7 @@ pub fn match_borders(
 {
     let count = cert.modules();
     if cert.is_haloless() {
-        return no_fault_for_each(alloc, count);
+        return no_border_fault_for_each(alloc, count);
     }
     let size = cert.size();
     let whole = Box2 {

@@ -1,7 +1,7 @@
 //! The modules that have cells of a module's halo.
 ghost use Rattle.std.specs.Prelude.{◌+◌, ◌≤◌, ◌≡◌, ◌<◌, IsTrue, IfOk, OnOk};
 ghost use Rattle.bbm_rule.specs.Boxes.{in_box};
-ghost use Rattle.border_match.specs.Boards.{AreModuleNumbers, AreHaloOwnersListed, AreReadyBorders, AreOwnersListedInRows, AreOutsideOwnersListed, KeepsAllNumbers, with_number_once};
+ghost use Rattle.border_match.specs.Boards.{AreModuleNumbers, AreHaloOwnersListed, AreReadyBorders, AreOwnersListedInRows, AreOutsideOwnersListed, KeepsAllModuleNumbers, with_number_once};
 ghost use Rattle.lemmas.specs.Bounds.{max_side};
 
 use crate::borders::Borders;
@@ -31,7 +31,7 @@ impl<'a> Borders<'a> {
         ensures holds { IfOk result (λ area. IsTrue (in_box area cell.x cell.y)) }
         ensures fits_max_side { IfOk result (λ area. (area.x + area.w ≤ max_side)
             × (area.y + area.h ≤ max_side)) }
-        ensures numbers_kept { OnOk result (KeepsAllNumbers near.old.items near.new.items) }
+        ensures numbers_kept { OnOk result (KeepsAllModuleNumbers near.old.items near.new.items) }
         ensures numbers_exist { OnOk result (AreModuleNumbers self.now near.new.items) }
     {
         let area = self.job.area();
@@ -52,7 +52,7 @@ impl<'a> Borders<'a> {
         requires row { y < self.now.job.now.area.y + self.now.job.now.area.h + 1 }
         ensures owners_listed { IfOk result (AreOwnersListedInRows self.now near.new.items y) }
         ensures next_row_later { IfOk result (λ next. y < next) }
-        ensures numbers_kept { OnOk result (KeepsAllNumbers near.old.items near.new.items) }
+        ensures numbers_kept { OnOk result (KeepsAllModuleNumbers near.old.items near.new.items) }
         ensures numbers_exist { OnOk result (AreModuleNumbers self.now near.new.items) }
     {
         let area = self.job.area();

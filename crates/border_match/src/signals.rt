@@ -2,10 +2,10 @@
 ghost use Rattle.std.specs.Prelude.{◌≡◌, [], false};
 ghost use Rattle.circuit.specs.Meaning.{wires};
 ghost use Rattle.module_box.specs.Locals.{circuit_wire};
-ghost use Rattle.module_box.specs.Moves.{IsInShiftRange, moved_signals};
+ghost use Rattle.module_box.specs.Moves.{IsCellInShiftRange, moved_signals};
 ghost use Rattle.module_job.specs.Shapes.{shift_to_origin};
 ghost use Rattle.module_job.specs.Signals.{IsSignalWireBelow, renumber_signal};
-ghost use Rattle.border_match.specs.Boards.{IsListed, job_signal, job_signals};
+ghost use Rattle.border_match.specs.Boards.{IsEventListed, job_signal, job_signals};
 
 use bbm_rule::Cell;
 use certificate::Job;
@@ -50,7 +50,7 @@ pub(crate) fn schedule(job: &Job, border: RingOrHalo) -> &Schedule
 #[inline(always)]
 #[tactic(auto, using(module_job::proofs::OwnSignals::edge_below, module_job::proofs::OwnSignals::halo_below))]
 pub(crate) fn signal_at(job: &Job, border: RingOrHalo, time: u32, cell: Cell) -> Signal
-    requires { IsInShiftRange cell }
+    requires { IsCellInShiftRange cell }
     ensures { result ≡ job_signal border job.now time cell.x cell.y }
 {
     // A job names no wires but its own.
@@ -63,7 +63,7 @@ pub(crate) fn signal_at(job: &Job, border: RingOrHalo, time: u32, cell: Cell) ->
 
 // Returns whether a line with a star, which speaks of all times, is for one of these cells.
 #[inline(always)]
-fn has_starred_line(job: &Job, border: RingOrHalo) -> bool
+fn has_any_starred_line(job: &Job, border: RingOrHalo) -> bool
     ensures { result ≡ false → (job_signals border job.now).all_times ≡ [] }
 {
     !schedule(job, border).all_times().is_empty()
@@ -73,11 +73,11 @@ fn has_starred_line(job: &Job, border: RingOrHalo) -> bool
 /// itself says it: no two events are of one cell and time, since they rise.
 #[inline(always)]
 pub(crate) fn signal_at_event(job: &Job, border: RingOrHalo, event: TimedSignal) -> Signal
-    requires cell_in_shift_range { IsInShiftRange event.at.cell }
-    requires event_listed { IsListed (job_signals border job.now).events event }
+    requires cell_in_shift_range { IsCellInShiftRange event.at.cell }
+    requires event_listed { IsEventListed (job_signals border job.now).events event }
     ensures { result ≡ job_signal border job.now event.at.time event.at.cell.x event.at.cell.y }
 {
-    if has_starred_line(job, border) {
+    if has_any_starred_line(job, border) {
         return signal_at(job, border, event.at.time, event.at.cell);
     }
     job.prove_valid();

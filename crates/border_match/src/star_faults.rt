@@ -2,7 +2,7 @@
 
 ghost use Rattle.std.specs.Prelude.{pos, ◌≤◌, ◌≡◌, ◌<◌, map, Some};
 ghost use Rattle.module_box.specs.Moves.{moved_all_times};
-ghost use Rattle.border_match.specs.Boards.{AreModuleNumbers, AreHaloOwnersListed, IsFaultOfSearchedJob, CellDiffersWithoutEvent, DiffersWithoutEventAt, AreReadyBorders, DiffersAtStar, job_signals};
+ghost use Rattle.border_match.specs.Boards.{AreModuleNumbers, AreHaloOwnersListed, IsFaultOfSearchedJob, DiffersAtTimesWithoutEvent, DiffersAtCellWithoutEvent, AreReadyBorders, DiffersAtStar, job_signals};
 ghost use Rattle.border_match.specs.Candidates.{IsNextCandidate};
 ghost use Rattle.border_match.specs.declared.fault.BorderFault.{BorderFault};
 ghost use Rattle.border_match.specs.declared.signals.RingOrHalo.TheVariants.{Halo};
@@ -41,7 +41,7 @@ impl<'a> Borders<'a> {
     fn least_with_star_fault_at(&self, best: Option<BorderFault>, cell: Cell) -> Option<BorderFault>
         requires { AreReadyBorders self.now }
         ensures { IsNextCandidate (IsFaultOfSearchedJob self.now)
-            (DiffersWithoutEventAt self.now cell) best result }
+            (DiffersAtCellWithoutEvent self.now cell) best result }
     {
         if !self.is_halo_cell_inside_layout(cell) || !self.differs_from_owner(0, cell) {
             return best;
@@ -103,8 +103,8 @@ impl<'a> Borders<'a> {
         requires borders_ready { AreReadyBorders self.now }
         requires owners_listed { AreHaloOwnersListed self.now near.now }
         requires numbers_exist { AreModuleNumbers self.now near.now }
-        ensures { IsNextCandidate (IsFaultOfSearchedJob self.now) (CellDiffersWithoutEvent self.now)
-            best result }
+        ensures { IsNextCandidate (IsFaultOfSearchedJob self.now)
+            (DiffersAtTimesWithoutEvent self.now) best result }
     {
         let mut least = self.least_with_stars_of_module(best, self.job, RingOrHalo::Halo);
         for number in near {

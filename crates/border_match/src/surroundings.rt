@@ -6,7 +6,7 @@ ghost use Rattle.module_box.specs.Moments.{moment_cmp};
 ghost use Rattle.module_box.specs.Moves.{moved_cell};
 ghost use Rattle.module_box.specs.Schedules.{IsRising, moment_of};
 ghost use Rattle.border_match.specs.Boards.{IsEventPlaceOf};
-ghost use Rattle.border_match.specs.Surroundings.{AreEventsFarBetween, IsInOrAroundFromCorner, IsEventFarAt, IsExtent, IsFirstEventNotBefore};
+ghost use Rattle.border_match.specs.Surroundings.{HasNoWindowEventBetween, IsInOrAroundFromCorner, IsEventOutsideWindow, IsExtentOfEvents, IsFirstEventNotBefore};
 ghost use Rattle.lemmas.specs.Bounds.{max_side};
 
 use crate::window::Window;
@@ -103,7 +103,7 @@ fn is_in_or_next_to(from: u32, n: u32, corner: u32, z: i32) -> bool
 
 // Returns whether a cell, counted from the corner of another box, is in the columns and rows of the area or next to
 // them.
-fn is_in_or_around(area: Box2, corner: Box2, cell: Cell) -> bool
+fn is_in_or_around_box(area: Box2, corner: Box2, cell: Cell) -> bool
     ensures true_if_around { IsInOrAroundFromCorner area corner cell → IsTrue result }
     ensures bounds { IsTrue result → IsInOrAroundFromCorner area corner cell }
 {
@@ -122,7 +122,7 @@ pub(crate) fn plane_cell_if_near(area: Box2, corner: Box2, cell: Cell) -> Option
         ≡ moved_cell (pos corner.x) (pos corner.y) cell) }
     ensures far_if_none { IfNone result (¬ IsInOrAroundFromCorner area corner cell) }
 {
-    if !is_in_or_around(area, corner, cell) {
+    if !is_in_or_around_box(area, corner, cell) {
         return None;
     }
     Some(Cell {
@@ -173,9 +173,9 @@ pub(crate) fn find_first_event_not_before(
 fn leap(window: &Window, events: &[TimedSignal], place: usize, leaps: &mut LeapPlan) -> usize
     requires place_within_events { place < length events.now }
     requires rising_moments { IsRising moment_cmp moment_of events.now }
-    requires event_far { IsEventFarAt window.now events.now place }
+    requires event_far { IsEventOutsideWindow window.now events.now place }
     ensures place_moves_on { place < result }
-    ensures passed_events_far { AreEventsFarBetween window.now events.now place result }
+    ensures passed_events_far { HasNoWindowEventBetween window.now events.now place result }
 {
     let target = window.next_moment_near(events[place].at);
     let next = find_first_event_not_before(
@@ -199,7 +199,7 @@ pub(crate) fn next_near_event_place(
 ) -> usize
     requires rising_moments { IsRising moment_cmp moment_of events.now }
     ensures place_moves_on { from ≤ result }
-    ensures passed_events_far { AreEventsFarBetween window.now events.now from result }
+    ensures passed_events_far { HasNoWindowEventBetween window.now events.now from result }
 {
     let mut place = from;
     while place < events.len() {
@@ -225,8 +225,8 @@ pub(crate) fn first_near_event_place(
     leaps: &mut LeapPlan,
 ) -> usize
     requires rising_moments { IsRising moment_cmp moment_of events.now }
-    requires extent { IsExtent events.now extent.now }
-    ensures { AreEventsFarBetween window.now events.now 0 result }
+    requires extent { IsExtentOfEvents events.now extent.now }
+    ensures { HasNoWindowEventBetween window.now events.now 0 result }
 {
     if extent.misses(*window) {
         return events.len();

@@ -1,6 +1,6 @@
 //! Windows: columns and rows of cells.
 ghost use Rattle.std.specs.Prelude.{◌≡◌, ◌+◌, ◌≤◌, ◌≤ℤ◌, IsTrue};
-ghost use Rattle.border_match.specs.Surroundings.{AreMomentsFarBetween, IsInWindow, IsWindowAround};
+ghost use Rattle.border_match.specs.Surroundings.{HasNoWindowMomentBetween, IsInWindow, IsWindowAround};
 ghost use Rattle.lemmas.specs.Bounds.{max_side};
 
 use bbm_rule::Cell;
@@ -112,7 +112,7 @@ impl Window {
     pub(crate) fn next_moment_near(self, at: Moment) -> Moment
         requires cell_far { ¬ IsInWindow self at.cell }
         ensures column { result.cell.x ≡ self.first.x }
-        ensures passed_moments_far { AreMomentsFarBetween self at result }
+        ensures passed_moments_far { HasNoWindowMomentBetween self at result }
     {
         let Moment { time, cell } = at;
         let later = Moment {

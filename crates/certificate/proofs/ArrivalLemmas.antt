@@ -2,18 +2,19 @@
 use Rattle.certificate.proofs.Imports.{All, All-append, All-cons, All-head, All-nil, All-tail, Circuit, Contains, Gate}
 use Rattle.certificate.proofs.Imports.{List, None, Option, Some, StopLine, TimeLine, [], all_stops, and_parts, ap}
 use Rattle.certificate.proofs.Imports.{arith, common_steps, delay_line, earlier, eqb-true, fold, if◌then◌else◌}
-use Rattle.certificate.proofs.Imports.{last_times, later, length, list_all, max, meet_line, min, time_lines_by_number}
+use Rattle.certificate.proofs.Imports.{last_times, later, length, lines_of_numbered_gates, list_all, max, meet_line}
+use Rattle.certificate.proofs.Imports.{min}
 use Rattle.certificate.proofs.Imports.{nat_le, nat_tests, option_to_list, refl, same_Some, slice_get}
 use Rattle.certificate.proofs.Imports.{stop_times_of_wire, subst, suc, sym, true, zero, ℕ, ◌+◌, ◌-◌, ◌<◌, ◌==◌, ◌∙◌}
 use Rattle.certificate.proofs.Imports.{◌∷◌, ◌≡◌, ◌≤◌, ◌++◌}
 use Rattle.lemmas.proofs.Common.{All-contains, Contains-append_left, Contains-append_right, list_all-append, eq_test}
 use Rattle.circuit.specs.declared.circuit_line.GateKind.{GateKind}
 use Rattle.circuit.specs.declared.circuit_line.GateKind.TheVariants.{Delay}
-use Rattle.certificate.specs.Arrivals.{IsFirstStopTime, IsLastStopTime, LastStopsMeetAt, TakesStepsBetweenStops}
+use Rattle.certificate.specs.Arrivals.{IsFirstStopTime, IsLastStopTime, LastStopsMeetAt, TakesStepsFromLastToFirstStop}
 use Rattle.certificate.specs.Arrivals.{IsTimeLineTrue}
 use Rattle.certificate.specs.Arrivals.{IsDelayGapTrue, IsMeetingTimeTrue}
 use Rattle.certificate.specs.Laws.{ObeyedLinesAreOnTime, TimeLinesAreTrue}
-use Rattle.certificate.specs.Times.{common_time, delay_line_of_kind, first_seen_time, gap_between, is_obeyed}
+use Rattle.certificate.specs.Times.{common_time, delay_line_of_kind, first_seen_time, gap_between, is_timing_obeyed}
 use Rattle.certificate.specs.Times.{last_seen_time}
 use Rattle.certificate.specs.Times.{meet_line_of_times, first_wire_time}
 use Rattle.certificate.specs.declared.times.StopGap.{StopGap}
@@ -72,7 +73,7 @@ gap_missing last first l f h1 h2 h3 = grind (arith, common_steps)
 
 takes : (c : Circuit) (ss : List StopLine) (m a b : ℕ) →
     gap_between (last_seen_time c ss a) (first_seen_time c ss b) ≡ Steps m →
-    TakesStepsBetweenStops c ss m a b
+    TakesStepsFromLastToFirstStop c ss m a b
 takes c ss m a b e = grind (arith, common_steps, is_last, is_first)
 
 gap_tells : (c : Circuit) (ss : List StopLine) (a b : ℕ) (gap : StopGap) →
@@ -163,11 +164,11 @@ meet_lines_tell c ss k g at = grind (arith, common_steps, nat_tests, meet_tells)
 all_numbered : (P : TimeLine → Type 0) (f : ℕ → Gate → List TimeLine) (all : List Gate) →
     ((k : ℕ) (g : Gate) → slice_get all k ≡ Some g → All P (f k g)) →
     (j : ℕ) (gates : List Gate) → ((i : ℕ) → slice_get gates i ≡ slice_get all (j + i)) →
-    All P (time_lines_by_number f j gates)
-unfolding time_lines_by_number
+    All P (lines_of_numbered_gates f j gates)
+unfolding lines_of_numbered_gates
 all_numbered P f all each j [] at = All-nil P
 all_numbered P f all each j (g ∷ gates) at =
-    All-append P (f j g) (time_lines_by_number f (j + 1) gates)
+    All-append P (f j g) (lines_of_numbered_gates f (j + 1) gates)
     (each j g (ap (slice_get all) (omega arith) ∙ sym (at 0)))
     (all_numbered P f all each (j + 1) gates (λ i. at (suc i) ∙ ap (slice_get all) (omega arith)))
 
@@ -186,25 +187,26 @@ lines_tell c ms =
 
 -- ---- where all are kept
 
-obeyed_parts : (xs ys : List TimeLine) → list_all is_obeyed (xs ++ ys) ≡ true →
-    (list_all is_obeyed xs ≡ true) × (list_all is_obeyed ys ≡ true)
-obeyed_parts xs ys e = and_parts _ _ (sym (list_all-append is_obeyed xs ys) ∙ e)
+obeyed_parts : (xs ys : List TimeLine) → list_all is_timing_obeyed (xs ++ ys) ≡ true →
+    (list_all is_timing_obeyed xs ≡ true) × (list_all is_timing_obeyed ys ≡ true)
+obeyed_parts xs ys e = and_parts _ _ (sym (list_all-append is_timing_obeyed xs ys) ∙ e)
 
 kept_at : (f : ℕ → Gate → List TimeLine) (j : ℕ) (gates : List Gate) (i : ℕ) (g : Gate) →
-    list_all is_obeyed (time_lines_by_number f j gates) ≡ true → slice_get gates i ≡ Some g →
-    list_all is_obeyed (f (j + i) g) ≡ true
-unfolding time_lines_by_number
+    list_all is_timing_obeyed (lines_of_numbered_gates f j gates) ≡ true → slice_get gates i ≡ Some g →
+    list_all is_timing_obeyed (f (j + i) g) ≡ true
+unfolding lines_of_numbered_gates
 kept_at f j [] i g e at = absurd cc
 kept_at f j (h ∷ gates) zero g e at =
     grind (arith, common_steps, obeyed_parts, same_Some)
 kept_at f j (h ∷ gates) (suc i) g e at =
-    let p = obeyed_parts (f j h) (time_lines_by_number f (j + 1) gates) e in
-    subst (λ n. list_all is_obeyed (f n g) ≡ true) (omega arith) (kept_at f (j + 1) gates i g p.1 at)
+    let p = obeyed_parts (f j h) (lines_of_numbered_gates f (j + 1) gates) e in
+    subst (λ n. list_all is_timing_obeyed (f n g) ≡ true) (omega arith) (kept_at f (j + 1) gates i g p.1 at)
 
-kept_gap : (k n : ℕ) (gap : StopGap) → list_all is_obeyed (line.Delay k n gap ∷ []) ≡ true → gap ≡ Steps n
+kept_gap : (k n : ℕ) (gap : StopGap) → list_all is_timing_obeyed (line.Delay k n gap ∷ []) ≡ true → gap ≡ Steps n
 kept_gap k n gap h1 = grind (arith, common_steps, eqb-true, and_parts)
 
-meeting_of : (k : ℕ) (ts : List ℕ) → list_all is_obeyed (meet_line_of_times k ts) ≡ true → (t : ℕ) × All (λ u. u ≡ t) ts
+meeting_of : (k : ℕ) (ts : List ℕ) → list_all is_timing_obeyed (meet_line_of_times k ts) ≡ true →
+    (t : ℕ) × All (λ u. u ≡ t) ts
 meeting_of k [] e = (0, All-nil (λ u. u ≡ 0))
 meeting_of k (a ∷ []) e = (a, All-cons (λ u. u ≡ a) a [] refl (All-nil (λ u. u ≡ a)))
 meeting_of k (a ∷ b ∷ ts) e =
@@ -214,7 +216,7 @@ meeting_of k (a ∷ b ∷ ts) e =
     two : nat_le 2 (length (a ∷ b ∷ ts)) ≡ true
     two = grind (arith, nat_tests)
 
-    by_case : (o : Option ℕ) → common_time (a ∷ b ∷ ts) ≡ o → list_all is_obeyed (line.Meet k o ∷ []) ≡ true →
+    by_case : (o : Option ℕ) → common_time (a ∷ b ∷ ts) ≡ o → list_all is_timing_obeyed (line.Meet k o ∷ []) ≡ true →
         (t : ℕ) × All (λ u. u ≡ t) (a ∷ b ∷ ts)
     by_case (Some t) is kept = (t, agreed_all (a ∷ b ∷ ts) t is)
     by_case None is kept = absurd cc
@@ -222,8 +224,8 @@ meeting_of k (a ∷ b ∷ ts) e =
 pub kept_is_on_time : ObeyedLinesAreOnTime
 kept_is_on_time c ms kept =
     let ss = all_stops ms in
-    let delays = time_lines_by_number (delay_line (first_seen_time c ss) (last_seen_time c ss)) 0 c.netlist.gates in
-    let meetings = time_lines_by_number (meet_line (last_seen_time c ss)) 0 c.netlist.gates in
+    let delays = lines_of_numbered_gates (delay_line (first_seen_time c ss) (last_seen_time c ss)) 0 c.netlist.gates in
+    let meetings = lines_of_numbered_gates (meet_line (last_seen_time c ss)) 0 c.netlist.gates in
     let p = obeyed_parts delays meetings kept in
     record {
       delays = λ k n a b is. takes c ss n a b

@@ -1,8 +1,10 @@
 -- The edge and halo lines of a module rise, those with a `*` by their cells, the others by time and cell.
-use Rattle.certificate.proofs.Imports.{AllTimesSignal, AreInOrder, Bool, BorderLine, CertificateLine, Each, Less, List}
+use Rattle.certificate.proofs.Imports.{AllTimesSignal, AreLinesInOrder, Bool, BorderLine, CertificateLine, Each, Less}
+use Rattle.certificate.proofs.Imports.{List}
 use Rattle.certificate.proofs.Imports.{Option, Ordering, Pairs, Signal, TimedSignal, [], and_parts, signal_if_starred}
 use Rattle.certificate.proofs.Imports.{arith, cell_cmp, cell_of, common_steps, edge_in, event_if_timed, false, halo_in}
-use Rattle.certificate.proofs.Imports.{is_cut, line_cmp, list_all, may_precede, moment_cmp, ordering_then, pairs_flat}
+use Rattle.certificate.proofs.Imports.{is_cut_line, line_cmp, list_all, may_precede, moment_cmp, ordering_then}
+use Rattle.certificate.proofs.Imports.{pairs_flat}
 use Rattle.certificate.proofs.Imports.{rank_of, sort_number_of, time_rank, true, ℕ, ◌||◌, ◌∷◌, ◌≡◌}
 use Rattle.std.specs.List.{flat_map}
 use Rattle.std.specs.Ordering.{nat_cmp, is_lt}
@@ -17,8 +19,9 @@ each_of_test test [] h = tt
 each_of_test test (x ∷ xs) h =
     grind (arith, common_steps, and_parts, each_of_test test xs)
 
-pub pairs_of_order : (lines : List CertificateLine) → AreInOrder lines → Pairs (λ i j. may_precede i j ≡ true) lines
-unfolding AreInOrder Pairs
+pub pairs_of_order : (lines : List CertificateLine) → AreLinesInOrder lines →
+    Pairs (λ i j. may_precede i j ≡ true) lines
+unfolding AreLinesInOrder Pairs
 pairs_of_order [] h = tt
 pairs_of_order (i ∷ lines) h = (each_of_test (may_precede i) lines h.0, pairs_of_order lines h.1)
 
@@ -26,11 +29,11 @@ pub is_less : (o : Ordering) (b : Bool) → b ≡ false → (is_lt o || b) ≡ t
 is_less o b h1 h2 = grind (arith, common_steps)
 
 edges_between : (i j : CertificateLine) → may_precede i j ≡ true → Each (λ d. Each (Before d) (edge_in j)) (edge_in i)
-unfolding Each may_precede line_cmp rank_of sort_number_of cell_of is_cut
+unfolding Each may_precede line_cmp rank_of sort_number_of cell_of is_cut_line
 edges_between i j h1 = grind (arith, common_steps, is_less)
 
 halos_between : (i j : CertificateLine) → may_precede i j ≡ true → Each (λ d. Each (Before d) (halo_in j)) (halo_in i)
-unfolding Each may_precede line_cmp rank_of sort_number_of cell_of is_cut
+unfolding Each may_precede line_cmp rank_of sort_number_of cell_of is_cut_line
 halos_between i j h1 = grind (arith, common_steps, is_less)
 
 edge_alone : (i : CertificateLine) → Pairs Before (edge_in i)
@@ -41,10 +44,10 @@ halo_alone : (i : CertificateLine) → Pairs Before (halo_in i)
 unfolding Each Pairs
 halo_alone i = grind (arith, common_steps)
 
-pub edges_rise : (lines : List CertificateLine) → AreInOrder lines → Pairs Before (flat_map edge_in lines)
+pub edges_rise : (lines : List CertificateLine) → AreLinesInOrder lines → Pairs Before (flat_map edge_in lines)
 edges_rise lines o = grind (arith, common_steps, pairs_flat, edges_between, edge_alone, pairs_of_order)
 
-pub halos_rise : (lines : List CertificateLine) → AreInOrder lines → Pairs Before (flat_map halo_in lines)
+pub halos_rise : (lines : List CertificateLine) → AreLinesInOrder lines → Pairs Before (flat_map halo_in lines)
 halos_rise lines o = grind (arith, common_steps, pairs_flat, halos_between, halo_alone, pairs_of_order)
 
 -- ---- what the lines say

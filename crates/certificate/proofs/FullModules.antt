@@ -1,18 +1,23 @@
 -- The modules of version 2 as modules of version 1
-use Rattle.certificate.proofs.Imports.{All, AreDistinct, AreInOrder, AreModules, Bool, BorderLine, Box2, Cell}
-use Rattle.certificate.proofs.Imports.{CertificateLine, Each, Equal, Halo, HasLocalPorts, IfSome, In, IsModule, IsTrue}
+use Rattle.certificate.proofs.Imports.{All, AreDistinct, AreLinesInOrder, AreModules, Bool, BorderLine, Box2, Cell}
+use Rattle.certificate.proofs.Imports.{CertificateLine, Each, Equal, Halo, HasLocalPortWires, IfSome, In, IsModule}
+use Rattle.certificate.proofs.Imports.{IsTrue}
 use Rattle.certificate.proofs.Imports.{Less, List, ModuleLines, Option, Ordering, Pairs, Rises, Setting, Some}
 use Rattle.certificate.proofs.Imports.{StarsExcludeLaterTimes, Stop, StopLine, Tile, [], all_in, any_at, ap, ap₂, areas}
 use Rattle.certificate.proofs.Imports.{arith, border_line_cmp, cases_Bool, cell_of, common_steps, cond-false, cond-true}
 use Rattle.certificate.proofs.Imports.{cut_wires, cuts, each_in, edge_in, edge_lines_beside, edges, false, filter}
 use Rattle.certificate.proofs.Imports.{filter_in, flat_map, gates, halo_in, halos, in_box, in_each, in_filter, in_flat}
-use Rattle.certificate.proofs.Imports.{in_halo, in_ordered, inl, inr, is_halo, is_haloless_version, is_local, is_lt}
-use Rattle.certificate.proofs.Imports.{is_nonlocal_signal, keeps, known, lacks_edge_wire_beside, length, append-nil}
+use Rattle.certificate.proofs.Imports.{in_halo, in_ordered, inl, inr, is_halo_line, is_haloless_version, is_local}
+use Rattle.certificate.proofs.Imports.{is_lt}
+use Rattle.certificate.proofs.Imports.{is_nonlocal_signal, keeps, known, has_nonlocal_edge_wire_beside, length}
+use Rattle.certificate.proofs.Imports.{append-nil}
 use Rattle.certificate.proofs.Imports.{length-map, line_cmp, list_all, list_any, local_wires, map, mapped_at}
 use Rattle.certificate.proofs.Imports.{mapped_from, may_precede, modules_by_version, nat_lt, option_to_list}
-use Rattle.certificate.proofs.Imports.{ordered_rises, pairs_filter, placed, precedes_halos, rank_of, refl, slice_get}
+use Rattle.certificate.proofs.Imports.{ordered_rises, pairs_filter, placed, precedes_halo_lines, rank_of, refl}
+use Rattle.certificate.proofs.Imports.{slice_get}
 use Rattle.certificate.proofs.Imports.{some_is, sort_number_of, sorted_border_lines, stop_in, stops, subst, suc, sym}
-use Rattle.certificate.proofs.Imports.{true, true≢false, whole, wire_of, with_halos, without_halos, zero, ℕ, ℤ, ◌&&◌}
+use Rattle.certificate.proofs.Imports.{true, true≢false, whole, wire_of, with_halo_lines, without_halo_lines, zero, ℕ}
+use Rattle.certificate.proofs.Imports.{ℤ, ◌&&◌}
 use Rattle.certificate.proofs.Imports.{◌++◌, ◌<◌, ◌||◌, ◌∙◌, ◌∷◌, ◌≡◌, ◌≢◌, ◌≤◌, get_or, slice_get-get_or}
 use Rattle.std.proofs.lemmas.Simd.{map-map}
 use Rattle.bbm_rule.proofs.CellOrder.{cell_exact}
@@ -52,14 +57,14 @@ pairs_by_place R (x ∷ xs) h = (
 -- what lines other than halo lines say is said without these
 pub without_same : {X : Type 0} (f : CertificateLine → List X) → ((e : BorderLine) → f (Halo e) ≡ []) →
     (lines : List CertificateLine) →
-    flat_map f (without_halos lines) ≡ flat_map f lines
-unfolding without_halos is_halo
+    flat_map f (without_halo_lines lines) ≡ flat_map f lines
+unfolding without_halo_lines is_halo_line
 without_same f none [] = refl
 without_same f none (Halo e ∷ lines) = without_same f none lines ∙ ap (λ xs. xs ++ flat_map f lines) (sym (none e))
 without_same f none (i ∷ lines) = ap (λ xs. f i ++ xs) (without_same f none lines)
 
-pub no_halo_left : (lines : List CertificateLine) → flat_map halo_in (without_halos lines) ≡ []
-unfolding without_halos is_halo
+pub no_halo_left : (lines : List CertificateLine) → flat_map halo_in (without_halo_lines lines) ≡ []
+unfolding without_halo_lines is_halo_line
 no_halo_left [] = refl
 no_halo_left (Halo e ∷ lines) = no_halo_left lines
 no_halo_left (i ∷ lines) = no_halo_left lines
@@ -71,22 +76,22 @@ pub record IsOfEarly {X : Type 0} (f : CertificateLine → List X) : Type 0 wher
 
 -- finds all that it finds in the early lines
 early_same : {X : Type 0} (f : CertificateLine → List X) → IsOfEarly f → (lines : List CertificateLine) →
-    flat_map f (filter precedes_halos lines) ≡ flat_map f lines
-unfolding precedes_halos
+    flat_map f (filter precedes_halo_lines lines) ≡ flat_map f lines
+unfolding precedes_halo_lines
 early_same f none [] = refl
 early_same f none (Halo e ∷ lines) = early_same f none lines ∙ ap (λ xs. xs ++ flat_map f lines) (sym (none.halo e))
 early_same f none (Stop s ∷ lines) = early_same f none lines ∙ ap (λ xs. xs ++ flat_map f lines) (sym (none.stop s))
 early_same f none (i ∷ lines) = ap (λ xs. f i ++ xs) (early_same f none lines)
 
 -- the early lines have neither halo lines nor stops
-early_halos : (lines : List CertificateLine) → flat_map halo_in (filter precedes_halos lines) ≡ []
-unfolding precedes_halos
+early_halos : (lines : List CertificateLine) → flat_map halo_in (filter precedes_halo_lines lines) ≡ []
+unfolding precedes_halo_lines
 early_halos [] = refl
 early_halos (Halo e ∷ lines) = early_halos lines
 early_halos (i ∷ lines) = early_halos lines
 
-early_stops : (lines : List CertificateLine) → flat_map stop_in (filter precedes_halos lines) ≡ []
-unfolding precedes_halos
+early_stops : (lines : List CertificateLine) → flat_map stop_in (filter precedes_halo_lines lines) ≡ []
+unfolding precedes_halo_lines
 early_stops [] = refl
 early_stops (Stop s ∷ lines) = early_stops lines
 early_stops (i ∷ lines) = early_stops lines
@@ -103,7 +108,7 @@ one_each f to one (x ∷ xs) = ap (λ l. l ++ flat_map f (map to xs)) (one x) �
 
 -- the lines of a module with these halo lines
 abbrev pub lines_with_halos : List CertificateLine → List BorderLine → List CertificateLine
-lines_with_halos lines hs = filter precedes_halos lines ++ map Halo hs ++ map Stop (flat_map stop_in lines)
+lines_with_halos lines hs = filter precedes_halo_lines lines ++ map Halo hs ++ map Stop (flat_map stop_in lines)
 
 pub other_lines : {X : Type 0} (f : CertificateLine → List X) → IsOfEarly f →
     (lines : List CertificateLine) (hs : List BorderLine) →
@@ -126,8 +131,8 @@ unfolding Each
 all_of_tests test [] e = refl
 all_of_tests test (j ∷ lines) e = rw (e.0, all_of_tests test lines e.1) refl
 
-order_of_pairs : (lines : List CertificateLine) → Pairs (λ i j. may_precede i j ≡ true) lines → AreInOrder lines
-unfolding AreInOrder Pairs
+order_of_pairs : (lines : List CertificateLine) → Pairs (λ i j. may_precede i j ≡ true) lines → AreLinesInOrder lines
+unfolding AreLinesInOrder Pairs
 order_of_pairs [] p = tt
 order_of_pairs (i ∷ lines) p = (all_of_tests (may_precede i) lines p.0, order_of_pairs lines p.1)
 
@@ -138,12 +143,12 @@ halos_follow : (d e : BorderLine) → border_line_cmp d e ≡ Less → may_prece
 unfolding may_precede line_cmp rank_of sort_number_of cell_of border_line_cmp
 halos_follow d e h = less_is _ _ h
 
-before_halo : (i : CertificateLine) (e : BorderLine) → precedes_halos i ≡ true → may_precede i (Halo e) ≡ true
-unfolding may_precede line_cmp rank_of precedes_halos
+before_halo : (i : CertificateLine) (e : BorderLine) → precedes_halo_lines i ≡ true → may_precede i (Halo e) ≡ true
+unfolding may_precede line_cmp rank_of precedes_halo_lines
 before_halo i e h1 = grind (arith, common_steps)
 
-before_stop : (i : CertificateLine) (s : StopLine) → precedes_halos i ≡ true → may_precede i (Stop s) ≡ true
-unfolding may_precede line_cmp rank_of precedes_halos
+before_stop : (i : CertificateLine) (s : StopLine) → precedes_halo_lines i ≡ true → may_precede i (Stop s) ≡ true
+unfolding may_precede line_cmp rank_of precedes_halo_lines
 before_stop i s h1 = grind (arith, common_steps)
 
 halo_before_stop : (e : BorderLine) (s : StopLine) → may_precede (Halo e) (Stop s) ≡ true
@@ -173,14 +178,14 @@ stops_among [] = refl
 stops_among (Stop s ∷ lines) = ap (λ l. Stop s ∷ l) (stops_among lines)
 stops_among (i ∷ lines) = stops_among lines
 
-pub full_order : (lines : List CertificateLine) (hs : List BorderLine) → AreInOrder lines → Rises hs →
-    AreInOrder (lines_with_halos lines hs)
+pub full_order : (lines : List CertificateLine) (hs : List BorderLine) → AreLinesInOrder lines → Rises hs →
+    AreLinesInOrder (lines_with_halos lines hs)
 full_order lines hs o p =
     let may = λ (i j : CertificateLine). may_precede i j ≡ true in
-    let early = filter precedes_halos lines in
+    let early = filter precedes_halo_lines lines in
     let ss = flat_map stop_in lines in
     let pairs = pairs_of_order lines o in
-    let is_early_one = λ (i : CertificateLine) (at : In i early). (in_filter precedes_halos i lines at).1 in
+    let is_early_one = λ (i : CertificateLine) (at : In i early). (in_filter precedes_halo_lines i lines at).1 in
     order_of_pairs (lines_with_halos lines hs)
     (pairs_append may (early ++ map Halo hs) (map Stop ss)
     (grind (arith, common_steps, pairs_append, pairs_filter, halo_pairs, in_each, each_mapped, before_halo))
@@ -198,12 +203,12 @@ unfolding border_line_cmp
 same_place d e h = grind (arith, common_steps, cell_exact)
 
 -- the edge lines of a module, as its lines are in order
-pub edges_rising : (lines : List CertificateLine) → AreInOrder lines → Rises (flat_map edge_in lines)
+pub edges_rising : (lines : List CertificateLine) → AreLinesInOrder lines → Rises (flat_map edge_in lines)
 unfolding border_line_cmp
 edges_rising lines o = grind (arith, common_steps, pairs_each, edges_rise)
 
-pub full_areas : (g : Setting) (ms ns : List ModuleLines) → areas (map (with_halos g ms) ns) ≡ areas ns
-unfolding with_halos
+pub full_areas : (g : Setting) (ms ns : List ModuleLines) → areas (map (with_halo_lines g ms) ns) ≡ areas ns
+unfolding with_halo_lines
 full_areas g ms ns = simp map-map
 
 module _ (g : Setting) (ms : List ModuleLines) (good : AreModules g ms) where
@@ -264,34 +269,34 @@ module _ (g : Setting) (ms : List ModuleLines) (good : AreModules g ms) where
 
   module _ (m : ModuleLines) where
     abbrev full : ModuleLines
-    full = with_halos g ms m
+    full = with_halo_lines g ms m
 
     pub full_area : full.area ≡ m.area
-    unfolding with_halos
+    unfolding with_halo_lines
     full_area = refl
 
     pub full_cuts : cuts full ≡ cuts m
-    unfolding with_halos
+    unfolding with_halo_lines
     full_cuts = grind (arith, common_steps, other_lines)
 
     pub full_gates : gates full ≡ gates m
-    unfolding with_halos
+    unfolding with_halo_lines
     full_gates = grind (arith, common_steps, other_lines)
 
     pub full_edges : edges full ≡ edges m
-    unfolding with_halos
+    unfolding with_halo_lines
     full_edges = grind (arith, common_steps, other_lines)
 
     pub full_halos : halos full ≡ sorted_border_lines (edge_lines_beside g ms m.area)
-    unfolding with_halos
+    unfolding with_halo_lines
     full_halos = halo_lines m.lines (sorted_border_lines (edge_lines_beside g ms m.area))
 
     pub full_keeps : keeps full ≡ keeps m
-    unfolding with_halos
+    unfolding with_halo_lines
     full_keeps = grind (arith, common_steps, other_lines)
 
     pub full_stops : stops full ≡ stops m
-    unfolding with_halos
+    unfolding with_halo_lines
     full_stops = stop_lines m.lines (sorted_border_lines (edge_lines_beside g ms m.area))
 
     pub full_wires : cut_wires g.circuit full ≡ cut_wires g.circuit m
@@ -322,7 +327,7 @@ module _ (g : Setting) (ms : List ModuleLines) (good : AreModules g ms) where
 
     pub full_good : In m ms → ((e : BorderLine) → In e (edge_lines_beside g ms m.area) →
         is_nonlocal_signal g.circuit (known g.circuit m) e.signal ≡ false) → IsModule g full
-    unfolding with_halos
+    unfolding with_halo_lines
     full_good at known_there =
         let is = module_of m at in
         record {
@@ -344,8 +349,8 @@ module _ (g : Setting) (ms : List ModuleLines) (good : AreModules g ms) where
               (subst (All (IsAllowedStop g m.area (known g.circuit m))) (sym full_stops) is.stop_lines);
         }
 
-    pub full_ports : HasLocalPorts g m → HasLocalPorts g full
-    unfolding with_halos
+    pub full_ports : HasLocalPortWires g m → HasLocalPortWires g full
+    unfolding with_halo_lines
     full_ports h = grind (arith, common_steps, full_known)
 
   -- ---- all modules
@@ -354,22 +359,22 @@ module _ (g : Setting) (ms : List ModuleLines) (good : AreModules g ms) where
       test x ≡ false
   none_passes test xs none x i = grind (arith, common_steps, cases_Bool, placed, true≢false, any_at)
 
-  none_strange : lacks_edge_wire_beside g ms ≡ false → (m : ModuleLines) → In m ms → (e : BorderLine) →
+  none_strange : has_nonlocal_edge_wire_beside g ms ≡ false → (m : ModuleLines) → In m ms → (e : BorderLine) →
       In e (edge_lines_beside g ms m.area) →
       is_nonlocal_signal g.circuit (known g.circuit m) e.signal ≡ false
-  unfolding lacks_edge_wire_beside
+  unfolding has_nonlocal_edge_wire_beside
   none_strange none m at e i = grind (arith, common_steps, none_passes)
 
-  pub full_modules : lacks_edge_wire_beside g ms ≡ false → AreModules g (map (with_halos g ms) ms)
+  pub full_modules : has_nonlocal_edge_wire_beside g ms ≡ false → AreModules g (map (with_halo_lines g ms) ms)
   full_modules none = record {
-    few = subst (λ n. n ≤ max_modules) (sym (length-map ms (with_halos g ms))) good.few;
+    few = subst (λ n. n ≤ max_modules) (sym (length-map ms (with_halo_lines g ms))) good.few;
     each = λ k m e.
-        let n = mapped_from (with_halos g ms) ms k m e in
+        let n = mapped_from (with_halo_lines g ms) ms k m e in
         let at = stands ms k n.0 n.1 in
         subst (IsModule g) n.2 (full_good n.0 at (none_strange none n.0 at));
     ports = λ k m e.
-        let n = mapped_from (with_halos g ms) ms k m e in
-        subst (HasLocalPorts g) n.2 (full_ports n.0 (good.ports k n.0 n.1));
+        let n = mapped_from (with_halo_lines g ms) ms k m e in
+        subst (HasLocalPortWires g) n.2 (full_ports n.0 (good.ports k n.0 n.1));
     tile = subst (Tile (whole g.size)) (sym (full_areas g ms ms)) good.tile;
   }
 
@@ -385,16 +390,16 @@ unfolding modules_by_version
 meant_old version g ms e = cond-false _ _ _ e
 
 pub meant_new : (version : ℕ) (g : Setting) (ms : List ModuleLines) → is_haloless_version version ≡ true →
-    modules_by_version version g ms ≡ map (with_halos g ms) ms
+    modules_by_version version g ms ≡ map (with_halo_lines g ms) ms
 unfolding modules_by_version
 meant_new version g ms e = cond-true _ _ _ e
 
 pub meant_modules : (version : ℕ) (g : Setting) (ms : List ModuleLines) → AreModules g ms →
-    (is_haloless_version version && lacks_edge_wire_beside g ms) ≡ false →
+    (is_haloless_version version && has_nonlocal_edge_wire_beside g ms) ≡ false →
     AreModules g (modules_by_version version g ms)
 unfolding modules_by_version
 meant_modules version g ms good none = elim (cases_Bool (is_haloless_version version)) [
   | inl new ↦ subst (AreModules g) (sym (cond-true _ _ _ new))
-      (full_modules g ms good (ap (λ b. b && lacks_edge_wire_beside g ms) (sym new) ∙ none))
+      (full_modules g ms good (ap (λ b. b && has_nonlocal_edge_wire_beside g ms) (sym new) ∙ none))
   | inr old ↦ subst (AreModules g) (sym (cond-false _ _ _ old)) good
 ]

@@ -1,5 +1,6 @@
 -- Lists of the places of edge lines, as places are added
-use Rattle.certificate.proofs.Imports.{AddsEdgePlaces, AreBoxListsReady, Bool, Box2, Cell, EdgePlace, IsEvenBox}
+use Rattle.certificate.proofs.Imports.{AddsEdgePlacesInHalo, AreOwnersAndListsReady, Bool, Box2, Cell, EdgePlace}
+use Rattle.certificate.proofs.Imports.{IsEvenBox}
 use Rattle.certificate.proofs.Imports.{IsInnerCell, List}
 use Rattle.certificate.proofs.Imports.{Some, StoredBorder, StoredModule, [], and_from, and_parts, ap, append-nil}
 use Rattle.certificate.proofs.Imports.{append_assoc, arith, cases_Bool, common_steps, cond-false, cond-true}
@@ -11,10 +12,10 @@ use Rattle.certificate.proofs.Imports.{◌<◌, ◌||◌, ◌∙◌, ◌∷◌, 
 use Rattle.lemmas.proofs.Common.{◌-ℤ◌, slice_set, eqb-false, filter-append}
 use Rattle.bbm_rule.specs.Plane.{partner}
 use Rattle.bbm_rule.proofs.Spans.{partner_near}
-use Rattle.module_box.specs.Tiling.{AreOwners, OwnersView, owner_of}
+use Rattle.module_box.specs.Tiling.{IsTilingOwnerTable, OwnersView, owner_of}
 use Rattle.bbm_rule.proofs.RingTests.{ring_read}
 use Rattle.certificate_lines.proofs.OddBlocks.{halo_either}
-use Rattle.certificate.specs.HaloPlaces.{AddsPlaceWhere}
+use Rattle.certificate.specs.HaloPlaces.{AddsPlaceIfBoxPasses}
 
 -- ---- one list of several
 
@@ -48,7 +49,7 @@ module _ {X : Type 0} (f : X → List EdgePlace) where
 
 -- ---- a place more for the box that has a cell
 
-module _ (boxes : List Box2) (o : OwnersView) (good : AreOwners o boxes) (x y : ℤ)
+module _ (boxes : List Box2) (o : OwnersView) (good : IsTilingOwnerTable o boxes) (x y : ℤ)
     (inside : in_box (rectangle o) x y ≡ true) where
   same_box : (i : ℕ) (b a : Box2) → slice_get boxes i ≡ Some b → slice_get boxes (owner_of o x y) ≡ Some a →
       i ≡ owner_of o x y → b ≡ a
@@ -58,12 +59,12 @@ module _ (boxes : List Box2) (o : OwnersView) (good : AreOwners o boxes) (x y : 
     pub one_place : (old new : List (List EdgePlace)) → q a ≡ false → length new ≡ length old →
         list_at_or_empty new (owner_of o x y) ≡ list_at_or_empty old (owner_of o x y) ++ place ∷ [] →
         ((i : ℕ) → (i ≡ owner_of o x y → ⊥) → list_at_or_empty new i ≡ list_at_or_empty old i) →
-        AddsPlaceWhere boxes (λ b. in_box b x y && not (q b)) place old new
+        AddsPlaceIfBoxPasses boxes (λ b. in_box b x y && not (q b)) place old new
     one_place old new free count here others =
         grind (arith, common_steps, cases_Bool, eqb-true, same_box, cond-true, eqb-false, append-nil, cond-false)
 
 pub same_test : (boxes : List Box2) (p q : Box2 → Bool) (place : EdgePlace) (old new : List (List EdgePlace)) →
-    ((b : Box2) → p b ≡ q b) → AddsPlaceWhere boxes p place old new → AddsPlaceWhere boxes q place old new
+    ((b : Box2) → p b ≡ q b) → AddsPlaceIfBoxPasses boxes p place old new → AddsPlaceIfBoxPasses boxes q place old new
 same_test boxes p q place old new same h = grind (arith, common_steps)
 
 -- ---- a place more for each box that has a cell in its halo
@@ -112,9 +113,9 @@ module _ (x y : ℤ) where
 
   pub beside_places : (boxes : List Box2) (place : EdgePlace) (old l m new : List (List EdgePlace)) →
       ((k : ℕ) (b : Box2) → slice_get boxes k ≡ Some b → IsEvenBox b) →
-      AddsPlaceWhere boxes side place old l → AddsPlaceWhere boxes above place l m →
-      AddsPlaceWhere boxes corner place m new →
-      AddsPlaceWhere boxes (λ b. in_halo b x y) place old new
+      AddsPlaceIfBoxPasses boxes side place old l → AddsPlaceIfBoxPasses boxes above place l m →
+      AddsPlaceIfBoxPasses boxes corner place m new →
+      AddsPlaceIfBoxPasses boxes (λ b. in_halo b x y) place old new
   unfolding in_box
   beside_places boxes place old l m new even s a c = record {
     count = c.count ∙ a.count ∙ s.count;
@@ -163,8 +164,8 @@ place_found ms m p at = grind (arith, common_steps, option_to_list, slice_get, a
 module _ (ms : List StoredModule) (boxes : List Box2) where
   pub edge_placed : (place : EdgePlace) (e : StoredBorder) (old new : List (List EdgePlace)) →
       edge_lines_at_place ms place ≡ e ∷ [] →
-      AddsPlaceWhere boxes (λ b. in_halo b (line_cell e).x (line_cell e).y) place old new →
-      AddsEdgePlaces ms boxes (e ∷ []) old new
+      AddsPlaceIfBoxPasses boxes (λ b. in_halo b (line_cell e).x (line_cell e).y) place old new →
+      AddsEdgePlacesInHalo ms boxes (e ∷ []) old new
   edge_placed place e old new at h = record {
     count = h.count;
     each = λ i b box. ap (edge_lines_at ms) (h.each i b box)
@@ -172,8 +173,8 @@ module _ (ms : List StoredModule) (boxes : List Box2) where
   }
 
   pub edges_then : (more next : List StoredBorder) (old l new : List (List EdgePlace)) →
-      AddsEdgePlaces ms boxes more old l →
-      AddsEdgePlaces ms boxes next l new → AddsEdgePlaces ms boxes (more ++ next) old new
+      AddsEdgePlacesInHalo ms boxes more old l →
+      AddsEdgePlacesInHalo ms boxes next l new → AddsEdgePlacesInHalo ms boxes (more ++ next) old new
   edges_then more next old l new h k = record {
     count = k.count ∙ h.count;
     each = λ i b box.
@@ -186,8 +187,8 @@ module _ (ms : List StoredModule) (boxes : List Box2) where
 -- ---- tables and lists
 
 pub still_ready : (boxes : List Box2) (o : OwnersView) (old new : List (List EdgePlace)) →
-    AreBoxListsReady boxes o old →
-    length new ≡ length old → AreBoxListsReady boxes o new
+    AreOwnersAndListsReady boxes o old →
+    length new ≡ length old → AreOwnersAndListsReady boxes o new
 still_ready boxes o old new h same = grind (arith, common_steps)
 
 pub taken_one : {X : Type 0} (xs : List X) (i : ℕ) (x : X) → i < length xs → x ≡ get_or xs i x →

@@ -4,12 +4,13 @@ use Rattle.certificate.proofs.Imports.{ModuleLines, Option, Setting, Signal, Som
 use Rattle.certificate.proofs.Imports.{ap, ap₂, arith, border_line_cmp, cases_Bool, cell_same, signal_if_starred}
 use Rattle.certificate.proofs.Imports.{common_steps, cond-false, cond-true, edge_lines_beside, edges, event_at}
 use Rattle.certificate.proofs.Imports.{event_if_timed, false, filter, filter_in, flat_map, in_box, in_filter, in_flat}
-use Rattle.certificate.proofs.Imports.{in_halo, in_ordered, inl, inr, is_at, line_signals, mapped_at, nat_lt, nat_tests}
+use Rattle.certificate.proofs.Imports.{in_halo, in_ordered, inl, inr, is_cell_at, line_signals, mapped_at, nat_lt}
+use Rattle.certificate.proofs.Imports.{nat_tests}
 use Rattle.certificate.proofs.Imports.{one_or_named_wire, ordered_in, pairs_filter, placed, refl, rising_same}
 use Rattle.certificate.proofs.Imports.{signal_at, slice_get, some_is, sorted_border_lines, subst, sym, true, unwrap_or}
 use Rattle.certificate.proofs.Imports.{ℕ, ℤ, ◌++◌, ◌<◌, ◌∙◌, ◌∷◌, ◌≡◌}
 use Rattle.lemmas.proofs.Common.{◌%◌, and-false}
-use Rattle.certificate.specs.Laws.{HaloIsEdgeBeside}
+use Rattle.certificate.specs.Laws.{HaloCarriesOwnersEdge}
 use Rattle.certificate_lines.proofs.LineOrder.{flat_in}
 use Rattle.certificate.proofs.FullModules.{beside_in, edge_cell, edges_rising, full_halos, full_rises, in_beside}
 use Rattle.certificate.proofs.FullModules.{stands}
@@ -17,16 +18,16 @@ use Rattle.certificate.proofs.FullModules.{stands}
 -- ---- what lines say of a cell is what those for the cell say
 
 unfoldable pub at_cell : ℤ → ℤ → List BorderLine → List BorderLine
-at_cell x y es = filter (λ e. is_at e.cell x y) es
+at_cell x y es = filter (λ e. is_cell_at e.cell x y) es
 
 pub all_times_past : (e : BorderLine) (time : Option ℕ) (s : Signal) (rest : List AllTimesSignal) (x y : ℤ) →
-    is_at e.cell x y ≡ false →
+    is_cell_at e.cell x y ≡ false →
     all_times_at (signal_if_starred e time s ++ rest) x y ≡ all_times_at rest x y
 unfolding all_times_at
 all_times_past e time s rest x y h1 = grind (arith, common_steps, cond-false)
 
 pub event_past : (e : BorderLine) (time : Option ℕ) (s : Signal) (rest : List TimedSignal) (t : ℕ) (x y : ℤ) →
-    is_at e.cell x y ≡ false → event_at (event_if_timed e time s ++ rest) t x y ≡ event_at rest t x y
+    is_cell_at e.cell x y ≡ false → event_at (event_if_timed e time s ++ rest) t x y ≡ event_at rest t x y
 unfolding event_at
 event_past e time s rest t x y h1 = grind (arith, common_steps, cond-false, and-false)
 
@@ -44,13 +45,13 @@ event_on e time s rest other t x y h1 = grind (arith, common_steps)
 
 -- in a list that is read from its front
 module _ {X : Type 0} (line : BorderLine → List X) (look : List X → Option Signal) (x y : ℤ)
-    (past : (e : BorderLine) (rest : List X) → is_at e.cell x y ≡ false → look (line e ++ rest) ≡ look rest)
+    (past : (e : BorderLine) (rest : List X) → is_cell_at e.cell x y ≡ false → look (line e ++ rest) ≡ look rest)
     (on : (e : BorderLine) (rest other : List X) → look rest ≡ look other →
     look (line e ++ rest) ≡ look (line e ++ other)) where
   there : (es : List BorderLine) → look (flat_map line es) ≡ look (flat_map line (at_cell x y es))
   unfolding at_cell
   there [] = refl
-  there (e ∷ es) = elim (cases_Bool (is_at e.cell x y)) [
+  there (e ∷ es) = elim (cases_Bool (is_cell_at e.cell x y)) [
     | inl here ↦ on e _ _ (there es) ∙ ap (λ l. look (flat_map line l)) (sym (cond-true _ _ _ here))
     | inr other ↦ past e _ other ∙ there es ∙ ap (λ l. look (flat_map line l)) (sym (cond-false _ _ _ other))
   ]
@@ -80,11 +81,11 @@ module _ (g : Setting) (ms : List ModuleLines) (good : AreModules g ms) (k : ℕ
   abbrev here : Cell
   here = record { x = x; y = y }
 
-  at_here : (e : BorderLine) → is_at e.cell x y ≡ true → e.cell ≡ here
+  at_here : (e : BorderLine) → is_cell_at e.cell x y ≡ true → e.cell ≡ here
   at_here e h = cell_same e.cell here h
 
   -- a module with an edge line for the cell is the owner
-  owns : (e : BorderLine) (n : ModuleLines) → In n ms → In e (edges n) → is_at e.cell x y ≡ true → n ≡ owner
+  owns : (e : BorderLine) (n : ModuleLines) → In n ms → In e (edges n) → is_cell_at e.cell x y ≡ true → n ≡ owner
   owns e n i j at =
       let p = placed n ms i in
       let inside : in_box n.area x y ≡ true =
@@ -103,10 +104,10 @@ module _ (g : Setting) (ms : List ModuleLines) (good : AreModules g ms) (k : ℕ
       In e (at_cell x y (sorted_border_lines (edge_lines_beside g ms area)))
   unfolding at_cell
   of_halo e i =
-      let r = in_filter (λ (e : BorderLine). is_at e.cell x y) e (edges owner) i in
+      let r = in_filter (λ (e : BorderLine). is_cell_at e.cell x y) e (edges owner) i in
       let inside : in_halo area e.cell.x e.cell.y ≡ true =
       subst (λ (c : Cell). in_halo area c.x c.y ≡ true) (sym (at_here e r.1)) halo in
-      filter_in (λ (e : BorderLine). is_at e.cell x y) e (sorted_border_lines (edge_lines_beside g ms area))
+      filter_in (λ (e : BorderLine). is_cell_at e.cell x y) e (sorted_border_lines (edge_lines_beside g ms area))
       (ordered_in e (edge_lines_beside g ms area)
       (beside_in g ms good area e long inside (flat_in edges e ms owner (stands ms k owner numbered) r.0))) r.1
 
@@ -115,11 +116,11 @@ module _ (g : Setting) (ms : List ModuleLines) (good : AreModules g ms) (k : ℕ
   lines_there =
       rising_same _ _
       (grind (arith, common_steps, pairs_filter, full_rises))
-      (pairs_filter (λ d e. border_line_cmp d e ≡ Less) (λ (e : BorderLine). is_at e.cell x y) (edges owner)
+      (pairs_filter (λ d e. border_line_cmp d e ≡ Less) (λ (e : BorderLine). is_cell_at e.cell x y) (edges owner)
       (edges_rising owner.lines (good.each k owner numbered).order))
       of_owner of_halo
 
-pub halo_is_edge_beside : HaloIsEdgeBeside
+pub halo_is_edge_beside : HaloCarriesOwnersEdge
 halo_is_edge_beside g ms good i k m owner t x y at numbered odd early halo owned =
     ap (λ es. signal_at (line_signals g.circuit es) t x y) (full_halos g ms good m)
     ∙ same_there g.circuit x y t (sorted_border_lines (edge_lines_beside g ms m.area)) (edges owner)

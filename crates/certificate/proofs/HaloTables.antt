@@ -1,6 +1,7 @@
 -- The lists of the edge lines beside each module, from the modules of a certificate
-use Rattle.certificate.proofs.Imports.{AddsEdgePlaces, All, AreModules, BorderLine, Box2, Circuit, EdgePlace}
-use Rattle.certificate.proofs.Imports.{HaveEdgePlacesFrom, HasCircuitWires, IsEvenBox, IsInnerCell, IsModule, List}
+use Rattle.certificate.proofs.Imports.{AddsEdgePlacesInHalo, All, AreModules, BorderLine, Box2, Circuit, EdgePlace}
+use Rattle.certificate.proofs.Imports.{HaveEdgePlacesFromModule, HasCircuitWires, IsEvenBox, IsInnerCell, IsModule}
+use Rattle.certificate.proofs.Imports.{List}
 use Rattle.certificate.proofs.Imports.{ModuleLines}
 use Rattle.certificate.proofs.Imports.{Setting, Some, StoredBorder, StoredModule, [], ap, areas, arith, border_line}
 use Rattle.certificate.proofs.Imports.{cases_Bool, common_steps, cond-false, cond-true, edge_lines_at}
@@ -86,14 +87,14 @@ short steps le = grind (arith, nat_tests)
 module _ (g : Setting) (ms : List StoredModule) where
   -- without odd times the lists are empty
   pub none_placed : (lists : List (List EdgePlace)) → g.size.steps ≤ 1 → length lists ≡ length ms →
-      ((i : ℕ) → list_at_or_empty lists i ≡ []) → HaveEdgePlacesFrom g ms 0 lists
+      ((i : ℕ) → list_at_or_empty lists i ≡ []) → HaveEdgePlacesFromModule g ms 0 lists
   unfolding edge_lines_beside
   none_placed lists few count empty = grind (arith, common_steps, cond-false, short)
 
   pub all_placed : (boxes : List Box2) (old new : List (List EdgePlace)) → 1 < g.size.steps →
       boxes ≡ map (λ m. m.area) ms →
       length old ≡ length ms → ((i : ℕ) → list_at_or_empty old i ≡ []) →
-      AddsEdgePlaces ms boxes (flat_map (λ m. m.edges.items) ms) old new → HaveEdgePlacesFrom g ms 0 new
+      AddsEdgePlacesInHalo ms boxes (flat_map (λ m. m.edges.items) ms) old new → HaveEdgePlacesFromModule g ms 0 new
   unfolding edge_lines_beside
   all_placed boxes old new many are count empty h = record {
     count = h.count ∙ count;

@@ -5,22 +5,23 @@ pub use Rattle.bbm_rule.specs.declared.block.Box2.{Box2}
 pub use Rattle.bbm_rule.specs.declared.block.Cell.{Cell}
 pub use Rattle.certificate.specs.Grammars.{CertView, certificate_grammar}
 pub use Rattle.certificate.specs.GoodModules.{AreGoodModules, IsGoodModule, all_module_lines}
-pub use Rattle.certificate.specs.HaloPlaces.{AddsEdgePlaces, AreBoxListsReady, HaveEdgePlacesFrom, IsInnerCell}
+pub use Rattle.certificate.specs.HaloPlaces.{AddsEdgePlacesInHalo, AreOwnersAndListsReady, HaveEdgePlacesFromModule}
+pub use Rattle.certificate.specs.HaloPlaces.{IsInnerCell}
 pub use Rattle.certificate.specs.HaloPlaces.{edge_lines_at}
 pub use Rattle.certificate.specs.HaloPlaces.{edge_lines_at_place, line_cell, list_at_or_empty}
 pub use Rattle.certificate.specs.Jobs.{IsJobOf, demand_outside_mirrors, event_if_timed, line_signals, signal_if_starred}
 pub use Rattle.certificate.specs.Jobs.{one_or_named_wire, stops_of_lines, wire_or_zero}
 unfoldable pub use Rattle.certificate.specs.Jobs.{end_demand, start_signal}
 pub use Rattle.certificate.specs.Keeps.{is_kept, unkept}
-unfoldable pub use Rattle.certificate.specs.Keeps.{unkept_from}
+unfoldable pub use Rattle.certificate.specs.Keeps.{unkept_gates_from}
 pub use Rattle.certificate.specs.LayoutTablesView.{AddsStartsAndDemands, IsPortWireLocalAt, LayoutTablesView}
 pub use Rattle.certificate.specs.SeenTimes.{IsStopTimeTable, time_in_table}
-pub use Rattle.certificate.specs.StopLists.{AreStops, stored_stop}
+pub use Rattle.certificate.specs.StopLists.{AreStopsOfLines, stored_stop}
 pub use Rattle.certificate.specs.Text.{entry_text, form_text}
 unfoldable pub use Rattle.certificate.specs.Text.{certificate_text}
 pub use Rattle.certificate.specs.Times.{all_stops, delay_and_meet_lines, delay_line, earlier, last_times, later}
 pub use Rattle.certificate.specs.Times.{meet_line, stop_times_of_wire, time_lines_of_gates}
-unfoldable pub use Rattle.certificate.specs.Times.{time_lines_by_number}
+unfoldable pub use Rattle.certificate.specs.Times.{lines_of_numbered_gates}
 pub use Rattle.certificate.specs.Timetables.{AreBorderLinesRising, AreSignalLists, HasLocalWire, one_or_wire}
 pub use Rattle.certificate.specs.Timetables.{stored_signals}
 pub use Rattle.certificate.specs.Timetables.{unnamed_line}
@@ -36,7 +37,8 @@ pub use Rattle.certificate_lines.proofs.Imports.{ap₂, areas, arith, cases_Bool
 pub use Rattle.certificate_lines.proofs.Imports.{common_steps, cond-false, cond-true, cut_name_in, cuts, drop, edge_in}
 pub use Rattle.certificate_lines.proofs.Imports.{edges, eqb-true, false, filter, flat_map, flat_map-append, gates}
 pub use Rattle.certificate_lines.proofs.Imports.{get_or, get_or_from_slice_get, halo_in, if◌then◌else◌, inl, inr, ints}
-pub use Rattle.certificate_lines.proofs.Imports.{is_among, is_at, is_last_module_incomplete, is_local, is_lt, is_module}
+pub use Rattle.certificate_lines.proofs.Imports.{is_among, is_cell_at, is_last_module_incomplete, is_local, is_lt}
+pub use Rattle.certificate_lines.proofs.Imports.{is_module_line}
 pub use Rattle.certificate_lines.proofs.Imports.{is_nonlocal_signal, known, last_module, length, length-map, list_all}
 pub use Rattle.certificate_lines.proofs.Imports.{list_any, local_wires, map, map-append, mapped_from, module_with_line}
 pub use Rattle.certificate_lines.proofs.Imports.{nat_lt, nat_tests, not, option_map, option_to_list, pos}
@@ -45,9 +47,10 @@ pub use Rattle.certificate_lines.proofs.Imports.{size_sides, slice_get, slice_ge
 pub use Rattle.certificate_lines.proofs.Imports.{subst, suc, sym, take, take_all, take_more, to_z, true, true_from_not}
 pub use Rattle.certificate_lines.proofs.Imports.{true≢false, used_gate_in, w32, whole, wire_of, zero, ℕ, ℤ, ◌&&◌, ◌++◌}
 pub use Rattle.certificate_lines.proofs.Imports.{◌+◌, ◌-◌, ◌<◌, ◌==◌, ◌||◌, ◌∙◌, ◌∷◌, ◌≡◌, ◌≤◌, ◌⊎◌}
-unfoldable pub use Rattle.certificate_lines.proofs.Imports.{AreInOrder, StarsExcludeLaterTimes, add_line, body_lines}
+unfoldable pub use Rattle.certificate_lines.proofs.Imports.{AreLinesInOrder, StarsExcludeLaterTimes, add_line}
+unfoldable pub use Rattle.certificate_lines.proofs.Imports.{body_lines}
 unfoldable pub use Rattle.certificate_lines.proofs.Imports.{cell_cmp, cell_of, change_last, end_fault}
-unfoldable pub use Rattle.certificate_lines.proofs.Imports.{has_nonlocal_port, in_box, in_halo, is_cut, last_of}
+unfoldable pub use Rattle.certificate_lines.proofs.Imports.{has_nonlocal_port, in_box, in_halo, is_cut_line, last_of}
 unfoldable pub use Rattle.certificate_lines.proofs.Imports.{line_cmp, may_precede, modules_of, port_at, rank_of}
 unfoldable pub use Rattle.certificate_lines.proofs.Imports.{rectangle_cells, size_fault, sort_number_of}
 pub use Rattle.certificate_lines.proofs.InList.{all_in, placed}
@@ -62,7 +65,7 @@ pub use Rattle.certificate_lines.proofs.ModuleSplit.{split_module, split_other}
 pub use Rattle.certificate_lines.proofs.Pairs.{pairs_flat, rising_of}
 unfoldable pub use Rattle.certificate_lines.proofs.Pairs.{Each, Pairs}
 pub use Rattle.certificate_lines.specs.Entries.{cut_wires, halos, keeps, stops}
-pub use Rattle.certificate_lines.specs.Modules.{AreModules, HasLocalPorts}
+pub use Rattle.certificate_lines.specs.Modules.{AreModules, HasLocalPortWires}
 pub use Rattle.certificate_lines.specs.Orders.{time_rank}
 pub use Rattle.certificate_lines.specs.Rules.{leaves_gap}
 unfoldable pub use Rattle.certificate_lines.specs.Rules.{entry_fault}
@@ -72,9 +75,10 @@ pub use Rattle.certificate_lines.specs.StoredModules.{border_line}
 pub use Rattle.certificate_lines.specs.StoredModules.{cell_at, lines_of_modules, module_lines, module_lines_with}
 pub use Rattle.certificate_lines.specs.StoredModules.{stop_line, wire_name}
 pub use Rattle.certificate_lines.specs.Versions.{is_haloless_version}
-unfoldable pub use Rattle.certificate_lines.specs.Versions.{border_line_cmp, edge_lines_beside, is_halo}
-unfoldable pub use Rattle.certificate_lines.specs.Versions.{lacks_edge_wire_beside, modules_by_version, precedes_halos}
-unfoldable pub use Rattle.certificate_lines.specs.Versions.{sorted_border_lines, with_halos, without_halos}
+unfoldable pub use Rattle.certificate_lines.specs.Versions.{border_line_cmp, edge_lines_beside, is_halo_line}
+unfoldable pub use Rattle.certificate_lines.specs.Versions.{has_nonlocal_edge_wire_beside, modules_by_version}
+unfoldable pub use Rattle.certificate_lines.specs.Versions.{precedes_halo_lines}
+unfoldable pub use Rattle.certificate_lines.specs.Versions.{sorted_border_lines, with_halo_lines, without_halo_lines}
 pub use Rattle.certificate_lines.specs.declared.certificate_line.BorderLine.{BorderLine}
 pub use Rattle.certificate_lines.specs.declared.certificate_line.CertificateLine.{CertificateLine}
 pub use Rattle.certificate_lines.specs.declared.certificate_line.CertificateLine.TheVariants.{Cut, Edge, Halo, Keep}
@@ -89,7 +93,7 @@ pub use Rattle.lemmas.proofs.Common.{All-cons, Contains, IfOk-weaker, IsPermutat
 pub use Rattle.lemmas.proofs.Common.{of_z, or_parts, ordering_then, ranks_by}
 pub use Rattle.module_box.proofs.Imports.{IsRising, LocalNet, circuit_wire, eqb, netlist_of, same_Some, wires, ◌+ℤ◌}
 unfoldable pub use Rattle.module_box.proofs.Imports.{all_times_at, event_at, in_span, moment_cmp}
-pub use Rattle.module_box.specs.Moves.{IsInShiftRange, IsSmallShift}
+pub use Rattle.module_box.specs.Moves.{IsCellInShiftRange, IsSmallShift}
 pub use Rattle.module_box.specs.Schedules.{Signals}
 unfoldable pub use Rattle.module_box.specs.Schedules.{signal_at}
 pub use Rattle.module_box.specs.declared.schedules.AllTimesSignal.{AllTimesSignal}

@@ -1,12 +1,16 @@
 -- The halo lines of modules of version 2, and the jobs of the modules before a module
-use Rattle.certificate.proofs.Imports.{AreModules, Box2, Circuit, Cut, Edge, EdgePlace, Halo, HasLocalPorts}
-use Rattle.certificate.proofs.Imports.{HaveEdgePlacesFrom, IsJobOf, IsModule, JobView, Keep, List, ModuleLines, Pattern}
+use Rattle.certificate.proofs.Imports.{AreModules, Box2, Circuit, Cut, Edge, EdgePlace, Halo, HasLocalPortWires}
+use Rattle.certificate.proofs.Imports.{HaveEdgePlacesFromModule, IsJobOf, IsModule, JobView, Keep, List, ModuleLines}
+use Rattle.certificate.proofs.Imports.{Pattern}
 use Rattle.certificate.proofs.Imports.{Setting, Some, Stop, StoredBorder, StoredModule, Use, [], ap, append-nil}
 use Rattle.certificate.proofs.Imports.{append_assoc, arith, body_lines_with, border_line, common_steps, edge_lines_at}
-use Rattle.certificate.proofs.Imports.{edge_lines_beside, false, filter, get_or, inl, inr, lacks_edge_wire_beside}
+use Rattle.certificate.proofs.Imports.{edge_lines_beside, false, filter, get_or, has_nonlocal_edge_wire_beside, inl}
+use Rattle.certificate.proofs.Imports.{inr}
 use Rattle.certificate.proofs.Imports.{length, length-map, list_at_or_empty, map, mapped_at, mapped_from, module_lines}
-use Rattle.certificate.proofs.Imports.{module_lines_with, precedes_halos, refl, slice_get, slice_get_within, some_is}
-use Rattle.certificate.proofs.Imports.{sorted_border_lines, stop_line, subst, sym, wire_name, with_halos, ℕ, ◌++◌, ◌+◌}
+use Rattle.certificate.proofs.Imports.{module_lines_with, precedes_halo_lines, refl, slice_get, slice_get_within}
+use Rattle.certificate.proofs.Imports.{some_is}
+use Rattle.certificate.proofs.Imports.{sorted_border_lines, stop_line, subst, sym, wire_name, with_halo_lines, ℕ, ◌++◌}
+use Rattle.certificate.proofs.Imports.{◌+◌}
 use Rattle.certificate.proofs.Imports.{◌<◌, ◌∙◌, ◌∷◌, ◌≡◌, ◌≤◌, All, AreGoodModules, CircuitLine, HasCircuitWire}
 use Rattle.certificate.proofs.Imports.{HasCircuitWires, IsGoodModule, circuit_of, get_or_from_slice_get, setting_of}
 use Rattle.certificate.proofs.Imports.{all_module_lines}
@@ -32,26 +36,26 @@ filter_none p f fails [] = refl
 filter_none p f fails (x ∷ xs) = grind (arith, common_steps, filter_none p f fails xs)
 
 -- the lines before the halo lines
-early_lines : (c : Circuit) (m : StoredModule) → filter precedes_halos (body_lines_with c m m.halos.items)
+early_lines : (c : Circuit) (m : StoredModule) → filter precedes_halo_lines (body_lines_with c m m.halos.items)
     ≡ map (λ w. Cut (wire_name c w)) m.cuts.items ++ (map Use m.gates.items ++ (map Keep m.keeps.items
     ++ map (λ b. Edge (border_line c b)) m.edges.items))
-unfolding precedes_halos
+unfolding precedes_halo_lines
 early_lines c m =
     simp (
-      filter-append precedes_halos,
-      filter_all precedes_halos (λ w. Cut (wire_name c w)) (λ w. refl),
-      filter_all precedes_halos Use (λ k. refl),
-      filter_all precedes_halos Keep (λ k. refl),
-      filter_all precedes_halos (λ b. Edge (border_line c b)) (λ b. refl),
-      filter_none precedes_halos (λ b. Halo (border_line c b)) (λ b. refl),
-      filter_none precedes_halos (λ s. Stop (stop_line c s)) (λ s. refl),
+      filter-append precedes_halo_lines,
+      filter_all precedes_halo_lines (λ w. Cut (wire_name c w)) (λ w. refl),
+      filter_all precedes_halo_lines Use (λ k. refl),
+      filter_all precedes_halo_lines Keep (λ k. refl),
+      filter_all precedes_halo_lines (λ b. Edge (border_line c b)) (λ b. refl),
+      filter_none precedes_halo_lines (λ b. Halo (border_line c b)) (λ b. refl),
+      filter_none precedes_halo_lines (λ s. Stop (stop_line c s)) (λ s. refl),
       append-nil,
     )
 
 pub with_halos_stored : (g : Setting) (ms : List ModuleLines) (m : StoredModule) (hs : List StoredBorder) →
     map (border_line g.circuit) hs ≡ sorted_border_lines (edge_lines_beside g ms m.area) →
-    module_lines_with g.circuit m hs ≡ with_halos g ms (module_lines g.circuit m)
-unfolding with_halos
+    module_lines_with g.circuit m hs ≡ with_halo_lines g ms (module_lines g.circuit m)
+unfolding with_halo_lines
 with_halos_stored g ms m hs are = grind (arith, common_steps, early_lines, map-map, stops_with, append_assoc)
 
 pub element_at : {X : Type 0} (xs : List X) (i : ℕ) (x : X) → i < length xs → x ≡ get_or xs i x →
@@ -63,7 +67,7 @@ element_at xs i x lt is = slice_get_read xs (length xs) i x refl lt is
 module _ (g : Setting) (ms : List StoredModule) where
   pub one_list_less : {X : Type 0} (f : X → List EdgePlace) (done : ℕ) (old new : List X) → length new ≡ length old →
       ((i : ℕ) → (i ≡ done → ⊥) → list_at_or_empty (map f new) i ≡ list_at_or_empty (map f old) i) →
-      HaveEdgePlacesFrom g ms done (map f old) → HaveEdgePlacesFrom g ms (done + 1) (map f new)
+      HaveEdgePlacesFromModule g ms done (map f old) → HaveEdgePlacesFromModule g ms (done + 1) (map f new)
   one_list_less f done old new count others h = grind (arith, common_steps, length-map)
 
 -- a module as it is written is good
@@ -84,14 +88,15 @@ good_at {cs} {p} {ms} {m} k good at =
 pub record IsFullModule (cs : List CircuitLine) (p : Pattern) (ms : List StoredModule) (m : StoredModule)
     (hs : List StoredBorder) : Type 0 where
   pub full : module_lines_with (circuit_of cs) m hs
-      ≡ with_halos (setting_of cs p) (all_module_lines cs ms) (module_lines (circuit_of cs) m)
+      ≡ with_halo_lines (setting_of cs p) (all_module_lines cs ms) (module_lines (circuit_of cs) m)
   pub good : IsGoodModule cs p m hs
 
 -- by the places of these lines
 pub full_module : {cs : List CircuitLine} {p : Pattern} {ms : List StoredModule} {lists : List (List EdgePlace)}
     {k : ℕ} {m : StoredModule} {places : List EdgePlace} {hs : List StoredBorder} →
-    AreGoodModules cs p ms → lacks_edge_wire_beside (setting_of cs p) (all_module_lines cs ms) ≡ false →
-    HaveEdgePlacesFrom (setting_of cs p) ms k lists → slice_get ms k ≡ Some m → list_at_or_empty lists k ≡ places →
+    AreGoodModules cs p ms → has_nonlocal_edge_wire_beside (setting_of cs p) (all_module_lines cs ms) ≡ false →
+    HaveEdgePlacesFromModule (setting_of cs p) ms k lists → slice_get ms k ≡ Some m →
+    list_at_or_empty lists k ≡ places →
     ((g : Setting) (area : Box2) → AreModules g (map (module_lines g.circuit) ms) →
     map (border_line g.circuit) (edge_lines_at ms places)
     ≡ edge_lines_beside g (map (module_lines g.circuit) ms) area →
@@ -101,7 +106,7 @@ pub full_module : {cs : List CircuitLine} {p : Pattern} {ms : List StoredModule}
 full_module {cs} {p} {ms} {lists} {k} {m} {places} {hs} good complete left at taken sorted own =
     let g = setting_of cs p in
     let all = all_module_lines cs ms in
-    let there = mapped_at (with_halos g all) all k _ (mapped_at (module_lines (circuit_of cs)) ms k m at) in
+    let there = mapped_at (with_halo_lines g all) all k _ (mapped_at (module_lines (circuit_of cs)) ms k m at) in
     let each = full_modules g all good.modules complete in
     let full = with_halos_stored g all m hs (sorted g m.area good.modules
     (ap (λ ps. map (border_line g.circuit) (edge_lines_at ms ps)) (sym taken) ∙ left.each k m (omega arith) at)) in
@@ -111,7 +116,7 @@ full_module {cs} {p} {ms} {lists} {k} {m} {places} {hs} good complete left at ta
         wires = (good_at k good at).wires;
         halo_wires = own;
         lines = subst (IsModule g) (sym full) (each.each k _ there);
-        ports = subst (HasLocalPorts g) (sym full) (each.ports k _ there);
+        ports = subst (HasLocalPortWires g) (sym full) (each.ports k _ there);
       };
     }
 

@@ -1,9 +1,10 @@
 -- The indexes of a layout's cells, and the ports in a module's box.
-use Rattle.certificate.proofs.Imports.{All, All-append, Bool, Box2, Cell, Circuit, CircuitLine, HasLocalPorts, IfSome}
+use Rattle.certificate.proofs.Imports.{All, All-append, Bool, Box2, Cell, Circuit, CircuitLine, HasLocalPortWires}
+use Rattle.certificate.proofs.Imports.{IfSome}
 use Rattle.certificate.proofs.Imports.{IsTrue, LayoutHeader, List, ModuleLines, None, One, Option, Pattern, Some, Zero}
 use Rattle.certificate.proofs.Imports.{[], and_parts, ap, arith, balls_on_layout, cell_same, circuit_of, common_steps}
 use Rattle.certificate.proofs.Imports.{demand_outside_mirrors, end_demand, false, if◌then◌else◌, in_box, in_cells}
-use Rattle.certificate.proofs.Imports.{in_rectangles, is_among, is_at, is_local, known, length, list_all, map}
+use Rattle.certificate.proofs.Imports.{in_rectangles, is_among, is_cell_at, is_local, known, length, list_all, map}
 use Rattle.certificate.proofs.Imports.{option_map, or_parts, port_at, refl, setting_of, size_fault, size_sides}
 use Rattle.certificate.proofs.Imports.{slice_get, slice_get-get_or, some_is, start_signal, subst, suc, sym, true}
 use Rattle.certificate.proofs.Imports.{wastes_on_layout, wire_of, wire_or_zero, zero, ℕ, ℤ, ◌++◌, ◌+◌, ◌||◌, ◌∙◌, ◌∷◌}
@@ -27,7 +28,8 @@ use Rattle.module_job.specs.declared.job.Demand.TheVariants as Demanded
 
 -- ---- the ports in the box of a module
 
-module _ (lines : List CircuitLine) (p : Pattern) (m : ModuleLines) (has : HasLocalPorts (setting_of lines p) m) where
+module _ (lines : List CircuitLine) (p : Pattern) (m : ModuleLines)
+    (has : HasLocalPortWires (setting_of lines p) m) where
   abbrev is_known : List ℕ → Type 0
   is_known name = IsTrue (is_local (circuit_of lines) (known (circuit_of lines) m) name)
 
@@ -118,7 +120,8 @@ pub no_port : (ports : List Port) (x y : ℤ) → in_cells (map (λ (q : Port). 
     port_at ports x y ≡ None
 unfolding port_at
 no_port [] x y e = refl
-no_port (q ∷ ports) x y e = no_port_here (is_at q.cell x y) (in_cells (map (λ (q : Port). q.cell) ports) x y) q.name
+no_port (q ∷ ports) x y e = no_port_here (is_cell_at q.cell x y)
+    (in_cells (map (λ (q : Port). q.cell) ports) x y) q.name
     (port_at ports x y) e (no_port ports x y)
 
 port_cells_inside : (s : LayoutHeader) (ports : List Port) → ArePortsInLayout s ports →
@@ -172,7 +175,7 @@ mirrors_on_grid p s b mirrors is size limits good are =
 
 -- the ports in the box, where the module's wires have these numbers in the circuit
 pub locals_have_ports : (lines : List CircuitLine) (p : Pattern) (m : ModuleLines) →
-    HasLocalPorts (setting_of lines p) m →
+    HasLocalPortWires (setting_of lines p) m →
     (local : List ℕ) → local ≡ known (circuit_of lines) m
     → ArePortWiresLocalIn (circuit_of lines) local p.ins m.area
     × ArePortWiresLocalIn (circuit_of lines) local p.outs m.area

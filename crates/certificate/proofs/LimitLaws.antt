@@ -7,7 +7,7 @@ use Rattle.section_text.specs.Codes.{code_if, or_else}
 use Rattle.section_text.specs.declared.code.RefusalCode.{RefusalCode}
 use Rattle.section_text.specs.declared.limits.Limits.TheVariants.{First, Second}
 use Rattle.certificate_lines.specs.Rules.{module_box_code, module_limit_fault, module_line_code}
-use Rattle.certificate.specs.Laws.{FirstLimitsAreKept, SecondLimitsAreWider, first_limits_entry_fault}
+use Rattle.certificate.specs.Laws.{FirstLimitsAreUnchanged, SecondLimitsAreWider, first_limits_entry_fault}
 
 -- what is past the second limit is past the first one
 past_first : (n : ℕ) → nat_le max_modules n ≡ true → nat_le 1024 n ≡ true
@@ -26,8 +26,8 @@ counted : (g : Setting) (before : List CertificateLine) (i : CertificateLine) �
 unfolding entry_fault module_limit_fault module_line_code module_box_code
 counted g before i = grind (arith, common_steps, count_first, past_first)
 
-pub first_limits_are_kept : FirstLimitsAreKept
-first_limits_are_kept g version before i = grind (arith, common_steps, counted)
+pub first_limits_are_unchanged : FirstLimitsAreUnchanged
+first_limits_are_unchanged g version before i = grind (arith, common_steps, counted)
 
 -- ---- the second limits
 

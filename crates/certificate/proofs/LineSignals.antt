@@ -3,7 +3,8 @@ use Rattle.certificate.proofs.Imports.{AllTimesSignal, Bool, BorderLine, Circuit
 use Rattle.certificate.proofs.Imports.{Option, Ordering, Pairs, Rises, Signal, Some, StarsExcludeLaterTimes}
 use Rattle.certificate.proofs.Imports.{TimedSignal, Zero, [], all_times_at, ap, arith, signal_if_starred}
 use Rattle.certificate.proofs.Imports.{border_line_cmp, cases_Bool, cell_same, common_steps, cond-false, cond-true}
-use Rattle.certificate.proofs.Imports.{each_in, eqb-true, event_at, event_if_timed, false, flat_map, inl, inr, is_at}
+use Rattle.certificate.proofs.Imports.{each_in, eqb-true, event_at, event_if_timed, false, flat_map, inl, inr}
+use Rattle.certificate.proofs.Imports.{is_cell_at}
 use Rattle.certificate.proofs.Imports.{line_signals, nat_cmp, not, one_or_named_wire, ordering_then, refl, signal_at}
 use Rattle.certificate.proofs.Imports.{subst, sym, true, unwrap_or, ℕ, ◌&&◌, ◌++◌, ◌+◌, ◌||◌, ◌∙◌, ◌∷◌, ◌≡◌}
 use Rattle.certificate_lines.specs.Rules.{is_star, is_starred_line_at, same_cell}
@@ -23,7 +24,8 @@ same_key : (d e : BorderLine) → d.time ≡ e.time → d.cell ≡ e.cell → bo
 unfolding border_line_cmp
 same_key d e time cell less = grind (arith, common_steps, not_itself, nat_cmp)
 
-other_cell : (d e : BorderLine) → d.time ≡ e.time → border_line_cmp d e ≡ Less → is_at d.cell e.cell.x e.cell.y ≡ false
+other_cell : (d e : BorderLine) → d.time ≡ e.time → border_line_cmp d e ≡ Less →
+    is_cell_at d.cell e.cell.x e.cell.y ≡ false
 other_cell d e time less = grind (arith, common_steps, cases_Bool, same_key, cell_same)
 
 -- a line with a `*` is not after one with a time

@@ -4,16 +4,18 @@ use Rattle.certificate.proofs.Imports.{Edge, Halo, Keep, List, Module, ModuleLin
 use Rattle.certificate.proofs.Imports.{Use, [], add_line, and_parts, ap, append-nil, ap₂, areas, arith, both_none}
 use Rattle.certificate.proofs.Imports.{certificate_grammar, change_last, common_steps, cut_name_in, cuts, edge_in}
 use Rattle.certificate.proofs.Imports.{edge_lines_beside, edges, end_fault, entry_fault, false, filter, flat_map, fold}
-use Rattle.certificate.proofs.Imports.{gates, halos, has_nonlocal_port, is_halo, is_last_module_incomplete}
-use Rattle.certificate.proofs.Imports.{is_nonlocal_signal, known, lacks_edge_wire_beside, last_module, last_of, length}
+use Rattle.certificate.proofs.Imports.{gates, halos, has_nonlocal_port, is_halo_line, is_last_module_incomplete}
+use Rattle.certificate.proofs.Imports.{has_nonlocal_edge_wire_beside, is_nonlocal_signal, known, last_module, last_of}
+use Rattle.certificate.proofs.Imports.{length}
 use Rattle.certificate.proofs.Imports.{length-map, list_all, list_any, map, map-append, may_precede, module_with_line}
 use Rattle.certificate.proofs.Imports.{modules_by_version, modules_of, nat_le, nat_tests, no_code, option_map}
-use Rattle.certificate.proofs.Imports.{precedes_halos, refl, stop_in, stops, sym, true, true_from_not, used_gate_in}
-use Rattle.certificate.proofs.Imports.{with_halos, without_halos, ℕ, ◌++◌, ◌||◌, ◌∙◌, ◌∷◌, ◌≡◌, ◌≤◌, not}
+use Rattle.certificate.proofs.Imports.{precedes_halo_lines, refl, stop_in, stops, sym, true, true_from_not}
+use Rattle.certificate.proofs.Imports.{used_gate_in}
+use Rattle.certificate.proofs.Imports.{with_halo_lines, without_halo_lines, ℕ, ◌++◌, ◌||◌, ◌∙◌, ◌∷◌, ◌≡◌, ◌≤◌, not}
 use Rattle.lemmas.proofs.Common.{filter-append}
 use Rattle.std.proofs.lemmas.Simd.{map-map}
 use Rattle.section_text.specs.Codes.{code_if}
-use Rattle.certificate.specs.Laws.{AreFaultlessLines, GoodWithoutHalos, IsSectionOf, SectionWithoutHalos}
+use Rattle.certificate.specs.Laws.{AreFaultlessLines, HalolessLinesStayGood, HalolessSectionIsVersionTwo, IsSectionOf}
 use Rattle.certificate_lines.specs.Orders.{may_follow}
 use Rattle.certificate_lines.specs.Rules.{cut_line_code, use_line_code, keep_line_code, timed_line_count}
 use Rattle.certificate_lines.specs.Rules.{border_or_stop_line_code, body_line_code, line_fault, module_line_code}
@@ -26,26 +28,27 @@ use Rattle.certificate.proofs.Soundness.{faultless_modules, passed_line}
 use Rattle.section_text.specs.declared.limits.Limits.{Limits}
 use Rattle.section_text.proofs.Codes.{none_both}
 
-pub without_append : (xs ys : List CertificateLine) → without_halos (xs ++ ys) ≡ without_halos xs ++ without_halos ys
-unfolding without_halos
-without_append xs ys = filter-append (λ i. not (is_halo i)) xs ys
+pub without_append : (xs ys : List CertificateLine) →
+    without_halo_lines (xs ++ ys) ≡ without_halo_lines xs ++ without_halo_lines ys
+unfolding without_halo_lines
+without_append xs ys = filter-append (λ i. not (is_halo_line i)) xs ys
 
 -- ---- the modules of lines without halo lines
 
-alone : (i : CertificateLine) → is_halo i ≡ false → without_halos (i ∷ []) ≡ i ∷ []
-unfolding without_halos is_halo
+alone : (i : CertificateLine) → is_halo_line i ≡ false → without_halo_lines (i ∷ []) ≡ i ∷ []
+unfolding without_halo_lines is_halo_line
 alone i h1 = grind (arith, common_steps)
 
-stored_line : (i : CertificateLine) → is_halo i ≡ false → (m : ModuleLines) →
+stored_line : (i : CertificateLine) → is_halo_line i ≡ false → (m : ModuleLines) →
     haloless_module (module_with_line i m) ≡ module_with_line i (haloless_module m)
-unfolding haloless_module without_halos is_halo
+unfolding haloless_module without_halo_lines is_halo_line
 stored_line i other m = grind (arith, common_steps, without_append, alone)
 
 dropped_line : (e : BorderLine) (m : ModuleLines) → haloless_module (module_with_line (Halo e) m) ≡ haloless_module m
-unfolding haloless_module without_halos is_halo
+unfolding haloless_module without_halo_lines is_halo_line
 dropped_line e m = grind (arith, common_steps, without_append, append-nil)
 
-inner_step : (i : CertificateLine) → is_halo i ≡ false → (ms : List ModuleLines) →
+inner_step : (i : CertificateLine) → is_halo_line i ≡ false → (ms : List ModuleLines) →
     map haloless_module (change_last (module_with_line i) ms)
     ≡ change_last (module_with_line i) (map haloless_module ms)
 inner_step i other ms = map_changed haloless_module (module_with_line i) (module_with_line i) (stored_line i other) ms
@@ -58,22 +61,23 @@ halo_step e ms = map_changed haloless_module (module_with_line (Halo e)) (λ m. 
 module_step : (b : Box2) (ms : List ModuleLines) →
     map haloless_module (ms ++ record { area = b; lines = [] } ∷ [])
     ≡ map haloless_module ms ++ record { area = b; lines = [] } ∷ []
-unfolding haloless_module without_halos
+unfolding haloless_module without_halo_lines
 module_step b ms = map-append haloless_module ms (record { area = b; lines = [] } ∷ [])
 
 modules_on : (es : List CertificateLine) (ms : List ModuleLines) →
-    fold add_line (map haloless_module ms) (without_halos es) ≡ map haloless_module (fold add_line ms es)
-unfolding without_halos is_halo add_line
+    fold add_line (map haloless_module ms) (without_halo_lines es) ≡ map haloless_module (fold add_line ms es)
+unfolding without_halo_lines is_halo_line add_line
 modules_on [] ms = refl
 modules_on (Module b ∷ es) ms =
     grind (arith, common_steps, modules_on es (ms ++ record { area = b; lines = [] } ∷ []), module_step)
 modules_on (Halo e ∷ es) ms =
     grind (arith, common_steps, modules_on es (change_last (module_with_line (Halo e)) ms), halo_step)
 modules_on (i ∷ es) ms =
-    ap (λ l. fold add_line l (without_halos es)) (sym (inner_step i refl ms))
+    ap (λ l. fold add_line l (without_halo_lines es)) (sym (inner_step i refl ms))
     ∙ modules_on es (change_last (module_with_line i) ms)
 
-pub modules_without : (es : List CertificateLine) → modules_of (without_halos es) ≡ map haloless_module (modules_of es)
+pub modules_without : (es : List CertificateLine) →
+    modules_of (without_halo_lines es) ≡ map haloless_module (modules_of es)
 unfolding modules_of
 modules_without es = modules_on es []
 
@@ -126,8 +130,8 @@ incomplete_kept g (Some m) = lacks_kept g m
 -- ---- lines that may follow more may follow less
 
 follow_less : (lines : List CertificateLine) (i : CertificateLine) → may_follow lines i ≡ true →
-    may_follow (without_halos lines) i ≡ true
-unfolding may_follow without_halos is_halo
+    may_follow (without_halo_lines lines) i ≡ true
+unfolding may_follow without_halo_lines is_halo_line
 follow_less [] i h = refl
 follow_less (Halo e ∷ lines) i h =
     follow_less lines i (and_parts (may_precede (Halo e) i) (list_all (λ j. may_precede j i) lines) h).1
@@ -146,10 +150,10 @@ border_less : (c : Circuit) (n k : ℕ) (local : List ℕ) (placed : Bool) (s : 
 unfolding border_or_stop_line_code
 border_less c n k local placed s le h = grind (arith, common_steps, both_none, none_both, coded, smaller, no_code)
 
-words_kept : (g : Setting) (m : ModuleLines) (i : CertificateLine) → is_halo i ≡ false →
+words_kept : (g : Setting) (m : ModuleLines) (i : CertificateLine) → is_halo_line i ≡ false →
     code_but_for_order g m i ≡ None →
     code_but_for_order g (haloless_module m) i ≡ None
-unfolding is_halo haloless_module
+unfolding is_halo_line haloless_module
 words_kept g m (Module b) o h = refl
 words_kept g m (Cut n) o h = ap₂ (λ cs ws. cut_line_code g.circuit (length cs) ws n) (cuts_kept g m) (known_kept g m)
     ∙ h
@@ -160,22 +164,22 @@ words_kept g m (Edge e) o h = grind (arith, common_steps, border_less, fewer, ed
 words_kept g m (Halo e) o h = absurd cc
 words_kept g m (Stop s) o h = grind (arith, common_steps, border_less, fewer, known_kept)
 
-line_kept : (g : Setting) (m : ModuleLines) (i : CertificateLine) → is_halo i ≡ false → line_fault g m i ≡ None →
+line_kept : (g : Setting) (m : ModuleLines) (i : CertificateLine) → is_halo_line i ≡ false → line_fault g m i ≡ None →
     line_fault g (haloless_module m) i ≡ None
 unfolding haloless_module
 line_kept g m i o h = grind (arith, common_steps, both_none, none_both, follow_less, true_from_not, no_code, words_kept)
 
-inner_kept : (g : Setting) (p : Option ModuleLines) (i : CertificateLine) → is_halo i ≡ false →
+inner_kept : (g : Setting) (p : Option ModuleLines) (i : CertificateLine) → is_halo_line i ≡ false →
     body_line_code g p i ≡ None →
     body_line_code g (option_map haloless_module p) i ≡ None
 inner_kept g p i h1 h2 = grind (arith, common_steps, line_kept)
 
 module _ (g : Setting) (before : List CertificateLine) where
-  present_without : last_module (without_halos before) ≡ option_map haloless_module (last_module before)
+  present_without : last_module (without_halo_lines before) ≡ option_map haloless_module (last_module before)
   present_without = ap last_of (modules_without before) ∙ last_mapped haloless_module (modules_of before)
 
   module_kept : (b : Box2) → module_line_code g (modules_of before) (last_module before) b ≡ None →
-      module_line_code g (modules_of (without_halos before)) (last_module (without_halos before)) b ≡ None
+      module_line_code g (modules_of (without_halo_lines before)) (last_module (without_halo_lines before)) b ≡ None
   unfolding module_line_code module_box_code
   module_kept b h = rw (
     modules_without before,
@@ -185,16 +189,16 @@ module _ (g : Setting) (before : List CertificateLine) where
     areas_stripped (modules_of before),
   ) h
 
-  inner_line : (i : CertificateLine) → is_halo i ≡ false → body_line_code g (last_module before) i ≡ None →
-      body_line_code g (last_module (without_halos before)) i ≡ None
+  inner_line : (i : CertificateLine) → is_halo_line i ≡ false → body_line_code g (last_module before) i ≡ None →
+      body_line_code g (last_module (without_halo_lines before)) i ≡ None
   inner_line i o h = ap (λ p. body_line_code g p i) present_without ∙ inner_kept g (last_module before) i o h
 
-  entry_kept : (i : CertificateLine) → is_halo i ≡ false → entry_fault g before i ≡ None →
-      entry_fault g (without_halos before) i ≡ None
-  unfolding entry_fault is_halo
+  entry_kept : (i : CertificateLine) → is_halo_line i ≡ false → entry_fault g before i ≡ None →
+      entry_fault g (without_halo_lines before) i ≡ None
+  unfolding entry_fault is_halo_line
   entry_kept i h1 h2 = grind (arith, common_steps, module_kept, inner_line)
 
-  pub end_kept : end_fault g before ≡ None → end_fault g (without_halos before) ≡ None
+  pub end_kept : end_fault g before ≡ None → end_fault g (without_halo_lines before) ≡ None
   unfolding end_fault
   end_kept h = rw (
     modules_without before,
@@ -205,27 +209,27 @@ module _ (g : Setting) (before : List CertificateLine) where
 
 -- ---- all lines
 
-without_one : (before : List CertificateLine) (i : CertificateLine) → is_halo i ≡ false →
-    without_halos (before ++ i ∷ []) ≡ without_halos before ++ i ∷ []
-unfolding is_halo without_halos
+without_one : (before : List CertificateLine) (i : CertificateLine) → is_halo_line i ≡ false →
+    without_halo_lines (before ++ i ∷ []) ≡ without_halo_lines before ++ i ∷ []
+unfolding is_halo_line without_halo_lines
 without_one before i h1 = grind (arith, common_steps, without_append)
 
-good_more : (g : Setting) (i : CertificateLine) (es before : List CertificateLine) → is_halo i ≡ false →
+good_more : (g : Setting) (i : CertificateLine) (es before : List CertificateLine) → is_halo_line i ≡ false →
     entry_fault g before i ≡ None →
-    AreGoodLines g (without_halos (before ++ i ∷ [])) (without_halos es) →
-    AreGoodLines g (without_halos before) (i ∷ without_halos es)
+    AreGoodLines g (without_halo_lines (before ++ i ∷ [])) (without_halo_lines es) →
+    AreGoodLines g (without_halo_lines before) (i ∷ without_halo_lines es)
 good_more g i es before o good later = grind (arith, common_steps, entry_kept, without_one)
 
 pub good_on : (g : Setting) (es before : List CertificateLine) → AreGoodLines g before es →
-    AreGoodLines g (without_halos before) (without_halos es)
-unfolding without_halos is_halo
+    AreGoodLines g (without_halo_lines before) (without_halo_lines es)
+unfolding without_halo_lines is_halo_line
 good_on g [] before good = tt
 good_on g (Halo e ∷ es) before good =
     grind (arith, common_steps, good_on g es (before ++ Halo e ∷ []) good.1)
 good_on g (i ∷ es) before good = good_more g i es before refl good.0 (good_on g es (before ++ i ∷ []) good.1)
 
-pub good_without_halos : GoodWithoutHalos
-unfolding without_halos
+pub good_without_halos : HalolessLinesStayGood
+unfolding without_halo_lines
 good_without_halos g es good = record {
   lines = good_on g es [] good.lines;
   end = end_kept g es good.end;
@@ -243,25 +247,26 @@ unfolding edge_lines_beside
 beside_stripped g ms area = grind (arith, common_steps, edges_stripped)
 
 early_without : (lines : List CertificateLine) →
-    filter precedes_halos (without_halos lines) ≡ filter precedes_halos lines
-unfolding without_halos is_halo precedes_halos
+    filter precedes_halo_lines (without_halo_lines lines) ≡ filter precedes_halo_lines lines
+unfolding without_halo_lines is_halo_line precedes_halo_lines
 early_without [] = refl
 early_without (Halo e ∷ lines) = early_without lines
 early_without (Stop s ∷ lines) = early_without lines
 early_without (i ∷ lines) = ap (λ l. i ∷ l) (early_without lines)
 
 full_same : (g : Setting) (ms : List ModuleLines) (m : ModuleLines) →
-    with_halos g (map haloless_module ms) (haloless_module m) ≡ with_halos g ms m
-unfolding with_halos haloless_module
+    with_halo_lines g (map haloless_module ms) (haloless_module m) ≡ with_halo_lines g ms m
+unfolding with_halo_lines haloless_module
 full_same g ms m = grind (arith, common_steps, early_without, beside_stripped, stops_kept)
 
 fulls_same : (g : Setting) (ms ns : List ModuleLines) →
-    map (with_halos g (map haloless_module ms)) (map haloless_module ns) ≡ map (with_halos g ms) ns
+    map (with_halo_lines g (map haloless_module ms)) (map haloless_module ns) ≡ map (with_halo_lines g ms) ns
 fulls_same g ms [] = refl
 fulls_same g ms (n ∷ ns) = ap₂ (λ x xs. x ∷ xs) (full_same g ms n) (fulls_same g ms ns)
 
 pub migrated_modules : (g : Setting) (es : List CertificateLine) →
-    modules_by_version 2 g (modules_of (without_halos es)) ≡ map (with_halos g (modules_of es)) (modules_of es)
+    modules_by_version 2 g (modules_of (without_halo_lines es))
+    ≡ map (with_halo_lines g (modules_of es)) (modules_of es)
 migrated_modules g es = grind (arith, common_steps, meant_new, modules_without, fulls_same)
 
 lacks_one : (g : Setting) (ms : List ModuleLines) (m : ModuleLines) →
@@ -282,9 +287,11 @@ lacks_all g ms [] = refl
 lacks_all g ms (n ∷ ns) = ap₂ (λ a b. a || b) (lacks_one g ms n) (lacks_all g ms ns)
 
 pub migrated_lacks : (g : Setting) (es : List CertificateLine) →
-    lacks_edge_wire_beside g (modules_of (without_halos es)) ≡ lacks_edge_wire_beside g (modules_of es)
-unfolding lacks_edge_wire_beside
-migrated_lacks g es = ap (lacks_edge_wire_beside g) (modules_without es) ∙ lacks_all g (modules_of es) (modules_of es)
+    has_nonlocal_edge_wire_beside g (modules_of (without_halo_lines es))
+    ≡ has_nonlocal_edge_wire_beside g (modules_of es)
+unfolding has_nonlocal_edge_wire_beside
+migrated_lacks g es = ap (has_nonlocal_edge_wire_beside g) (modules_without es)
+    ∙ lacks_all g (modules_of es) (modules_of es)
 
 -- ---- sections of either version
 
@@ -304,39 +311,40 @@ few_of l g [] before h = tt
 few_of l g (i ∷ es) before h = ((passed_line l g 1 before i h.0).0, few_of l g es (before ++ i ∷ []) h.1)
 
 few_kept : (l : Limits) (g : Setting) (before : List CertificateLine) (i : CertificateLine) →
-    module_limit_fault l g before i ≡ None → module_limit_fault l g (without_halos before) i ≡ None
+    module_limit_fault l g before i ≡ None → module_limit_fault l g (without_halo_lines before) i ≡ None
 unfolding module_limit_fault
 few_kept l g before i h1 = grind (arith, common_steps, modules_without, last_mapped, incomplete_kept, length-map)
 
-few_more : (l : Limits) (g : Setting) (i : CertificateLine) (es before : List CertificateLine) → is_halo i ≡ false →
+few_more : (l : Limits) (g : Setting) (i : CertificateLine) (es before : List CertificateLine) →
+    is_halo_line i ≡ false →
     module_limit_fault l g before i ≡ None →
-    AreFewModules l g (without_halos (before ++ i ∷ [])) (without_halos es) →
-    AreFewModules l g (without_halos before) (i ∷ without_halos es)
+    AreFewModules l g (without_halo_lines (before ++ i ∷ [])) (without_halo_lines es) →
+    AreFewModules l g (without_halo_lines before) (i ∷ without_halo_lines es)
 few_more l g i es before o few later = grind (arith, common_steps, few_kept, without_one)
 
 few_on : (l : Limits) (g : Setting) (es before : List CertificateLine) → AreFewModules l g before es →
-    AreFewModules l g (without_halos before) (without_halos es)
-unfolding without_halos is_halo
+    AreFewModules l g (without_halo_lines before) (without_halo_lines es)
+unfolding without_halo_lines is_halo_line
 few_on l g [] before few = tt
 few_on l g (Halo e ∷ es) before few =
     grind (arith, common_steps, few_on l g es (before ++ Halo e ∷ []) few.1)
 few_on l g (i ∷ es) before few = few_more l g i es before refl few.0 (few_on l g es (before ++ i ∷ []) few.1)
 
 few_without : (l : Limits) (g : Setting) (es : List CertificateLine) → AreFewModules l g [] es →
-    AreFewModules l g [] (without_halos es)
-unfolding without_halos
+    AreFewModules l g [] (without_halo_lines es)
+unfolding without_halo_lines
 few_without l g es few = few_on l g es [] few
 
 faultless_two : (l : Limits) (g : Setting) (es before : List CertificateLine) →
-    AreGoodLines g before (without_halos es) → AreFewModules l g before (without_halos es) →
-    AreFaultlessLines l g 2 before (without_halos es)
-unfolding without_halos is_halo
+    AreGoodLines g before (without_halo_lines es) → AreFewModules l g before (without_halo_lines es) →
+    AreFaultlessLines l g 2 before (without_halo_lines es)
+unfolding without_halo_lines is_halo_line
 faultless_two l g [] before h few = tt
 faultless_two l g (Halo e ∷ es) before h few = faultless_two l g es before h few
 faultless_two l g (i ∷ es) before h few =
     grind (arith, common_steps, none_both, faultless_two l g es (before ++ i ∷ []) h.1 few.1)
 
-pub section_without_halos : SectionWithoutHalos
+pub section_without_halos : HalolessSectionIsVersionTwo
 section_without_halos l g es is knows =
     let good = good_without_halos g es (grind (arith, common_steps, good_of, both_none)) in
     grind (arith, common_steps, faultless_two, few_without, few_of, none_both, coded, migrated_lacks)

@@ -1,5 +1,5 @@
 -- The cells of a module's edge and halo lines lie within 4096 columns and rows.
-use Rattle.certificate.proofs.Imports.{All, AllTimesSignal, BorderLine, Box2, Cell, IsInShiftRange, IsModule}
+use Rattle.certificate.proofs.Imports.{All, AllTimesSignal, BorderLine, Box2, Cell, IsCellInShiftRange, IsModule}
 use Rattle.certificate.proofs.Imports.{IsSmallShift, IsWithinMaxSize, LayoutHeader, List, ModuleLines, None, Option}
 use Rattle.certificate.proofs.Imports.{Setting, Signal, Signals, StoredBorder, TimedSignal, ap, signal_if_starred}
 use Rattle.certificate.proofs.Imports.{arith, common_steps, edges, event_if_timed, flat_all, get_or, halos, in_box}
@@ -13,7 +13,7 @@ use Rattle.module_box.proofs.BoxCells.{in_box_nats}
 use Rattle.module_job.specs.Signals.{renumber_stop}
 use Rattle.module_job.specs.declared.job.Stop.{Stop}
 use Rattle.certificate.proofs.JobLemmas.{within_512}
-use Rattle.lemmas.specs.Bounds.{last_place, max_side}
+use Rattle.lemmas.specs.Bounds.{last_column_or_row, max_side}
 use Rattle.bbm_rule.proofs.RingTests.{ring_in_box}
 
 -- a cell of a box within 4096 columns and rows
@@ -83,44 +83,45 @@ low_stops_of f ss own same all =
     (All-map (λ (s : Stop). IsWithinMaxSize s.at.cell) stored_stop ss all))
 
 -- ---- low cells are near, also where a box moves to the corner
-small_low : (z : ℤ) → (pos 0 ≤ℤ z) → (z ≤ℤ pos last_place) → IsSmallShift z
+small_low : (z : ℤ) → (pos 0 ≤ℤ z) → (z ≤ℤ pos last_column_or_row) → IsSmallShift z
 small_low z low high = (omega (arith, ints, low), omega (arith, ints, high))
 
-small_back : (z : ℤ) (n : ℕ) → n ≤ max_side → (pos 0 ≤ℤ z) → (z ≤ℤ pos last_place) →
+small_back : (z : ℤ) (n : ℕ) → n ≤ max_side → (pos 0 ≤ℤ z) → (z ≤ℤ pos last_column_or_row) →
     IsSmallShift (z +ℤ shift_to_origin n)
 small_back z n few low high = (omega (arith, ints, low, few), omega (arith, ints, high))
 
-near_low : (c : Cell) → IsWithinMaxSize c → IsInShiftRange c
+near_low : (c : Cell) → IsWithinMaxSize c → IsCellInShiftRange c
 near_low c l = (small_low c.x l.column.0 l.column.1, small_low c.y l.row.0 l.row.1)
 
 pub near_all_times : (hs : List AllTimesSignal) → All (λ (h : AllTimesSignal). IsWithinMaxSize h.cell) hs →
-    All (λ (h : AllTimesSignal). IsInShiftRange h.cell) hs
+    All (λ (h : AllTimesSignal). IsCellInShiftRange h.cell) hs
 near_all_times hs all = All-weaker _ _ (λ (h : AllTimesSignal) l. near_low h.cell l) hs all
 
 pub near_events : (es : List TimedSignal) → All (λ (e : TimedSignal). IsWithinMaxSize e.at.cell) es →
-    All (λ (e : TimedSignal). IsInShiftRange e.at.cell) es
+    All (λ (e : TimedSignal). IsCellInShiftRange e.at.cell) es
 near_events es all = All-weaker _ _ (λ (e : TimedSignal) l. near_low e.at.cell l) es all
 
 pub near_moved : (x y : ℕ) (es : List TimedSignal) → x ≤ max_side → y ≤ max_side →
     All (λ (e : TimedSignal). IsWithinMaxSize e.at.cell) es →
-    All (λ (e : TimedSignal). IsInShiftRange e.at.cell) (map (moved_event (shift_to_origin x) (shift_to_origin y)) es)
+    All (λ (e : TimedSignal). IsCellInShiftRange e.at.cell)
+    (map (moved_event (shift_to_origin x) (shift_to_origin y)) es)
 near_moved x y es few low all =
-    All-map (λ (e : TimedSignal). IsInShiftRange e.at.cell) (moved_event (shift_to_origin x) (shift_to_origin y)) es
+    All-map (λ (e : TimedSignal). IsCellInShiftRange e.at.cell) (moved_event (shift_to_origin x) (shift_to_origin y)) es
     (All-weaker (λ (e : TimedSignal). IsWithinMaxSize e.at.cell)
-    (λ (e : TimedSignal). IsInShiftRange (moved_event (shift_to_origin x) (shift_to_origin y) e).at.cell)
+    (λ (e : TimedSignal). IsCellInShiftRange (moved_event (shift_to_origin x) (shift_to_origin y) e).at.cell)
     (λ (e : TimedSignal) l.
     (small_back e.at.cell.x x few l.column.0 l.column.1, small_back e.at.cell.y y low l.row.0 l.row.1)) es all)
 
 pub near_stops : (ss : List Stop) → All (λ (s : Stop). IsWithinMaxSize s.at.cell) ss →
-    All (λ (s : Stop). IsInShiftRange s.at.cell) ss
+    All (λ (s : Stop). IsCellInShiftRange s.at.cell) ss
 near_stops ss all = All-weaker _ _ (λ (s : Stop) l. near_low s.at.cell l) ss all
 
 pub near_moved_stops : (x y : ℕ) (ss : List Stop) → x ≤ max_side → y ≤ max_side →
     All (λ (s : Stop). IsWithinMaxSize s.at.cell) ss →
-    All (λ (s : Stop). IsInShiftRange s.at.cell) (map (moved_stop (shift_to_origin x) (shift_to_origin y)) ss)
+    All (λ (s : Stop). IsCellInShiftRange s.at.cell) (map (moved_stop (shift_to_origin x) (shift_to_origin y)) ss)
 near_moved_stops x y ss few low all =
-    All-map (λ (s : Stop). IsInShiftRange s.at.cell) (moved_stop (shift_to_origin x) (shift_to_origin y)) ss
+    All-map (λ (s : Stop). IsCellInShiftRange s.at.cell) (moved_stop (shift_to_origin x) (shift_to_origin y)) ss
     (All-weaker (λ (s : Stop). IsWithinMaxSize s.at.cell)
-    (λ (s : Stop). IsInShiftRange (moved_stop (shift_to_origin x) (shift_to_origin y) s).at.cell)
+    (λ (s : Stop). IsCellInShiftRange (moved_stop (shift_to_origin x) (shift_to_origin y) s).at.cell)
     (λ (s : Stop) l. (small_back s.at.cell.x x few l.column.0 l.column.1, small_back s.at.cell.y y low l.row.0 l.row.1))
     ss all)

@@ -3,8 +3,8 @@ use Rattle.certificate.proofs.Imports.{List, ◌≡◌, CircuitLine, ModuleLines
 use Rattle.certificate.proofs.Imports.{arith, common_steps}
 use Rattle.module_box.proofs.PartOwners.{owners_by_tile}
 use Rattle.module_box.specs.Tiling.{OwnersView, no_owner}
-use Rattle.certificate_lines.specs.BuilderView.{AreModuleOwners}
-use Rattle.certificate.specs.GoodModules.{AreOwnersOf}
+use Rattle.certificate_lines.specs.BuilderView.{IsModuleOwnerTable}
+use Rattle.certificate.specs.GoodModules.{IsLayoutOwnerTable}
 use Rattle.std.specs.declared.result.Result.TheVariants.{Err, Ok}
 use Rattle.section_text.specs.declared.fault.ReadFault.{ReadFault}
 use Rattle.section_text.specs.Feeds.{FeedView}
@@ -23,7 +23,7 @@ fails_as g view other old new fault h = grind (arith, common_steps)
 -- ---- the owners of modules whose boxes tile the layout
 
 pub owners_read : (cs : List CircuitLine) (p : Pattern) (ms : List ModuleLines) (o : OwnersView) →
-    AreModuleOwners (setting_of cs p) ms o → Tile (whole p.size) (areas ms) → AreOwnersOf p (areas ms) o
+    IsModuleOwnerTable (setting_of cs p) ms o → Tile (whole p.size) (areas ms) → IsLayoutOwnerTable p (areas ms) o
 owners_read cs p ms o built tile = record {
   width = built.width;
   height = built.height;

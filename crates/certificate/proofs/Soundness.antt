@@ -1,10 +1,12 @@
 -- Lines that are good one after the other make good modules.
-use Rattle.certificate.proofs.Imports.{All, AreFaultless, AreModules, Box2, CertificateLine, HasLocalPorts, IsFaultless}
+use Rattle.certificate.proofs.Imports.{All, AreFaultless, AreModules, Box2, CertificateLine, HasLocalPortWires}
+use Rattle.certificate.proofs.Imports.{IsFaultless}
 use Rattle.certificate.proofs.Imports.{List, Module, ModuleLines, None, PastLimit, Setting, Some, SomethingMissing}
 use Rattle.certificate.proofs.Imports.{Tile, [], add_line, any_at, append-nil, append_assoc, areas, arith, both_none}
 use Rattle.certificate.proofs.Imports.{certificate_grammar, common_steps, end_fault, entry_fault, eqb-true, false}
 use Rattle.certificate.proofs.Imports.{has_nonlocal_port, in_box, is_haloless_version, is_last_module_incomplete}
-use Rattle.certificate.proofs.Imports.{lacks_edge_wire_beside, last_module, last_of, leaves_gap, modules_of, no_code}
+use Rattle.certificate.proofs.Imports.{has_nonlocal_edge_wire_beside, last_module, last_of, leaves_gap, modules_of}
+use Rattle.certificate.proofs.Imports.{no_code}
 use Rattle.certificate.proofs.Imports.{or_parts, rectangle_cells, slice_get, slice_get-get_or, slice_get_within}
 use Rattle.certificate.proofs.Imports.{some_is, subst, sym, true, true_from_not, true≢false, whole, ℕ, ◌&&◌, ◌++◌, ◌+◌}
 use Rattle.certificate.proofs.Imports.{◌==◌, ◌||◌, ◌∙◌, ◌∷◌, ◌≡◌, ◌≤◌, mapped_from}
@@ -77,7 +79,7 @@ module _ (g : Setting) (ms : List ModuleLines) (sound : AreGoodModulesSoFar g ms
         (subst (IsInside g.size.w g.size.h) m.2 (sound.each i m.0 m.1).good.inside) h;
   }
 
-  has_ports : (m : ModuleLines) → has_nonlocal_port g m ≡ false → HasLocalPorts g m
+  has_ports : (m : ModuleLines) → has_nonlocal_port g m ≡ false → HasLocalPortWires g m
   unfolding has_nonlocal_port
   has_ports m none = grind (arith, common_steps, true≢false, any_at)
 
@@ -106,7 +108,7 @@ read_version l g v es good = one_or_two v (true_from_not _ (no_code _ PastLimit 
 -- and in version 2 each module knows the wires of the edge lines beside it
 pub read_complete : (l : Limits) (g : Setting) (v : ℕ) (es : List CertificateLine) →
     IsFaultless (certificate_grammar l g) v es →
-    (is_haloless_version v && lacks_edge_wire_beside g (modules_of es)) ≡ false
+    (is_haloless_version v && has_nonlocal_edge_wire_beside g (modules_of es)) ≡ false
 read_complete l g v es good = no_code _ SomethingMissing (both_none (end_fault g es) _ good.end).1
 
 pub faultless_modules : (l : Limits) (g : Setting) (v : ℕ) (es : List CertificateLine) →

@@ -1,7 +1,8 @@
 -- The stops of a module: what its lines give, and their order.
-use Rattle.certificate.proofs.Imports.{All, AreInOrder, AreStops, CertificateLine, Circuit, Each, IsRising, Less, List}
+use Rattle.certificate.proofs.Imports.{All, AreLinesInOrder, AreStopsOfLines, CertificateLine, Circuit, Each, IsRising}
+use Rattle.certificate.proofs.Imports.{Less, List}
 use Rattle.certificate.proofs.Imports.{LocalNet, Option, Pairs, Stop, StopLine, arith, cell_cmp, cell_of, circuit_wire}
-use Rattle.certificate.proofs.Imports.{common_steps, flat_map, is_cut, line_cmp, may_precede, moment_cmp, nat_cmp}
+use Rattle.certificate.proofs.Imports.{common_steps, flat_map, is_cut_line, line_cmp, may_precede, moment_cmp, nat_cmp}
 use Rattle.certificate.proofs.Imports.{ordering_then, pairs_flat, rank_of, refl, rising_of, sort_number_of, stop_in}
 use Rattle.certificate.proofs.Imports.{subst, sym, true, wire_of, ℕ, ◌≡◌}
 use Rattle.lemmas.proofs.Common.{all_unmapped}
@@ -20,14 +21,14 @@ StopBefore s t = ordering_then (nat_cmp s.time t.time) (cell_cmp s.cell t.cell) 
 
 stops_between : (i j : CertificateLine) → may_precede i j ≡ true →
     Each (λ s. Each (StopBefore s) (stop_in j)) (stop_in i)
-unfolding Each may_precede line_cmp rank_of sort_number_of cell_of is_cut
+unfolding Each may_precede line_cmp rank_of sort_number_of cell_of is_cut_line
 stops_between i j h1 = grind (arith, common_steps, is_less)
 
 stop_alone : (i : CertificateLine) → Pairs StopBefore (stop_in i)
 unfolding Each Pairs
 stop_alone i = grind (arith, common_steps)
 
-stop_lines_rise : (lines : List CertificateLine) → AreInOrder lines → Pairs StopBefore (flat_map stop_in lines)
+stop_lines_rise : (lines : List CertificateLine) → AreLinesInOrder lines → Pairs StopBefore (flat_map stop_in lines)
 stop_lines_rise lines o = grind (arith, common_steps, pairs_flat, stops_between, stop_alone, pairs_of_order)
 
 abbrev MomentBefore : listed.Stop → listed.Stop → Type 0
@@ -43,8 +44,8 @@ unfolding Each Pairs
 numbered_alone s o = grind (arith, common_steps)
 
 pub stops_rise : (c : Circuit) (l : LocalNet) (lines : List CertificateLine) (ss : List listed.Stop) →
-    AreInOrder lines →
-    AreStops c l (flat_map stop_in lines) ss → IsRising moment_cmp stop_moment ss
+    AreLinesInOrder lines →
+    AreStopsOfLines c l (flat_map stop_in lines) ss → IsRising moment_cmp stop_moment ss
 stops_rise c l lines ss o are =
     rising_of moment_cmp stop_moment (renumber_stop (circuit_wire l)) (λ a. refl) ss _ are.same
     (pairs_flat StopBefore MomentBefore (λ s. stop_with_wire_number s (wire_of c s.wire))
@@ -59,7 +60,7 @@ all_numbered : (P : Moment → Type 0) (s : StopLine) (o : Option ℕ) → P (re
 all_numbered P s o h1 = grind (arith, common_steps)
 
 pub stops_stand : (P : Moment → Type 0) (c : Circuit) (l : LocalNet) (lines : List StopLine) (ss : List listed.Stop) →
-    AreStops c l lines ss → All (λ s. P (record { time = s.time; cell = s.cell })) lines → All (λ r. P r.at) ss
+    AreStopsOfLines c l lines ss → All (λ s. P (record { time = s.time; cell = s.cell })) lines → All (λ r. P r.at) ss
 stops_stand P c l lines ss are h =
     all_unmapped (λ r. P r.at) (renumber_stop (circuit_wire l)) ss (subst (All (λ r. P r.at)) (sym are.same)
     (flat_all (λ r. P r.at) (λ s. stop_with_wire_number s (wire_of c s.wire))

@@ -13,7 +13,7 @@ use Rattle.certificate.proofs.Imports.{stored_signals, stored_stop, subst, sym, 
 use Rattle.certificate.proofs.Imports.{◌∙◌, ◌∷◌, ◌≡◌, IsGoodModule, IsWithinMaxSize, LayoutHeader, cell_at, size_fault}
 use Rattle.certificate.proofs.Imports.{suc, zero, ◌+◌, ◌≤◌, flat_map, common_steps}
 use Rattle.lemmas.proofs.Common.{all_unmapped}
-use Rattle.certificate_lines.specs.Modules.{IsAllowedEdge, IsAllowedHalo, IsAllowedStop, MayBeKept}
+use Rattle.certificate_lines.specs.Modules.{IsAllowedEdge, IsAllowedHalo, IsAllowedStop, MayGateBeKept}
 use Rattle.certificate_lines.proofs.Pairs.{pairs_at}
 use Rattle.certificate_lines.proofs.StoredLemmas.{cut_wires_with, cuts_with, edges_with, gates_with, halos_with}
 use Rattle.certificate_lines.proofs.StoredLemmas.{keeps_with, stops_with}
@@ -112,8 +112,8 @@ module _ {cs : List CircuitLine} {p : Pattern} {m : StoredModule} {hs : List Sto
 
   pub keeps_used : All (λ k. IsTrue (is_among m.gates.items k)) m.keeps.items
   keeps_used k d lt =
-      (subst (All (MayBeKept g m.gates.items)) (keeps_with c m hs)
-      (subst (λ us. All (MayBeKept g us) (keeps lines)) (gates_with c m hs) good.lines.keep_lines) k d lt).among
+      (subst (All (MayGateBeKept g m.gates.items)) (keeps_with c m hs)
+      (subst (λ us. All (MayGateBeKept g us) (keeps lines)) (gates_with c m hs) good.lines.keep_lines) k d lt).among
 
   pub edges_rising : AreBorderLinesRising m.edges.items
   edges_rising = grind (arith, common_steps, rising, edges_with, edges_rise)

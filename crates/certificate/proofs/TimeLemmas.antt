@@ -2,8 +2,10 @@
 use Rattle.certificate.proofs.Imports.{AreFaultless, CertificateLine, Circuit, Gate, IsFaultless, IsStopTimeTable, List}
 use Rattle.certificate.proofs.Imports.{Module, ModuleLines, Option, Setting, Some, StopLine, TimeLine, [], all_stops}
 use Rattle.certificate.proofs.Imports.{ap, arith, body_lines, certificate_grammar, common_steps, delay_and_meet_lines}
-use Rattle.certificate.proofs.Imports.{drop, drop_all, entry_fault, false, flat_map, get_or, is_module, last_of, length}
-use Rattle.certificate.proofs.Imports.{modules_of, refl, same_Some, slice_get, slice_get-get_or, time_lines_by_number}
+use Rattle.certificate.proofs.Imports.{drop, drop_all, entry_fault, false, flat_map, get_or, is_module_line, last_of}
+use Rattle.certificate.proofs.Imports.{length}
+use Rattle.certificate.proofs.Imports.{lines_of_numbered_gates, modules_of, refl, same_Some, slice_get}
+use Rattle.certificate.proofs.Imports.{slice_get-get_or}
 use Rattle.certificate.proofs.Imports.{slice_get_within, split_module, split_other, stop_in, sym, time_in_table}
 use Rattle.certificate.proofs.Imports.{time_lines_of_gates, ℕ, ◌++◌, ◌+◌, ◌<◌, ◌∙◌, ◌∷◌, ◌≡◌, ◌≤◌, StoredModule}
 use Rattle.certificate.proofs.Imports.{StoredStop, append_assoc, map, map-append, module_lines, stop_line, stops, take}
@@ -23,7 +25,8 @@ use Rattle.certificate_lines.proofs.ModuleSplit.{inner_module, inner_other}
 abbrev Splits : List CertificateLine → Type 0
 Splits es = flat_map stop_in es ≡ flat_map stop_in (body_lines es) ++ all_stops (modules_of es)
 
-splits_other : (e : CertificateLine) (es : List CertificateLine) → is_module e ≡ false → Splits es → Splits (e ∷ es)
+splits_other : (e : CertificateLine) (es : List CertificateLine) → is_module_line e ≡ false → Splits es →
+    Splits (e ∷ es)
 splits_other e es o h = grind (arith, common_steps, inner_other, split_other)
 
 splits_step : (e : CertificateLine) (es : List CertificateLine) → Splits es → Splits (e ∷ es)
@@ -55,8 +58,8 @@ all_in_modules l g v es good = grind (arith, common_steps, splits, starts_with_m
 -- ---- the lines of gates, one after the other
 
 numbered_step : (f : ℕ → Gate → List TimeLine) (n : ℕ) (gates : List Gate) (g : Gate) → slice_get gates n ≡ Some g →
-    time_lines_by_number f n (drop n gates) ≡ f n g ++ time_lines_by_number f (n + 1) (drop (n + 1) gates)
-unfolding time_lines_by_number
+    lines_of_numbered_gates f n (drop n gates) ≡ f n g ++ lines_of_numbered_gates f (n + 1) (drop (n + 1) gates)
+unfolding lines_of_numbered_gates
 numbered_step f n gates g at =
     let inside : n < length gates = slice_get_within gates n g at in
     let here : get_or gates n g ≡ g = same_Some _ _ (sym (slice_get-get_or gates n g inside) ∙ at) in
@@ -64,16 +67,16 @@ numbered_step f n gates g at =
 
 pub one_gate_more : (f : ℕ → Gate → List TimeLine) (all lines more : List TimeLine) (n : ℕ) (gates : List Gate)
     (g : Gate) → slice_get gates n ≡ Some g → more ≡ lines ++ f n g →
-    lines ++ time_lines_by_number f n (drop n gates) ≡ all →
-    more ++ time_lines_by_number f (n + 1) (drop (n + 1) gates) ≡ all
+    lines ++ lines_of_numbered_gates f n (drop n gates) ≡ all →
+    more ++ lines_of_numbered_gates f (n + 1) (drop (n + 1) gates) ≡ all
 one_gate_more f all lines more n gates g at grown so_far = grind (arith, common_steps, numbered_step)
 
-numbered_none : (f : ℕ → Gate → List TimeLine) (n : ℕ) → time_lines_by_number f n [] ≡ []
-unfolding time_lines_by_number
+numbered_none : (f : ℕ → Gate → List TimeLine) (n : ℕ) → lines_of_numbered_gates f n [] ≡ []
+unfolding lines_of_numbered_gates
 numbered_none f n = refl
 
 pub all_gates : (f : ℕ → Gate → List TimeLine) (all lines : List TimeLine) (n : ℕ) (gates : List Gate) →
-    length gates ≤ n → lines ++ time_lines_by_number f n (drop n gates) ≡ all → lines ≡ all
+    length gates ≤ n → lines ++ lines_of_numbered_gates f n (drop n gates) ≡ all → lines ≡ all
 all_gates f all lines n gates past so_far = grind (arith, common_steps, drop_all, numbered_none)
 
 -- ---- tables

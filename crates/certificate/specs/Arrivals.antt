@@ -21,7 +21,7 @@ pub record IsLastStopTime (c : Circuit) (ss : List StopLine) (w t : ℕ) : Type 
   pub greatest : All (λ u. u ≤ t) (stop_times_of_wire c ss w)
 
 -- from the last time of wire a to the first time of wire b there are this many steps
-pub record TakesStepsBetweenStops (c : Circuit) (ss : List StopLine) (steps a b : ℕ) : Type 0 where
+pub record TakesStepsFromLastToFirstStop (c : Circuit) (ss : List StopLine) (steps a b : ℕ) : Type 0 where
   pub leaves : ℕ
   pub last : IsLastStopTime c ss a leaves
   pub first : IsFirstStopTime c ss b (leaves + steps)
@@ -37,13 +37,13 @@ IsDelayBetweenWires c k n a b =
 
 -- each delay takes as many steps as it says, and for each gate there is a time at which its inputs meet
 pub record AreOnTime (c : Circuit) (ss : List StopLine) : Type 0 where
-  pub delays : (k n a b : ℕ) → IsDelayBetweenWires c k n a b → TakesStepsBetweenStops c ss n a b
+  pub delays : (k n a b : ℕ) → IsDelayBetweenWires c k n a b → TakesStepsFromLastToFirstStop c ss n a b
   pub meetings : (k : ℕ) (g : Gate) → slice_get c.netlist.gates k ≡ Some g → (t : ℕ) × LastStopsMeetAt c ss g.ins t
 
 -- what is told of a delay by its two wires, the one that it uses and the one that it defines: how many steps it takes,
 -- that one of them has no stop, or that the first time of the second comes before the last of the first
 abbrev pub IsDelayGapTrue : Circuit → List StopLine → StopGap → (a b : ℕ) → Type 0
-IsDelayGapTrue c ss (Steps m) a b = TakesStepsBetweenStops c ss m a b
+IsDelayGapTrue c ss (Steps m) a b = TakesStepsFromLastToFirstStop c ss m a b
 IsDelayGapTrue c ss Missing a b = (s t : ℕ) → IsLastStopTime c ss a s → ¬ IsFirstStopTime c ss b t
 IsDelayGapTrue c ss Before a b = (s : ℕ) × (t : ℕ) × IsLastStopTime c ss a s × IsFirstStopTime c ss b t × (t < s)
 

@@ -4,10 +4,10 @@ use Rattle.std.specs.List.{All}
 use Rattle.bbm_rule.specs.declared.block.Box2.{Box2}
 use Rattle.circuit.specs.Bridge.{circuit_of}
 use Rattle.circuit.specs.declared.circuit_line.CircuitLine.{CircuitLine}
-use Rattle.module_box.specs.Tiling.{AreOwners, OwnersView}
+use Rattle.module_box.specs.Tiling.{IsTilingOwnerTable, OwnersView}
 use Rattle.pattern.specs.Layout.{Pattern}
 use Rattle.certificate_lines.specs.Entries.{ModuleLines}
-use Rattle.certificate_lines.specs.Modules.{AreModules, HasLocalPorts, IsModule, IsWithinLineLimit}
+use Rattle.certificate_lines.specs.Modules.{AreModules, HasLocalPortWires, IsModule, IsWithinLineLimit}
 use Rattle.certificate_lines.specs.Settings.{setting_of}
 use Rattle.certificate_lines.specs.StoredModules.{HasCircuitWire, HasCircuitWires, module_lines, module_lines_with}
 use Rattle.certificate_lines.specs.declared.stored_module.StoredBorder.{StoredBorder}
@@ -28,10 +28,10 @@ pub record IsGoodModule (cs : List CircuitLine) (p : Pattern) (m : StoredModule)
   pub wires : HasCircuitWires (circuit_of cs) m
   pub halo_wires : All (HasCircuitWire (circuit_of cs)) hs
   pub lines : IsModule (setting_of cs p) (module_lines_with (circuit_of cs) m hs)
-  pub ports : HasLocalPorts (setting_of cs p) (module_lines_with (circuit_of cs) m hs)
+  pub ports : HasLocalPortWires (setting_of cs p) (module_lines_with (circuit_of cs) m hs)
 
 -- the table is of the layout's whole rectangle, and has the box of each cell
-pub record AreOwnersOf (p : Pattern) (boxes : List Box2) (o : OwnersView) : Type 0 where
+pub record IsLayoutOwnerTable (p : Pattern) (boxes : List Box2) (o : OwnersView) : Type 0 where
   pub width : o.width ≡ p.size.w
   pub height : o.height ≡ p.size.h
-  pub owners : AreOwners o boxes
+  pub owners : IsTilingOwnerTable o boxes

@@ -7,8 +7,9 @@ use Rattle.certificate_lines.specs.Entries.{Setting, ModuleLines, modules_of}
 use Rattle.certificate_lines.specs.Forms.{form_of}
 use Rattle.certificate_lines.specs.Rules.{entry_fault, end_fault, module_limit_fault}
 use Rattle.section_text.specs.declared.limits.Limits.{Limits}
-use Rattle.certificate_lines.specs.Versions.{is_halo, is_haloless_version, lacks_edge_wire_beside, modules_by_version}
-use Rattle.certificate_lines.specs.Versions.{without_halos}
+use Rattle.certificate_lines.specs.Versions.{has_nonlocal_edge_wire_beside, is_halo_line, is_haloless_version}
+use Rattle.certificate_lines.specs.Versions.{modules_by_version}
+use Rattle.certificate_lines.specs.Versions.{without_halo_lines}
 use Rattle.certificate_lines.specs.declared.certificate_line.CertificateLine.{CertificateLine}
 use Rattle.certificate.specs.declared.version.Version.{Version}
 use Rattle.certificate.specs.declared.version.Version.TheVariants.{WithHalos, WithoutHalos}
@@ -23,11 +24,11 @@ certificate_grammar l g = record {
   form = form_of;
   header_fault = λ version. code_if (not (version == 1 || version == 2)) PastLimit;
   item_fault = λ version before i.
-      or_else (code_if (is_haloless_version version && is_halo i) NoForm)
+      or_else (code_if (is_haloless_version version && is_halo_line i) NoForm)
       (or_else (module_limit_fault l g before i) (entry_fault g before i));
   end_fault = λ version entries.
       or_else (end_fault g entries)
-      (code_if (is_haloless_version version && lacks_edge_wire_beside g (modules_of entries)) SomethingMissing);
+      (code_if (is_haloless_version version && has_nonlocal_edge_wire_beside g (modules_of entries)) SomethingMissing);
 }
 
 -- the number of a version
@@ -53,4 +54,4 @@ modules_in c = modules_by_version c.version (setting_of c.circuit c.layout) (mod
 
 -- a certificate written in version 2: without its halo lines
 abbrev pub migrated : CertView → CertView
-migrated c = record c { version = 2; entries = without_halos c.entries }
+migrated c = record c { version = 2; entries = without_halo_lines c.entries }

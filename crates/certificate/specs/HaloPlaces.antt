@@ -5,7 +5,7 @@ use Rattle.std.specs.List.{filter, flat_map}
 use Rattle.std.specs.Option.{option_to_list}
 use Rattle.bbm_rule.specs.declared.block.Cell.{Cell}
 use Rattle.bbm_rule.specs.Boxes.{in_box, in_halo, in_ring, IsEvenBox}
-use Rattle.module_box.specs.Tiling.{AreOwners, OwnersView}
+use Rattle.module_box.specs.Tiling.{IsTilingOwnerTable, OwnersView}
 use Rattle.bbm_rule.specs.declared.block.Box2.{Box2}
 use Rattle.certificate_lines.specs.Entries.{Setting}
 use Rattle.certificate_lines.specs.StoredModules.{border_line, cell_at, module_lines}
@@ -37,21 +37,21 @@ abbrev pub IsInnerCell : Box2 → Cell → Type 0
 IsInnerCell b c = IsTrue (in_box b c.x c.y) × IsFalse (in_ring b c.x c.y)
 
 -- the table has the box of each cell of a rectangle, the boxes are even, and there is a list for each
-pub record AreBoxListsReady (boxes : List Box2) (o : OwnersView) (lists : List (List EdgePlace)) : Type 0 where
+pub record AreOwnersAndListsReady (boxes : List Box2) (o : OwnersView) (lists : List (List EdgePlace)) : Type 0 where
   pub small : (o.width ≤ max_side) × (o.height ≤ max_side)
-  pub owners : AreOwners o boxes
+  pub owners : IsTilingOwnerTable o boxes
   pub even : (k : ℕ) (b : Box2) → slice_get boxes k ≡ Some b → IsEvenBox b
   pub count : length lists ≡ length boxes
 
 -- the lists of the boxes that pass the test have the place more, at their ends
-pub record AddsPlaceWhere (boxes : List Box2) (test : Box2 → Bool) (place : EdgePlace)
+pub record AddsPlaceIfBoxPasses (boxes : List Box2) (test : Box2 → Bool) (place : EdgePlace)
     (old new : List (List EdgePlace)) : Type 0 where
   pub count : length new ≡ length old
   pub each : (i : ℕ) (b : Box2) → slice_get boxes i ≡ Some b →
       list_at_or_empty new i ≡ list_at_or_empty old i ++ (if test b then place ∷ [] else [])
 
 -- each list has more places, at its end: those of these edge lines that are for cells in the halo of its box
-pub record AddsEdgePlaces (ms : List StoredModule) (boxes : List Box2) (more : List StoredBorder)
+pub record AddsEdgePlacesInHalo (ms : List StoredModule) (boxes : List Box2) (more : List StoredBorder)
     (old new : List (List EdgePlace)) : Type 0 where
   pub count : length new ≡ length old
   pub each : (i : ℕ) (b : Box2) → slice_get boxes i ≡ Some b →
@@ -59,7 +59,7 @@ pub record AddsEdgePlaces (ms : List StoredModule) (boxes : List Box2) (more : L
       ++ filter (λ e. in_halo b (line_cell e).x (line_cell e).y) more
 
 -- each module from this number on has a list, with the places of the edge lines beside it
-pub record HaveEdgePlacesFrom (g : Setting) (ms : List StoredModule) (done : ℕ)
+pub record HaveEdgePlacesFromModule (g : Setting) (ms : List StoredModule) (done : ℕ)
     (lists : List (List EdgePlace)) : Type 0 where
   pub count : length lists ≡ length ms
   pub each : (i : ℕ) (m : StoredModule) → done ≤ i → slice_get ms i ≡ Some m →

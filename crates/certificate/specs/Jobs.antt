@@ -20,7 +20,7 @@ use Rattle.module_job.specs.declared.job.Demand.{Demand}
 use Rattle.module_job.specs.declared.job.Demand.TheVariants as Demanded
 use Rattle.module_job.specs.declared.job.Stop.{Stop}
 use Rattle.module_job.specs.Groups.{AreGroups}
-use Rattle.module_job.specs.Jobs.{JobView, job_start, job_demand, NamesOwnWires}
+use Rattle.module_job.specs.Jobs.{JobView, job_start, job_demand, NamesOnlyOwnWires}
 use Rattle.module_job.specs.Shapes.{shape_of}
 use Rattle.certificate_lines.specs.PortTables.{port_at}
 
@@ -111,7 +111,7 @@ pub record IsJobOf (c : Circuit) (p : Pattern) (m : ModuleLines) (j : JobView) :
   pub halos : renumber_signals (circuit_wire j.locals) j.halos ≡ line_signals c (halos m)
   pub stops : map (renumber_stop (circuit_wire j.locals)) j.stops ≡ stops_of_lines c (stops m)
   -- it names no wires but its own
-  pub own : NamesOwnWires j
+  pub own : NamesOnlyOwnWires j
   pub kept : map (circuit_gate j.locals) j.kept ≡ keeps m
   pub kept_are_used : All (λ k. k < length j.locals.netlist.gates) j.kept
 

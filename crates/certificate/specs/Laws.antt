@@ -17,11 +17,11 @@ use Rattle.certificate.specs.Grammars.{CertView, certificate_grammar, certificat
 use Rattle.certificate.specs.Jobs.{line_signals}
 use Rattle.certificate_lines.specs.Modules.{AreModules}
 use Rattle.certificate_lines.specs.Rules.{end_fault, entry_fault, is_bad_box_side, is_last_module_incomplete}
-use Rattle.certificate_lines.specs.Rules.{is_misplaced, overlaps}
-use Rattle.certificate_lines.specs.Versions.{is_halo}
+use Rattle.certificate_lines.specs.Rules.{is_odd_corner_or_outside, overlaps_earlier_box}
+use Rattle.certificate_lines.specs.Versions.{is_halo_line}
 use Rattle.certificate_lines.specs.declared.certificate_line.CertificateLine.TheVariants.{Module}
-use Rattle.certificate_lines.specs.Versions.{AreGoodLines, is_haloless_version, lacks_edge_wire_beside}
-use Rattle.certificate_lines.specs.Versions.{modules_by_version, with_halos, without_halos}
+use Rattle.certificate_lines.specs.Versions.{AreGoodLines, has_nonlocal_edge_wire_beside, is_haloless_version}
+use Rattle.certificate_lines.specs.Versions.{modules_by_version, with_halo_lines, without_halo_lines}
 use Rattle.certificate_lines.specs.declared.certificate_line.CertificateLine.{CertificateLine}
 use Rattle.certificate.specs.Text.{certificate_text}
 use Rattle.certificate.specs.Arrivals.{AreOnTime, IsTimeLineTrue}
@@ -68,17 +68,17 @@ ObeyedLinesAreOnTime = (c : Circuit) (ms : List ModuleLines) →
 -- if no edge line names a wire that a module beside it lacks, the modules of either version are modules of version 1
 abbrev pub BothVersionsGiveModules : Type 0
 BothVersionsGiveModules = (version : ℕ) (g : Setting) (ms : List ModuleLines) → AreModules g ms →
-    (is_haloless_version version && lacks_edge_wire_beside g ms) ≡ false →
+    (is_haloless_version version && has_nonlocal_edge_wire_beside g ms) ≡ false →
     AreModules g (modules_by_version version g ms)
 
 -- There, at an odd time below the steps, a cell of the halo of a module carries what the edge lines of the module that
 -- has it say.
-abbrev pub HaloIsEdgeBeside : Type 0
-HaloIsEdgeBeside = (g : Setting) (ms : List ModuleLines) → AreModules g ms →
+abbrev pub HaloCarriesOwnersEdge : Type 0
+HaloCarriesOwnersEdge = (g : Setting) (ms : List ModuleLines) → AreModules g ms →
     (i k : ℕ) (m owner : ModuleLines) (t : ℕ) (x y : ℤ) → slice_get ms i ≡ Some m → slice_get ms k ≡ Some owner →
     t % 2 ≡ 1 → t < g.size.steps →
     IsTrue (in_halo m.area x y) → IsTrue (in_box owner.area x y) →
-    signal_at (line_signals g.circuit (halos (with_halos g ms m))) t x y
+    signal_at (line_signals g.circuit (halos (with_halo_lines g ms m))) t x y
     ≡ signal_at (line_signals g.circuit (edges owner)) t x y
 
 -- the lines between a header and an end are good, and the end after them
@@ -87,9 +87,9 @@ pub record AreGoodSectionLines (g : Setting) (es : List CertificateLine) : Type 
   pub end : end_fault g es ≡ None
 
 -- good lines are good without the halo lines
-abbrev pub GoodWithoutHalos : Type 0
-GoodWithoutHalos = (g : Setting) (es : List CertificateLine) → AreGoodSectionLines g es →
-    AreGoodSectionLines g (without_halos es)
+abbrev pub HalolessLinesStayGood : Type 0
+HalolessLinesStayGood = (g : Setting) (es : List CertificateLine) → AreGoodSectionLines g es →
+    AreGoodSectionLines g (without_halo_lines es)
 
 -- each line passes the tests of a section of this version after those before it
 abbrev pub AreFaultlessLines : Limits → Setting → ℕ → List CertificateLine → List CertificateLine → Type 0
@@ -105,10 +105,10 @@ pub record IsSectionOf (l : Limits) (g : Setting) (version : ℕ) (es : List Cer
 
 -- So a section of version 1 is one of version 2 without its halo lines, if each module knows the wires of the edge
 -- lines beside it.
-abbrev pub SectionWithoutHalos : Type 0
-SectionWithoutHalos = (l : Limits) (g : Setting) (es : List CertificateLine) → IsSectionOf l g 1 es →
-    lacks_edge_wire_beside g (modules_of es) ≡ false →
-    IsSectionOf l g 2 (without_halos es)
+abbrev pub HalolessSectionIsVersionTwo : Type 0
+HalolessSectionIsVersionTwo = (l : Limits) (g : Setting) (es : List CertificateLine) → IsSectionOf l g 1 es →
+    has_nonlocal_edge_wire_beside g (modules_of es) ≡ false →
+    IsSectionOf l g 2 (without_halo_lines es)
 
 -- ---- limits
 
@@ -118,8 +118,8 @@ first_limits_module_code g before b =
     or_else (code_if (is_last_module_incomplete g (last_module before)) SomethingMissing)
     (or_else (code_if (is_bad_box_side b.w || is_bad_box_side b.h || nat_le 1024 (length (modules_of before)))
     PastLimit)
-    (or_else (code_if (is_misplaced g.size b) MisplacedBox)
-    (code_if (overlaps (areas (modules_of before)) b) MisplacedBox)))
+    (or_else (code_if (is_odd_corner_or_outside g.size b) MisplacedBox)
+    (code_if (overlaps_earlier_box (areas (modules_of before)) b) MisplacedBox)))
 
 -- and of any line
 abbrev pub first_limits_entry_fault : Setting → List CertificateLine → CertificateLine → Option RefusalCode
@@ -127,10 +127,10 @@ first_limits_entry_fault g before (Module b) = first_limits_module_code g before
 first_limits_entry_fault g before i = entry_fault g before i
 
 -- with the first limits a line is tested as in a text without the line `limits 2`
-abbrev pub FirstLimitsAreKept : Type 0
-FirstLimitsAreKept = (g : Setting) (version : ℕ) (before : List CertificateLine) (i : CertificateLine) →
+abbrev pub FirstLimitsAreUnchanged : Type 0
+FirstLimitsAreUnchanged = (g : Setting) (version : ℕ) (before : List CertificateLine) (i : CertificateLine) →
     (certificate_grammar First g).item_fault version before i
-    ≡ or_else (code_if (is_haloless_version version && is_halo i) NoForm) (first_limits_entry_fault g before i)
+    ≡ or_else (code_if (is_haloless_version version && is_halo_line i) NoForm) (first_limits_entry_fault g before i)
 
 -- a line that passes the first limits passes the second ones
 abbrev pub SecondLimitsAreWider : Type 0

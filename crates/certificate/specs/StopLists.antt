@@ -15,6 +15,6 @@ abbrev pub stored_stop : StoredStop → Stop
 stored_stop s = record { at = record { time = s.time; cell = cell_at s.column s.row }; wire = s.wire }
 
 -- the stops are what the lines say, and each wire is one of the module's
-pub record AreStops (c : Circuit) (l : LocalNet) (ss : List StopLine) (stops : List Stop) : Type 0 where
+pub record AreStopsOfLines (c : Circuit) (l : LocalNet) (ss : List StopLine) (stops : List Stop) : Type 0 where
   pub same : map (renumber_stop (circuit_wire l)) stops ≡ stops_of_lines c ss
   pub own : All (λ s. s.wire < wires l.netlist) stops

@@ -92,14 +92,14 @@ meet_line last k g = meet_line_of_times k (last_times last g.ins)
 -- ---- all lines
 
 -- the lines of gates, which are numbered from k on
-unfoldable pub time_lines_by_number : (ℕ → Gate → List TimeLine) → ℕ → List Gate → List TimeLine
-time_lines_by_number f k [] = []
-time_lines_by_number f k (g ∷ gs) = f k g ++ time_lines_by_number f (k + 1) gs
+unfoldable pub lines_of_numbered_gates : (ℕ → Gate → List TimeLine) → ℕ → List Gate → List TimeLine
+lines_of_numbered_gates f k [] = []
+lines_of_numbered_gates f k (g ∷ gs) = f k g ++ lines_of_numbered_gates f (k + 1) gs
 
 -- those of all delays, and then those of all meetings
 abbrev pub time_lines_of_gates : (first last : ℕ → Option ℕ) → List Gate → List TimeLine
 time_lines_of_gates first last gates =
-    time_lines_by_number (delay_line first last) 0 gates ++ time_lines_by_number (meet_line last) 0 gates
+    lines_of_numbered_gates (delay_line first last) 0 gates ++ lines_of_numbered_gates (meet_line last) 0 gates
 
 -- by the stops of all modules
 abbrev pub delay_and_meet_lines : Circuit → List ModuleLines → List TimeLine
@@ -109,13 +109,13 @@ delay_and_meet_lines c ms = time_lines_of_gates (first_seen_time c (all_stops ms
 -- ---- the rules
 
 -- a delay takes as many steps as it says, and inputs meet at one time
-abbrev pub is_obeyed : TimeLine → Bool
-is_obeyed (line.Delay k n (Steps m)) = m == n
-is_obeyed (line.Delay k n Missing) = false
-is_obeyed (line.Delay k n Before) = false
-is_obeyed (line.Meet k (Some t)) = true
-is_obeyed (line.Meet k None) = false
+abbrev pub is_timing_obeyed : TimeLine → Bool
+is_timing_obeyed (line.Delay k n (Steps m)) = m == n
+is_timing_obeyed (line.Delay k n Missing) = false
+is_timing_obeyed (line.Delay k n Before) = false
+is_timing_obeyed (line.Meet k (Some t)) = true
+is_timing_obeyed (line.Meet k None) = false
 
 -- each line of a certificate says so
 abbrev pub are_all_timings_obeyed : List TimeLine → Bool
-are_all_timings_obeyed lines = list_all is_obeyed lines
+are_all_timings_obeyed lines = list_all is_timing_obeyed lines

@@ -4,10 +4,10 @@ ghost use Rattle.std.specs.List.{All};
 ghost use Rattle.circuit.specs.Entries.{defined};
 ghost use Rattle.pattern.specs.Layout.{parts_of};
 ghost use Rattle.circuit.specs.Bridge.{input_names, netlist_of};
-ghost use Rattle.circuit.specs.Meaning.{AreOrdered};
+ghost use Rattle.circuit.specs.Meaning.{AreGatesOrdered};
 ghost use Rattle.pattern.specs.Lines.{AreGoodAfter, size_fault};
-ghost use Rattle.certificate_lines.specs.Entries.{areas, counts_of, modules_of};
-ghost use Rattle.certificate.specs.GoodModules.{AreOwnersOf};
+ghost use Rattle.certificate_lines.specs.Entries.{areas, line_counts_of, modules_of};
+ghost use Rattle.certificate.specs.GoodModules.{IsLayoutOwnerTable};
 ghost use Rattle.certificate.specs.Grammars.{modules_in};
 ghost use Rattle.certificate_lines.specs.Settings.{setting_of};
 ghost use Rattle.certificate_lines.specs.Modules.{AreModules, IsWithinLineLimit};
@@ -39,11 +39,11 @@ impl<'a> Model for Cert<'a> {
 
     ghost Value = { CertView };
 
-    ghost use Rattle.certificate.specs.CertView.{cert_view, IsCert};
+    ghost use Rattle.certificate.specs.CertView.{AreCertFields, cert_view};
 
     ghost view = { cert_view };
 
-    ghost invariant = { IsCert };
+    ghost invariant = { AreCertFields };
 }
 
 impl<'a> Cert<'a> {
@@ -107,7 +107,7 @@ impl<'a> Cert<'a> {
         ensures written { AreModules (setting_of self.now.circuit self.now.layout)
             (modules_of self.now.entries) }
         ensures lines { All IsWithinLineLimit (modules_of self.now.entries) }
-        ensures ordered { AreOrdered (netlist_of self.now.circuit).given
+        ensures ordered { AreGatesOrdered (netlist_of self.now.circuit).given
             (netlist_of self.now.circuit).gates }
         ensures inputs { take (netlist_of self.now.circuit).given (defined self.now.circuit)
             ≡ input_names self.now.circuit }
@@ -126,7 +126,7 @@ impl<'a> Cert<'a> {
         ensures written { AreModules (setting_of self.now.circuit self.now.layout)
             (modules_of self.now.entries) }
         ensures lines { All IsWithinLineLimit (modules_of self.now.entries) }
-        ensures ordered { AreOrdered (netlist_of self.now.circuit).given
+        ensures ordered { AreGatesOrdered (netlist_of self.now.circuit).given
             (netlist_of self.now.circuit).gates }
         ensures inputs { take (netlist_of self.now.circuit).given (defined self.now.circuit)
             ≡ input_names self.now.circuit }
@@ -138,7 +138,8 @@ impl<'a> Cert<'a> {
     /// Returns the box of a module, and how many lines of each kind it has, for a number below `modules()`.
     pub fn counts(&self, number: usize) -> Counts
         requires { number < length (modules_of self.now.entries) }
-        ensures { slice_get (map counts_of (modules_of self.now.entries)) number ≡ Some result }
+        ensures { slice_get (map line_counts_of (modules_of self.now.entries)) number
+            ≡ Some result }
     {
         self.modules[number].counts()
     }
@@ -146,7 +147,8 @@ impl<'a> Cert<'a> {
     /// Returns the module that has each cell of the layout's rectangle.
     #[tactic(auto, using(certificate_lines::proofs::StoredLemmas::modules_stored))]
     pub fn owners(&self) -> &Owners
-        ensures { AreOwnersOf self.now.layout (areas (modules_of self.now.entries)) result.now }
+        ensures { IsLayoutOwnerTable self.now.layout (areas (modules_of self.now.entries))
+            result.now }
     {
         &self.owners
     }

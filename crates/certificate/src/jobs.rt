@@ -5,11 +5,11 @@ ghost use Rattle.std.specs.List.{All};
 ghost use Rattle.circuit.specs.Bridge.{circuit_of};
 ghost use Rattle.circuit.specs.Meaning.{wires};
 ghost use Rattle.module_box.specs.Locals.{circuit_wire, is_among};
-ghost use Rattle.module_box.specs.Moves.{IsInShiftRange};
+ghost use Rattle.module_box.specs.Moves.{IsCellInShiftRange};
 ghost use Rattle.certificate.specs.Grammars.{modules_in, version_number};
 ghost use Rattle.certificate_lines.specs.Entries.{areas};
 ghost use Rattle.certificate_lines.specs.Settings.{setting_of};
-ghost use Rattle.certificate.specs.GoodModules.{AreGoodModules, AreOwnersOf, IsGoodModule, all_module_lines};
+ghost use Rattle.certificate.specs.GoodModules.{AreGoodModules, IsGoodModule, IsLayoutOwnerTable, all_module_lines};
 ghost use Rattle.certificate.specs.Jobs.{AreJobsOf, HasShapeGroups, IsJobOf};
 ghost use Rattle.certificate_lines.specs.BuilderView.{IsWithinMaxSize};
 ghost use Rattle.certificate_lines.specs.StoredModules.{cell_at, module_lines_with};
@@ -17,7 +17,7 @@ ghost use Rattle.module_job.specs.Shapes.{signals_in_plane, stops_in_plane};
 ghost use Rattle.module_job.specs.Signals.{IsSignalWireBelow, renumber_signals, renumber_stop};
 ghost use Rattle.certificate.specs.StopLists.{stored_stop};
 ghost use Rattle.certificate.specs.Timetables.{AreBorderLinesRising, HasLocalWire, stored_signals};
-ghost use Rattle.certificate_lines.specs.Versions.{is_haloless_version, lacks_edge_wire_beside, modules_by_version, with_halos};
+ghost use Rattle.certificate_lines.specs.Versions.{has_nonlocal_edge_wire_beside, is_haloless_version, modules_by_version, with_halo_lines};
 ghost use Rattle.lemmas.specs.Bounds.{max_side};
 
 use crate::cert::Cert;
@@ -53,7 +53,7 @@ fn schedule_from_corner(
     ensures events { IfOk result (λ s. All
         (λ e. IsSignalWireBelow (wires locals.now.netlist) e.signal)
         (signals_in_plane area s).events) }
-    ensures in_shift_range { IfOk result (λ s. All (λ e. IsInShiftRange e.at.cell) s.events) }
+    ensures in_shift_range { IfOk result (λ s. All (λ e. IsCellInShiftRange e.at.cell) s.events) }
 {
     let signals = signals_of(alloc, locals, lines)?;
     Ok(signals.moved(shift_to_origin(area.x), shift_to_origin(area.y)))
@@ -73,7 +73,7 @@ fn stops_from_corner(
         (stops_in_plane area moved.items) ≡ map stored_stop stops.now) }
     ensures own_wires { IfOk result (λ moved. All (λ s. s.wire < wires locals.now.netlist)
         (stops_in_plane area moved.items)) }
-    ensures in_shift_range { IfOk result (λ moved. All (λ s. IsInShiftRange s.at.cell)
+    ensures in_shift_range { IfOk result (λ moved. All (λ s. IsCellInShiftRange s.at.cell)
         moved.items) }
 {
     let placed = stops_of(alloc, locals, stops)?;
@@ -154,12 +154,13 @@ fn jobs_with_implied_halos(
     modules: &[StoredModule],
 ) -> Result<Vec<Arc<Job>>, AllocError>
     requires good { AreGoodModules tables.now.circuit tables.now.layout modules.now }
-    requires owners { AreOwnersOf tables.now.layout
+    requires owners { IsLayoutOwnerTable tables.now.layout
         (areas (all_module_lines tables.now.circuit modules.now)) owners.now }
-    requires complete { lacks_edge_wire_beside (setting_of tables.now.circuit tables.now.layout)
+    requires complete { has_nonlocal_edge_wire_beside
+        (setting_of tables.now.circuit tables.now.layout)
         (all_module_lines tables.now.circuit modules.now) ≡ false }
     ensures { IfOk result (λ js. AreJobsOf (circuit_of tables.now.circuit) tables.now.layout
-        (map (with_halos (setting_of tables.now.circuit tables.now.layout)
+        (map (with_halo_lines (setting_of tables.now.circuit tables.now.layout)
         (all_module_lines tables.now.circuit modules.now))
         (all_module_lines tables.now.circuit modules.now))
         (map arc_value js.items)) }
@@ -188,10 +189,10 @@ fn jobs_of_version(
     modules: &[StoredModule],
 ) -> Result<Vec<Arc<Job>>, AllocError>
     requires good { AreGoodModules tables.now.circuit tables.now.layout modules.now }
-    requires owners { AreOwnersOf tables.now.layout
+    requires owners { IsLayoutOwnerTable tables.now.layout
         (areas (all_module_lines tables.now.circuit modules.now)) owners.now }
     requires complete { (is_haloless_version (version_number version)
-        && lacks_edge_wire_beside (setting_of tables.now.circuit tables.now.layout)
+        && has_nonlocal_edge_wire_beside (setting_of tables.now.circuit tables.now.layout)
         (all_module_lines tables.now.circuit modules.now)) ≡ false }
     ensures { IfOk result (λ js. AreJobsOf (circuit_of tables.now.circuit) tables.now.layout
         (modules_by_version (version_number version)

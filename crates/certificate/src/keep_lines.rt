@@ -48,7 +48,7 @@ pub(crate) fn kept_places(
 }
 
 // Notes the gates that a module keeps.
-fn note_keeps(kept: &mut IndexSet<u32>, keeps: &[GateNo]) -> Result<(), AllocError>
+fn note_kept_gates(kept: &mut IndexSet<u32>, keeps: &[GateNo]) -> Result<(), AllocError>
     ensures { OnOk result ((n : ℕ) →
         is_among kept.new.keys n ≡ (is_among kept.old.keys n || is_among keeps.now n)) }
 {
@@ -65,7 +65,7 @@ fn kept_gates(alloc: Global, modules: &[StoredModule]) -> Result<IndexSet<u32>, 
 {
     let mut kept = IndexSet::new(alloc);
     for module in modules {
-        note_keeps(&mut kept, &module.keeps)?;
+        note_kept_gates(&mut kept, &module.keeps)?;
     }
     Ok(kept)
 }

@@ -1,5 +1,5 @@
 //! Laws of the definitions, each the contract of a function without a body.
-ghost use Rattle.certificate.specs.Laws.{FirstLimitsAreKept, FirstSeenTimeIsLeast, SecondLimitsAreWider, GoodWithoutHalos, HaloIsEdgeBeside, ObeyedLinesAreOnTime, LastSeenTimeIsGreatest, TimeLinesAreTrue, BothVersionsGiveModules, PrintsWhatIsRead, ReadsWhatIsPrinted, SectionWithoutHalos};
+ghost use Rattle.certificate.specs.Laws.{FirstLimitsAreUnchanged, FirstSeenTimeIsLeast, SecondLimitsAreWider, HalolessLinesStayGood, HaloCarriesOwnersEdge, ObeyedLinesAreOnTime, LastSeenTimeIsGreatest, TimeLinesAreTrue, BothVersionsGiveModules, PrintsWhatIsRead, ReadsWhatIsPrinted, HalolessSectionIsVersionTwo};
 
 pub use module_job::laws::{
     equality_is_of_content, job_is_placed_shape, shape_bytes_are_injective,
@@ -42,13 +42,13 @@ pub fn time_lines_are_true()
 #[tactic(auto, using(crate::proofs::FullModules::meant_modules, crate::proofs::HaloSignals::halo_is_edge_beside, crate::proofs::Migrated::good_without_halos, crate::proofs::Migrated::section_without_halos))]
 pub fn version_2_maps_to_version_1()
     ensures modules { BothVersionsGiveModules }
-    ensures halos { HaloIsEdgeBeside }
-    ensures good { GoodWithoutHalos }
-    ensures section { SectionWithoutHalos }
+    ensures halos { HaloCarriesOwnersEdge }
+    ensures good { HalolessLinesStayGood }
+    ensures section { HalolessSectionIsVersionTwo }
 {}
 
 /// States that the first limits are those of a text without the line `limits 2`, and that the second ones let in more.
-pub fn first_limits_are_kept()
-    ensures kept { FirstLimitsAreKept }
+pub fn first_limits_are_unchanged()
+    ensures kept { FirstLimitsAreUnchanged }
     ensures wider { SecondLimitsAreWider }
 {}

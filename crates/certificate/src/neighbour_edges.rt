@@ -8,9 +8,9 @@ ghost use Rattle.bbm_rule.specs.declared.block.Box2.{Box2};
 ghost use Rattle.certificate_lines.specs.Entries.{areas};
 ghost use Rattle.certificate_lines.specs.Settings.{setting_of};
 ghost use Rattle.certificate_lines.specs.declared.stored_module.StoredModule.{StoredModule};
-ghost use Rattle.certificate.specs.GoodModules.{AreGoodModules, AreOwnersOf, all_module_lines};
-ghost use Rattle.certificate.specs.HaloPlaces.{AddsEdgePlaces, AddsPlaceWhere, AreBoxListsReady, HaveEdgePlacesFrom, IsInnerCell, line_cell, list_at_or_empty};
-ghost use Rattle.lemmas.specs.Bounds.{last_place, max_modules};
+ghost use Rattle.certificate.specs.GoodModules.{AreGoodModules, IsLayoutOwnerTable, all_module_lines};
+ghost use Rattle.certificate.specs.HaloPlaces.{AddsEdgePlacesInHalo, AddsPlaceIfBoxPasses, AreOwnersAndListsReady, HaveEdgePlacesFromModule, IsInnerCell, line_cell, list_at_or_empty};
+ghost use Rattle.lemmas.specs.Bounds.{last_column_or_row, max_modules};
 
 use crate::layout_tables::LayoutTables;
 use bbm_rule::{Cell, odd_partner};
@@ -89,9 +89,10 @@ fn push_place_if_owner_lacks_others(
     cell: Cell,
     others: &[Cell],
 ) -> Result<(), AllocError>
-    requires table { AreBoxListsReady boxes.now owners.now (map (λ l. l.items) lists.old.items) }
+    requires table { AreOwnersAndListsReady boxes.now owners.now
+        (map (λ l. l.items) lists.old.items) }
     requires inside { IsTrue (in_box (rectangle owners.now) cell.x cell.y) }
-    ensures { OnOk result (AddsPlaceWhere boxes.now
+    ensures { OnOk result (AddsPlaceIfBoxPasses boxes.now
         (λ b. in_box b cell.x cell.y && not (list_any (λ c. in_box b c.x c.y) others.now)) place
         (map (λ l. l.items) lists.old.items) (map (λ l. l.items) lists.new.items)) }
 {
@@ -106,8 +107,8 @@ fn push_place_if_owner_lacks_others(
 
 // The other cells of a block at odd times: in the cell's row, in its column, and the opposite one.
 fn other_cells_of_odd_block(cell: Cell) -> (Cell, Cell, Cell)
-    requires column { (pos 0 ≤ℤ cell.x) × (cell.x ≤ℤ pos last_place) }
-    requires row { (pos 0 ≤ℤ cell.y) × (cell.y ≤ℤ pos last_place) }
+    requires column { (pos 0 ≤ℤ cell.x) × (cell.x ≤ℤ pos last_column_or_row) }
+    requires row { (pos 0 ≤ℤ cell.y) × (cell.y ≤ℤ pos last_column_or_row) }
     ensures side { (result.0.x ≡ partner 1 cell.x) × (result.0.y ≡ cell.y) }
     ensures above { (result.1.x ≡ cell.x) × (result.1.y ≡ partner 1 cell.y) }
     ensures corner { (result.2.x ≡ partner 1 cell.x) × (result.2.y ≡ partner 1 cell.y) }
@@ -130,9 +131,10 @@ fn push_place_for_halo_boxes(
     place: EdgePlace,
     cell: Cell,
 ) -> Result<(), AllocError>
-    requires table { AreBoxListsReady boxes.now owners.now (map (λ l. l.items) lists.old.items) }
+    requires table { AreOwnersAndListsReady boxes.now owners.now
+        (map (λ l. l.items) lists.old.items) }
     requires inner { IsInnerCell (rectangle owners.now) cell }
-    ensures { OnOk result (AddsPlaceWhere boxes.now (λ b. in_halo b cell.x cell.y) place
+    ensures { OnOk result (AddsPlaceIfBoxPasses boxes.now (λ b. in_halo b cell.x cell.y) place
         (map (λ l. l.items) lists.old.items) (map (λ l. l.items) lists.new.items)) }
 {
     // Corners and sides are even, so a box with a neighbour of the cell has it or one of these.
@@ -151,13 +153,14 @@ fn push_edge_places_of_module(
     number: u16,
     edges: &[StoredBorder],
 ) -> Result<(), AllocError>
-    requires table { AreBoxListsReady boxes.now owners.now (map (λ l. l.items) lists.old.items) }
+    requires table { AreOwnersAndListsReady boxes.now owners.now
+        (map (λ l. l.items) lists.old.items) }
     requires inner { All (λ e. IsInnerCell (rectangle owners.now) (line_cell e)) edges.now }
     requires few { length edges.now ≤ 65536 }
     ensures count { OnOk result (length lists.new.items ≡ length lists.old.items) }
     ensures places { OnOk result ((ms : List StoredModule) (m : StoredModule) →
         slice_get ms number ≡ Some m → m.edges.items ≡ edges.now →
-        AddsEdgePlaces ms boxes.now edges.now (map (λ l. l.items) lists.old.items)
+        AddsEdgePlacesInHalo ms boxes.now edges.now (map (λ l. l.items) lists.old.items)
         (map (λ l. l.items) lists.new.items)) }
 {
     for (line, edge) in edges.iter().enumerate() {
@@ -177,12 +180,13 @@ fn push_edge_places(
     boxes: &[Box2],
     modules: &[StoredModule],
 ) -> Result<(), AllocError>
-    requires table { AreBoxListsReady boxes.now owners.now (map (λ l. l.items) lists.old.items) }
+    requires table { AreOwnersAndListsReady boxes.now owners.now
+        (map (λ l. l.items) lists.old.items) }
     requires inner { All (λ m. All (λ e. IsInnerCell (rectangle owners.now) (line_cell e))
         m.edges.items) modules.now }
     requires few_modules { length modules.now ≤ max_modules }
     requires few_lines { All (λ m. length m.edges.items ≤ 65536) modules.now }
-    ensures { OnOk result (AddsEdgePlaces modules.now boxes.now
+    ensures { OnOk result (AddsEdgePlacesInHalo modules.now boxes.now
         (flat_map (λ m. m.edges.items) modules.now) (map (λ l. l.items) lists.old.items)
         (map (λ l. l.items) lists.new.items)) }
 {
@@ -216,9 +220,9 @@ pub(crate) fn neighbour_edge_places(
     modules: &[StoredModule],
 ) -> Result<Vec<Vec<EdgePlace>>, AllocError>
     requires good { AreGoodModules tables.now.circuit tables.now.layout modules.now }
-    requires owners { AreOwnersOf tables.now.layout
+    requires owners { IsLayoutOwnerTable tables.now.layout
         (areas (all_module_lines tables.now.circuit modules.now)) owners.now }
-    ensures { IfOk result (λ lists. HaveEdgePlacesFrom
+    ensures { IfOk result (λ lists. HaveEdgePlacesFromModule
         (setting_of tables.now.circuit tables.now.layout) modules.now 0
         (map (λ l. l.items) lists.items)) }
 {

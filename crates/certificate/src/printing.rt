@@ -68,7 +68,11 @@ fn print_cuts(out: &mut Vec<u8>, circuit: &Circuit, cuts: &[WireNo]) -> Result<(
 }
 
 // The lines that use or keep gates.
-fn print_gates(out: &mut Vec<u8>, word: &[u8], gates: &[GateNo]) -> Result<(), AllocError>
+fn print_use_or_keep_lines(
+    out: &mut Vec<u8>,
+    word: &[u8],
+    gates: &[GateNo],
+) -> Result<(), AllocError>
     ensures { OnOk result (out.new.items ≡ out.old.items
         ++ flat_map (λ k. line_text word.now (decimal k ∷ [])) gates.now) }
 {
@@ -161,8 +165,8 @@ pub(crate) fn print_module_lines(
 {
     print_module(out, stored.area)?;
     print_cuts(out, circuit, &stored.cuts)?;
-    print_gates(out, b"use", &stored.gates)?;
-    print_gates(out, b"keep", &stored.keeps)?;
+    print_use_or_keep_lines(out, b"use", &stored.gates)?;
+    print_use_or_keep_lines(out, b"keep", &stored.keeps)?;
     print_borders(out, b"edge", circuit, &stored.edges)?;
     print_borders(out, b"halo", circuit, halos)?;
     print_stops(out, circuit, &stored.stops)?;

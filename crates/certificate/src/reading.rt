@@ -4,7 +4,7 @@ ghost use Rattle.section_text.specs.Section.{Reads};
 ghost use Rattle.certificate.specs.Grammars.{certificate_grammar, certificate_section, version_number};
 ghost use Rattle.section_text.specs.declared.limits.Limits.TheVariants.{First};
 ghost use Rattle.certificate_lines.specs.Settings.{setting_of};
-ghost use Rattle.certificate_lines.specs.Versions.{is_halo};
+ghost use Rattle.certificate_lines.specs.Versions.{is_halo_line};
 
 use crate::cert::Cert;
 use crate::version::Version;
@@ -46,9 +46,9 @@ struct Reading<'a, S: CertificateSetting> {
 }
 
 // Whether a line is a halo line.
-#[tactic(auto, unfolding(certificate_lines::specs::Versions::is_halo))]
-fn is_halo(line: &CertificateLine) -> bool
-    ensures { result ≡ is_halo line.now }
+#[tactic(auto, unfolding(certificate_lines::specs::Versions::is_halo_line))]
+fn is_halo_line(line: &CertificateLine) -> bool
+    ensures { result ≡ is_halo_line line.now }
 {
     matches!(line, CertificateLine::Halo(_))
 }
@@ -79,7 +79,7 @@ impl<'a, S: CertificateSetting> Section for Reading<'a, S> {
     }
 
     fn add(&mut self, entry: CertificateLine) -> Result<(), LineFault> {
-        if self.version.is_haloless() & is_halo(&entry) {
+        if self.version.is_haloless() & is_halo_line(&entry) {
             return Err(LineFault::Code(RefusalCode::NoForm));
         }
         if let Some(code) = self.builder.module_limit_code(self.limits, &entry) {
@@ -92,7 +92,7 @@ impl<'a, S: CertificateSetting> Section for Reading<'a, S> {
         if let Some(code) = self.builder.missing() {
             return Some(code);
         }
-        if self.version.is_haloless() && self.builder.lacks_edge_wire_beside() {
+        if self.version.is_haloless() && self.builder.has_nonlocal_edge_wire_beside() {
             return Some(RefusalCode::SomethingMissing);
         }
         None

@@ -6,7 +6,7 @@ ghost use Rattle.circuit.specs.Meaning.{Circuit as Meant, wires};
 ghost use Rattle.circuit.specs.Wiring.{gate_of};
 ghost use Rattle.certificate_lines.specs.StoredModules.{HasCircuitWires, IsCircuitWire, module_lines, stop_line};
 ghost use Rattle.certificate.specs.Grammars.{modules_in};
-ghost use Rattle.certificate.specs.Times.{common_time, all_stops, delay_line, gap_between, is_obeyed, last_times, time_lines_of_gates, meet_line, first_wire_time, delay_and_meet_lines};
+ghost use Rattle.certificate.specs.Times.{common_time, all_stops, delay_line, gap_between, is_timing_obeyed, last_times, time_lines_of_gates, meet_line, first_wire_time, delay_and_meet_lines};
 ghost use Rattle.certificate.specs.SeenTimes.{IsStopTimeTable, chosen_time, time_in_table};
 ghost use Rattle.certificate_lines.specs.declared.certificate_line.StopLine.{StopLine as Line};
 
@@ -45,8 +45,8 @@ pub enum TimeLine {
 
 impl TimeLine {
     /// Returns whether the delay takes as many steps as it says, or the inputs meet.
-    pub fn is_obeyed(&self) -> bool
-        ensures { result ≡ is_obeyed self.now }
+    pub fn is_timing_obeyed(&self) -> bool
+        ensures { result ≡ is_timing_obeyed self.now }
     {
         match self {
             TimeLine::Delay {

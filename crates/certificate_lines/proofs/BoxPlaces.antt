@@ -1,6 +1,7 @@
 -- The places of the cells of a box, row by row
 use Rattle.certificate_lines.proofs.Imports.{Box2, Cell, List, Some, [], ap, ap₂, arith, cell, cell_itself}
-use Rattle.certificate_lines.proofs.Imports.{common_steps, flat_map, in_box, in_box_nats, is_at, length, length-map}
+use Rattle.certificate_lines.proofs.Imports.{common_steps, flat_map, in_box, in_box_nats, is_cell_at, length}
+use Rattle.certificate_lines.proofs.Imports.{length-map}
 use Rattle.certificate_lines.proofs.Imports.{map, place_in, pos, range_with_len, rectangle_cells, refl, row_cells}
 use Rattle.certificate_lines.proofs.Imports.{slice_get, suc, sym, true, zero, ℕ, ℤ, ◌*◌, ◌++◌, ◌+◌, ◌-◌, ◌<◌, ◌∙◌, ◌∷◌}
 use Rattle.certificate_lines.proofs.Imports.{◌≡◌, ◌≤◌}
@@ -72,7 +73,7 @@ box_place b x y h = grind (arith, common_steps, in_box_nats, nat_place)
 -- the cells of a box are in it
 pub cells_inside : (b : Box2) (k : ℕ) (c : Cell) → slice_get (rectangle_cells b) k ≡ Some c → in_box b c.x c.y ≡ true
 cells_inside b k c e = sym (in_box_cells b c.x c.y)
-    ∙ any_at (λ (d : Cell). is_at d c.x c.y) (rectangle_cells b) k c e (cell_itself c)
+    ∙ any_at (λ (d : Cell). is_cell_at d c.x c.y) (rectangle_cells b) k c e (cell_itself c)
 
 -- ---- a list with an element for each cell of a box
 

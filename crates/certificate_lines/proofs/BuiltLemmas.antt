@@ -1,5 +1,6 @@
 -- The modules so far, after one more module and after one more line.
-use Rattle.certificate_lines.proofs.Imports.{AreApart, AreBuilt, AreGoodModulesSoFar, AreInOrder, Box2, Cell}
+use Rattle.certificate_lines.proofs.Imports.{AreBoxesDisjoint, AreGoodModulesSoFar, AreLinesInOrder}
+use Rattle.certificate_lines.proofs.Imports.{AreModulesWithOwners, Box2, Cell}
 use Rattle.certificate_lines.proofs.Imports.{CertificateLine, IsEvenBox, IsInside, IsModule, IsModuleInLimits}
 use Rattle.certificate_lines.proofs.Imports.{LayoutHeader, List, ModuleLines, None, Option, RefusalCode, Setting, Some}
 use Rattle.certificate_lines.proofs.Imports.{StarsExcludeLaterTimes, [], ap, areas, arith, module_box_code, change_last}
@@ -9,7 +10,7 @@ use Rattle.certificate_lines.proofs.Imports.{map-append, module_line_code, modul
 use Rattle.certificate_lines.proofs.Imports.{rectangle_cells, refl, slice_get, slice_get_within, subst, sym, true}
 use Rattle.certificate_lines.proofs.Imports.{true≢false, ℕ, ℤ, ◌%◌, ◌++◌, ◌+◌, ◌-◌, ◌<◌, ◌∙◌, ◌∷◌, ◌≡◌, ◌≤◌}
 use Rattle.lemmas.proofs.Common.{or_parts}
-use Rattle.certificate_lines.specs.Rules.{is_bad_box_side, overlaps, in_boxes}
+use Rattle.certificate_lines.specs.Rules.{is_bad_box_side, overlaps_earlier_box, in_boxes}
 use Rattle.certificate_lines.proofs.Growing.{areas_changed, length_changed, changed_at, last_at, last_by_place}
 use Rattle.certificate_lines.proofs.Lists.{any_at}
 use Rattle.certificate_lines.proofs.ModulePushes.{no_code, less}
@@ -35,7 +36,7 @@ pub record IsGoodModule (g : Setting) (ms : List ModuleLines) (before : Option M
   pub complete : is_last_module_incomplete g before ≡ false
   pub few : length ms < max_modules
   pub box : IsGoodBox g.size b
-  pub free : overlaps (areas ms) b ≡ false
+  pub free : overlaps_earlier_box (areas ms) b ≡ false
 
 -- what the tests of a box by itself say
 pub record PassesAlone (g : Setting) (count : ℕ) (before : Option ModuleLines) (b : Box2) : Type 0 where
@@ -63,7 +64,7 @@ early_fault g ms before b code e = rw e refl
 
 -- a module without lines
 begun_module : (g : Setting) (b : Box2) → IsGoodBox g.size b → IsModule g (record { area = b; lines = [] })
-unfolding AreInOrder StarsExcludeLaterTimes
+unfolding AreLinesInOrder StarsExcludeLaterTimes
 begun_module g b good = grind (arith, common_steps, none_at)
 
 begun : (g : Setting) (b : Box2) → IsGoodBox g.size b → IsModuleInLimits g (record { area = b; lines = [] })
@@ -78,7 +79,7 @@ at_cell : ℤ → ℤ → Cell
 at_cell x y = record { x = x; y = y }
 
 -- a cell of a box that is free lies in no earlier box
-free_cell : (boxes : List Box2) (b : Box2) → overlaps boxes b ≡ false → (x y : ℤ) (i : ℕ) (d : Box2) →
+free_cell : (boxes : List Box2) (b : Box2) → overlaps_earlier_box boxes b ≡ false → (x y : ℤ) (i : ℕ) (d : Box2) →
     slice_get boxes i ≡ Some d → in_box d x y ≡ true → in_box b x y ≡ true → ⊥
 unfolding at_cell
 free_cell boxes b free x y i d e here inside =
@@ -86,7 +87,8 @@ free_cell boxes b free x y i d e here inside =
     true≢false (sym (has_cell (λ c. in_boxes boxes c.x c.y) (rectangle_cells b) (at_cell x y)
     (in_box_cells b x y ∙ inside) among) ∙ free)
 
-apart_push : (boxes : List Box2) (b : Box2) → AreApart boxes → overlaps boxes b ≡ false → AreApart (boxes ++ b ∷ [])
+apart_push : (boxes : List Box2) (b : Box2) → AreBoxesDisjoint boxes → overlaps_earlier_box boxes b ≡ false →
+    AreBoxesDisjoint (boxes ++ b ∷ [])
 apart_push boxes b apart free = grind (arith, common_steps, pushed, free_cell)
 
 pub last_is : (ms : List ModuleLines) (i : ℕ) (m : ModuleLines) → i + 1 ≡ length ms → slice_get ms i ≡ Some m →
@@ -116,12 +118,14 @@ module _ (g : Setting) (ms : List ModuleLines) where
       | inl old ↦ sound.each k m old
       | inr new ↦ subst (IsModuleInLimits g) new.1 (begun g b good.box)
     ];
-    apart = subst AreApart (sym (areas_push ms (new_module b))) (apart_push (areas ms) b sound.apart good.free);
+    apart = subst AreBoxesDisjoint (sym (areas_push ms (new_module b))) (apart_push (areas ms) b sound.apart good.free);
     ported = ported_push b sound.ported good.complete;
   }
 
-  pub module_built : (b : Box2) (old new : OwnersView) → AreBuilt g ms old → IsGoodModule g ms (last_of ms) b →
-      (number : ℕ) → number ≡ length ms → PutsBox b number old new → AreBuilt g (ms ++ new_module b ∷ []) new
+  pub module_built : (b : Box2) (old new : OwnersView) → AreModulesWithOwners g ms old →
+      IsGoodModule g ms (last_of ms) b →
+      (number : ℕ) → number ≡ length ms → PutsBox b number old new →
+      AreModulesWithOwners g (ms ++ new_module b ∷ []) new
   module_built b old new built good number is puts = grind (arith, common_steps, module_sound, areas_push, length-map)
 
   -- one more line of the last module
@@ -135,13 +139,13 @@ module _ (g : Setting) (ms : List ModuleLines) where
       | inr new ↦ subst (IsModuleInLimits g) (sym new.3)
           (grows new.0 new.2 (let at = last_at ms new.0 new.2 in sound.each at.0 new.0 at.2))
     ];
-    apart = subst AreApart (sym (areas_changed i ms)) sound.apart;
+    apart = subst AreBoxesDisjoint (sym (areas_changed i ms)) sound.apart;
     ported = grind (arith, common_steps, changed_at, length_changed);
   }
 
-  pub line_built : (i : CertificateLine) (o : OwnersView) → AreBuilt g ms o →
+  pub line_built : (i : CertificateLine) (o : OwnersView) → AreModulesWithOwners g ms o →
       ((m : ModuleLines) → last_of ms ≡ Some m → IsModuleInLimits g m → IsModuleInLimits g (module_with_line i m)) →
-      AreBuilt g (change_last (module_with_line i) ms) o
+      AreModulesWithOwners g (change_last (module_with_line i) ms) o
   line_built i o built grows = record {
     sound = line_sound i built.sound grows;
     owners = grind (arith, common_steps, areas_changed);

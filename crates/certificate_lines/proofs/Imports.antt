@@ -4,24 +4,26 @@ pub use Rattle.bbm_rule.proofs.Imports.{set, to_z-of_z}
 pub use Rattle.bbm_rule.proofs.SameCells.{cell_itself, cell_same}
 pub use Rattle.bbm_rule.specs.declared.block.Box2.{Box2}
 pub use Rattle.bbm_rule.specs.declared.block.Cell.{Cell}
-pub use Rattle.certificate_lines.specs.BuilderView.{AreApart, AreBuilt, AreGoodModulesSoFar, AreLocalWiresOfModules}
+pub use Rattle.certificate_lines.specs.BuilderView.{AreBoxesDisjoint, AreGoodModulesSoFar, AreLocalWiresOfModules}
+pub use Rattle.certificate_lines.specs.BuilderView.{AreModulesWithOwners}
 pub use Rattle.certificate_lines.specs.BuilderView.{BuilderView, IsBodyLine, IsModuleInLimits, does_neighbour_lack_wire}
-pub use Rattle.certificate_lines.specs.BuilderView.{is_outside_and_nonlocal, lacks_edge_wire, last_body_line}
-pub use Rattle.certificate_lines.specs.Entries.{ModuleLines, Setting, areas, counts_of, cut_name_in, cuts, edge_in}
+pub use Rattle.certificate_lines.specs.BuilderView.{is_outside_and_nonlocal, lacks_wire_of_some_edge, last_body_line}
+pub use Rattle.certificate_lines.specs.Entries.{ModuleLines, Setting, areas, cut_name_in, cuts, edge_in, line_counts_of}
 pub use Rattle.certificate_lines.specs.Entries.{edges, gates, halo_in, kept_gate_in, known, last_module}
 pub use Rattle.certificate_lines.specs.Entries.{module_with_line, stop_in, used_gate_in}
 unfoldable pub use Rattle.certificate_lines.specs.Entries.{add_line, change_last, last_of, modules_of}
 unfoldable pub use Rattle.certificate_lines.specs.Forms.{border_of, form_of, stop_of}
 pub use Rattle.certificate_lines.specs.LineKeys.{key_of, key_or_first}
-pub use Rattle.certificate_lines.specs.ModuleParts.{AreInBox, is_module}
+pub use Rattle.certificate_lines.specs.ModuleParts.{AreLinesInBox, is_module_line}
 unfoldable pub use Rattle.certificate_lines.specs.ModuleParts.{body_lines}
 pub use Rattle.certificate_lines.specs.Modules.{IsModule}
 unfoldable pub use Rattle.certificate_lines.specs.Modules.{StarsExcludeLaterTimes}
-unfoldable pub use Rattle.certificate_lines.specs.Orders.{AreInOrder, cell_of, is_cut, line_cmp, may_follow}
+unfoldable pub use Rattle.certificate_lines.specs.Orders.{AreLinesInOrder, cell_of, is_cut_line, line_cmp, may_follow}
 unfoldable pub use Rattle.certificate_lines.specs.Orders.{may_precede, rank_of, sort_number_of}
-pub use Rattle.certificate_lines.specs.PortTables.{AreNumberedRows, ArePortsInLayout, CircuitAndPorts, IsPortTable}
+pub use Rattle.certificate_lines.specs.PortTables.{ArePortTableFields, ArePortsInLayout, AreRowsWithPortsNumbered}
+pub use Rattle.certificate_lines.specs.PortTables.{CircuitAndPorts}
 pub use Rattle.certificate_lines.specs.PortTables.{entry_place}
-unfoldable pub use Rattle.certificate_lines.specs.PortTables.{entry_place_by_row_number, number_at, port_at}
+unfoldable pub use Rattle.certificate_lines.specs.PortTables.{entry_place_by_row_number, port_at, port_number_at}
 pub use Rattle.certificate_lines.specs.Rules.{body_line_code, code_but_for_order, is_last_module_incomplete, is_local}
 pub use Rattle.certificate_lines.specs.Rules.{is_local_wire, is_odd, is_star, is_starred_line_at, same_cell, whole}
 unfoldable pub use Rattle.certificate_lines.specs.Rules.{are_new_and_distinct, module_box_code, end_fault}
@@ -50,7 +52,8 @@ pub use Rattle.module_box.proofs.Imports.{List}
 pub use Rattle.module_box.proofs.Imports.{Netlist, None, Option, Ordering, SFits, Some, [], and_from, and_parts, ap}
 pub use Rattle.module_box.proofs.Imports.{append_assoc, ap₂, arith, cases_Bool, common_steps, drop, eqb-true, false}
 pub use Rattle.module_box.proofs.Imports.{false≢true, flat_map, get_or, get_or_default, get_or_from_slice_get, inl, inr}
-pub use Rattle.module_box.proofs.Imports.{ints, is_among, is_at, is_some, length, length-map, length_push, map, nat_eq}
+pub use Rattle.module_box.proofs.Imports.{ints, is_among, is_cell_at, is_some, length, length-map, length_push, map}
+pub use Rattle.module_box.proofs.Imports.{nat_eq}
 pub use Rattle.module_box.proofs.Imports.{ne_eqb, not, or_cases, pos, range_with_len, rectangle, refl, rules, slice_get}
 pub use Rattle.module_box.proofs.Imports.{slice_get-get_or, slice_get_within, span_from, subst, suc, sym, take}
 pub use Rattle.module_box.proofs.Imports.{take_more, true, true≢false, unsigned_abs, w32, zero, ℕ, ℤ, ◌%◌, ◌&&◌, ◌*◌}

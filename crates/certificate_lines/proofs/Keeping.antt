@@ -1,5 +1,6 @@
 -- The tables of the lines after one more line.
-use Rattle.certificate_lines.proofs.Imports.{AreBuilt, AreInOrder, AreLocalWiresOfModules, Bool, BorderLine, Box2, Cell}
+use Rattle.certificate_lines.proofs.Imports.{AreLinesInOrder, AreLocalWiresOfModules, AreModulesWithOwners, Bool}
+use Rattle.certificate_lines.proofs.Imports.{BorderLine, Box2, Cell}
 use Rattle.certificate_lines.proofs.Imports.{CertificateLine, Circuit, Cut, IsBodyLine, IsModule, IsModuleInLimits}
 use Rattle.certificate_lines.proofs.Imports.{LineKey, List, Module, ModuleLines, None, Option, OutOfOrder, Port}
 use Rattle.certificate_lines.proofs.Imports.{RefusalCode, Setting, Some, Use, [], add_line, ap, append-nil, arith}
@@ -13,7 +14,8 @@ use Rattle.certificate_lines.proofs.Imports.{or_else, refl, same_cell, size_faul
 use Rattle.certificate_lines.proofs.Imports.{true_from_not, ℕ, ◌&&◌, ◌++◌, ◌+◌, ◌||◌, ◌∙◌, ◌∷◌, ◌≡◌, ◌≤◌, length}
 use Rattle.certificate_lines.specs.Modules.{IsWithinLineLimit}
 use Rattle.certificate_lines.specs.Rules.{line_fault}
-use Rattle.certificate_lines.specs.BuilderView.{IsEdgeHaloOrStopLine, IsLastModuleTracked, IsTracked, IsTrackedWith}
+use Rattle.certificate_lines.specs.BuilderView.{AreLinesAndWiresTracked, AreLinesTracked, IsEdgeHaloOrStopLine}
+use Rattle.certificate_lines.specs.BuilderView.{IsLastModuleTracked}
 use Rattle.certificate_lines.specs.BuilderView.{wires_made_local}
 use Rattle.certificate_lines.proofs.BuiltLemmas.{module_built, line_built, good_module}
 use Rattle.certificate_lines.proofs.Growing.{modules_push, last_at, last_pushed, last_changed, body_step}
@@ -21,7 +23,7 @@ use Rattle.certificate_lines.proofs.Lists.{some_is}
 use Rattle.certificate_lines.proofs.OrderLemmas.{inner_pushed, key_pushed, module_key, module_pushed}
 use Rattle.certificate_lines.proofs.LackedWires.{wires_more}
 use Rattle.certificate_lines.proofs.ModulePushes.{no_code, new_wire, good_use, known_cut, known_same, pushed}
-use Rattle.module_box.specs.Tiling.{ArePartOwners, OwnersView, PutsBox}
+use Rattle.module_box.specs.Tiling.{IsPartialOwnerTable, OwnersView, PutsBox}
 use Rattle.lemmas.specs.Bounds.{max_side}
 use Rattle.section_text.proofs.Codes.{both_none}
 
@@ -70,7 +72,7 @@ AreStarsWith f i old new = (c : Cell) →
 
 module _ (g : Setting) (es : List CertificateLine) (owners : OwnersView) (last : Option CertificateLine)
     (local : List ℕ) (e h : List Cell)
-    (kept : IsTracked g es owners last local e h) where
+    (kept : AreLinesTracked g es owners last local e h) where
   pub last_written : (m : ModuleLines) → last_module es ≡ Some m → IsModuleInLimits g m
   last_written m some = let at = last_at (modules_of es) m some in kept.built.sound.each at.0 m at.2
 
@@ -106,7 +108,7 @@ module _ (g : Setting) (es : List CertificateLine) (owners : OwnersView) (last :
       grind (arith, common_steps)
 
   follows_by : (m : ModuleLines) (i : CertificateLine) (b : Bool) → last_module es ≡ Some m →
-      ((lines : List CertificateLine) → AreInOrder lines → last_of lines ≡ last → b ≡ may_follow lines i) →
+      ((lines : List CertificateLine) → AreLinesInOrder lines → last_of lines ≡ last → b ≡ may_follow lines i) →
       b ≡ may_follow m.lines i
   follows_by m i b some f = f m.lines (last_good m some).order (kept.last_module m some).final
 
@@ -115,7 +117,8 @@ module _ (g : Setting) (es : List CertificateLine) (owners : OwnersView) (last :
   inner_is m i some = ap (λ o. body_line_code g o i) (sym some)
 
   pub too_late : (m : ModuleLines) (i : CertificateLine) (b : Bool) → last_module es ≡ Some m →
-      ((lines : List CertificateLine) → AreInOrder lines → last_of lines ≡ last → b ≡ may_follow lines i) → b ≡ false →
+      ((lines : List CertificateLine) → AreLinesInOrder lines → last_of lines ≡ last → b ≡ may_follow lines i) →
+      b ≡ false →
       Some OutOfOrder ≡ body_line_code g (last_module es) i
   too_late m i b some f late =
       let not_after : may_follow m.lines i ≡ false = sym (follows_by m i b some f) ∙ late in
@@ -123,7 +126,8 @@ module _ (g : Setting) (es : List CertificateLine) (owners : OwnersView) (last :
 
   pub in_place : (m : ModuleLines) (i : CertificateLine) (b : Bool) (code : Option RefusalCode) →
       last_module es ≡ Some m →
-      ((lines : List CertificateLine) → AreInOrder lines → last_of lines ≡ last → b ≡ may_follow lines i) → b ≡ true
+      ((lines : List CertificateLine) → AreLinesInOrder lines → last_of lines ≡ last → b ≡ may_follow lines i) →
+      b ≡ true
       → code ≡ code_but_for_order g m i → code ≡ body_line_code g (last_module es) i
   in_place m i b code some f good words =
       let after : may_follow m.lines i ≡ true = sym (follows_by m i b some f) ∙ good in
@@ -149,9 +153,9 @@ module _ (g : Setting) (es : List CertificateLine) (owners : OwnersView) (last :
     last_after e' h' stars halo_stars p = grind (arith, common_steps, last_pushed, wires_after)
 
     pub kept_inner : (e' h' : List Cell) → AreStarsWith edge_in i e e' → AreStarsWith halo_in i h h' →
-        IsTracked g (es ++ i ∷ []) owners (Some i) (local ++ wires_made_local g.circuit i) e' h'
+        AreLinesTracked g (es ++ i ∷ []) owners (Some i) (local ++ wires_made_local g.circuit i) e' h'
     kept_inner e' h' stars halo_stars = record {
-      built = subst (λ ms. AreBuilt g ms owners) (sym after_line)
+      built = subst (λ ms. AreModulesWithOwners g ms owners) (sym after_line)
           (line_built g (modules_of es) i owners kept.built
           (λ m some. subst (λ k. IsModuleInLimits g k → IsModuleInLimits g (module_with_line i k))
           (the_same m some) (λ is. pushed g good.module_lines is i inner good.follows good.words)));
@@ -175,7 +179,7 @@ module _ (g : Setting) (es : List CertificateLine) (owners : OwnersView) (last :
 
     pub kept_module : module_line_code g (modules_of es) (last_module es) b ≡ None →
         (number : ℕ) → number ≡ length (modules_of es) → PutsBox b number owners new_owners
-        → IsTracked g (es ++ Module b ∷ []) new_owners
+        → AreLinesTracked g (es ++ Module b ∷ []) new_owners
         None [] [] []
     unfolding begun_lines add_line
     kept_module good number is puts =
@@ -196,20 +200,20 @@ border_wires c i h1 = grind (arith, common_steps)
 -- ---- with the wires of all modules
 
 pub with_none : (g : Setting) (owners : OwnersView) → owners.width ≡ g.size.w → owners.height ≡ g.size.h →
-    ArePartOwners owners [] → (e h : List Cell) → (key : LineKey) → key ≡ key_or_first None →
-    IsTrackedWith g [] owners (last_body_line []) key [] [] e h
+    IsPartialOwnerTable owners [] → (e h : List Cell) → (key : LineKey) → key ≡ key_or_first None →
+    AreLinesAndWiresTracked g [] owners (last_body_line []) key [] [] e h
 unfolding modules_of last_of
 with_none g owners w high dead e h key first = grind (arith, common_steps)
 
 module _ (g : Setting) (es : List CertificateLine) (owners : OwnersView) (last : Option CertificateLine)
     (key : LineKey) (earlier : List (List ℕ)) (local : List ℕ) (e h : List Cell)
-    (was : IsTrackedWith g es owners last key earlier local e h) where
+    (was : AreLinesAndWiresTracked g es owners last key earlier local e h) where
   pub with_inner : (i : CertificateLine) → IsBodyLine i → (good : IsGoodLine g es i) → (e' h' : List Cell) →
       AreStarsWith edge_in i e e' → AreStarsWith halo_in i h h' →
-      IsTrackedWith g (es ++ i ∷ []) owners (last_body_line (es ++ i ∷ [])) (key_of i) earlier
+      AreLinesAndWiresTracked g (es ++ i ∷ []) owners (last_body_line (es ++ i ∷ [])) (key_of i) earlier
       (local ++ wires_made_local g.circuit i) e' h'
   with_inner i inner good e' h' stars halo_stars =
-      subst (λ l. IsTrackedWith g (es ++ i ∷ []) owners l (key_of i) earlier
+      subst (λ l. AreLinesAndWiresTracked g (es ++ i ∷ []) owners l (key_of i) earlier
       (local ++ wires_made_local g.circuit i) e' h')
       (sym (inner_pushed es i inner)) (record {
         kept = kept_inner g es owners last local e h was.kept i inner good e' h' stars halo_stars;
@@ -223,9 +227,9 @@ module _ (g : Setting) (es : List CertificateLine) (owners : OwnersView) (last :
 
   pub with_border : (i : CertificateLine) → IsEdgeHaloOrStopLine i → (good : IsGoodLine g es i) → (e' h' : List Cell) →
       AreStarsWith edge_in i e e' → AreStarsWith halo_in i h h' →
-      IsTrackedWith g (es ++ i ∷ []) owners (last_body_line (es ++ i ∷ [])) (key_of i) earlier local e' h'
+      AreLinesAndWiresTracked g (es ++ i ∷ []) owners (last_body_line (es ++ i ∷ [])) (key_of i) earlier local e' h'
   with_border i border good e' h' stars halo_stars =
-      subst (λ l. IsTrackedWith g (es ++ i ∷ []) owners (last_body_line (es ++ i ∷ []))
+      subst (λ l. AreLinesAndWiresTracked g (es ++ i ∷ []) owners (last_body_line (es ++ i ∷ []))
       (key_of i) earlier l e' h')
       (ap (λ w. local ++ w) (border_wires g.circuit i border) ∙ append-nil local)
       (with_inner i (border_is_inner i border) good e' h' stars halo_stars)
@@ -233,11 +237,11 @@ module _ (g : Setting) (es : List CertificateLine) (owners : OwnersView) (last :
   pub with_module : (new_owners : OwnersView) (b : Box2) →
       module_line_code g (modules_of es) (last_module es) b ≡ None →
       (number : ℕ) → number ≡ length (modules_of es) → PutsBox b number owners new_owners
-      → IsTrackedWith g (es ++ Module b ∷ []) new_owners
+      → AreLinesAndWiresTracked g (es ++ Module b ∷ []) new_owners
       (last_body_line (es ++ Module b ∷ [])) (key_or_first None) (earlier ++ local ∷ []) [] [] []
   unfolding add_line
   with_module new_owners b good number is puts =
-      subst (λ l. IsTrackedWith g (es ++ Module b ∷ []) new_owners
+      subst (λ l. AreLinesAndWiresTracked g (es ++ Module b ∷ []) new_owners
       l (key_or_first None)
       (earlier ++ local ∷ []) [] [] []) (sym (module_pushed es b)) (record {
         kept = kept_module g es owners last local e h was.kept new_owners b good number is puts;

@@ -1,15 +1,16 @@
 -- The wires that modules lack of the edge lines beside them, and the local wires of each module
-use Rattle.certificate_lines.proofs.Imports.{AreInBox, AreLocalWiresOfModules, Bool, BorderLine, Box2, Circuit}
+use Rattle.certificate_lines.proofs.Imports.{AreLinesInBox, AreLocalWiresOfModules, Bool, BorderLine, Box2, Circuit}
 use Rattle.certificate_lines.proofs.Imports.{IsModule, List, ModuleLines, Setting, Some, []}
 use Rattle.certificate_lines.proofs.Imports.{and_parts, ap, ap₂, arith, change_last, common_steps, cond-false}
 use Rattle.certificate_lines.proofs.Imports.{cond-true, edges, false, filter, flat_map, in_halo}
-use Rattle.certificate_lines.proofs.Imports.{is_nonlocal_signal, known, lacks_edge_wire, last_of, length, length-map}
+use Rattle.certificate_lines.proofs.Imports.{is_nonlocal_signal, known, lacks_wire_of_some_edge, last_of, length}
+use Rattle.certificate_lines.proofs.Imports.{length-map}
 use Rattle.certificate_lines.proofs.Imports.{length_push, list_any, map, map-append, nat_lt, refl}
 use Rattle.certificate_lines.proofs.Imports.{slice_get, suc, sym, true, whole, zero, ℕ, ◌++◌, ◌+◌, ◌<◌}
 use Rattle.certificate_lines.proofs.Imports.{◌||◌, ◌∙◌, ◌∷◌, ◌≡◌, ◌≤◌}
 use Rattle.lemmas.proofs.Common.{same_from_push}
 use Rattle.bbm_rule.specs.Boxes.{in_ring}
-use Rattle.certificate_lines.specs.Versions.{edge_lines_beside, lacks_edge_wire_beside}
+use Rattle.certificate_lines.specs.Versions.{edge_lines_beside, has_nonlocal_edge_wire_beside}
 use Rattle.module_box.proofs.BoxCells.{in_rectangle}
 use Rattle.module_box.proofs.Rising.{at_end}
 use Rattle.certificate_lines.proofs.Lists.{some_is}
@@ -52,16 +53,16 @@ module _ (g : Setting) (ms : List ModuleLines) where
   short_beside area short = cond-false _ _ _ short
 
   pub lacked : (es : List BorderLine) → es ≡ flat_map edges ms → nat_lt 1 g.size.steps ≡ true →
-      list_any (lacks_edge_wire g.circuit es) ms ≡ lacks_edge_wire_beside g ms
-  unfolding lacks_edge_wire_beside
+      list_any (lacks_wire_of_some_edge g.circuit es) ms ≡ has_nonlocal_edge_wire_beside g ms
+  unfolding has_nonlocal_edge_wire_beside
   lacked es are long =
-      ap (λ ds. list_any (lacks_edge_wire g.circuit ds) ms) are
-      ∙ any_same (lacks_edge_wire g.circuit (flat_map edges ms))
+      ap (λ ds. list_any (lacks_wire_of_some_edge g.circuit ds) ms) are
+      ∙ any_same (lacks_wire_of_some_edge g.circuit (flat_map edges ms))
       (λ m. list_any (λ e. is_nonlocal_signal g.circuit (known g.circuit m) e.signal) (edge_lines_beside g ms m.area))
       ms (λ m. ap (list_any (λ e. is_nonlocal_signal g.circuit (known g.circuit m) e.signal)) (long_beside m.area long))
 
-  pub none_lacked : nat_lt 1 g.size.steps ≡ false → false ≡ lacks_edge_wire_beside g ms
-  unfolding lacks_edge_wire_beside
+  pub none_lacked : nat_lt 1 g.size.steps ≡ false → false ≡ has_nonlocal_edge_wire_beside g ms
+  unfolding has_nonlocal_edge_wire_beside
   none_lacked short =
       sym (any_same (λ m. list_any (λ e. is_nonlocal_signal g.circuit (known g.circuit m) e.signal)
       (edge_lines_beside g ms m.area))
@@ -118,6 +119,6 @@ module _ (c : Circuit) (ms : List ModuleLines) (earlier : List (List ℕ)) (loca
 
 -- ---- the edge lines of all modules
 
-pub edge_inside : (g : Setting) (m : ModuleLines) → IsModule g m → AreInBox (whole g.size) (edges m)
+pub edge_inside : (g : Setting) (m : ModuleLines) → IsModule g m → AreLinesInBox (whole g.size) (edges m)
 unfolding in_ring
 edge_inside g m good k d lt = grind (arith, common_steps, and_parts, in_rectangle)

@@ -2,7 +2,7 @@
 use Rattle.certificate_lines.proofs.Imports.{ArePortsInLayout, Bool, Cell, LayoutHeader, List, None, Option, Port, Some}
 use Rattle.certificate_lines.proofs.Imports.{[]}
 use Rattle.certificate_lines.proofs.Imports.{and_parts, ap, arith, common_steps, false, get_or, if◌then◌else◌}
-use Rattle.certificate_lines.proofs.Imports.{is_at, length, list_all, list_all-append, port_at, refl, slice_get}
+use Rattle.certificate_lines.proofs.Imports.{is_cell_at, length, list_all, list_all-append, port_at, refl, slice_get}
 use Rattle.certificate_lines.proofs.Imports.{subst, suc, sym, true, zero, ℕ, ℤ, ◌<◌, ◌∙◌, ◌∷◌, ◌≡◌}
 use Rattle.lemmas.proofs.Common.{list_all-map}
 use Rattle.pattern.specs.Layout.{Pattern, in_layout, parts_of}
@@ -17,7 +17,7 @@ pub record StandsAt (ports : List Port) (x y : ℤ) (name : List ℕ) : Type 0 w
   pub number : ℕ
   pub port : Port
   pub numbered : slice_get ports number ≡ Some port
-  pub stands : is_at port.cell x y ≡ true
+  pub stands : is_cell_at port.cell x y ≡ true
   pub named : port.name ≡ name
 
 stands_later : (p : Port) (ports : List Port) (x y : ℤ) (name : List ℕ) → StandsAt ports x y name →
@@ -25,7 +25,7 @@ stands_later : (p : Port) (ports : List Port) (x y : ℤ) (name : List ℕ) → 
 stands_later p ports x y name s =
     record { number = suc s.number; port = s.port; numbered = s.numbered; stands = s.stands; named = s.named }
 
-first_stands : (b : Bool) (p : Port) (ports : List Port) (x y : ℤ) (name : List ℕ) → is_at p.cell x y ≡ b →
+first_stands : (b : Bool) (p : Port) (ports : List Port) (x y : ℤ) (name : List ℕ) → is_cell_at p.cell x y ≡ b →
     (port_at ports x y ≡ Some name → StandsAt ports x y name)
     → (if b then Some p.name else port_at ports x y) ≡ Some name → StandsAt (p ∷ ports) x y name
 first_stands true p ports x y name h more e =
@@ -37,7 +37,7 @@ pub port_stands : (ports : List Port) (x y : ℤ) (name : List ℕ) → port_at 
 unfolding port_at
 port_stands [] x y name e = absurd cc
 port_stands (p ∷ ports) x y name e =
-    first_stands (is_at p.cell x y) p ports x y name refl (port_stands ports x y name) e
+    first_stands (is_cell_at p.cell x y) p ports x y name refl (port_stands ports x y name) e
 
 absent_here : (b : Bool) (n : List ℕ) (o : Option (List ℕ)) → (if b then Some n else o) ≡ None →
     (b ≡ false) × (o ≡ None)
@@ -45,13 +45,13 @@ absent_here b n o h1 = grind (arith, common_steps)
 
 -- where no port is found, none stands
 pub none_stands : (ports : List Port) (x y : ℤ) → port_at ports x y ≡ None → (i : ℕ) (p : Port) →
-    slice_get ports i ≡ Some p → is_at p.cell x y ≡ true → ⊥
+    slice_get ports i ≡ Some p → is_cell_at p.cell x y ≡ true → ⊥
 unfolding port_at
 none_stands [] x y e i p at h = cc
 none_stands (q ∷ ports) x y e zero p at h =
     grind (arith, common_steps, absent_here)
 none_stands (q ∷ ports) x y e (suc i) p at h =
-    none_stands ports x y (absent_here (is_at q.cell x y) q.name (port_at ports x y) e).1 i p at h
+    none_stands ports x y (absent_here (is_cell_at q.cell x y) q.name (port_at ports x y) e).1 i p at h
 
 -- those that are not rectangles
 pub record LieInside (p : Pattern) : Type 0 where

@@ -1,5 +1,6 @@
 -- The ranks of lines: lines in order rise by rank, and the lines of one kind have one rank.
-use Rattle.certificate_lines.proofs.Imports.{CertificateLine, [], arith, common_steps, edge_in, false, halo_in, is_cut}
+use Rattle.certificate_lines.proofs.Imports.{CertificateLine, [], arith, common_steps, edge_in, false, halo_in}
+use Rattle.certificate_lines.proofs.Imports.{is_cut_line}
 use Rattle.certificate_lines.proofs.Imports.{kept_gate_in, line_cmp, may_precede, rank_of, stop_in, sym, true}
 use Rattle.certificate_lines.proofs.Imports.{used_gate_in, ◌&&◌, ◌==◌, ◌<◌, ◌≡◌, ◌≤◌, Greater, nat_tests}
 use Rattle.lemmas.proofs.Common.{◌≢◌}
@@ -7,11 +8,11 @@ use Rattle.std.specs.Cmp.{nat_cmp_is}
 use Rattle.bbm_rule.proofs.BitLemmas.{by_lt_or_le}
 
 -- cuts have a rank of their own
-pub cut_rank : (i : CertificateLine) → is_cut i ≡ (rank_of i == 1)
-unfolding is_cut rank_of
+pub cut_rank : (i : CertificateLine) → is_cut_line i ≡ (rank_of i == 1)
+unfolding is_cut_line rank_of
 cut_rank i = grind (arith, common_steps)
 
-not_both_cuts : (i j : CertificateLine) → rank_of j < rank_of i → (is_cut i && is_cut j) ≡ false
+not_both_cuts : (i j : CertificateLine) → rank_of j < rank_of i → (is_cut_line i && is_cut_line j) ≡ false
 not_both_cuts i j lt = grind (arith, common_steps, cut_rank, nat_tests)
 
 no_higher_first : (i j : CertificateLine) → rank_of j < rank_of i → may_precede i j ≡ false

@@ -11,25 +11,26 @@ use Rattle.std.specs.Prelude.{◌/◌, ◌↔◌}
 use Rattle.bbm_rule.proofs.RectangleLemmas.{in_box_cells}
 use Rattle.module_box.proofs.BoxCells.{owner_in_table}
 use Rattle.module_box.proofs.PartOwners.{corner_inside, has_block, named_cell, none_by_number, place_of, stays}
-use Rattle.module_box.specs.Tiling.{AreAllBlocksTaken, ArePartOwners, Holds, IsFreeBox, MayAddBox, OwnersView}
+use Rattle.module_box.specs.Tiling.{AreAllBlocksTaken, BoxHoldsCell, IsFreeBox, IsPartialOwnerTable, MayAddBox}
+use Rattle.module_box.specs.Tiling.{OwnersView}
 use Rattle.module_box.specs.Tiling.{block_corner_x}
 use Rattle.module_box.specs.Tiling.{block_corner_y}
 use Rattle.module_box.specs.Tiling.{no_owner, owner_of}
 use Rattle.section_text.specs.declared.code.RefusalCode.TheVariants.{MisplacedBox}
-use Rattle.certificate_lines.specs.BuilderView.{AreModuleOwners}
-use Rattle.certificate_lines.specs.Rules.{in_boxes, overlaps}
+use Rattle.certificate_lines.specs.BuilderView.{IsModuleOwnerTable}
+use Rattle.certificate_lines.specs.Rules.{in_boxes, overlaps_earlier_box}
 use Rattle.certificate_lines.proofs.BuiltLemmas.{IsGoodModule, passes_alone}
 use Rattle.certificate_lines.proofs.Lists.{any_at, passed}
 use Rattle.certificate_lines.proofs.PortLemmas.{cell_passed, cell_passes, cells_pass, has_cell}
 
 -- the number of a box that has the cell
-holder : (boxes : List Box2) (x y : ℤ) → in_boxes boxes x y ≡ true → (i : ℕ) × Holds boxes x y i
+holder : (boxes : List Box2) (x y : ℤ) → in_boxes boxes x y ≡ true → (i : ℕ) × BoxHoldsCell boxes x y i
 holder boxes x y h =
     let p = passed (λ (b : Box2). in_box b x y) boxes h in
     (p.place, record { area = p.element; numbered = p.stands; has = p.passes })
 
-module _ (o : OwnersView) (boxes : List Box2) (part : ArePartOwners o boxes) where
-  pub free_box : (b : Box2) → overlaps boxes b ≡ false → IsFreeBox o b
+module _ (o : OwnersView) (boxes : List Box2) (part : IsPartialOwnerTable o boxes) where
+  pub free_box : (b : Box2) → overlaps_earlier_box boxes b ≡ false → IsFreeBox o b
   free_box b over k lt here = elim (cases_Bool (nat_eq (slice_index o.numbers k) no_owner)) [
     | inl e ↦ eqb-true (slice_index o.numbers k) no_owner e
     | inr e ↦ (
@@ -38,9 +39,10 @@ module _ (o : OwnersView) (boxes : List Box2) (part : ArePartOwners o boxes) whe
         (in_box_cells b _ _ ∙ here) (any_at _ boxes _ h.area h.numbered h.has))))
   ]
 
-  pub free_test : (b : Box2) → IsEvenBox b → (r : Bool) → ((r ≡ true) ↔ IsFreeBox o b) → overlaps boxes b ≡ not r
+  pub free_test : (b : Box2) → IsEvenBox b → (r : Bool) → ((r ≡ true) ↔ IsFreeBox o b) →
+      overlaps_earlier_box boxes b ≡ not r
   unfolding owner_of
-  free_test b even r is = elim (cases_Bool (overlaps boxes b)) [
+  free_test b even r is = elim (cases_Bool (overlaps_earlier_box boxes b)) [
     | inl over ↦ over ∙ ap not (sym (false_from_ne_true r (λ e.
         let p = cell_passed (λ c. in_boxes boxes c.x c.y) (rectangle_cells b) over in
         let x = p.0.x in let y = p.0.y in
@@ -71,7 +73,7 @@ module _ (o : OwnersView) (boxes : List Box2) (part : ArePartOwners o boxes) whe
 
 -- ---- the codes by the table
 
-module _ (g : Setting) (ms : List ModuleLines) (o : OwnersView) (owners : AreModuleOwners g ms o) where
+module _ (g : Setting) (ms : List ModuleLines) (o : OwnersView) (owners : IsModuleOwnerTable g ms o) where
   pub module_code_by : (before : Option ModuleLines) (b : Box2) → module_box_code g (length ms) before b ≡ None →
       (r : Bool) → ((r ≡ true) ↔ IsFreeBox o b) → module_line_code g ms before b ≡ code_if (not r) MisplacedBox
   unfolding module_line_code
@@ -83,7 +85,7 @@ module _ (g : Setting) (ms : List ModuleLines) (o : OwnersView) (owners : AreMod
   may_put before b good = grind (arith, common_steps, free_box)
 
 pub end_by : (g : Setting) (entries : List CertificateLine) (o : OwnersView) →
-    AreModuleOwners g (modules_of entries) o → (lacks r : Bool) →
+    IsModuleOwnerTable g (modules_of entries) o → (lacks r : Bool) →
     lacks ≡ is_last_module_incomplete g (last_module entries) → ((r ≡ true) ↔ AreAllBlocksTaken o) →
     end_fault g entries ≡ code_if (lacks || not r) SomethingMissing
 unfolding end_fault

@@ -1,7 +1,8 @@
 -- A module after one more line.
-use Rattle.certificate_lines.proofs.Imports.{All-append, All-nil, AreInOrder, Bool, CertificateLine, Equal, Less, List}
+use Rattle.certificate_lines.proofs.Imports.{All-append, All-nil, AreLinesInOrder, Bool, CertificateLine, Equal, Less}
+use Rattle.certificate_lines.proofs.Imports.{List}
 use Rattle.certificate_lines.proofs.Imports.{Ordering, Use, [], and_parts, ap₂, cell_cmp, cell_of, common_steps, false}
-use Rattle.certificate_lines.proofs.Imports.{is_cut, line_cmp, list_all, list_all-append, may_follow, may_precede}
+use Rattle.certificate_lines.proofs.Imports.{is_cut_line, line_cmp, list_all, list_all-append, may_follow, may_precede}
 use Rattle.certificate_lines.proofs.Imports.{rank_of, refl, sort_number_of, true, used_gate_in, ℕ, ◌++◌, ◌<◌, ◌||◌, ◌∙◌}
 use Rattle.certificate_lines.proofs.Imports.{◌∷◌, ◌≡◌}
 use Rattle.lemmas.proofs.Common.{All-push, arith, ordering_then, nat_less, ◌≢◌}
@@ -41,7 +42,7 @@ or_false : (a : Bool) → (a || false) ≡ true → a ≡ true
 or_false a h = grind arith
 
 use_then_use : (g k : ℕ) → may_precede (Use g) (Use k) ≡ true → g < k
-unfolding may_precede line_cmp rank_of sort_number_of cell_of is_cut cell_cmp
+unfolding may_precede line_cmp rank_of sort_number_of cell_of is_cut_line cell_cmp
 use_then_use g k h = nat_less g k (less_by (nat_cmp g k) (or_false _ h))
 
 pub lower_uses : (k : ℕ) (j : CertificateLine) → may_precede j (Use k) ≡ true → All (λ g. g < k) (used_gate_in j)
@@ -54,9 +55,10 @@ pub list_all_push : {A : Type 0} (test : A → Bool) (xs : List A) (x : A) → l
     list_all test (xs ++ x ∷ []) ≡ true
 list_all_push test xs x h k = list_all-append test xs (x ∷ []) ∙ rw (h, k) refl
 
-pub order_push : (lines : List CertificateLine) (j : CertificateLine) → AreInOrder lines → may_follow lines j ≡ true →
-    AreInOrder (lines ++ j ∷ [])
-unfolding AreInOrder may_follow
+pub order_push : (lines : List CertificateLine) (j : CertificateLine) → AreLinesInOrder lines →
+    may_follow lines j ≡ true →
+    AreLinesInOrder (lines ++ j ∷ [])
+unfolding AreLinesInOrder may_follow
 order_push [] j order h = (refl, tt)
 order_push (i ∷ lines) j order h =
     let both = and_parts (may_precede i j) (list_all (λ k. may_precede k j) lines) h in

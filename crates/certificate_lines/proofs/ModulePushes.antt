@@ -14,11 +14,13 @@ use Rattle.certificate_lines.proofs.Imports.{code_but_for_order, ◌+◌, ◌≤
 use Rattle.lemmas.proofs.Common.{nat_le, at_most_by_test, below_by_test, All-append, All-cons, ◌≢◌}
 use Rattle.certificate_lines.specs.Entries.{keeps, halos, stops, cut_wires}
 use Rattle.certificate_lines.specs.Rules.{cut_line_code, used_gate_fault, use_line_code, keep_line_code}
-use Rattle.certificate_lines.specs.Rules.{is_line_time_allowed, is_edge_place_and_time, is_halo_place_and_time}
-use Rattle.certificate_lines.specs.Rules.{is_stop_place_and_time, signal_fault, wire_fault, border_or_stop_line_code}
+use Rattle.certificate_lines.specs.Rules.{is_line_time_allowed, is_edge_place_and_time_allowed}
+use Rattle.certificate_lines.specs.Rules.{is_halo_place_and_time_allowed}
+use Rattle.certificate_lines.specs.Rules.{is_stop_place_and_time_allowed, signal_fault, wire_fault}
+use Rattle.certificate_lines.specs.Rules.{border_or_stop_line_code}
 use Rattle.certificate_lines.specs.Rules.{timed_line_count, timed_line_limit, edge_line_code, halo_line_code}
 use Rattle.certificate_lines.specs.Rules.{stop_line_code}
-use Rattle.certificate_lines.specs.Modules.{IsAllowedEdge, IsAllowedHalo, IsAllowedStop, MayBeKept}
+use Rattle.certificate_lines.specs.Modules.{IsAllowedEdge, IsAllowedHalo, IsAllowedStop, MayGateBeKept}
 use Rattle.std.proofs.Common.{length-append}
 pub use Rattle.pattern.proofs.Added.{no_code}
 use Rattle.certificate_lines.proofs.Growing.{flat_push, flat_same}
@@ -72,9 +74,9 @@ unfolding is_line_time_allowed
 free_time steps starred t h1 = grind (arith, common_steps, and_parts)
 
 free_of_star : (g : Setting) (area : Box2) (starred : Bool) (e : BorderLine) →
-    is_edge_place_and_time g.size area starred e ≡ true →
+    is_edge_place_and_time_allowed g.size area starred e ≡ true →
     (is_star e.time || not starred) ≡ true
-unfolding is_edge_place_and_time
+unfolding is_edge_place_and_time_allowed
 free_of_star g area starred e place = grind (arith, common_steps, free_time, and_parts)
 
 -- ---- a cut or a used gate
@@ -107,7 +109,7 @@ module _ (g : Setting) (m : ModuleLines) (is : IsModule g m) (i : CertificateLin
           named = named;
           local = local;
           order = order_push m.lines i is.order follows;
-          keep_lines = at_nil (MayBeKept g (gates more)) (keeps more) (none_yet kept_gate_in 3 only_keeps low);
+          keep_lines = at_nil (MayGateBeKept g (gates more)) (keeps more) (none_yet kept_gate_in 3 only_keeps low);
           unstarred = subst StarsExcludeLaterTimes (sym edges_are) tt;
           edge_lines = at_nil (IsAllowedEdge g m.area (known g.circuit more)) (edges more) edges_are;
           halo_lines = at_nil (IsAllowedHalo g m.area (known g.circuit more)) (halos more) halos_are;
@@ -220,22 +222,22 @@ unfolding border_or_stop_line_code
 good_border c count local placed signal e = grind (arith, common_steps, both_none, less, no_code, true_from_not)
 
 edge_good : (g : Setting) (area : Box2) (local : List ℕ) (count : ℕ) (starred : Bool) (e : BorderLine) →
-    IsGoodBorder g.circuit count local (is_edge_place_and_time g.size area starred e) e.signal →
+    IsGoodBorder g.circuit count local (is_edge_place_and_time_allowed g.size area starred e) e.signal →
     IsAllowedEdge g area local e
-unfolding is_edge_place_and_time
+unfolding is_edge_place_and_time_allowed
 edge_good g area local count starred e good =
     grind (arith, common_steps, and_parts, false_from_not, time_good, signal_good)
 
 halo_good : (g : Setting) (area : Box2) (local : List ℕ) (count : ℕ) (starred : Bool) (e : BorderLine) →
-    IsGoodBorder g.circuit count local (is_halo_place_and_time g.size area starred e) e.signal →
+    IsGoodBorder g.circuit count local (is_halo_place_and_time_allowed g.size area starred e) e.signal →
     IsAllowedHalo g area local e
-unfolding is_halo_place_and_time
+unfolding is_halo_place_and_time_allowed
 halo_good g area local count starred e good = grind (arith, common_steps, and_parts, time_good, signal_good)
 
 stop_good : (g : Setting) (area : Box2) (local : List ℕ) (count : ℕ) (s : StopLine) →
-    IsGoodBorder g.circuit count local (is_stop_place_and_time g.size area s) (Some s.wire) →
+    IsGoodBorder g.circuit count local (is_stop_place_and_time_allowed g.size area s) (Some s.wire) →
     IsAllowedStop g area local s
-unfolding is_stop_place_and_time
+unfolding is_stop_place_and_time_allowed
 stop_good g area local count s good =
     let parts = and_parts (in_box area s.cell.x s.cell.y) (nat_le s.time g.size.steps) good.place in
     record {
@@ -256,7 +258,7 @@ module _ (g : Setting) (m : ModuleLines) where
 
 -- ---- a kept gate
 
-pub keep_good : (g : Setting) (used : List ℕ) (k : ℕ) → keep_line_code g.circuit used k ≡ None → MayBeKept g used k
+pub keep_good : (g : Setting) (used : List ℕ) (k : ℕ) → keep_line_code g.circuit used k ≡ None → MayGateBeKept g used k
 unfolding keep_line_code
 keep_good g mine k e = grind (arith, common_steps, both_none, true_from_not, no_code)
 
@@ -264,9 +266,9 @@ keep_good g mine k e = grind (arith, common_steps, both_none, true_from_not, no_
 
 -- what such a line adds is good
 module _ (g : Setting) (m : ModuleLines) where
-  keeps_in : (i : CertificateLine) → code_but_for_order g m i ≡ None → All (MayBeKept g (gates m)) (kept_gate_in i)
-  keeps_in (Keep k) good = all_one (MayBeKept g (gates m)) k (keep_good g (gates m) k good)
-  keeps_in i good = All-nil (MayBeKept g (gates m))
+  keeps_in : (i : CertificateLine) → code_but_for_order g m i ≡ None → All (MayGateBeKept g (gates m)) (kept_gate_in i)
+  keeps_in (Keep k) good = all_one (MayGateBeKept g (gates m)) k (keep_good g (gates m) k good)
+  keeps_in i good = All-nil (MayGateBeKept g (gates m))
 
   edges_in : (i : CertificateLine) → code_but_for_order g m i ≡ None →
       All (IsAllowedEdge g m.area (known g.circuit m)) (edge_in i)
@@ -325,8 +327,8 @@ module _ (g : Setting) (m : ModuleLines) (i : CertificateLine) (no_cut : cut_nam
           named = grind (arith, common_steps, cut_wires_same, cuts_same);
           local = grind (arith, common_steps, cut_wires_same, gates_same);
           order = order_push m.lines i is.order follows;
-          keep_lines = subst (λ gs. All (MayBeKept g gs) (keeps more)) (sym gates_same)
-              (all_more kept_gate_in (MayBeKept g (gates m)) is.keep_lines (keeps_in g m i good));
+          keep_lines = subst (λ gs. All (MayGateBeKept g gs) (keeps more)) (sym gates_same)
+              (all_more kept_gate_in (MayGateBeKept g (gates m)) is.keep_lines (keeps_in g m i good));
           unstarred = subst StarsExcludeLaterTimes (sym (flat_push edge_in m.lines i))
               (stars_in g m i good is.unstarred);
           edge_lines = subst (λ ws. All (IsAllowedEdge g m.area ws) (edges more)) (sym known_same)

@@ -1,15 +1,17 @@
 -- The modules of lines, one after the other.
 use Rattle.certificate_lines.proofs.Imports.{Box2, CertificateLine, List, Module, ModuleLines, [], add_line, ap}
 use Rattle.certificate_lines.proofs.Imports.{append-nil, append_assoc, arith, body_lines, change_last, common_steps}
-use Rattle.certificate_lines.proofs.Imports.{false, is_module, module_with_line, modules_of, refl, sym, true, ◌++◌, ◌∙◌}
+use Rattle.certificate_lines.proofs.Imports.{false, is_module_line, module_with_line, modules_of, refl, sym, true, ◌++◌}
+use Rattle.certificate_lines.proofs.Imports.{◌∙◌}
 use Rattle.certificate_lines.proofs.Imports.{◌∷◌, ◌≡◌}
 use Rattle.lemmas.proofs.Common.{fold}
 
-pub inner_module : (e : CertificateLine) (es : List CertificateLine) → is_module e ≡ true → body_lines (e ∷ es) ≡ []
+pub inner_module : (e : CertificateLine) (es : List CertificateLine) → is_module_line e ≡ true →
+    body_lines (e ∷ es) ≡ []
 unfolding body_lines
 inner_module e es m = rw m refl
 
-pub inner_other : (e : CertificateLine) (es : List CertificateLine) → is_module e ≡ false →
+pub inner_other : (e : CertificateLine) (es : List CertificateLine) → is_module_line e ≡ false →
     body_lines (e ∷ es) ≡ e ∷ body_lines es
 unfolding body_lines
 inner_other e es m = rw m refl
@@ -54,7 +56,7 @@ abbrev extended : ModuleLines → List CertificateLine → ModuleLines
 extended m es = record m { lines = m.lines ++ es }
 
 -- lines before any module line belong to none
-pub split_other : (e : CertificateLine) (es : List CertificateLine) → is_module e ≡ false →
+pub split_other : (e : CertificateLine) (es : List CertificateLine) → is_module_line e ≡ false →
     modules_of (e ∷ es) ≡ modules_of es
 unfolding modules_of add_line change_last
 split_other e es h1 = grind (arith, common_steps)
@@ -67,7 +69,8 @@ module_first b es = refl
 abbrev Extends : List CertificateLine → Type 0
 Extends es = (m : ModuleLines) → onward (m ∷ []) es ≡ extended m (body_lines es) ∷ modules_of es
 
-extends_more : (m : ModuleLines) (e : CertificateLine) (es : List CertificateLine) → is_module e ≡ false → Extends es →
+extends_more : (m : ModuleLines) (e : CertificateLine) (es : List CertificateLine) → is_module_line e ≡ false →
+    Extends es →
     onward (module_with_line e m ∷ []) es ≡ extended m (body_lines (e ∷ es)) ∷ modules_of (e ∷ es)
 extends_more m e es o h = grind (arith, common_steps, append_assoc, inner_other, extended, split_other)
 

@@ -1,10 +1,10 @@
 -- The modules beside the cell of an edge line, by the cells of its block at odd times
-use Rattle.certificate_lines.proofs.Imports.{AreApart, Bool, BorderLine, Box2, Cell, Circuit, IsEvenBox}
+use Rattle.certificate_lines.proofs.Imports.{AreBoxesDisjoint, Bool, BorderLine, Box2, Cell, Circuit, IsEvenBox}
 use Rattle.certificate_lines.proofs.Imports.{List, ModuleLines, None, Option, Some, [], and-false, ap, ap₂, areas}
 use Rattle.certificate_lines.proofs.Imports.{arith, cases_Bool, common_steps, cond-false, cond-true}
 use Rattle.certificate_lines.proofs.Imports.{does_neighbour_lack_wire, eqb-true, false, in_box, in_box_nats}
 use Rattle.certificate_lines.proofs.Imports.{in_halo, inl, inr, is_local_wire, is_nonlocal_signal}
-use Rattle.certificate_lines.proofs.Imports.{is_outside_and_nonlocal, known, lacks_edge_wire, list_any}
+use Rattle.certificate_lines.proofs.Imports.{is_outside_and_nonlocal, known, lacks_wire_of_some_edge, list_any}
 use Rattle.certificate_lines.proofs.Imports.{mapped_from, ne_eqb, not, or-false, partner, pos}
 use Rattle.certificate_lines.proofs.Imports.{rectangle_of, refl, slice_get, slice_get_within, length, suc, sym, true}
 use Rattle.certificate_lines.proofs.Imports.{zero, ℕ, ℤ}
@@ -13,14 +13,14 @@ use Rattle.lemmas.proofs.Common.{eq-eqb, eqb-false, low_number, negsuc, ◌+ℤ�
 use Rattle.bbm_rule.specs.Plane.{parity}
 use Rattle.bbm_rule.specs.Spans.{in_span}
 use Rattle.bbm_rule.proofs.Spans.{even_span}
-use Rattle.module_box.specs.Tiling.{Holds}
+use Rattle.module_box.specs.Tiling.{BoxHoldsCell}
 use Rattle.bbm_rule.proofs.RingTests.{halo_read}
 use Rattle.certificate_lines.specs.BuilderView.{is_nonlocal_in_neighbour}
 use Rattle.certificate_lines.proofs.AnyLines.{any_filter}
 use Rattle.certificate_lines.proofs.LackedWires.{any_either, any_same, any_swap, none_any}
 use Rattle.lemmas.proofs.Common.{mapped_at}
 use Rattle.certificate_lines.proofs.Lists.{some_is}
-use Rattle.lemmas.specs.Bounds.{last_place, max_side}
+use Rattle.lemmas.specs.Bounds.{last_column_or_row, max_side}
 
 -- ---- columns and rows
 
@@ -128,8 +128,8 @@ pub area_of : (ms : List ModuleLines) (k : ℕ) (m : ModuleLines) → slice_get 
     slice_get (areas ms) k ≡ Some m.area
 area_of ms k m at = mapped_at (λ (n : ModuleLines). n.area) ms k m at
 
-module _ (ms : List ModuleLines) (apart : AreApart (areas ms)) (c : Cell) (q : ModuleLines → Bool) where
-  pub asked_owner : (k : ℕ) (r : Bool) → Holds (areas ms) c.x c.y k →
+module _ (ms : List ModuleLines) (apart : AreBoxesDisjoint (areas ms)) (c : Cell) (q : ModuleLines → Bool) where
+  pub asked_owner : (k : ℕ) (r : Bool) → BoxHoldsCell (areas ms) c.x c.y k →
       ((m : ModuleLines) → slice_get ms k ≡ Some m → r ≡ q m) →
       r ≡ list_any (λ (m : ModuleLines). in_box m.area c.x c.y && q m) ms
   asked_owner k r h answer =
@@ -139,14 +139,14 @@ module _ (ms : List ModuleLines) (apart : AreApart (areas ms)) (c : Cell) (q : M
       ∙ sym (one_passes (λ (n : ModuleLines). in_box n.area c.x c.y) q ms k m.0 m.1 here
       (λ i n at there. apart.once c.x c.y i k n.area h.area (area_of ms i n at) h.numbered there h.has))
 
-  pub asked_none : ((i : ℕ) → ¬ Holds (areas ms) c.x c.y i) →
+  pub asked_none : ((i : ℕ) → ¬ BoxHoldsCell (areas ms) c.x c.y i) →
       false ≡ list_any (λ (m : ModuleLines). in_box m.area c.x c.y && q m) ms
   asked_none none =
       sym (none_passes (λ (n : ModuleLines). in_box n.area c.x c.y) q ms
       (λ i n at here. none i (record { area = n.area; numbered = area_of ms i n at; has = here })))
 
 -- the number of a box is that of a module
-pub owner_within : (ms : List ModuleLines) (x y : ℤ) (k : ℕ) → Holds (areas ms) x y k → k < length ms
+pub owner_within : (ms : List ModuleLines) (x y : ℤ) (k : ℕ) → BoxHoldsCell (areas ms) x y k → k < length ms
 owner_within ms x y k h = grind (arith, common_steps, mapped_from, slice_get_within)
 
 -- ---- the modules that lack the wire of an edge line
@@ -181,18 +181,18 @@ module _ (c : Circuit) (ms : List ModuleLines) where
 
   -- some line has a neighbour that lacks its wire, exactly if some module lacks the wire of a line
   pub lacked_by_lines : (es : List BorderLine) →
-      list_any (does_neighbour_lack_wire c ms) es ≡ list_any (lacks_edge_wire c es) ms
+      list_any (does_neighbour_lack_wire c ms) es ≡ list_any (lacks_wire_of_some_edge c es) ms
   lacked_by_lines es =
       any_swap (λ (e : BorderLine) (m : ModuleLines).
       in_halo m.area e.cell.x e.cell.y && is_nonlocal_signal c (known c m) e.signal)
       es ms
       ∙ any_same (λ m. list_any
       (λ (e : BorderLine). in_halo m.area e.cell.x e.cell.y && is_nonlocal_signal c (known c m) e.signal) es)
-      (lacks_edge_wire c es) ms
+      (lacks_wire_of_some_edge c es) ms
       (λ m. grind (arith, common_steps, any_filter))
 
 -- ---- places in the rectangle
 
 pub low_cell : (w h : ℕ) (x y : ℤ) → w ≤ max_side → h ≤ max_side → in_box (rectangle_of w h) x y ≡ true →
-    ((pos 0 ≤ℤ x) × (x ≤ℤ pos last_place)) × ((pos 0 ≤ℤ y) × (y ≤ℤ pos last_place))
+    ((pos 0 ≤ℤ x) × (x ≤ℤ pos last_column_or_row)) × ((pos 0 ≤ℤ y) × (y ≤ℤ pos last_column_or_row))
 low_cell w h x y wide high inside = grind (arith, common_steps, in_box_nats, low_number)

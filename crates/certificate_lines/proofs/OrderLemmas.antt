@@ -1,7 +1,8 @@
 -- Lines in order: what comes after the last comes after all.
-use Rattle.certificate_lines.proofs.Imports.{AreInOrder, Bool, Box2, CertificateLine, Cut, IsBodyLine, IsTotalOrder}
+use Rattle.certificate_lines.proofs.Imports.{AreLinesInOrder, Bool, Box2, CertificateLine, Cut, IsBodyLine}
+use Rattle.certificate_lines.proofs.Imports.{IsTotalOrder}
 use Rattle.certificate_lines.proofs.Imports.{Less, LineKey, List, Module, None, Option, Some, [], and_parts, ap, arith}
-use Rattle.certificate_lines.proofs.Imports.{cell_cmp, cell_of, cell_total, common_steps, inl, inr, is_cut, is_lt}
+use Rattle.certificate_lines.proofs.Imports.{cell_cmp, cell_of, cell_total, common_steps, inl, inr, is_cut_line, is_lt}
 use Rattle.certificate_lines.proofs.Imports.{key_of, key_or_first, last_body_line, last_of, line_cmp, list_all}
 use Rattle.certificate_lines.proofs.Imports.{may_follow, may_precede, nat_cmp_total, ne_eqb, on_total, or-false}
 use Rattle.certificate_lines.proofs.Imports.{or_cases, or_right, rank_of, refl, sort_number_of, sym, then_total, true}
@@ -20,9 +21,9 @@ by_less : (i j : CertificateLine) → line_cmp i j ≡ Less → may_precede i j 
 unfolding may_precede
 by_less i j h = rw h refl
 
-by_cuts : (i j : CertificateLine) → is_cut i ≡ true → is_cut j ≡ true → may_precede i j ≡ true
+by_cuts : (i j : CertificateLine) → is_cut_line i ≡ true → is_cut_line j ≡ true → may_precede i j ≡ true
 unfolding may_precede
-by_cuts i j h k = or_right _ (is_cut i && is_cut j) (rw (h, k) refl)
+by_cuts i j h k = or_right _ (is_cut_line i && is_cut_line j) (rw (h, k) refl)
 
 -- lines of one kind but cuts, and of one number or time, are in order by their cells
 pub cells_precede : (i j : CertificateLine) → rank_of i ≡ rank_of j → (rank_of i ≡ 1 → ⊥) →
@@ -32,20 +33,20 @@ cells_precede i j ranks uncut numbers = grind (arith, common_steps, nat_cmp, cut
 
 -- how two lines may stand one before the other
 precede_parts : (i j : CertificateLine) → may_precede i j ≡ true →
-    (line_cmp i j ≡ Less) ⊎ ((is_cut i ≡ true) × (is_cut j ≡ true))
+    (line_cmp i j ≡ Less) ⊎ ((is_cut_line i ≡ true) × (is_cut_line j ≡ true))
 unfolding may_precede
 precede_parts i j h = grind (arith, common_steps, or_cases, and_parts)
 
-less_then_cut : (i j k : CertificateLine) → line_cmp i j ≡ Less → is_cut j ≡ true → is_cut k ≡ true →
+less_then_cut : (i j k : CertificateLine) → line_cmp i j ≡ Less → is_cut_line j ≡ true → is_cut_line k ≡ true →
     line_cmp i k ≡ Less
-unfolding line_cmp rank_of sort_number_of cell_of is_cut
+unfolding line_cmp rank_of sort_number_of cell_of is_cut_line
 less_then_cut i (Cut m) (Cut n) less cj ck = less
 less_then_cut i (Cut m) k less cj ck = absurd cc
 less_then_cut i j k less cj ck = absurd cc
 
-cut_then_less : (i j k : CertificateLine) → line_cmp j k ≡ Less → is_cut i ≡ true → is_cut j ≡ true →
+cut_then_less : (i j k : CertificateLine) → line_cmp j k ≡ Less → is_cut_line i ≡ true → is_cut_line j ≡ true →
     line_cmp i k ≡ Less
-unfolding line_cmp rank_of sort_number_of cell_of is_cut
+unfolding line_cmp rank_of sort_number_of cell_of is_cut_line
 cut_then_less (Cut m) (Cut n) k less ci cj = less
 cut_then_less (Cut m) j k less ci cj = absurd cc
 cut_then_less i j k less ci cj = absurd cc
@@ -72,10 +73,10 @@ last_passes p i (j ∷ lines) l all last = last_passes p j lines l (and_parts (p
 and_same : (a b : Bool) → (b ≡ true → a ≡ true) → (a && b) ≡ b
 and_same a b h = grind arith
 
-follows : (x : CertificateLine) (lines : List CertificateLine) (l i : CertificateLine) → AreInOrder (x ∷ lines) →
+follows : (x : CertificateLine) (lines : List CertificateLine) (l i : CertificateLine) → AreLinesInOrder (x ∷ lines) →
     last_of (x ∷ lines) ≡ Some l →
     may_follow (x ∷ lines) i ≡ may_precede l i
-unfolding AreInOrder may_follow last_of
+unfolding AreLinesInOrder may_follow last_of
 follows x [] l i order last =
     grind (arith, common_steps, and-true)
 follows x (y ∷ lines) l i order last =
@@ -84,7 +85,8 @@ follows x (y ∷ lines) l i order last =
     ap (λ (b : Bool). may_precede x i && b) rest
     ∙ and_same (may_precede x i) (may_precede l i) (precede_trans x l i first)
 
-pub follows_last : (lines : List CertificateLine) (l i : CertificateLine) → AreInOrder lines → last_of lines ≡ Some l →
+pub follows_last : (lines : List CertificateLine) (l i : CertificateLine) → AreLinesInOrder lines →
+    last_of lines ≡ Some l →
     may_precede l i ≡ may_follow lines i
 unfolding last_of
 follows_last [] l i order last = absurd cc
@@ -105,17 +107,18 @@ follows_none (x ∷ lines) i none = absurd (has_last x lines none)
 
 -- a `module` line comes before every other line
 module_first : (b : Box2) (i : CertificateLine) → IsBodyLine i → may_precede (Module b) i ≡ true
-unfolding may_precede line_cmp rank_of sort_number_of cell_of is_cut
+unfolding may_precede line_cmp rank_of sort_number_of cell_of is_cut_line
 module_first b i h1 = grind (arith, common_steps)
 
-pub follows_inner : (lines : List CertificateLine) (l i : CertificateLine) → IsBodyLine i → AreInOrder lines →
+pub follows_inner : (lines : List CertificateLine) (l i : CertificateLine) → IsBodyLine i → AreLinesInOrder lines →
     last_of lines ≡ body_line_or_none (Some l) → may_precede l i ≡ may_follow lines i
 follows_inner lines l i h1 h2 h3 = grind (arith, common_steps, module_first, follows_none, follows_last)
 
 -- whether a line may come after the others, by the key of the last
 pub follows_key : (o : Option CertificateLine) (k : LineKey) (i : CertificateLine) (b : Bool) → IsBodyLine i →
     k ≡ key_or_first o → ((l : CertificateLine) → k ≡ key_of l → b ≡ may_precede l i) →
-    (lines : List CertificateLine) → AreInOrder lines → last_of lines ≡ body_line_or_none o → b ≡ may_follow lines i
+    (lines : List CertificateLine) → AreLinesInOrder lines → last_of lines ≡ body_line_or_none o →
+    b ≡ may_follow lines i
 unfolding rank_of sort_number_of cell_of
 follows_key None k i b inner is may lines order last =
     let l : CertificateLine = Module (record { x = 0; y = 0; w = 0; h = 0 }) in

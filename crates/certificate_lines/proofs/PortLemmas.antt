@@ -1,6 +1,6 @@
 -- The cells of a box.
 use Rattle.certificate_lines.proofs.Imports.{Bool, Cell, List, [], and_parts, ap, arith, cell_itself, cell_same}
-use Rattle.certificate_lines.proofs.Imports.{common_steps, inl, inr, is_at, list_all, list_any, or_cases, or_right}
+use Rattle.certificate_lines.proofs.Imports.{common_steps, inl, inr, is_cell_at, list_all, list_any, or_cases, or_right}
 use Rattle.certificate_lines.proofs.Imports.{refl, true, ◌∙◌, ◌∷◌, ◌≡◌}
 use Rattle.lemmas.proofs.Common.{or_left}
 use Rattle.bbm_rule.specs.CellLists.{in_cells}
@@ -17,7 +17,7 @@ cell_passed test (c ∷ cells) h =
 pub has_cell : (test : Cell → Bool) (cells : List Cell) (d : Cell) → in_cells cells d.x d.y ≡ true → test d ≡ true →
     list_any test cells ≡ true
 has_cell test [] d h t = absurd cc
-has_cell test (c ∷ cells) d h t = elim (or_cases (is_at c d.x d.y) (in_cells cells d.x d.y) h) [
+has_cell test (c ∷ cells) d h t = elim (or_cases (is_cell_at c d.x d.y) (in_cells cells d.x d.y) h) [
   | inl here ↦ or_left (test c) _ (ap test (cell_same c d here) ∙ t)
   | inr more ↦ or_right (test c) _ (has_cell test cells d more t)
 ]
@@ -34,6 +34,6 @@ pub cells_pass : (test : Cell → Bool) (cells : List Cell) →
 cells_pass test [] h = refl
 cells_pass test (c ∷ cells) h =
     rw (
-      h c (or_left (is_at c c.x c.y) _ (cell_itself c)),
-      cells_pass test cells (λ d there. h d (or_right (is_at c d.x d.y) _ there)),
+      h c (or_left (is_cell_at c c.x c.y) _ (cell_itself c)),
+      cells_pass test cells (λ d there. h d (or_right (is_cell_at c d.x d.y) _ there)),
     ) refl

@@ -1,5 +1,6 @@
 -- The numbers of the rows with a port, for the contracts of `entry_place` and `number_rows`.
-use Rattle.certificate_lines.proofs.Imports.{AreNumberedRows, Box2, Cell, List, None, Option, Port, Some, [], abs_from}
+use Rattle.certificate_lines.proofs.Imports.{AreRowsWithPortsNumbered, Box2, Cell, List, None, Option, Port, Some, []}
+use Rattle.certificate_lines.proofs.Imports.{abs_from}
 use Rattle.certificate_lines.proofs.Imports.{and_from, and_parts, ap, ap₂, arith, common_steps, entry_place}
 use Rattle.certificate_lines.proofs.Imports.{entry_place_by_row_number, get_or, get_or-set_same, get_or_default, in_box}
 use Rattle.certificate_lines.proofs.Imports.{inl, inr, length, length-replicate, length-set, option_map, place_in, pos}
@@ -133,7 +134,7 @@ module _ (b : Box2) (ports : List Port) (k : ℕ) (p : Port) (at : slice_get por
   })
 
 pub rows_done : (b : Box2) (ports : List Port) (k : ℕ) (rows : List ℕ) (count : ℕ) → length ports ≤ k →
-    AreRowsSoFar b ports k rows count → AreNumberedRows b ports rows count
+    AreRowsSoFar b ports k rows count → AreRowsWithPortsNumbered b ports rows count
 rows_done b ports k rows count all full = grind (arith, common_steps, filled_most, slice_get_within)
 
 -- ---- the places of the entries
@@ -193,7 +194,8 @@ same_place b c d h k same =
     some_is c d (sym (box_place b c.x c.y h) ∙ ap (λ (i : ℕ). slice_get (rectangle_cells b) i) same
     ∙ box_place b d.x d.y k)
 
-module _ (b : Box2) (ports : List Port) (rows : List ℕ) (count : ℕ) (are : AreNumberedRows b ports rows count) where
+module _ (b : Box2) (ports : List Port) (rows : List ℕ) (count : ℕ)
+    (are : AreRowsWithPortsNumbered b ports rows count) where
   pub entry_few : (x y : ℤ) (place : ℕ) → in_box b x y ≡ true → entry_place b rows x y ≡ Some place →
       place < count * b.w
   entry_few x y place inside e = grind (arith, common_steps, place_few, sides)

@@ -6,9 +6,10 @@ use Rattle.certificate_lines.proofs.Imports.{module_with_line, modules_of, refl,
 use Rattle.certificate_lines.proofs.Imports.{Keep, Edge, Halo, Stop, Module, All, All-tail, map-append, BorderLine}
 use Rattle.certificate_lines.proofs.Imports.{StopLine, get_or, last_of, slice_get, slice_get-get_or, slice_get_within}
 use Rattle.certificate_lines.proofs.Imports.{subst, suc, ◌-◌, IfSome, last_module, mapped_from, option_map, ◌+◌, Counts}
-use Rattle.certificate_lines.proofs.Imports.{counts_of, length-map, ◌++◌, ◌∙◌, ◌∷◌, ◌≡◌, ◌<◌, ℕ, length, option_to_list}
+use Rattle.certificate_lines.proofs.Imports.{line_counts_of, length-map, ◌++◌, ◌∙◌, ◌∷◌, ◌≡◌, ◌<◌, ℕ, length}
+use Rattle.certificate_lines.proofs.Imports.{option_to_list}
 use Rattle.certificate_lines.proofs.Imports.{wire_of, may_follow, rank_of, true, and_parts, ap₂, body_lines}
-use Rattle.certificate_lines.proofs.Imports.{false_from_not, is_module, list_all, list_all-append, not}
+use Rattle.certificate_lines.proofs.Imports.{false_from_not, is_module_line, list_all, list_all-append, not}
 use Rattle.lemmas.proofs.Common.{Global, Vec, slice_set, All-head, list_all-map}
 use Rattle.std.proofs.Common.{Bor}
 use Rattle.std.specs.Option.{option_copied}
@@ -79,7 +80,7 @@ pub counts_stored : (c : Circuit) (m : StoredModule) → ◌≡◌ {A = Counts} 
   edges = length m.edges.items;
   halos = length m.halos.items;
   stops = length m.stops.items;
-}) (counts_of (module_lines c m))
+}) (line_counts_of (module_lines c m))
 counts_stored c m = simp (cuts_with, gates_with, edges_with, halos_with, stops_with, length-map)
 
 -- ---- the wires of the circuit
@@ -103,19 +104,20 @@ wire_within c w own = grind (arith, common_steps, position-Some, place_position)
 -- ---- the modules of the lines of modules
 
 -- lines that begin no module are lines of the module before them
-no_modules : (es rest : List CertificateLine) → list_all (λ i. not (is_module i)) es ≡ true →
+no_modules : (es rest : List CertificateLine) → list_all (λ i. not (is_module_line i)) es ≡ true →
     (body_lines (es ++ rest) ≡ es ++ body_lines rest) × (modules_of (es ++ rest) ≡ modules_of rest)
 no_modules [] rest h = (refl, refl)
 no_modules (i ∷ es) rest h =
-    let both = and_parts (not (is_module i)) _ h in
-    let other = false_from_not (is_module i) both.0 in
+    let both = and_parts (not (is_module_line i)) _ h in
+    let other = false_from_not (is_module_line i) both.0 in
     let more = no_modules es rest both.1 in grind (arith, common_steps, inner_other, split_other)
 
 all_true : {X : Type 0} (xs : List X) → list_all (λ x. true) xs ≡ true
 all_true [] = refl
 all_true (x ∷ xs) = all_true xs
 
-are_body_lines : (c : Circuit) (m : StoredModule) → list_all (λ i. not (is_module i)) (module_lines c m).lines ≡ true
+are_body_lines : (c : Circuit) (m : StoredModule) →
+    list_all (λ i. not (is_module_line i)) (module_lines c m).lines ≡ true
 are_body_lines c m = simp (list_all-append, list_all-map, all_true)
 
 module_first : (c : Circuit) (ms : List StoredModule) → body_lines (lines_of_modules c ms) ≡ []

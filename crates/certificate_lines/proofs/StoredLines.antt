@@ -13,9 +13,9 @@ use Rattle.lemmas.proofs.Common.{All-push, low_number}
 use Rattle.std.specs.Option.{option_and_then}
 use Rattle.std.proofs.lemmas.List.Quantifiers.{position-Some}
 use Rattle.circuit.proofs.Naming.{place_position}
-use Rattle.certificate_lines.specs.BuilderView.{IsEdgeHaloOrStopLine, IsTrackedWith, wires_made_local}
+use Rattle.certificate_lines.specs.BuilderView.{AreLinesAndWiresTracked, IsEdgeHaloOrStopLine, wires_made_local}
 use Rattle.certificate_lines.specs.BuilderView.{AreTrackedModules, IsWireOfLine, IsWithinMaxSize, MayBeStored}
-use Rattle.certificate_lines.specs.Entries.{name_in}
+use Rattle.certificate_lines.specs.Entries.{wire_name_in_line}
 use Rattle.certificate_lines.specs.Rules.{is_inverse_gate}
 use Rattle.certificate_lines.specs.StoredModules.{HasCircuitWires, IsCircuitWire, lines_of_modules, module_lines}
 use Rattle.certificate_lines.specs.StoredModules.{wire_name}
@@ -42,7 +42,7 @@ signal_named c local signal h1 = grind (arith, common_steps, local_is_some)
 
 -- the name in a line whose words are good
 named_words : (g : Setting) (m : ModuleLines) (i : CertificateLine) → code_but_for_order g m i ≡ None →
-    IfSome (name_in i) (λ n. IsTrue (is_some (wire_of g.circuit n)))
+    IfSome (wire_name_in_line i) (λ n. IsTrue (is_some (wire_of g.circuit n)))
 named_words g m (Cut n) e = subst (λ o. IsTrue (is_some o)) (sym (new_wire _ _ _ n e).1.named) refl
 named_words g m (Edge b) e = signal_named g.circuit (known g.circuit m) b.signal (good_edge g m b e).border.signal
 named_words g m (Halo b) e = signal_named g.circuit (known g.circuit m) b.signal (good_halo g m b e).border.signal
@@ -62,9 +62,9 @@ found c (Some n) named = found_by c n (wire_of c n) refl named
 -- so the wire that was found for it is that of the line
 pub named_line : (g : Setting) (m : ModuleLines) (i : CertificateLine) (wire : Option ℕ) →
     code_but_for_order g m i ≡ None →
-    wire ≡ option_and_then (wire_of g.circuit) (name_in i) → IsWireOfLine g.circuit i wire
+    wire ≡ option_and_then (wire_of g.circuit) (wire_name_in_line i) → IsWireOfLine g.circuit i wire
 named_line g m i wire good is =
-    let all = found g.circuit (name_in i) (named_words g m i good) in
+    let all = found g.circuit (wire_name_in_line i) (named_words g m i good) in
     subst (IsWireOfLine g.circuit i) (sym is) (record { name = all.0; own = all.1 })
 
 -- ---- the numbers of a line
@@ -135,7 +135,8 @@ module _ (g : Setting) (ms new : List StoredModule) (owners : OwnersView) (key :
   pub kept_left : lines_of_modules g.circuit new ≡ lines_of_modules g.circuit ms →
       AreTrackedModules g new owners key earlier local e h
   kept_left same = record {
-    tracked = subst (λ es. IsTrackedWith g es owners (last_body_line es) key earlier local e h) (sym same) was.tracked;
+    tracked = subst (λ es. AreLinesAndWiresTracked g es owners (last_body_line es) key earlier local e h)
+        (sym same) was.tracked;
     wires = own;
   }
 
@@ -145,7 +146,8 @@ module _ (g : Setting) (ms new : List StoredModule) (owners : OwnersView) (key :
       (halo_stars : AreStarsWith halo_in i h h') where
     pub kept_border : IsEdgeHaloOrStopLine i → AreTrackedModules g new owners (key_of i) earlier local e' h'
     kept_border border = record {
-      tracked = subst (λ es. IsTrackedWith g es owners (last_body_line es) (key_of i) earlier local e' h') (sym more)
+      tracked = subst (λ es. AreLinesAndWiresTracked g es owners (last_body_line es) (key_of i) earlier local e' h')
+          (sym more)
           (with_border g _ owners _ key earlier local e h was.tracked i border good e' h' stars halo_stars);
       wires = own;
     }
@@ -153,7 +155,7 @@ module _ (g : Setting) (ms new : List StoredModule) (owners : OwnersView) (key :
     pub kept_body : IsBodyLine i →
         AreTrackedModules g new owners (key_of i) earlier (local ++ wires_made_local g.circuit i) e' h'
     kept_body body = record {
-      tracked = subst (λ es. IsTrackedWith g es owners (last_body_line es) (key_of i) earlier
+      tracked = subst (λ es. AreLinesAndWiresTracked g es owners (last_body_line es) (key_of i) earlier
           (local ++ wires_made_local g.circuit i) e' h') (sym more)
           (with_inner g _ owners _ key earlier local e h was.tracked i body good e' h' stars halo_stars);
       wires = own;
@@ -177,7 +179,7 @@ pub kept_module : (g : Setting) (ms new : List StoredModule) (owners : OwnersVie
 kept_module g ms new owners key earlier local e h was n are b empty own new_owners good number is puts =
     subst (λ l. AreTrackedModules g l new_owners (key_or_first None) (earlier ++ local ∷ []) [] [] []) (sym are)
     (record {
-      tracked = subst (λ es. IsTrackedWith g es new_owners (last_body_line es) (key_or_first None)
+      tracked = subst (λ es. AreLinesAndWiresTracked g es new_owners (last_body_line es) (key_or_first None)
           (earlier ++ local ∷ []) [] [] []) (sym (begun_lines g.circuit ms n b empty))
           (with_module g _ owners _ key earlier local e h was.tracked new_owners b good number
           (is ∙ count_stored g.circuit ms) puts);

@@ -1,12 +1,12 @@
 -- The tables of ports, and the ports in a box.
-use Rattle.certificate_lines.proofs.Imports.{AreNumberedRows, ArePortsInLayout, Bool, Box2, Cell, Circuit}
+use Rattle.certificate_lines.proofs.Imports.{ArePortsInLayout, AreRowsWithPortsNumbered, Bool, Box2, Cell, Circuit}
 use Rattle.certificate_lines.proofs.Imports.{HaveDistinctCells}
 use Rattle.certificate_lines.proofs.Imports.{LayoutHeader, List, None, Option, Port, Some, [], and_parts, ap, arith}
 use Rattle.certificate_lines.proofs.Imports.{cell, cell_itself, cell_same, common_steps, drop, entry_place, eqb-true}
 use Rattle.certificate_lines.proofs.Imports.{false, flat_map, get_or, get_or-set_same, get_or_default}
-use Rattle.certificate_lines.proofs.Imports.{get_or_from_slice_get, if◌then◌else◌, in_box, is_at, is_local}
+use Rattle.certificate_lines.proofs.Imports.{get_or_from_slice_get, if◌then◌else◌, in_box, is_cell_at, is_local}
 use Rattle.certificate_lines.proofs.Imports.{is_nonlocal_signal, length, length-replicate, length-set, list_all}
-use Rattle.certificate_lines.proofs.Imports.{list_any, list_any-append, map, nat_eq, not, nat_tests, number_at}
+use Rattle.certificate_lines.proofs.Imports.{list_any, list_any-append, map, nat_eq, not, nat_tests, port_number_at}
 use Rattle.certificate_lines.proofs.Imports.{option_map}
 use Rattle.certificate_lines.proofs.Imports.{or-false, port_at, pos, range_with_len, rectangle_cells, refl, replicate}
 use Rattle.certificate_lines.proofs.Imports.{row_cells, set, slice_get, slice_get-get_or, slice_get-map}
@@ -17,7 +17,7 @@ use Rattle.lemmas.proofs.Common.{and_or_self, and_zero_l, bit_and, bit_or, cases
 use Rattle.lemmas.proofs.Common.{get_or-set_other, length-take-le, mul-le-mul_right, or_comm, or_zero_l}
 use Rattle.lemmas.proofs.Common.{list_all-append, same_truth}
 use Rattle.bbm_rule.proofs.CellLists.{cast_cell, row_more, rows_found}
-use Rattle.certificate_lines.specs.PortTables.{AreInBox, entry_or_zero, number_with_port_in_front}
+use Rattle.certificate_lines.specs.PortTables.{ArePortsInBox, entry_or_zero, number_with_port_in_front}
 use Rattle.certificate_lines.proofs.RowLemmas.{entry_few, entry_own, filled, filled_less, filled_more, filled_none}
 use Rattle.certificate_lines.proofs.Lists.{passed, any_at, some_is}
 use Rattle.certificate_lines.proofs.LayoutPorts.{port_stands, none_stands}
@@ -108,8 +108,8 @@ no_number : (b : Bool) (n : ℕ) → (if b then 1 else number_with_port_in_front
 no_number b n h1 = grind (arith, common_steps)
 
 -- no number, no port
-pub unnumbered : (ports : List Port) (x y : ℤ) → number_at ports x y ≡ 0 → port_at ports x y ≡ None
-unfolding number_at port_at
+pub unnumbered : (ports : List Port) (x y : ℤ) → port_number_at ports x y ≡ 0 → port_at ports x y ≡ None
+unfolding port_number_at port_at
 unnumbered [] x y e = refl
 unnumbered (p ∷ ports) x y e =
     grind (arith, common_steps, no_number, unnumbered ports x y)
@@ -119,7 +119,7 @@ pub record IsNumbered (ports : List Port) (k : ℕ) (x y : ℤ) : Type 0 where
   pub within : k < length ports
   pub named : (d : Port) → Some (get_or ports k d).name ≡ port_at ports x y
 
-numbered_by : (b : Bool) (n k : ℕ) (p : Port) (ports : List Port) (x y : ℤ) → is_at p.cell x y ≡ b →
+numbered_by : (b : Bool) (n k : ℕ) (p : Port) (ports : List Port) (x y : ℤ) → is_cell_at p.cell x y ≡ b →
     ((j : ℕ) → n ≡ suc j → IsNumbered ports j x y)
     → (if b then 1 else number_with_port_in_front n) ≡ suc k → IsNumbered (p ∷ ports) k x y
 unfolding port_at
@@ -132,13 +132,14 @@ numbered_by false (suc n) (suc k) p ports x y here more e =
     let rest = more k (ap suc same) in
     record { within = omega (arith, rest.within); named = λ d. rest.named d ∙ rw here refl }
 
-pub numbered : (ports : List Port) (k : ℕ) (x y : ℤ) → number_at ports x y ≡ suc k → IsNumbered ports k x y
-unfolding number_at
+pub numbered : (ports : List Port) (k : ℕ) (x y : ℤ) → port_number_at ports x y ≡ suc k → IsNumbered ports k x y
+unfolding port_number_at
 numbered [] k x y e = absurd cc
 numbered (p ∷ ports) k x y e =
-    numbered_by (is_at p.cell x y) (number_at ports x y) k p ports x y refl (λ j is. numbered ports j x y is) e
+    numbered_by (is_cell_at p.cell x y) (port_number_at ports x y) k p ports x y refl
+    (λ j is. numbered ports j x y is) e
 
-pub numbered_below : (ports : List Port) (n : ℕ) (x y : ℤ) → n ≡ number_at ports x y → 0 < n →
+pub numbered_below : (ports : List Port) (n : ℕ) (x y : ℤ) → n ≡ port_number_at ports x y → 0 < n →
     IsNumbered ports (n - 1) x y
 numbered_below ports zero x y e some = absurd (omega arith)
 numbered_below ports (suc k) x y e some =
@@ -158,25 +159,25 @@ numbered_wire c ports wires k x y w are is at =
 
 -- ---- one more port
 
-push_elsewhere : (ports : List Port) (p : Port) (x y : ℤ) → is_at p.cell x y ≡ false →
-    number_at (ports ++ p ∷ []) x y ≡ number_at ports x y
-unfolding number_at
+push_elsewhere : (ports : List Port) (p : Port) (x y : ℤ) → is_cell_at p.cell x y ≡ false →
+    port_number_at (ports ++ p ∷ []) x y ≡ port_number_at ports x y
+unfolding port_number_at
 push_elsewhere [] p x y off = rw off refl
 push_elsewhere (q ∷ ports) p x y off = rw (push_elsewhere ports p x y off) refl
 
-push_here : (ports : List Port) (p : Port) (x y : ℤ) → is_at p.cell x y ≡ true → number_at ports x y ≡ 0 →
-    number_at (ports ++ p ∷ []) x y ≡ suc (length ports)
-unfolding number_at
+push_here : (ports : List Port) (p : Port) (x y : ℤ) → is_cell_at p.cell x y ≡ true → port_number_at ports x y ≡ 0 →
+    port_number_at (ports ++ p ∷ []) x y ≡ suc (length ports)
+unfolding port_number_at
 push_here [] p x y on none = rw on refl
 push_here (q ∷ ports) p x y on none =
     grind (arith, common_steps, no_number, push_here ports p x y on)
 
 none_there : (ports : List Port) (x y : ℤ) →
-    ((i : ℕ) (q : Port) → slice_get ports i ≡ Some q → is_at q.cell x y ≡ true → ⊥) → number_at ports x y ≡ 0
-unfolding number_at
+    ((i : ℕ) (q : Port) → slice_get ports i ≡ Some q → is_cell_at q.cell x y ≡ true → ⊥) → port_number_at ports x y ≡ 0
+unfolding port_number_at
 none_there [] x y none = refl
 none_there (q ∷ ports) x y none =
-    let off : is_at q.cell x y ≡ false = not_true (is_at q.cell x y) (none 0 q refl) in
+    let off : is_cell_at q.cell x y ≡ false = not_true (is_cell_at q.cell x y) (none 0 q refl) in
     rw (off, none_there ports x y (λ i p e. none (suc i) p e)) refl
   where
     not_true : (b : Bool) → (b ≡ true → ⊥) → b ≡ false
@@ -246,7 +247,7 @@ kept_entry numbers place v o h1 = grind (arith, common_steps, get_or-set_other)
 pub record IsFilling (b : Box2) (ports : List Port) (rows : List ℕ) (count k : ℕ) (numbers : List ℕ) : Type 0 where
   pub sized : length numbers ≡ count * b.w
   pub numbered : (x y : ℤ) → in_box b x y ≡ true →
-      entry_or_zero numbers (entry_place b rows x y) ≡ number_at (take k ports) x y
+      entry_or_zero numbers (entry_place b rows x y) ≡ port_number_at (take k ports) x y
   pub counted : filled numbers ≡ k
 
 no_entry : (n : ℕ) (o : Option ℕ) → entry_or_zero (replicate n zero) o ≡ 0
@@ -255,28 +256,29 @@ no_entry n o = grind (arith, common_steps)
 
 pub no_ports : (b : Box2) (ports : List Port) (rows : List ℕ) (count n : ℕ) → n ≡ count * b.w →
     IsFilling b ports rows count 0 (replicate n zero)
-unfolding number_at
+unfolding port_number_at
 no_ports b ports rows count n is = grind (arith, common_steps, length-replicate, numbered, no_entry, filled_none)
 
 pub in_whole : (s : LayoutHeader) (b : Box2) → b ≡ whole s → (ports : List Port) → ArePortsInLayout s ports →
-    AreInBox b ports
+    ArePortsInBox b ports
 unfolding in_box
 in_whole s b is ports on_board i p at = ap (λ (a : Box2). in_box a p.cell.x p.cell.y) is ∙ on_board i p at
 
-module _ (b : Box2) (ports : List Port) (apart : HaveDistinctCells ports) (inside : AreInBox b ports) (rows : List ℕ)
-    (count : ℕ) (are : AreNumberedRows b ports rows count) (k : ℕ) (p : Port) (at : slice_get ports k ≡ Some p)
+module _ (b : Box2) (ports : List Port) (apart : HaveDistinctCells ports) (inside : ArePortsInBox b ports)
+    (rows : List ℕ)
+    (count : ℕ) (are : AreRowsWithPortsNumbered b ports rows count) (k : ℕ) (p : Port) (at : slice_get ports k ≡ Some p)
     (place : ℕ) (there : entry_place b rows p.cell.x p.cell.y ≡ Some place) (numbers : List ℕ)
     (so_far : IsFilling b ports rows count k numbers) where
   here_inside : in_box b p.cell.x p.cell.y ≡ true
   here_inside = inside k p at
 
-  not_before : (i : ℕ) (q : Port) → slice_get (take k ports) i ≡ Some q → is_at q.cell p.cell.x p.cell.y ≡ true → ⊥
+  not_before : (i : ℕ) (q : Port) → slice_get (take k ports) i ≡ Some q → is_cell_at q.cell p.cell.x p.cell.y ≡ true → ⊥
   not_before i q e same =
       let r = within_take ports k i q e in
       let once : i ≡ k = apart i k q p r.1 at (cell_same q.cell p.cell same) in
       absurd (omega (arith, r.0))
 
-  unnumbered_so_far : number_at (take k ports) p.cell.x p.cell.y ≡ 0
+  unnumbered_so_far : port_number_at (take k ports) p.cell.x p.cell.y ≡ 0
   unnumbered_so_far = none_there (take k ports) p.cell.x p.cell.y not_before
 
   entry_free : get_or numbers place 0 ≡ 0
@@ -305,44 +307,45 @@ module _ (b : Box2) (ports : List Port) (apart : HaveDistinctCells ports) (insid
   so_many : length (take k ports) ≡ k
   so_many = length-take-le k ports (omega (arith, within))
 
-  numbered_after : (c : Cell) → in_box b c.x c.y ≡ true → (on : Bool) → is_at p.cell c.x c.y ≡ on
+  numbered_after : (c : Cell) → in_box b c.x c.y ≡ true → (on : Bool) → is_cell_at p.cell c.x c.y ≡ on
       → entry_or_zero (set numbers place (k + 1)) (entry_place b rows c.x c.y)
-      ≡ number_at (take k ports ++ p ∷ []) c.x c.y
+      ≡ port_number_at (take k ports ++ p ∷ []) c.x c.y
   numbered_after c h true on =
       let same : p.cell ≡ c = cell_same p.cell c on in
       subst (λ (d : Cell). entry_or_zero (set numbers place (k + 1)) (entry_place b rows d.x d.y)
-      ≡ number_at (take k ports ++ p ∷ []) d.x d.y) same
+      ≡ port_number_at (take k ports ++ p ∷ []) d.x d.y) same
       (placed (set numbers place (k + 1)) (entry_place b rows p.cell.x p.cell.y) place there
       ∙ get_or-set_same numbers place (k + 1) 0 entry_there
       ∙ suc_is ∙ ap suc (sym so_many)
       ∙ sym (push_here (take k ports) p p.cell.x p.cell.y (cell_itself p.cell) unnumbered_so_far))
   numbered_after c h false off =
       kept_entry numbers place (k + 1) (entry_place b rows c.x c.y)
-      (λ same. clash (ap (λ (d : Cell). is_at p.cell d.x d.y)
+      (λ same. clash (ap (λ (d : Cell). is_cell_at p.cell d.x d.y)
       (entry_own b ports rows count are c p.cell place h here_inside same there)))
       ∙ so_far.numbered c.x c.y h ∙ sym (push_elsewhere (take k ports) p c.x c.y off)
     where
-      clash : is_at p.cell c.x c.y ≡ is_at p.cell p.cell.x p.cell.y → ⊥
+      clash : is_cell_at p.cell c.x c.y ≡ is_cell_at p.cell p.cell.x p.cell.y → ⊥
       clash e = cc (e, off, cell_itself p.cell)
 
   pub one_more : (number : ℕ) → number ≡ k + 1 → IsFilling b ports rows count (k + 1) (set numbers place number)
   one_more number also = rw also (record {
     sized = length-set numbers place (k + 1) ∙ so_far.sized;
     numbered = λ x y h. numbered_after (record { x = x; y = y }) h _ refl
-        ∙ ap (λ (ps : List Port). number_at ps x y) (sym longer);
+        ∙ ap (λ (ps : List Port). port_number_at ps x y) (sym longer);
     counted = grind (arith, common_steps, filled, suc_is, filled_more, entry_there, entry_free);
   })
 
 -- ---- outside
 
-not_inside : (b : Box2) (c : Cell) (x y : ℤ) → in_box b x y ≡ false → in_box b c.x c.y ≡ true → is_at c x y ≡ true → ⊥
+not_inside : (b : Box2) (c : Cell) (x y : ℤ) → in_box b x y ≡ false → in_box b c.x c.y ≡ true →
+    is_cell_at c x y ≡ true → ⊥
 not_inside b c x y out inside here = grind (arith, common_steps, cell_same)
 
 no_name : (ports : List Port) (x y : ℤ) → ((name : List ℕ) → port_at ports x y ≡ Some name → ⊥) →
     (o : Option (List ℕ)) → port_at ports x y ≡ o → o ≡ None
 no_name ports x y h1 o h2 = grind (arith, common_steps)
 
-pub none_outside : (b : Box2) (ports : List Port) → AreInBox b ports → (x y : ℤ) → in_box b x y ≡ false →
+pub none_outside : (b : Box2) (ports : List Port) → ArePortsInBox b ports → (x y : ℤ) → in_box b x y ≡ false →
     port_at ports x y ≡ None
 none_outside b ports inside x y out =
     no_name ports x y (λ name e. let r = port_stands ports x y name e in

@@ -3,13 +3,13 @@ use Rattle.certificate_lines.proofs.Imports.{All, Gate, List, Some, [], arith, c
 use Rattle.certificate_lines.proofs.Imports.{◌+◌, ◌<◌, ◌∷◌, ◌≡◌}
 use Rattle.lemmas.proofs.Common.{same_Some}
 use Rattle.circuit.specs.Gates.{defines}
-use Rattle.circuit.specs.Meaning.{AreOrdered, wires_after}
+use Rattle.circuit.specs.Meaning.{AreGatesOrdered, wires_after}
 use Rattle.module_box.proofs.LocalRows.{range_below}
 use Rattle.circuit.proofs.Undefined.{wires_grow}
 
-pub defined_below : (n : ℕ) (gs : List Gate) (k : ℕ) (g : Gate) → AreOrdered n gs → slice_get gs k ≡ Some g →
+pub defined_below : (n : ℕ) (gs : List Gate) (k : ℕ) (g : Gate) → AreGatesOrdered n gs → slice_get gs k ≡ Some g →
     All (λ w. w < wires_after n gs) g.outs
-unfolding AreOrdered wires_after
+unfolding AreGatesOrdered wires_after
 defined_below n [] k g ordered at = absurd cc
 defined_below n (h ∷ gs) zero g ordered at = grind (arith, common_steps, same_Some, range_below, wires_grow)
 defined_below n (h ∷ gs) (suc k) g ordered at = defined_below (n + defines h.kind) gs k g ordered.3 at

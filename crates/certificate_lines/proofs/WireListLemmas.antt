@@ -4,7 +4,7 @@ use Rattle.certificate_lines.proofs.Imports.{replicate, suc, sym, take, take_mor
 use Rattle.certificate_lines.proofs.Imports.{◌==◌, ◌||◌, ◌∙◌, ◌∷◌, ◌≡◌, ◌≤◌, false≢true}
 use Rattle.lemmas.proofs.Common.{◌/◌, eq_itself, or-true, false_from_ne_true, get_or_past}
 use Rattle.std.proofs.lemmas.List.{get_or-take, length-take-le}
-use Rattle.bbm_rule.specs.Rows.{SetsPlace}
+use Rattle.bbm_rule.specs.Rows.{SetsCellAtPlace}
 use Rattle.bbm_rule.specs.Rows.{cell_at}
 use Rattle.bbm_rule.specs.Bits.{bit}
 use Rattle.bbm_rule.proofs.BitLemmas.{by_lt_or_le, bit-zero}
@@ -63,7 +63,7 @@ pub record AreUnmarked (marks wires : List ℕ) (count : ℕ) : Type 0 where
   pub off : (w : ℕ) → is_among (take count wires) w ≡ true → cell_at marks w ≡ false
 
 pub one_more_off : (old new wires : List ℕ) (i w : ℕ) → i < length wires → w ≡ get_or wires i 0 →
-    SetsPlace w false old new → AreUnmarked old wires i → AreUnmarked new wires (i + 1)
+    SetsCellAtPlace w false old new → AreUnmarked old wires i → AreUnmarked new wires (i + 1)
 one_more_off old new wires i w lt is sets before = grind (arith, common_steps, take_more)
 
 pub all_off : (marks wires : List ℕ) → AreUnmarked marks wires (length wires) → (w : ℕ) → cell_at marks w ≡ false

@@ -6,9 +6,10 @@ use Rattle.circuit.specs.Meaning.{Circuit, Gate, wire_of}
 use Rattle.std.specs.List.{All, filter, list_any}
 use Rattle.bbm_rule.specs.declared.block.Cell.{Cell}
 use Rattle.bbm_rule.specs.Boxes.{in_box, in_halo}
-use Rattle.module_box.specs.Tiling.{ArePartOwners, OwnersView}
+use Rattle.module_box.specs.Tiling.{IsPartialOwnerTable, OwnersView}
 use Rattle.bbm_rule.specs.declared.block.Box2.{Box2}
-use Rattle.certificate_lines.specs.Entries.{Setting, ModuleLines, modules_of, last_of, areas, known, edges, name_in}
+use Rattle.certificate_lines.specs.Entries.{Setting, ModuleLines, modules_of, last_of, areas, known, edges}
+use Rattle.certificate_lines.specs.Entries.{wire_name_in_line}
 use Rattle.certificate_lines.specs.Entries.{halos}
 use Rattle.certificate_lines.specs.Rules.{is_local_wire, is_star, is_starred_line_at, same_cell}
 use Rattle.certificate_lines.specs.Rules.{has_nonlocal_port}
@@ -23,7 +24,7 @@ use Rattle.certificate_lines.specs.declared.certificate_line.CertificateLine.The
 use Rattle.certificate_lines.specs.declared.certificate_line.CertificateLine.TheVariants.{Halo, Stop}
 use Rattle.certificate_lines.specs.declared.stored_module.StoredModule.{StoredModule}
 use Rattle.certificate_lines.specs.declared.builder.Builder.TheInside.{Inside}
-use Rattle.lemmas.specs.Bounds.{last_place, max_modules}
+use Rattle.lemmas.specs.Bounds.{last_column_or_row, max_modules}
 
 -- what the certificate is for, and the lines so far
 pub record BuilderView : Type 0 where
@@ -48,7 +49,7 @@ pub record IsLastModuleTracked (g : Setting) (m : ModuleLines) (last : Option Ce
   pub halo_stars : (c : Cell) → list_any (same_cell c) h ≡ list_any (is_starred_line_at c) (halos m)
 
 -- no cell lies in two of the boxes
-pub record AreApart (boxes : List Box2) : Type 0 where
+pub record AreBoxesDisjoint (boxes : List Box2) : Type 0 where
   pub once : (x y : ℤ) (i j : ℕ) (b b' : Box2) → slice_get boxes i ≡ Some b → slice_get boxes j ≡ Some b' →
       IsTrue (in_box b x y) → IsTrue (in_box b' x y) → i ≡ j
 
@@ -61,30 +62,30 @@ pub record IsModuleInLimits (g : Setting) (m : ModuleLines) : Type 0 where
 pub record AreGoodModulesSoFar (g : Setting) (ms : List ModuleLines) : Type 0 where
   pub few : length ms ≤ max_modules
   pub each : (k : ℕ) (m : ModuleLines) → slice_get ms k ≡ Some m → IsModuleInLimits g m
-  pub apart : AreApart (areas ms)
+  pub apart : AreBoxesDisjoint (areas ms)
   -- the ports' wires are local in all modules but the last
   pub ported : (i : ℕ) (m : ModuleLines) → i + 1 < length ms → slice_get ms i ≡ Some m → has_nonlocal_port g m ≡ false
 
 -- the table is of the whole rectangle, and of the boxes of these modules
-pub record AreModuleOwners (g : Setting) (ms : List ModuleLines) (o : OwnersView) : Type 0 where
+pub record IsModuleOwnerTable (g : Setting) (ms : List ModuleLines) (o : OwnersView) : Type 0 where
   pub width : o.width ≡ g.size.w
   pub height : o.height ≡ g.size.h
-  pub boxes : ArePartOwners o (areas ms)
+  pub boxes : IsPartialOwnerTable o (areas ms)
 
 -- the modules so far, and what is kept of all of them
-pub record AreBuilt (g : Setting) (ms : List ModuleLines) (o : OwnersView) : Type 0 where
+pub record AreModulesWithOwners (g : Setting) (ms : List ModuleLines) (o : OwnersView) : Type 0 where
   pub sound : AreGoodModulesSoFar g ms
-  pub owners : AreModuleOwners g ms o
+  pub owners : IsModuleOwnerTable g ms o
 
 -- what is kept of the lines is what they say
-pub record IsTracked (g : Setting) (es : List CertificateLine) (o : OwnersView) (last : Option CertificateLine)
+pub record AreLinesTracked (g : Setting) (es : List CertificateLine) (o : OwnersView) (last : Option CertificateLine)
     (local : List ℕ) (e h : List Cell) : Type 0 where
-  pub built : AreBuilt g (modules_of es) o
+  pub built : AreModulesWithOwners g (modules_of es) o
   pub last_module : (m : ModuleLines) → last_of (modules_of es) ≡ Some m → IsLastModuleTracked g m last local e h
 
 -- one of these edge lines is for a cell in the halo of the module, and names a wire that is not local there
-abbrev pub lacks_edge_wire : Circuit → List BorderLine → ModuleLines → Bool
-lacks_edge_wire c es m = list_any (λ e. is_nonlocal_signal c (known c m) e.signal)
+abbrev pub lacks_wire_of_some_edge : Circuit → List BorderLine → ModuleLines → Bool
+lacks_wire_of_some_edge c es m = list_any (λ e. is_nonlocal_signal c (known c m) e.signal)
     (filter (λ e. in_halo m.area e.cell.x e.cell.y) es)
 
 -- the cell is outside the module, and the wire is unknown or not local there
@@ -106,9 +107,10 @@ abbrev pub AreLocalWiresOfModules : Circuit → List ModuleLines → List (List 
 AreLocalWiresOfModules c ms earlier local = earlier ++ local ∷ [] ≡ [] ∷ map (known c) ms
 
 -- what is kept of the lines, and of the wires of all modules
-pub record IsTrackedWith (g : Setting) (es : List CertificateLine) (o : OwnersView) (last : Option CertificateLine)
+pub record AreLinesAndWiresTracked (g : Setting) (es : List CertificateLine) (o : OwnersView)
+    (last : Option CertificateLine)
     (key : LineKey) (earlier : List (List ℕ)) (local : List ℕ) (e h : List Cell) : Type 0 where
-  pub kept : IsTracked g es o last local e h
+  pub kept : AreLinesTracked g es o last local e h
   pub wires : AreLocalWiresOfModules g.circuit (modules_of es) earlier local
   pub key_is : key ≡ key_or_first (last_of es)
 
@@ -126,7 +128,8 @@ last_body_line entries = body_line_or_none (last_of entries)
 pub record AreTrackedModules (g : Setting) (ms : List StoredModule) (o : OwnersView) (key : LineKey)
     (earlier : List (List ℕ))
     (local : List ℕ) (e h : List Cell) : Type 0 where
-  pub tracked : IsTrackedWith g (lines_of_modules g.circuit ms) o (last_body_line (lines_of_modules g.circuit ms))
+  pub tracked : AreLinesAndWiresTracked g (lines_of_modules g.circuit ms) o
+      (last_body_line (lines_of_modules g.circuit ms))
       key earlier local e h
   pub wires : All (HasCircuitWires g.circuit) ms
 
@@ -144,8 +147,8 @@ starred_lines lines = filter (λ e. is_star e.time) lines
 
 -- column and row are those of a cell of a layout
 pub record IsWithinMaxSize (c : Cell) : Type 0 where
-  pub column : (pos 0 ≤ℤ c.x) × (c.x ≤ℤ pos last_place)
-  pub row : (pos 0 ≤ℤ c.y) × (c.y ≤ℤ pos last_place)
+  pub column : (pos 0 ≤ℤ c.x) × (c.x ≤ℤ pos last_column_or_row)
+  pub row : (pos 0 ≤ℤ c.y) × (c.y ≤ℤ pos last_column_or_row)
 
 -- the numbers of a line are small, and a cut or a stop has its wire
 abbrev pub MayBeStored : CertificateLine → Option ℕ → Type 0
@@ -159,7 +162,7 @@ MayBeStored (Stop s) wire = IsWithinMaxSize s.cell × IsTrue (is_some wire)
 
 -- the wire is the circuit's wire of the name in a line, if the line has a name
 pub record IsWireOfLine (c : Circuit) (i : CertificateLine) (wire : Option ℕ) : Type 0 where
-  pub name : option_map (wire_name c) wire ≡ name_in i
+  pub name : option_map (wire_name c) wire ≡ wire_name_in_line i
   pub own : IfSome wire (IsCircuitWire c)
 
 -- the line is no `module` line

@@ -83,12 +83,12 @@ halo_in (Halo e) = e ∷ []
 halo_in _ = []
 
 -- the name in a line, if it has one
-abbrev pub name_in : CertificateLine → Option (List ℕ)
-name_in (Cut n) = Some n
-name_in (Edge e) = e.signal
-name_in (Halo e) = e.signal
-name_in (Stop s) = Some s.wire
-name_in _ = None
+abbrev pub wire_name_in_line : CertificateLine → Option (List ℕ)
+wire_name_in_line (Cut n) = Some n
+wire_name_in_line (Edge e) = e.signal
+wire_name_in_line (Halo e) = e.signal
+wire_name_in_line (Stop s) = Some s.wire
+wire_name_in_line _ = None
 
 -- a stop line, and no other line
 abbrev pub stop_in : CertificateLine → List StopLine
@@ -125,8 +125,8 @@ abbrev pub stops : ModuleLines → List StopLine
 stops m = flat_map stop_in m.lines
 
 -- how many lines of each kind a module has, and its box; the lines that keep gates are not counted
-abbrev pub counts_of : ModuleLines → Counts
-counts_of m = record {
+abbrev pub line_counts_of : ModuleLines → Counts
+line_counts_of m = record {
   area = m.area;
   cuts = length (cuts m);
   gates = length (gates m);

@@ -8,15 +8,15 @@ use Rattle.certificate_lines.specs.declared.certificate_line.CertificateLine.{Ce
 use Rattle.certificate_lines.specs.declared.certificate_line.CertificateLine.TheVariants.{Module}
 
 -- whether the line begins a module
-abbrev pub is_module : CertificateLine → Bool
-is_module (Module b) = true
-is_module _ = false
+abbrev pub is_module_line : CertificateLine → Bool
+is_module_line (Module b) = true
+is_module_line _ = false
 
 -- the lines before the next `module` line
 unfoldable pub body_lines : List CertificateLine → List CertificateLine
 body_lines [] = []
-body_lines (i ∷ entries) = if is_module i then [] else i ∷ body_lines entries
+body_lines (i ∷ entries) = if is_module_line i then [] else i ∷ body_lines entries
 
 -- each of these lines is for a cell of the box
-abbrev pub AreInBox : Box2 → List BorderLine → Type 0
-AreInBox area es = All (λ e. IsTrue (in_box area e.cell.x e.cell.y)) es
+abbrev pub AreLinesInBox : Box2 → List BorderLine → Type 0
+AreLinesInBox area es = All (λ e. IsTrue (in_box area e.cell.x e.cell.y)) es

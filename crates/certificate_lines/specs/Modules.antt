@@ -9,7 +9,7 @@ use Rattle.bbm_rule.specs.declared.block.Box2.{Box2}
 use Rattle.pattern.specs.declared.layout_line.Port.{Port}
 use Rattle.certificate_lines.specs.Entries.{Setting, ModuleLines, areas, cuts, gates, keeps, edges, halos, stops}
 use Rattle.certificate_lines.specs.Entries.{cut_wires, known}
-use Rattle.certificate_lines.specs.Orders.{AreInOrder}
+use Rattle.certificate_lines.specs.Orders.{AreLinesInOrder}
 use Rattle.certificate_lines.specs.Rules.{whole, is_local, is_inverse_gate, is_star, is_starred_line_at}
 use Rattle.certificate_lines.specs.Rules.{timed_line_count, timed_line_limit}
 use Rattle.certificate_lines.specs.declared.certificate_line.BorderLine.{BorderLine}
@@ -40,7 +40,7 @@ pub record IsAllowedStop (g : Setting) (area : Box2) (local : List ℕ) (s : Sto
   pub wire : IsTrue (is_local g.circuit local s.wire)
 
 -- a kept gate is an inverse gate, and it is one of those that are used
-pub record MayBeKept (g : Setting) (used : List ℕ) (k : ℕ) : Type 0 where
+pub record MayGateBeKept (g : Setting) (used : List ℕ) (k : ℕ) : Type 0 where
   pub inverse : IsTrue (is_inverse_gate (slice_get g.circuit.netlist.gates k))
   pub among : IsTrue (is_among used k)
 
@@ -62,15 +62,15 @@ pub record IsModule (g : Setting) (m : ModuleLines) : Type 0 where
   -- each cut is a wire of the circuit
   pub named : length (cut_wires g.circuit m) ≡ length (cuts m)
   pub local : AreLocalLines g.circuit.netlist (cut_wires g.circuit m) (gates m)
-  pub order : AreInOrder m.lines
-  pub keep_lines : All (MayBeKept g (gates m)) (keeps m)
+  pub order : AreLinesInOrder m.lines
+  pub keep_lines : All (MayGateBeKept g (gates m)) (keeps m)
   pub unstarred : StarsExcludeLaterTimes (edges m)
   pub edge_lines : All (IsAllowedEdge g m.area (known g.circuit m)) (edges m)
   pub halo_lines : All (IsAllowedHalo g m.area (known g.circuit m)) (halos m)
   pub stop_lines : All (IsAllowedStop g m.area (known g.circuit m)) (stops m)
 
 -- the wires of the ports in the module's box are local
-pub record HasLocalPorts (g : Setting) (m : ModuleLines) : Type 0 where
+pub record HasLocalPortWires (g : Setting) (m : ModuleLines) : Type 0 where
   pub local : (i : ℕ) (p : Port) → slice_get g.ports i ≡ Some p → IsTrue (in_box m.area p.cell.x p.cell.y) →
       IsTrue (is_local g.circuit (known g.circuit m) p.name)
 
@@ -78,7 +78,7 @@ pub record HasLocalPorts (g : Setting) (m : ModuleLines) : Type 0 where
 pub record AreModules (g : Setting) (ms : List ModuleLines) : Type 0 where
   pub few : length ms ≤ max_modules
   pub each : (k : ℕ) (m : ModuleLines) → slice_get ms k ≡ Some m → IsModule g m
-  pub ports : (k : ℕ) (m : ModuleLines) → slice_get ms k ≡ Some m → HasLocalPorts g m
+  pub ports : (k : ℕ) (m : ModuleLines) → slice_get ms k ≡ Some m → HasLocalPortWires g m
   pub tile : Tile (whole g.size) (areas ms)
 
 -- a module has at most 65,536 edge, halo and stop lines of its own

@@ -52,19 +52,19 @@ line_cmp i j =
     (ordering_then (nat_cmp (sort_number_of i) (sort_number_of j)) (cell_cmp (cell_of i) (cell_of j)))
 
 -- whether the line is a cut line
-unfoldable pub is_cut : CertificateLine → Bool
-is_cut (Cut n) = true
-is_cut _ = false
+unfoldable pub is_cut_line : CertificateLine → Bool
+is_cut_line (Cut n) = true
+is_cut_line _ = false
 
 -- whether the first line may come before the second in a module: the cuts come in any order
 unfoldable pub may_precede : CertificateLine → CertificateLine → Bool
-may_precede i j = is_lt (line_cmp i j) || (is_cut i && is_cut j)
+may_precede i j = is_lt (line_cmp i j) || (is_cut_line i && is_cut_line j)
 
 -- whether all these lines may come before the line
 unfoldable pub may_follow : List CertificateLine → CertificateLine → Bool
 may_follow lines j = list_all (λ i. may_precede i j) lines
 
 -- each line may come before all later ones
-unfoldable pub AreInOrder : List CertificateLine → Type 0
-AreInOrder [] = Unit {0}
-AreInOrder (i ∷ lines) = (list_all (may_precede i) lines ≡ true) × AreInOrder lines
+unfoldable pub AreLinesInOrder : List CertificateLine → Type 0
+AreLinesInOrder [] = Unit {0}
+AreLinesInOrder (i ∷ lines) = (list_all (may_precede i) lines ≡ true) × AreLinesInOrder lines

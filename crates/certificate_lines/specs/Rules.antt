@@ -66,28 +66,28 @@ abbrev pub is_bad_box_side : ℕ → Bool
 is_bad_box_side n = is_odd n || nat_lt n 2 || nat_lt 64 n
 
 -- a corner is even, and the box is inside the rectangle
-abbrev pub is_misplaced : LayoutHeader → Box2 → Bool
-is_misplaced s b = is_odd b.x || is_odd b.y || nat_lt s.w (b.x + b.w) || nat_lt s.h (b.y + b.h)
+abbrev pub is_odd_corner_or_outside : LayoutHeader → Box2 → Bool
+is_odd_corner_or_outside s b = is_odd b.x || is_odd b.y || nat_lt s.w (b.x + b.w) || nat_lt s.h (b.y + b.h)
 
 -- whether one of the boxes has the cell (x, y)
 abbrev pub in_boxes : List Box2 → State
 in_boxes boxes x y = list_any (λ b. in_box b x y) boxes
 
 -- a cell of the box is one of an earlier box
-abbrev pub overlaps : List Box2 → Box2 → Bool
-overlaps boxes b = list_any (λ c. in_boxes boxes c.x c.y) (rectangle_cells b)
+abbrev pub overlaps_earlier_box : List Box2 → Box2 → Bool
+overlaps_earlier_box boxes b = list_any (λ c. in_boxes boxes c.x c.y) (rectangle_cells b)
 
 -- the tests of a box by itself, after `count` modules, the last of them `before`
 unfoldable pub module_box_code : Setting → ℕ → Option ModuleLines → Box2 → Option RefusalCode
 module_box_code g count before b =
     or_else (code_if (is_last_module_incomplete g before) SomethingMissing)
     (or_else (code_if (is_bad_box_side b.w || is_bad_box_side b.h || nat_le max_modules count) PastLimit)
-    (code_if (is_misplaced g.size b) MisplacedBox))
+    (code_if (is_odd_corner_or_outside g.size b) MisplacedBox))
 
 -- the code of a `module` line after these modules
 unfoldable pub module_line_code : Setting → List ModuleLines → Option ModuleLines → Box2 → Option RefusalCode
 module_line_code g ms before b = or_else (module_box_code g (length ms) before b)
-    (code_if (overlaps (areas ms) b) MisplacedBox)
+    (code_if (overlaps_earlier_box (areas ms) b) MisplacedBox)
 
 -- ---- a cut, after `count` cuts, if these wires are local: 2, 3, 4
 
@@ -154,19 +154,19 @@ is_line_time_allowed steps starred None = true
 is_line_time_allowed steps starred (Some t) = is_odd t && nat_lt t steps && not starred
 
 -- an edge is in the box's ring, and not on the rim of the rectangle, which is the rectangle's ring
-unfoldable pub is_edge_place_and_time : LayoutHeader → Box2 → Bool → BorderLine → Bool
-is_edge_place_and_time s area starred e =
+unfoldable pub is_edge_place_and_time_allowed : LayoutHeader → Box2 → Bool → BorderLine → Bool
+is_edge_place_and_time_allowed s area starred e =
     in_ring area e.cell.x e.cell.y && not (in_ring (whole s) e.cell.x e.cell.y)
     && is_line_time_allowed s.steps starred e.time
 
 -- a halo line is in the box's halo, and inside the rectangle
-unfoldable pub is_halo_place_and_time : LayoutHeader → Box2 → Bool → BorderLine → Bool
-is_halo_place_and_time s area starred e =
+unfoldable pub is_halo_place_and_time_allowed : LayoutHeader → Box2 → Bool → BorderLine → Bool
+is_halo_place_and_time_allowed s area starred e =
     in_halo area e.cell.x e.cell.y && in_box (whole s) e.cell.x e.cell.y && is_line_time_allowed s.steps starred e.time
 
 -- a stop is in the box, at a time up to the last one
-unfoldable pub is_stop_place_and_time : LayoutHeader → Box2 → StopLine → Bool
-is_stop_place_and_time size area s = in_box area s.cell.x s.cell.y && nat_le s.time size.steps
+unfoldable pub is_stop_place_and_time_allowed : LayoutHeader → Box2 → StopLine → Bool
+is_stop_place_and_time_allowed size area s = in_box area s.cell.x s.cell.y && nat_le s.time size.steps
 
 -- a signal is `1`, or a wire of the circuit, 3, that is local, 9
 abbrev pub wire_fault : List ℕ → Option ℕ → Option RefusalCode
@@ -197,17 +197,17 @@ timed_line_count m = length (edges m) + length (halos m) + length (stops m)
 -- the code of an edge line of a module
 abbrev pub edge_line_code : Setting → ModuleLines → BorderLine → Option RefusalCode
 edge_line_code g m e = border_or_stop_line_code g.circuit (timed_line_count m) (known g.circuit m)
-    (is_edge_place_and_time g.size m.area (list_any (is_starred_line_at e.cell) (edges m)) e) e.signal
+    (is_edge_place_and_time_allowed g.size m.area (list_any (is_starred_line_at e.cell) (edges m)) e) e.signal
 
 -- the code of a halo line of a module
 abbrev pub halo_line_code : Setting → ModuleLines → BorderLine → Option RefusalCode
 halo_line_code g m e = border_or_stop_line_code g.circuit (timed_line_count m) (known g.circuit m)
-    (is_halo_place_and_time g.size m.area (list_any (is_starred_line_at e.cell) (halos m)) e) e.signal
+    (is_halo_place_and_time_allowed g.size m.area (list_any (is_starred_line_at e.cell) (halos m)) e) e.signal
 
 -- the code of a stop line of a module
 abbrev pub stop_line_code : Setting → ModuleLines → StopLine → Option RefusalCode
 stop_line_code g m s = border_or_stop_line_code g.circuit (timed_line_count m) (known g.circuit m)
-    (is_stop_place_and_time g.size m.area s)
+    (is_stop_place_and_time_allowed g.size m.area s)
     (Some s.wire)
 
 -- the code of a line of a module, but for its order

@@ -54,8 +54,8 @@ abbrev pub lines_of_modules : Circuit → List StoredModule → List Certificate
 lines_of_modules c ms = flat_map (λ m. Module m.area ∷ (module_lines c m).lines) ms
 
 -- the cell of an edge or halo line is one of the layout's rectangle
-abbrev pub IsWithin : LayoutHeader → StoredBorder → Type 0
-IsWithin size b = IsTrue (in_box (whole size) (pos b.column) (pos b.row))
+abbrev pub IsCellWithinLayout : LayoutHeader → StoredBorder → Type 0
+IsCellWithinLayout size b = IsTrue (in_box (whole size) (pos b.column) (pos b.row))
 
 -- the number is that of the wire of its name
 abbrev pub IsCircuitWire : Circuit → ℕ → Type 0

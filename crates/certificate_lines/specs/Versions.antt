@@ -42,29 +42,29 @@ edge_lines_beside g ms area = if nat_lt 1 g.size.steps then filter (λ e. in_hal
     (flat_map edges ms) else []
 
 -- whether a line is a halo line
-unfoldable pub is_halo : CertificateLine → Bool
-is_halo (Halo e) = true
-is_halo _ = false
+unfoldable pub is_halo_line : CertificateLine → Bool
+is_halo_line (Halo e) = true
+is_halo_line _ = false
 
 -- the lines other than halo lines
-unfoldable pub without_halos : List CertificateLine → List CertificateLine
-without_halos lines = filter (λ i. not (is_halo i)) lines
+unfoldable pub without_halo_lines : List CertificateLine → List CertificateLine
+without_halo_lines lines = filter (λ i. not (is_halo_line i)) lines
 
 -- a module without them
 unfoldable pub haloless_module : ModuleLines → ModuleLines
-haloless_module m = record m { lines = without_halos m.lines }
+haloless_module m = record m { lines = without_halo_lines m.lines }
 
 -- whether a line is before the halo lines of its module
-unfoldable pub precedes_halos : CertificateLine → Bool
-precedes_halos (Halo e) = false
-precedes_halos (Stop s) = false
-precedes_halos _ = true
+unfoldable pub precedes_halo_lines : CertificateLine → Bool
+precedes_halo_lines (Halo e) = false
+precedes_halo_lines (Stop s) = false
+precedes_halo_lines _ = true
 
 -- a module of version 2 as one of version 1, if these are all modules; its stops come after the halo lines
-unfoldable pub with_halos : Setting → List ModuleLines → ModuleLines → ModuleLines
-with_halos g ms m =
+unfoldable pub with_halo_lines : Setting → List ModuleLines → ModuleLines → ModuleLines
+with_halo_lines g ms m =
     record m {
-      lines = filter precedes_halos m.lines ++ map Halo (sorted_border_lines (edge_lines_beside g ms m.area))
+      lines = filter precedes_halo_lines m.lines ++ map Halo (sorted_border_lines (edge_lines_beside g ms m.area))
           ++ map Stop (stops m);
     }
 
@@ -74,7 +74,7 @@ is_haloless_version version = version == 2
 
 -- the modules of a certificate of this version whose lines make these
 unfoldable pub modules_by_version : ℕ → Setting → List ModuleLines → List ModuleLines
-modules_by_version version g ms = if is_haloless_version version then map (with_halos g ms) ms else ms
+modules_by_version version g ms = if is_haloless_version version then map (with_halo_lines g ms) ms else ms
 
 -- ---- the wires of such lines
 
@@ -84,8 +84,8 @@ is_nonlocal_signal c local None = false
 is_nonlocal_signal c local (Some name) = not (is_local c local name)
 
 -- an edge line for a cell in the halo of another module names a wire that is not local there
-unfoldable pub lacks_edge_wire_beside : Setting → List ModuleLines → Bool
-lacks_edge_wire_beside g ms = list_any (λ m.
+unfoldable pub has_nonlocal_edge_wire_beside : Setting → List ModuleLines → Bool
+has_nonlocal_edge_wire_beside g ms = list_any (λ m.
     list_any (λ e. is_nonlocal_signal g.circuit (known g.circuit m) e.signal) (edge_lines_beside g ms m.area))
     ms
 

@@ -19,9 +19,9 @@ wire_list_view a = record {
 }
 
 -- the fields of every list: the mark of each number says whether it is in the list
-pub record IsWireList (a : Inside) : Type 0 where
+pub record AreWireListFields (a : Inside) : Type 0 where
   pub marked : (w : ℕ) → cell_at a.marks.items w ≡ is_among a.wires.items w
 
 -- the same numbers have a mark
-abbrev pub HasSameMarks : List ℕ → List ℕ → Type 0
-HasSameMarks old new = (w : ℕ) → cell_at new w ≡ cell_at old w
+abbrev pub MarksSameNumbers : List ℕ → List ℕ → Type 0
+MarksSameNumbers old new = (w : ℕ) → cell_at new w ≡ cell_at old w

@@ -4,11 +4,11 @@ ghost use Rattle.section_text.specs.Adding.{HasRefusalCode};
 ghost use Rattle.std.specs.List.{All};
 ghost use Rattle.std.specs.Option.{is_some, option_and_then, option_map};
 ghost use Rattle.circuit.specs.Meaning.{wire_of};
-ghost use Rattle.certificate_lines.specs.Entries.{ModuleLines, known, modules_of, last_module, name_in};
+ghost use Rattle.certificate_lines.specs.Entries.{ModuleLines, known, modules_of, last_module, wire_name_in_line};
 ghost use Rattle.certificate_lines.specs.Modules.{IsWithinLineLimit};
 ghost use Rattle.certificate_lines.specs.StoredModules.{HasCircuitWires, lines_of_modules, module_lines};
 ghost use Rattle.certificate_lines.specs.Rules.{timed_line_count, border_or_stop_line_code, entry_fault, end_fault, module_box_code, module_line_code, body_line_code, code_but_for_order, is_last_module_incomplete, module_limit_fault};
-ghost use Rattle.certificate_lines.specs.BuilderView.{AreModuleOwners, BuilderView, IsEdgeHaloOrStopLine, IsBodyLine};
+ghost use Rattle.certificate_lines.specs.BuilderView.{IsModuleOwnerTable, BuilderView, IsEdgeHaloOrStopLine, IsBodyLine};
 ghost use Rattle.certificate_lines.specs.declared.certificate_line.CertificateLine.TheVariants.{Module};
 
 use crate::certificate_line::CertificateLine;
@@ -16,11 +16,13 @@ use crate::line_tables::LineTables;
 use crate::local_wires::{make_room_for_wires, move_wires_to_earlier, push_line_wires};
 use crate::order::{LineKey, key_of, may_follow, module_line_key};
 use crate::rules::{
-    border_or_stop_code, cut_code, is_bad_box_side, is_misplaced_box, keep_code,
+    border_or_stop_code, cut_code, has_odd_corner_or_is_outside, is_bad_box_side, keep_code,
     may_edge_have_place_and_time, may_halo_have_place_and_time, may_stop_have_place_and_time,
     use_code,
 };
-use crate::stars::{has_star, make_room_if_starred_border_line, note_if_starred_border_line};
+use crate::stars::{
+    has_starred_line_at, make_room_if_starred_border_line, note_if_starred_border_line,
+};
 use crate::stored_module::{StoredModule, push_line_in_last_module};
 use crate::wire_list::WireList;
 use bbm_rule::Cell;
@@ -146,7 +148,7 @@ impl<'a> Builder<'a> {
         requires within_limit { IsWithinLineLimit (module_lines self.now.setting.circuit
             last.now) }
         requires wire { wire
-            ≡ option_and_then (wire_of self.now.setting.circuit) (name_in entry.now) }
+            ≡ option_and_then (wire_of self.now.setting.circuit) (wire_name_in_line entry.now) }
         ensures { (m : ModuleLines) → last_module self.now.entries ≡ Some m →
             m ≡ module_lines self.now.setting.circuit last.now →
             result ≡ code_but_for_order self.now.setting m entry.now }
@@ -167,12 +169,12 @@ impl<'a> Builder<'a> {
                 *number,
             ),
             CertificateLine::Edge(border) => {
-                let starred = has_star(&self.edges, border.cell);
+                let starred = has_starred_line_at(&self.edges, border.cell);
                 let placed = may_edge_have_place_and_time(size, last.area, starred, border);
                 self.border_or_stop_code(last, placed, border.signal.is_some(), wire)
             }
             CertificateLine::Halo(border) => {
-                let starred = has_star(&self.halos, border.cell);
+                let starred = has_starred_line_at(&self.halos, border.cell);
                 let placed = may_halo_have_place_and_time(size, last.area, starred, border);
                 self.border_or_stop_code(last, placed, border.signal.is_some(), wire)
             }
@@ -188,7 +190,7 @@ impl<'a> Builder<'a> {
     fn body_line_code(&self, entry: &CertificateLine, wire: Option<u16>) -> Option<RefusalCode>
         requires inner { IsBodyLine entry.now }
         requires wire { wire
-            ≡ option_and_then (wire_of self.now.setting.circuit) (name_in entry.now) }
+            ≡ option_and_then (wire_of self.now.setting.circuit) (wire_name_in_line entry.now) }
         ensures { result
             ≡ body_line_code self.now.setting (last_module self.now.entries) entry.now }
     {
@@ -271,7 +273,7 @@ impl<'a> Builder<'a> {
 
     // The code of the tests of a box by itself.
     #[tactic(auto, unfolding(crate::specs::Rules::module_box_code))]
-    fn box_code(&self, area: Box2) -> Option<RefusalCode>
+    fn module_code_but_for_overlap(&self, area: Box2) -> Option<RefusalCode>
         ensures { result
             ≡ module_box_code self.now.setting (length (modules_of self.now.entries))
             (last_module self.now.entries) area }
@@ -285,7 +287,7 @@ impl<'a> Builder<'a> {
         if bad_width | bad_height | (self.module_count() >= MAX_MODULES) {
             return Some(RefusalCode::PastLimit);
         }
-        if is_misplaced_box(size, area) {
+        if has_odd_corner_or_is_outside(size, area) {
             return Some(RefusalCode::MisplacedBox);
         }
         None
@@ -297,7 +299,7 @@ impl<'a> Builder<'a> {
         ensures { result ≡ module_line_code self.now.setting (modules_of self.now.entries)
             (last_module self.now.entries) area }
     {
-        if let Some(code) = self.box_code(area) {
+        if let Some(code) = self.module_code_but_for_overlap(area) {
             return Some(code);
         }
         if !self.owners.is_box_free(area) {
@@ -396,7 +398,7 @@ impl<'a> Builder<'a> {
         ensures entries { lines_of_modules self.entry.setting.circuit result.modules.items
             ≡ self.entry.entries }
         ensures wires { All (HasCircuitWires self.entry.setting.circuit) result.modules.items }
-        ensures owners { AreModuleOwners self.entry.setting (modules_of self.entry.entries)
+        ensures owners { IsModuleOwnerTable self.entry.setting (modules_of self.entry.entries)
             result.owners }
     {
         let Builder {

@@ -8,7 +8,7 @@ ghost use Rattle.circuit.specs.Wiring.{gate_of};
 ghost use Rattle.bbm_rule.specs.CellLists.{row_cells};
 ghost use Rattle.pattern.specs.Lines.{size_fault};
 ghost use Rattle.bbm_rule.specs.Boxes.{in_box};
-ghost use Rattle.certificate_lines.specs.Entries.{name_in};
+ghost use Rattle.certificate_lines.specs.Entries.{wire_name_in_line};
 ghost use Rattle.certificate_lines.specs.Rules.{is_inverse_gate, is_local};
 ghost use Rattle.certificate_lines.specs.Versions.{is_nonlocal_signal};
 ghost use Rattle.certificate_lines.specs.PortTables.{port_at, ArePortTables};
@@ -47,8 +47,8 @@ impl<'a> Model for LineTables<'a> {
 
 // The name in a line, if it has one.
 #[inline(always)]
-fn name_in(line: &CertificateLine) -> Option<&Name>
-    ensures { option_map (λ n. n.now) result ≡ name_in line.now }
+fn wire_name_in_line(line: &CertificateLine) -> Option<&Name>
+    ensures { option_map (λ n. n.now) result ≡ wire_name_in_line line.now }
 {
     match line {
         CertificateLine::Cut(name) => Some(name),
@@ -150,12 +150,13 @@ impl<'a> LineTables<'a> {
     /// Returns the circuit's wire that a line names, if it names one and the circuit has it.
     #[inline(always)]
     pub(crate) fn wire_in(&self, line: &CertificateLine) -> Option<u16>
-        ensures wire { result ≡ option_and_then (wire_of self.now.circuit) (name_in line.now) }
+        ensures wire { result
+            ≡ option_and_then (wire_of self.now.circuit) (wire_name_in_line line.now) }
         ensures of_the_circuit { IfSome result (λ w. w < wires self.now.circuit.netlist) }
         ensures at_most_max_gates { length self.now.circuit.netlist.gates ≤ max_gates }
         ensures size_limits { size_fault self.now.size ≡ None }
     {
-        let wire = self.circuit.wire(name_in(line)?)?;
+        let wire = self.circuit.wire(wire_name_in_line(line)?)?;
         Some(wire.number())
     }
 

@@ -4,7 +4,7 @@ ghost use Rattle.std.specs.List.{All, list_all};
 ghost use Rattle.std.specs.Option.{option_and_then};
 ghost use Rattle.module_box.specs.Locals.{is_among};
 ghost use Rattle.certificate_lines.specs.BuilderView.{wires_made_local};
-ghost use Rattle.certificate_lines.specs.Entries.{name_in};
+ghost use Rattle.certificate_lines.specs.Entries.{wire_name_in_line};
 ghost use Rattle.circuit.specs.Meaning.{wire_of, wires};
 ghost use Rattle.certificate_lines.specs.Rules.{are_new_and_distinct};
 
@@ -91,7 +91,8 @@ pub(crate) fn push_line_wires(
     entry: &CertificateLine,
     wire: Option<u16>,
 )
-    requires wire { wire ≡ option_and_then (wire_of tables.now.circuit) (name_in entry.now) }
+    requires wire { wire
+        ≡ option_and_then (wire_of tables.now.circuit) (wire_name_in_line entry.now) }
     requires of_the_circuit { IfSome wire (λ w. w < wires tables.now.circuit.netlist) }
     requires room_for_numbers { wires tables.now.circuit.netlist ≤ known.old.limit }
     requires room_for_wires { length (wires_made_local tables.now.circuit entry.now) ≤

@@ -2,12 +2,12 @@
 ghost use Rattle.std.specs.Prelude.{◌≡◌, ◌<◌, List, map, ◌&&◌, Some, length, slice_get, IsTrue};
 ghost use Rattle.std.specs.List.{All, flat_map, list_any};
 ghost use Rattle.certificate_lines.specs.Entries.{ModuleLines, edges, known, modules_of};
-ghost use Rattle.certificate_lines.specs.StoredModules.{HasCircuitWire, IsWithin, border_line};
+ghost use Rattle.certificate_lines.specs.StoredModules.{HasCircuitWire, IsCellWithinLayout, border_line};
 ghost use Rattle.certificate_lines.specs.Rules.{is_local_wire, whole};
 ghost use Rattle.bbm_rule.specs.Boxes.{in_box};
 ghost use Rattle.module_box.specs.Locals.{is_among};
-ghost use Rattle.certificate_lines.specs.BuilderView.{does_neighbour_lack_wire, is_outside_and_nonlocal, is_nonlocal_in_neighbour, lacks_edge_wire};
-ghost use Rattle.certificate_lines.specs.Versions.{lacks_edge_wire_beside};
+ghost use Rattle.certificate_lines.specs.BuilderView.{does_neighbour_lack_wire, is_outside_and_nonlocal, is_nonlocal_in_neighbour, lacks_wire_of_some_edge};
+ghost use Rattle.certificate_lines.specs.Versions.{has_nonlocal_edge_wire_beside};
 
 use crate::builder::Builder;
 use crate::stored_module::StoredBorder;
@@ -97,7 +97,7 @@ impl<'a> Builder<'a> {
     // Whether some module has the cell of an edge line in its halo, and lacks its wire.
     fn does_neighbour_lack_wire(&self, border: &StoredBorder) -> bool
         requires own { HasCircuitWire self.now.setting.circuit border.now }
-        requires inside { IsWithin self.now.setting.size border.now }
+        requires inside { IsCellWithinLayout self.now.setting.size border.now }
         ensures { result
             ≡ does_neighbour_lack_wire self.now.setting.circuit (modules_of self.now.entries)
             (border_line self.now.setting.circuit border.now) }
@@ -112,7 +112,7 @@ impl<'a> Builder<'a> {
     #[tactic(auto, using(lemmas::proofs::Common::list_any_at))]
     fn do_neighbours_lack_a_wire(&self, lines: &[StoredBorder]) -> bool
         requires own { All (HasCircuitWire self.now.setting.circuit) lines.now }
-        requires inside { All (IsWithin self.now.setting.size) lines.now }
+        requires inside { All (IsCellWithinLayout self.now.setting.size) lines.now }
         ensures { result
             ≡ list_any (λ b. does_neighbour_lack_wire self.now.setting.circuit
             (modules_of self.now.entries) (border_line self.now.setting.circuit b)) lines.now }
@@ -128,7 +128,7 @@ impl<'a> Builder<'a> {
     // Whether some module lacks the wire of an edge line beside it, by the modules beside each edge line.
     fn does_any_neighbour_lack_a_wire(&self) -> bool
         ensures { result
-            ≡ list_any (lacks_edge_wire self.now.setting.circuit
+            ≡ list_any (lacks_wire_of_some_edge self.now.setting.circuit
             (flat_map edges (modules_of self.now.entries))) (modules_of self.now.entries) }
     {
         for module in &self.modules {
@@ -144,8 +144,9 @@ impl<'a> Builder<'a> {
     /// Returns whether some module lacks the wire of an edge line beside it.
     ///
     /// It asks at most three modules for each edge line.
-    pub fn lacks_edge_wire_beside(&self) -> bool
-        ensures { result ≡ lacks_edge_wire_beside self.now.setting (modules_of self.now.entries) }
+    pub fn has_nonlocal_edge_wire_beside(&self) -> bool
+        ensures { result
+            ≡ has_nonlocal_edge_wire_beside self.now.setting (modules_of self.now.entries) }
     {
         let size = self.tables.size();
         if size.steps <= 1 {

@@ -1,7 +1,7 @@
 //! The order of the lines of a module.
 ghost use Rattle.std.specs.Prelude.{◌≡◌, List, None, Option};
 ghost use Rattle.certificate_lines.specs.Entries.{last_of};
-ghost use Rattle.certificate_lines.specs.Orders.{AreInOrder, rank_of, time_rank, sort_number_of, cell_of, may_precede, may_follow};
+ghost use Rattle.certificate_lines.specs.Orders.{AreLinesInOrder, rank_of, time_rank, sort_number_of, cell_of, may_precede, may_follow};
 ghost use Rattle.certificate_lines.specs.LineKeys.{key_of, key_or_first};
 ghost use Rattle.circuit.specs.Meaning.{Circuit};
 ghost use Rattle.certificate_lines.specs.StoredModules.{border_line};
@@ -134,7 +134,7 @@ fn may_precede(first: LineKey, second: LineKey) -> bool
 pub(crate) fn may_follow(last: LineKey, entry: &CertificateLine) -> bool
     requires { IsBodyLine entry.now }
     ensures { (line : Option CertificateLine) (lines : List CertificateLine) →
-        last ≡ key_or_first line → AreInOrder lines → last_of lines ≡ body_line_or_none line →
+        last ≡ key_or_first line → AreLinesInOrder lines → last_of lines ≡ body_line_or_none line →
         result ≡ may_follow lines entry.now }
 {
     may_precede(last, key_of(entry))

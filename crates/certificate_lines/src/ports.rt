@@ -7,7 +7,7 @@ ghost use Rattle.circuit.specs.Meaning.{wire_of};
 ghost use Rattle.pattern.specs.Layout.{HaveDistinctCells};
 ghost use Rattle.pattern.specs.Lines.{size_fault};
 ghost use Rattle.bbm_rule.specs.Boxes.{in_box};
-ghost use Rattle.certificate_lines.specs.PortTables.{port_at, entry_place, AreInBox, ArePortTables, AreNumberedRows, ArePortsInLayout};
+ghost use Rattle.certificate_lines.specs.PortTables.{port_at, entry_place, ArePortsInBox, ArePortTables, AreRowsWithPortsNumbered, ArePortsInLayout};
 ghost use Rattle.lemmas.specs.Bounds.{max_side, max_wires};
 
 use crate::rules::whole_of;
@@ -86,11 +86,11 @@ impl<'a> Model for PortTable<'a> {
 
     ghost Value = { CircuitAndPorts };
 
-    ghost use Rattle.certificate_lines.specs.PortTables.{circuit_and_ports, IsPortTable};
+    ghost use Rattle.certificate_lines.specs.PortTables.{ArePortTableFields, circuit_and_ports};
 
     ghost view = { circuit_and_ports };
 
-    ghost invariant = { IsPortTable };
+    ghost invariant = { ArePortTableFields };
 }
 
 // The place of a cell's number in a table with these rows, if the cell's row has numbers.
@@ -112,9 +112,10 @@ fn entry_place(area: Box2, rows: &[u32], cell: Cell) -> Option<usize>
 
 // The numbers of an area's rows with a port, counted from 1, with 0 for each other row; and how many have a port.
 fn number_rows(alloc: Global, area: Box2, ports: &[Port]) -> Result<(Vec<u32>, u32), AllocError>
-    requires inside { AreInBox area ports.now }
+    requires inside { ArePortsInBox area ports.now }
     requires small { area.h ≤ max_side }
-    ensures { IfOk result (λ numbered. AreNumberedRows area ports.now numbered.0.items numbered.1) }
+    ensures { IfOk result (λ numbered. AreRowsWithPortsNumbered area ports.now numbered.0.items
+        numbered.1) }
 {
     let mut rows = vec![in alloc; 0u32; area.h as usize]?;
     let mut count = 0u32;

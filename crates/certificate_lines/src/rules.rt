@@ -3,7 +3,7 @@ ghost use Rattle.std.specs.Prelude.{◌≡◌, ◌+◌, ℕ, List, Option};
 ghost use Rattle.std.specs.Option.{is_some, option_and_then};
 ghost use Rattle.circuit.specs.Meaning.{Circuit, wire_of};
 ghost use Rattle.module_box.specs.Locals.{is_among};
-ghost use Rattle.certificate_lines.specs.Rules.{whole, is_bad_box_side, is_misplaced, is_odd, is_local_wire, cut_line_code, use_line_code, keep_line_code, is_line_time_allowed, is_edge_place_and_time, is_halo_place_and_time, is_stop_place_and_time, border_or_stop_line_code};
+ghost use Rattle.certificate_lines.specs.Rules.{whole, is_bad_box_side, is_odd_corner_or_outside, is_odd, is_local_wire, cut_line_code, use_line_code, keep_line_code, is_line_time_allowed, is_edge_place_and_time_allowed, is_halo_place_and_time_allowed, is_stop_place_and_time_allowed, border_or_stop_line_code};
 
 use crate::certificate_line::{BorderLine, StopLine};
 use crate::line_tables::LineTables;
@@ -47,8 +47,8 @@ pub(crate) fn is_bad_box_side(n: u32) -> bool
 }
 
 /// Returns whether a box has an odd corner, or a cell outside the rectangle.
-pub(crate) fn is_misplaced_box(size: LayoutHeader, area: Box2) -> bool
-    ensures { result ≡ is_misplaced size area }
+pub(crate) fn has_odd_corner_or_is_outside(size: LayoutHeader, area: Box2) -> bool
+    ensures { result ≡ is_odd_corner_or_outside size area }
 {
     let right = u64::from(area.x) + u64::from(area.w);
     let bottom = u64::from(area.y) + u64::from(area.h);
@@ -111,7 +111,7 @@ pub(crate) fn use_code(
 }
 
 // Whether the gate of this number is one of those that are used.
-fn is_used(used: &[GateNo], number: u32) -> bool
+fn is_used_gate(used: &[GateNo], number: u32) -> bool
     ensures { result ≡ is_among used.now number }
 {
     used.iter().any(|gate| u32::from(gate.number()) == number)
@@ -125,7 +125,7 @@ pub(crate) fn keep_code(tables: &LineTables, used: &[GateNo], number: u32) -> Op
     if !tables.is_inverse(number) {
         return Some(RefusalCode::UnknownName);
     }
-    if !is_used(used, number) {
+    if !is_used_gate(used, number) {
         return Some(RefusalCode::NotLocal);
     }
     None
@@ -177,14 +177,14 @@ fn may_line_have_time(steps: u32, starred: bool, time: Option<u32>) -> bool
 
 /// Returns whether an edge line may have its cell and time.
 #[inline(always)]
-#[tactic(auto, unfolding(crate::specs::Rules::is_edge_place_and_time))]
+#[tactic(auto, unfolding(crate::specs::Rules::is_edge_place_and_time_allowed))]
 pub(crate) fn may_edge_have_place_and_time(
     size: LayoutHeader,
     area: Box2,
     starred: bool,
     border: &BorderLine,
 ) -> bool
-    ensures { result ≡ is_edge_place_and_time size area starred border.now }
+    ensures { result ≡ is_edge_place_and_time_allowed size area starred border.now }
 {
     if !area.in_ring(border.cell) {
         return false;
@@ -197,14 +197,14 @@ pub(crate) fn may_edge_have_place_and_time(
 
 /// Returns whether a halo line may have its cell and time.
 #[inline(always)]
-#[tactic(auto, unfolding(crate::specs::Rules::is_halo_place_and_time))]
+#[tactic(auto, unfolding(crate::specs::Rules::is_halo_place_and_time_allowed))]
 pub(crate) fn may_halo_have_place_and_time(
     size: LayoutHeader,
     area: Box2,
     starred: bool,
     border: &BorderLine,
 ) -> bool
-    ensures { result ≡ is_halo_place_and_time size area starred border.now }
+    ensures { result ≡ is_halo_place_and_time_allowed size area starred border.now }
 {
     if !area.in_halo(border.cell) {
         return false;
@@ -216,9 +216,9 @@ pub(crate) fn may_halo_have_place_and_time(
 }
 
 /// Returns whether a stop may have its cell and time.
-#[tactic(auto, unfolding(crate::specs::Rules::is_stop_place_and_time))]
+#[tactic(auto, unfolding(crate::specs::Rules::is_stop_place_and_time_allowed))]
 pub(crate) fn may_stop_have_place_and_time(size: LayoutHeader, area: Box2, stop: &StopLine) -> bool
-    ensures { result ≡ is_stop_place_and_time size area stop.now }
+    ensures { result ≡ is_stop_place_and_time_allowed size area stop.now }
 {
     let inside = area.holds(stop.cell);
     inside & (stop.time <= size.steps)

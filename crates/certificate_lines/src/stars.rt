@@ -14,7 +14,7 @@ use std::alloc::AllocError;
 
 /// Returns whether a line with a `*` is for the cell. If no line has one, it hashes nothing.
 #[tactic(auto, using(crate::proofs::StarLemmas::none_starred))]
-pub(crate) fn has_star(stars: &IndexSet<Cell>, cell: Cell) -> bool
+pub(crate) fn has_starred_line_at(stars: &IndexSet<Cell>, cell: Cell) -> bool
     ensures { result ≡ list_any (same_cell cell) stars.now.keys }
 {
     if stars.is_empty() {

@@ -5,7 +5,7 @@ ghost use Rattle.bbm_rule.specs.declared.block.Cell.{Cell};
 ghost use Rattle.circuit.specs.Meaning.{Circuit};
 ghost use Rattle.section_text.specs.declared.section.LineFault.TheVariants.{Memory};
 ghost use Rattle.certificate_lines.specs.BuilderView.{IsWireOfLine, IsWithinMaxSize, MayBeStored};
-ghost use Rattle.certificate_lines.specs.Entries.{counts_of, last_of, module_with_line};
+ghost use Rattle.certificate_lines.specs.Entries.{last_of, line_counts_of, module_with_line};
 ghost use Rattle.certificate_lines.specs.Orders.{may_follow};
 ghost use Rattle.certificate_lines.specs.StoredModules.{HasCircuitWires, cell_at, lines_of_modules, module_lines};
 
@@ -142,7 +142,7 @@ impl StoredModule {
     /// Returns the box, and how many lines of each kind there are.
     #[tactic(auto, using(crate::proofs::StoredLemmas::counts_stored))]
     pub fn counts(&self) -> Counts
-        ensures { (c : Circuit) → result ≡ counts_of (module_lines c self.now) }
+        ensures { (c : Circuit) → result ≡ line_counts_of (module_lines c self.now) }
     {
         Counts {
             area: self.area,

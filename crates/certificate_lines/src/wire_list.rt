@@ -1,7 +1,7 @@
 //! The wires that are local in the last module, in their order, with a bit for each wire of the circuit.
 ghost use Rattle.std.specs.Prelude.{ℕ, ◌≡◌, false, ◌+◌, ◌<◌, ◌≤◌, ◌*◌, ◌++◌, ◌∷◌, [], length, true, vec_capacity, vec_len, ◌-◌, OnErr, OnOk};
-ghost use Rattle.bbm_rule.specs.Rows.{cell_at, SetsPlace};
-ghost use Rattle.certificate_lines.specs.WireListView.{HasSameMarks};
+ghost use Rattle.bbm_rule.specs.Rows.{cell_at, SetsCellAtPlace};
+ghost use Rattle.certificate_lines.specs.WireListView.{MarksSameNumbers};
 ghost use Rattle.module_box.specs.Locals.{is_among};
 
 use bbm_rule::marks::unmark;
@@ -28,11 +28,11 @@ impl Model for WireList {
 
     ghost Value = { WireListView };
 
-    ghost use Rattle.certificate_lines.specs.WireListView.{wire_list_view, IsWireList};
+    ghost use Rattle.certificate_lines.specs.WireListView.{wire_list_view, AreWireListFields};
 
     ghost view = { wire_list_view };
 
-    ghost invariant = { IsWireList };
+    ghost invariant = { AreWireListFields };
 }
 
 // Whether the bit of a number is set. No number past the words has a bit.
@@ -52,7 +52,7 @@ fn is_marked(marks: &[u64], number: usize) -> bool
 #[inline(always)]
 fn set_mark(marks: &mut [u64], number: usize)
     requires { number < 64 * length marks.old }
-    ensures { SetsPlace number true marks.old marks.new }
+    ensures { SetsCellAtPlace number true marks.old marks.new }
 {
     marks[number / 64] |= 1u64 << (number % 64);
 }
@@ -60,7 +60,7 @@ fn set_mark(marks: &mut [u64], number: usize)
 // Makes room for the bits of this many numbers. The new ones are not set.
 #[tactic(auto, using(crate::proofs::WireListLemmas::grown_marks))]
 fn grow_marks(marks: &mut Vec<u64>, count: usize) -> Result<(), AllocError>
-    ensures same { HasSameMarks marks.old.items marks.new.items }
+    ensures same { MarksSameNumbers marks.old.items marks.new.items }
     ensures room { OnOk result (count ≤ 64 * vec_len marks.new) }
     ensures never_fewer { vec_len marks.old ≤ vec_len marks.new }
 {

@@ -1,14 +1,15 @@
 -- What each status of `program` means, from its clauses
 use Rattle.check_main.proofs.Imports.{Check, CheckFault, Err, HoldsOfKnownInput, IsAccepted, IsNoSmallDesignText}
 use Rattle.check_main.proofs.Imports.{IsRightInFull, IsWrongIfPlain, Kinds, LinesHaveMeaning, List, Memory, No, Ok}
-use Rattle.check_main.proofs.Imports.{Outcome, Ran, Read, Refused, RelatesReadToWritten, Streams, Text, TooLong, Write}
+use Rattle.check_main.proofs.Imports.{Outcome, RanCommand, Read, Refused, RelatesReadToWritten, Streams, Text, TooLong}
+use Rattle.check_main.proofs.Imports.{Write}
 use Rattle.check_main.proofs.Imports.{Yes, YesMeans, YesPromises, [], ap, arith, asked_by, bbmcheck, false, fault_of}
 use Rattle.check_main.proofs.Imports.{inl, inr, refl, status_for, sym, true, ℕ, ◌∙◌, ◌∷◌, ◌≡◌, ◌≢◌, ◌≤◌, ◌⊎◌}
 use Rattle.command_line.specs.CommandLine.{AsksForHelp, AsksOnlyForHelp}
 use Rattle.meaning.specs.Headline.{IsRight}
 use Rattle.headline.specs.Stops.{HasRightStops}
 use Rattle.check_main.specs.Commands.{IsAnswerTo}
-use Rattle.check_main.specs.Program.{AsksForCheck, Explained}
+use Rattle.check_main.specs.Program.{AsksForCheck, ExplainedWords}
 use Rattle.check_main.specs.Status.{WritesFaultLine}
 use Rattle.check_main.specs.Stream.{Answers, BreaksOff, GivesTooMuch}
 use Rattle.check_main.proofs.Ends.{at_fault, at_outcome, device_of, memory_of, outcome_or_memory, outcome_of}
@@ -24,15 +25,15 @@ split (k ∷ ks) empty full = full (λ e. cc)
 -- The premises are the requirement on the writer and the clauses of `program`.
 module _ {R W E : Type 0} {source : Source R} {sink : Sink W} {messages : Sink E} (words : List Text)
     (old new : Streams R W E) (status : ℕ) (writer_works : sink.has_failed old.writer ≡ false)
-    (ran : IsAccepted words → Ran source sink messages (asked_by words) old new status)
-    (explained : ¬ IsAccepted words → Explained sink messages words old new status) where
+    (ran : IsAccepted words → RanCommand source sink messages (asked_by words) old new status)
+    (explained : ¬ IsAccepted words → ExplainedWords sink messages words old new status) where
   -- a fact that holds in both cases
-  either : {P : Type 0} → (Ran source sink messages (asked_by words) old new status → P) →
-      (Explained sink messages words old new status → P) → P
+  either : {P : Type 0} → (RanCommand source sink messages (asked_by words) old new status → P) →
+      (ExplainedWords sink messages words old new status → P) → P
   either by_run by_words = split (fault_of bbmcheck words) (λ a. by_run (ran a)) (λ n. by_words (explained n))
 
   -- the answer that a run gave
-  answered_as : (outcome : Outcome) (r : Ran source sink messages (asked_by words) old new status) →
+  answered_as : (outcome : Outcome) (r : RanCommand source sink messages (asked_by words) old new status) →
       status ≡ status_for (Ok outcome) →
       Answers (IsAnswerTo (asked_by words)) (source.left old.reader) (source.left new.reader)
       (sink.written_bytes old.writer) (sink.written_bytes new.writer) outcome
@@ -42,14 +43,14 @@ module _ {R W E : Type 0} {source : Source R} {sink : Sink W} {messages : Sink E
       (outcome_of outcome r.ended (sym r.status_of_end ∙ is)) r.served.answered
 
   -- a run with this fault said it
-  said_as : (fault : CheckFault) (r : Ran source sink messages (asked_by words) old new status) →
+  said_as : (fault : CheckFault) (r : RanCommand source sink messages (asked_by words) old new status) →
       r.ended ≡ Err fault →
       WritesFaultLine messages old.errors new.errors fault
   said_as fault r is =
       at_fault (WritesFaultLine messages old.errors new.errors) r.ended fault is r.said
 
   -- and left the writer alone, if it is another than of the writer
-  unwritten_as : (fault : CheckFault) (r : Ran source sink messages (asked_by words) old new status) →
+  unwritten_as : (fault : CheckFault) (r : RanCommand source sink messages (asked_by words) old new status) →
       r.ended ≡ Err fault → fault ≢ Write → new.writer ≡ old.writer
   unwritten_as fault r is =
       at_fault (λ (f : CheckFault). f ≢ Write → new.writer ≡ old.writer) r.ended fault is r.served.unwritten

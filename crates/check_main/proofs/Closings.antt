@@ -3,7 +3,7 @@ use Rattle.check_main.proofs.Imports.{AreJobsOfCertificate, CertView, List, [], 
 use Rattle.check_main.proofs.Imports.{length, length-append, map, refl, subst, sym, ℕ, ◌++◌, ◌+◌, ◌∙◌, ◌∷◌}
 use Rattle.check_main.proofs.Imports.{◌≡◌, ◌≤◌}
 use Rattle.sha2.specs.Sha256.{sha256}
-use Rattle.core_book.specs.Book.{BookView, IsReplayed, after_closing, held_count, new_book}
+use Rattle.core_book.specs.Book.{BookView, IsHistoryReplayed, after_closing, held_finding_count, new_book}
 use Rattle.core_book.specs.Replay.{Replayed, accepted_after, after_entry, empty_replayed, has_closing, replay}
 use Rattle.core_book.specs.Replay.{replay_from}
 use Rattle.core_book.specs.Verdicts.{AreFindingsHeldBelow}
@@ -76,9 +76,9 @@ accepted_filed p (Filed f ∷ es) =
     one_more ks k (reply.Stranger mismatch) = omega arith
     one_more ks k (reply.Double number) = omega arith
 
-pub many_filings : (b : BookView) → IsReplayed b → held_count b ≤ length (filings_in b.history)
+pub many_filings : (b : BookView) → IsHistoryReplayed b → held_finding_count b ≤ length (filings_in b.history)
 many_filings b is =
-    let count : length (replay b.history).accepted ≡ held_count b = is.count in
+    let count : length (replay b.history).accepted ≡ held_finding_count b = is.count in
     let most = accepted_filed empty_replayed b.history in
     omega (arith, count, most)
 

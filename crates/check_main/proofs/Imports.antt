@@ -2,7 +2,7 @@
 pub use Rattle.answers.specs.declared.outcome.Outcome.{Outcome}
 pub use Rattle.answers.specs.declared.outcome.Outcome.TheVariants.{No, Refused, Yes}
 pub use Rattle.certificate.proofs.Imports.{IfOk-weaker}
-pub use Rattle.check_main.specs.Program.{Ran, YesPromises}
+pub use Rattle.check_main.specs.Program.{RanCommand, YesPromises}
 pub use Rattle.check_main.specs.Status.{status_for}
 pub use Rattle.check_main.specs.declared.fault.CheckFault.{CheckFault}
 pub use Rattle.check_main.specs.declared.fault.CheckFault.TheVariants.{Memory, Read, TooLong, Write}

@@ -21,7 +21,7 @@ abbrev pub FollowsTakenLines : FeedView → List ℕ → Type 0
 FollowsTakenLines f rest = taken_bytes f ++ rest ≡ f.text
 
 -- the lines that were taken are the text of the certificate, from this byte on
-pub record IsSectionOf (f : FeedView) (from : ℕ) (c : CertView) : Type 0 where
+pub record IsCertificateTextFrom (f : FeedView) (from : ℕ) (c : CertView) : Type 0 where
   pub within : from ≤ length (taken_bytes f)
   pub bytes : drop from (taken_bytes f) ≡ certificate_text c
 

@@ -18,7 +18,7 @@ use Rattle.check_main.specs.declared.fault.CheckFault.TheVariants.{Write, Memory
 use Rattle.check_main.specs.declared.front.Streams.{Streams}
 use Rattle.check_main.specs.Commands.{IsAnswerTo}
 use Rattle.check_main.specs.Status.{WritesFaultLine, status_for}
-use Rattle.check_main.specs.Stream.{Serves}
+use Rattle.check_main.specs.Stream.{ServesCommand}
 
 -- the words are accepted, and ask for `check`
 pub record AsksForCheck (words : List Text) : Type 0 where
@@ -33,12 +33,12 @@ pub record YesPromises (P : List ℕ → Type 0) (EndsAsYes : Type 0)
   pub by_line : YesMeans P left written_bytes written_bytes'
 
 -- The command of a request ran on the streams, and its end gave the status.
-pub record Ran {R W E : Type 0} (source : Source R) (sink : Sink W) (messages : Sink E) (request : Request)
+pub record RanCommand {R W E : Type 0} (source : Source R) (sink : Sink W) (messages : Sink E) (request : Request)
     (old new : Streams R W E) (status : ℕ) : Type 0 where
   -- the end of the command: its outcome, or its fault
   pub ended : Result Outcome CheckFault
   -- what it read and wrote, by its end
-  pub served : Serves (IsAnswerTo request) source sink old.reader new.reader old.writer new.writer ended
+  pub served : ServesCommand (IsAnswerTo request) source sink old.reader new.reader old.writer new.writer ended
   pub status_of_end : status ≡ status_for ended
   -- after a fault, `errors` got its line
   pub said : IfErr ended (WritesFaultLine messages old.errors new.errors)
@@ -51,7 +51,7 @@ IsHelpOrVersion kind = (kind ≡ DisplayHelp) ⊎ (kind ≡ DisplayVersion)
 
 -- The effect of words that are not accepted on the writer and on `errors`, by the status. `AskForHelp` says that the
 -- words ask for help or for the version, and `AskForHelpAlone` that nothing else is to be said of them.
-pub record Explains {W E : Type 0} (sink : Sink W) (messages : Sink E) (AskForHelp AskForHelpAlone : Type 0)
+pub record ExplainsWords {W E : Type 0} (sink : Sink W) (messages : Sink E) (AskForHelp AskForHelpAlone : Type 0)
     (writer writer' : W) (errors errors' : E) (status : ℕ) : Type 0 where
   -- no other status occurs
   pub range : (status ≡ 0) ⊎ (status ≡ 2) ⊎ (status ≡ 4) ⊎ (status ≡ 5)
@@ -66,9 +66,9 @@ pub record Explains {W E : Type 0} (sink : Sink W) (messages : Sink E) (AskForHe
   pub out_of_memory : status ≡ 5 → (writer' ≡ writer) × WritesFaultLine messages errors errors' Memory
 
 -- The words were explained, and nothing was read.
-pub record Explained {R W E : Type 0} (sink : Sink W) (messages : Sink E) (words : List Text)
+pub record ExplainedWords {R W E : Type 0} (sink : Sink W) (messages : Sink E) (words : List Text)
     (old new : Streams R W E) (status : ℕ) : Type 0 where
   -- the reader is as it was
   pub unread : new.reader ≡ old.reader
-  pub by_status : Explains sink messages (AsksForHelp words) (AsksOnlyForHelp words) old.writer new.writer
+  pub by_status : ExplainsWords sink messages (AsksForHelp words) (AsksOnlyForHelp words) old.writer new.writer
       old.errors new.errors status

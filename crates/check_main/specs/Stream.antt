@@ -12,24 +12,24 @@ use Rattle.check_main.specs.declared.fault.CheckFault.{CheckFault}
 use Rattle.check_main.specs.declared.fault.CheckFault.TheVariants.{Read, Write, TooLong}
 
 -- the text is no longer than its first line allows
-unfoldable pub IsWithinLimit : List ℕ → Type 0
-IsWithinLimit text = length text ≤ own_text_limit text
+unfoldable pub IsTextWithinLimit : List ℕ → Type 0
+IsTextWithinLimit text = length text ≤ own_text_limit text
 
 -- the text is longer
-unfoldable pub IsPastLimit : List ℕ → Type 0
-IsPastLimit text = own_text_limit text < length text
+unfoldable pub IsTextPastLimit : List ℕ → Type 0
+IsTextPastLimit text = own_text_limit text < length text
 
 -- the reader gave the text, and has no more
 pub record ReadsAll (old new : Option (List ℕ)) (text : List ℕ) : Type 0 where
   pub given : Consumes old new text
   pub ended : IsAtEnd new
-  pub within : IsWithinLimit text
+  pub within : IsTextWithinLimit text
 
 -- the reader gave a byte past the limit of its text
 pub record GivesTooMuch (old new : Option (List ℕ)) : Type 0 where
   pub text : List ℕ
   pub given : Consumes old new text
-  pub beyond : IsPastLimit text
+  pub beyond : IsTextPastLimit text
 
 -- the feed is all of a text, of which no line is taken
 abbrev pub closed_feed_of : List ℕ → FeedView
@@ -65,7 +65,7 @@ pub record BreaksOff (R : List ℕ → List ℕ → Outcome → Type 0)
   pub written : AppendsProperPrefix written_bytes written_bytes' output
 
 -- The effect of a call of the command `R` on a reader and a writer that had not failed, and its end.
-pub record Serves {X Y : Type 0} (R : List ℕ → List ℕ → Outcome → Type 0) (source : Source X) (sink : Sink Y)
+pub record ServesCommand {X Y : Type 0} (R : List ℕ → List ℕ → Outcome → Type 0) (source : Source X) (sink : Sink Y)
     (reader reader' : X) (writer writer' : Y) (result : Result Outcome CheckFault) : Type 0 where
   pub answered : IfOk result (Answers R (source.left reader) (source.left reader')
       (sink.written_bytes writer) (sink.written_bytes writer'))

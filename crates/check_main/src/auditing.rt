@@ -3,7 +3,7 @@ ghost use Rattle.std.specs.Prelude.{◌≡◌, ◌<◌, ◌≤◌, false, [], le
 ghost use Rattle.std.specs.Arc.{arc_value};
 ghost use Rattle.sha2.specs.Sha256.{sha256};
 ghost use Rattle.certificate.specs.Text.{certificate_text};
-ghost use Rattle.core_book.specs.Book.{IsReplayed};
+ghost use Rattle.core_book.specs.Book.{IsHistoryReplayed};
 ghost use Rattle.core_book.specs.Filling.{IsOpenFor};
 ghost use Rattle.module_job.specs.Groups.{AreGroups};
 ghost use Rattle.core_book.specs.Concluding.{AreJobsOfCertificate, modules};
@@ -54,7 +54,7 @@ pub fn audit<G: Gate + Sync, R: Threads + Wait + Sync>(
 ) -> Result<Audited, AllocError>
     requires workers { (0 < workers) × (workers ≤ 64) }
     ensures full { IfOk result (λ audited. IsAuditOf cert.now audited.state) }
-    ensures replays { IfOk result (λ audited. IsReplayed audited.state) }
+    ensures replays { IfOk result (λ audited. IsHistoryReplayed audited.state) }
     ensures closed { IfOk result (λ audited. IsClosedOnce audited.state.history) }
     ensures filed { IfOk result (λ audited. length (modules cert.now) ≤ length
         (filings_in audited.state.history)) }
@@ -77,7 +77,7 @@ pub(crate) fn audit_new_book<G: Gate + Sync, R: Threads + Wait + Sync>(
     requires workers { (0 < workers) × (workers ≤ 64) }
     requires book { IsNewBookOf cert.now state }
     ensures full { IfOk result (λ audited. IsAuditOf cert.now audited.state) }
-    ensures replays { IfOk result (λ audited. IsReplayed audited.state) }
+    ensures replays { IfOk result (λ audited. IsHistoryReplayed audited.state) }
     ensures closed { IfOk result (λ audited. IsClosedOnce audited.state.history) }
     ensures filed { IfOk result (λ audited. length (modules cert.now) ≤ length
         (filings_in audited.state.history)) }
@@ -109,7 +109,7 @@ fn fill_and_close(
     requires open_for_jobs { IsOpenFor digest (map arc_value jobs.now) state.old }
     ensures completed { OnOk result (IsFilledAndClosed digest (map arc_value jobs.now) state.old
         state.new) }
-    ensures replays { OnOk result (IsReplayed state.new) }
+    ensures replays { OnOk result (IsHistoryReplayed state.new) }
 {
     fill_open_book(alloc, state, digest, jobs, &mut 0)?;
     state.close()?;

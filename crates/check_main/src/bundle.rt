@@ -3,7 +3,7 @@ ghost use Rattle.std.specs.Prelude.{◌≡◌, ◌<◌, ◌≤◌, ◌↔◌, tr
 ghost use Rattle.answers.specs.Answers.{AnswersOrRefuses};
 ghost use Rattle.answers.specs.BundleText.{bundle_with_limits};
 ghost use Rattle.answers.specs.CheckText.{IsReportOf, SaysReport};
-ghost use Rattle.section_text.specs.Limits.{front_lines};
+ghost use Rattle.section_text.specs.Limits.{limits_line_count};
 ghost use Rattle.meaning.specs.Headline.{IsRight};
 ghost use Rattle.meaning.specs.Streams.{FourthLineSaysYes};
 ghost use Rattle.headline.specs.Stops.{HasRightStops};
@@ -116,7 +116,7 @@ fn report_after_front<G: Gate + Sync, R: Threads + Wait + Sync>(
 ) -> Result<Answered, AllocError>
     requires workers { (0 < workers) × (workers ≤ 64) }
     requires text_closed { feed.closed ≡ true }
-    requires front_taken { feed.taken ≡ front_lines limits }
+    requires front_taken { feed.taken ≡ limits_line_count limits }
     requires feed_not_stopped { feed.stop ≡ None }
     ensures answered { IfOk result (λ answered. AnswersOrRefuses SaysReport
         (bundle_with_limits limits feed.text) answered.output.items answered.outcome) }

@@ -9,9 +9,9 @@ ghost use Rattle.headline.specs.Plain.{IsWrongIfPlain};
 ghost use Rattle.headline.specs.SmallDesigns.{IsNoSmallDesignText};
 ghost use Rattle.headline.specs.ReportLines.{LinesHaveMeaning, RelatesReadToWritten};
 ghost use Rattle.check_main.specs.Commands.{IsAnswerTo};
-ghost use Rattle.check_main.specs.Program.{AsksForCheck, Explained, Explains, IsHelpOrVersion, Ran, YesPromises};
+ghost use Rattle.check_main.specs.Program.{AsksForCheck, ExplainedWords, ExplainsWords, IsHelpOrVersion, RanCommand, YesPromises};
 ghost use Rattle.check_main.specs.Status.{status_for, WritesFaultLine};
-ghost use Rattle.check_main.specs.Stream.{Serves};
+ghost use Rattle.check_main.specs.Stream.{ServesCommand};
 
 use crate::CheckFault;
 use crate::stream::{
@@ -82,9 +82,9 @@ where
     requires writer_works { W.has_failed streams.old.writer ≡ false }
 
     // The command that the words ask for ran, or the words were explained.
-    ensures ran { IsAccepted (texts words.entry.now) → Ran R.Source W.Sink E.Sink
+    ensures ran { IsAccepted (texts words.entry.now) → RanCommand R.Source W.Sink E.Sink
         (asked_by (texts words.entry.now)) streams.old streams.new result }
-    ensures explained { ¬ IsAccepted (texts words.entry.now) → Explained W.Sink E.Sink
+    ensures explained { ¬ IsAccepted (texts words.entry.now) → ExplainedWords W.Sink E.Sink
         (texts words.entry.now) streams.old streams.new result }
 
     // A yes of `check`: the layout computes the circuit (field `right`), the stops hold (`stops`), and more.
@@ -136,7 +136,7 @@ where
     requires workers { (0 < asked.workers) × (asked.workers ≤ 64) }
     requires reader_works { R.has_failed reader.old ≡ false }
     requires writer_works { W.has_failed writer.old ≡ false }
-    ensures serves { Serves (IsAnswerTo asked.request) R.Source W.Sink reader.old reader.new
+    ensures serves { ServesCommand (IsAnswerTo asked.request) R.Source W.Sink reader.old reader.new
         writer.old writer.new result }
     ensures in_full { asked.request ≡ Request.Check →
         YesPromises IsRightInFull (result ≡ Ok Outcome.Yes) (R.left reader.old)
@@ -186,7 +186,7 @@ fn write_help_or_fault<W: Sink, E: Sink>(
     errors: &mut E,
 ) -> u8
     requires { W.has_failed writer.old ≡ false }
-    ensures explains { Explains W.Sink E.Sink (IsHelpOrVersion (kind_of error.now))
+    ensures explains { ExplainsWords W.Sink E.Sink (IsHelpOrVersion (kind_of error.now))
         (IsHelpOrVersion (kind_of error.now)) writer.old writer.new errors.old errors.new result }
     ensures memory { kind_of error.now ≡ ErrorKind.OutOfMemory → result ≡ 5 }
 {

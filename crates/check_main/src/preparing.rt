@@ -2,7 +2,7 @@
 ghost use Rattle.std.specs.Prelude.{◌≡◌, ◌≤◌, IfOk, IfSome, drop, length};
 ghost use Rattle.sha2.specs.Sha256.{sha256};
 ghost use Rattle.certificate.specs.Text.{certificate_text};
-ghost use Rattle.check_main.specs.Preparing.{IsPreparedFor, IsSectionOf, taken_bytes};
+ghost use Rattle.check_main.specs.Preparing.{IsCertificateTextFrom, IsPreparedFor, taken_bytes};
 
 use border_match::{BorderFault, match_borders};
 use certificate::Cert;
@@ -29,7 +29,7 @@ pub(crate) fn prepare(
     from: usize,
     digest: Option<[u8; 32]>,
 ) -> Result<Prepared, AllocError>
-    requires section { IsSectionOf text from cert.now }
+    requires section { IsCertificateTextFrom text from cert.now }
     requires digest { IfSome digest (λ d. d ≡ sha256 (certificate_text cert.now)) }
     ensures { IfOk result (IsPreparedFor cert.now) }
 {

@@ -12,7 +12,7 @@ ghost use Rattle.answers.specs.ModulesText.{IsModulesAnswerOf};
 ghost use Rattle.answers.specs.RunText.{IsRunAnswerOf};
 ghost use Rattle.answers.specs.ValueText.{IsValueAnswerOf};
 ghost use Rattle.check_main.specs.Program.{YesPromises};
-ghost use Rattle.check_main.specs.Stream.{ReadsAll, Serves, GivesTooMuch, AppendsProperPrefix, closed_feed_of};
+ghost use Rattle.check_main.specs.Stream.{ReadsAll, ServesCommand, GivesTooMuch, AppendsProperPrefix, closed_feed_of};
 
 use crate::CheckFault;
 use crate::bundle::check_text;
@@ -62,8 +62,8 @@ where
     requires workers { (0 < workers) × (workers ≤ 64) }
     requires reader_works { R.has_failed reader.old ≡ false }
     requires writer_works { W.has_failed writer.old ≡ false }
-    ensures serves { Serves IsReportOf R.Source W.Sink reader.old reader.new writer.old writer.new
-        result }
+    ensures serves { ServesCommand IsReportOf R.Source W.Sink reader.old reader.new writer.old
+        writer.new result }
     ensures in_full { YesPromises IsRightInFull (result ≡ Ok Outcome.Yes) (R.left reader.old)
         (W.written_bytes writer.old) (W.written_bytes writer.new) }
     ensures wrong { result ≡ Ok Outcome.No → HoldsOfKnownInput IsWrongIfPlain (R.left reader.old) }
@@ -90,7 +90,7 @@ pub fn run_stream<T: RandomSource, R: Source, W: Sink>(
 ) -> Result<Outcome, CheckFault>
     requires reader_works { R.has_failed reader.old ≡ false }
     requires writer_works { W.has_failed writer.old ≡ false }
-    ensures serves { Serves IsRunAnswerOf R.Source W.Sink reader.old reader.new writer.old
+    ensures serves { ServesCommand IsRunAnswerOf R.Source W.Sink reader.old reader.new writer.old
         writer.new result }
 {
     let mut feed = read_text(rt, alloc, reader)?;
@@ -110,7 +110,7 @@ pub fn value_stream<T: RandomSource, R: Source, W: Sink>(
 ) -> Result<Outcome, CheckFault>
     requires reader_works { R.has_failed reader.old ≡ false }
     requires writer_works { W.has_failed writer.old ≡ false }
-    ensures serves { Serves IsValueAnswerOf R.Source W.Sink reader.old reader.new writer.old
+    ensures serves { ServesCommand IsValueAnswerOf R.Source W.Sink reader.old reader.new writer.old
         writer.new result }
 {
     let mut feed = read_text(rt, alloc, reader)?;
@@ -130,8 +130,8 @@ pub fn modules_stream<T: RandomSource, R: Source, W: Sink>(
 ) -> Result<Outcome, CheckFault>
     requires reader_works { R.has_failed reader.old ≡ false }
     requires writer_works { W.has_failed writer.old ≡ false }
-    ensures serves { Serves IsModulesAnswerOf R.Source W.Sink reader.old reader.new writer.old
-        writer.new result }
+    ensures serves { ServesCommand IsModulesAnswerOf R.Source W.Sink reader.old reader.new
+        writer.old writer.new result }
 {
     let mut feed = read_text(rt, alloc, reader)?;
     let answered = modules_text(alloc, &mut feed).map_err(|_| CheckFault::Memory)?;
@@ -151,7 +151,7 @@ pub fn migrate_stream<T: RandomSource, R: Source, W: Sink>(
 ) -> Result<Outcome, CheckFault>
     requires reader_works { R.has_failed reader.old ≡ false }
     requires writer_works { W.has_failed writer.old ≡ false }
-    ensures serves { Serves IsMigrationOf R.Source W.Sink reader.old reader.new writer.old
+    ensures serves { ServesCommand IsMigrationOf R.Source W.Sink reader.old reader.new writer.old
         writer.new result }
 {
     let mut feed = read_text(rt, alloc, reader)?;
@@ -184,7 +184,7 @@ fn read_text<T: RandomSource, R: Source>(
 }
 
 // Reads up to the end, by reads that ask for as many bytes as the block has.
-#[tactic(auto, unfolding(crate::specs::Stream::IsWithinLimit))]
+#[tactic(auto, unfolding(crate::specs::Stream::IsTextWithinLimit))]
 fn read_by_blocks<R: Source>(
     empty: Feed,
     reader: &mut R,

@@ -1,5 +1,6 @@
 -- The gates of good lines are ordered.
-use Rattle.circuit.proofs.Imports.{AreGoodAfter, AreGoodCircuitLines, AreOrdered, Bool, CircuitLine, Gate, GateKind}
+use Rattle.circuit.proofs.Imports.{AreGatesOrdered, AreGoodAfter, AreGoodCircuitLines, Bool, CircuitLine, Gate}
+use Rattle.circuit.proofs.Imports.{GateKind}
 use Rattle.circuit.proofs.Imports.{CircuitLineKind, List, None, [], ap, append-nil, append_assoc, ap₂, arith}
 use Rattle.circuit.proofs.Imports.{limit_or_name_code}
 use Rattle.circuit.proofs.Imports.{cases_Bool, common_steps, cond, consume_fault, consumed, define_fault, defined}
@@ -71,10 +72,10 @@ no_inputs before (r ∷ rest) good some =
 ordered_line : (names : List (List ℕ)) (before rest : List CircuitLine) (kind : CircuitLineKind)
     (ins outs : List (List ℕ)) →
     IsGoodAfter before (record { kind = kind; ins = ins; outs = outs }) →
-    AreOrdered (length (defined before ++ outs)) (gates_of names rest) →
+    AreGatesOrdered (length (defined before ++ outs)) (gates_of names rest) →
     names ≡ defined before ++ (outs ++ defined rest) → is_input kind ≡ false →
-    AreOrdered (length (defined before)) (gate_of_line_kind names ins outs kind ++ gates_of names rest)
-unfolding AreOrdered
+    AreGatesOrdered (length (defined before)) (gate_of_line_kind names ins outs kind ++ gates_of names rest)
+unfolding AreGatesOrdered
 ordered_line names before rest Input ins outs good later e f = absurd (true≢false f)
 ordered_line names before rest (GateLine k) ins outs good later e f =
     let pass = names_pass before _ good.adds in
@@ -92,15 +93,15 @@ not_input r rest e = grind (arith, common_steps, cases_Bool, input_cons)
 
 ordered_gates : (names : List (List ℕ)) (before rest : List CircuitLine) → AreGoodAfter before rest →
     names ≡ defined (before ++ rest) → input_count rest ≡ 0 →
-    AreOrdered (length (defined before)) (gates_of names rest)
-unfolding AreOrdered AreGoodAfter
+    AreGatesOrdered (length (defined before)) (gates_of names rest)
+unfolding AreGatesOrdered AreGoodAfter
 ordered_gates names before [] good e none = tt
 ordered_gates names before (r ∷ rest) good e none =
     let n = not_input r rest none in
     let later = ordered_gates names (before ++ r ∷ []) rest good.1
     (e ∙ ap defined (sym (push_cons before r rest))) n.1 in
     ordered_line names before rest r.kind r.ins r.outs good.0
-    (subst (λ (d : List (List ℕ)). AreOrdered (length d) (gates_of names rest)) (defined_push before r) later)
+    (subst (λ (d : List (List ℕ)). AreGatesOrdered (length d) (gates_of names rest)) (defined_push before r) later)
     (e ∙ defined_cons before r rest) n.0
 
 -- lines that begin with the inputs
@@ -119,7 +120,7 @@ far_next names before rest kind ins outs far e f = grind (arith, common_steps, p
 gate_first : (names : List (List ℕ)) (before rest : List CircuitLine) (k : GateKind) (ins outs : List (List ℕ)) →
     AreGoodAfter before (record { kind = GateLine k; ins = ins; outs = outs } ∷ rest) →
     Far names before (record { kind = GateLine k; ins = ins; outs = outs } ∷ rest) →
-    AreOrdered (input_count (before ++ record { kind = GateLine k; ins = ins; outs = outs } ∷ rest))
+    AreGatesOrdered (input_count (before ++ record { kind = GateLine k; ins = ins; outs = outs } ∷ rest))
     (gates_of names (record { kind = GateLine k; ins = ins; outs = outs } ∷ rest))
 unfolding AreGoodAfter
 gate_first names before rest k ins outs good far =
@@ -131,7 +132,7 @@ gate_first names before rest k ins outs good far =
     let same : length (defined before) ≡ input_count (before ++ r ∷ rest) =
     far.only_inputs
     ∙ omega (arith, zero_inputs, count_append (λ (r : CircuitLine). is_input r.kind) before (r ∷ rest)) in
-    subst (λ m. AreOrdered m (gates_of names (r ∷ rest))) same
+    subst (λ m. AreGatesOrdered m (gates_of names (r ∷ rest))) same
     (ordered_gates names before (r ∷ rest) good far.all zero_inputs)
 
 ordered_rest : (names : List (List ℕ)) (before rest : List CircuitLine) (kind : CircuitLineKind)
@@ -140,9 +141,9 @@ ordered_rest : (names : List (List ℕ)) (before rest : List CircuitLine) (kind 
     Far names before (record { kind = kind; ins = ins; outs = outs } ∷ rest) →
     (AreGoodAfter (before ++ record { kind = kind; ins = ins; outs = outs } ∷ []) rest →
     Far names (before ++ record { kind = kind; ins = ins; outs = outs } ∷ []) rest →
-    AreOrdered (input_count ((before ++ record { kind = kind; ins = ins; outs = outs } ∷ []) ++ rest))
+    AreGatesOrdered (input_count ((before ++ record { kind = kind; ins = ins; outs = outs } ∷ []) ++ rest))
     (gates_of names rest)) →
-    AreOrdered (input_count (before ++ record { kind = kind; ins = ins; outs = outs } ∷ rest))
+    AreGatesOrdered (input_count (before ++ record { kind = kind; ins = ins; outs = outs } ∷ rest))
     (gates_of names (record { kind = kind; ins = ins; outs = outs } ∷ rest))
 unfolding AreGoodAfter
 ordered_rest names before rest (GateLine k) ins outs good far later = gate_first names before rest k ins outs good far
@@ -150,8 +151,8 @@ ordered_rest names before rest _ ins outs good far later = grind (arith, common_
 
 ordered_lines : (names : List (List ℕ)) (before rest : List CircuitLine) → AreGoodAfter before rest →
     Far names before rest →
-    AreOrdered (input_count (before ++ rest)) (gates_of names rest)
-unfolding AreOrdered
+    AreGatesOrdered (input_count (before ++ rest)) (gates_of names rest)
+unfolding AreGatesOrdered
 ordered_lines names before [] good far = tt
 ordered_lines names before (r ∷ rest) good far =
     ordered_rest names before rest r.kind r.ins r.outs good far (ordered_lines names (before ++ r ∷ []) rest)

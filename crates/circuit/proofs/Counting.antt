@@ -1,12 +1,13 @@
 -- There are as many names of inputs as inputs.
-use Rattle.circuit.proofs.Imports.{AreGoodAfter, AreGoodCircuitLines, CircuitLine, CircuitLineKind, FitsKind, List, []}
+use Rattle.circuit.proofs.Imports.{AreGoodAfter, AreGoodCircuitLines, CircuitLine, CircuitLineKind, HasNameCountOfKind}
+use Rattle.circuit.proofs.Imports.{List, []}
 use Rattle.circuit.proofs.Imports.{arith}
 use Rattle.circuit.proofs.Imports.{common_steps, cond, input_count, input_names, is_input, length, refl, ℕ, ◌++◌, ◌∷◌}
 use Rattle.circuit.proofs.Imports.{◌≡◌}
 use Rattle.circuit.proofs.Bridging.{input_cons}
 
 line_counted : (kind : CircuitLineKind) (ins outs : List (List ℕ)) →
-    FitsKind (record { kind = kind; ins = ins; outs = outs }) →
+    HasNameCountOfKind (record { kind = kind; ins = ins; outs = outs }) →
     length (cond (is_input kind) outs []) ≡ cond (is_input kind) 1 0
 line_counted kind ins outs h1 = grind (arith, common_steps)
 

@@ -1,5 +1,5 @@
 -- A draft with one more line.
-use Rattle.circuit.proofs.Imports.{Bool, CircuitLine, FitsKind, IsNoInputAfterGate, List, None, Some, []}
+use Rattle.circuit.proofs.Imports.{Bool, CircuitLine, HasNameCountOfKind, IsNoInputAfterGate, List, None, Some, []}
 use Rattle.circuit.proofs.Imports.{limit_or_name_code}
 use Rattle.circuit.proofs.Imports.{arith, bytes_eq, common_steps, cond, consume_fault, consumed, define_fault, defined}
 use Rattle.circuit.proofs.Imports.{exceeds_largest_limit, false, gate_count, gate_of, gate_with_outs_from, get_or, has}
@@ -8,7 +8,7 @@ use Rattle.circuit.proofs.Imports.{length, map, number, position, take, true, wi
 use Rattle.circuit.proofs.Imports.{◌≤◌}
 use Rattle.lemmas.proofs.Common.{◌&&◌, nat_le, leb-false, ltb-false, or_parts}
 use Rattle.circuit.specs.declared.draft.Draft.TheInside.{Inside}
-use Rattle.circuit.specs.DraftView.{IsDraft}
+use Rattle.circuit.specs.DraftView.{AreDraftFields}
 use Rattle.circuit.proofs.Bridging.{gates_push, good_push, defined_push, count_append}
 use Rattle.circuit.proofs.Places.{found_number}
 use Rattle.circuit.proofs.WireMarks.{mark_read, marks_push}
@@ -29,7 +29,7 @@ pub record Added (a b : Inside) (r : CircuitLine) (numbers : List ℕ) : Type 0 
   pub limit : exceeds_largest_limit a.entries.items r ≡ false
   pub ins_pass : consume_fault (defined a.entries.items) (consumed a.entries.items) r.ins ≡ None
   pub outs_pass : define_fault a.wires.keys r.outs ≡ None
-  pub fits : FitsKind r
+  pub fits : HasNameCountOfKind r
   pub inputs_first : IsNoInputAfterGate a.entries.items r
   pub numbered : take (length r.ins) numbers ≡ map (number (defined a.entries.items)) r.ins
   pub wired : map gate_of b.wired.items
@@ -45,12 +45,13 @@ few_more : (b : Bool) (n : ℕ) → (b && nat_le max_gates n) ≡ false → n �
 few_more true n e h = let l = leb-false max_gates n e in omega arith
 few_more false n e h = omega arith
 
-pub added : (a b : Inside) (r : CircuitLine) (numbers : List ℕ) → IsDraft a → Added a b r numbers → IsDraft b
+pub added : (a b : Inside) (r : CircuitLine) (numbers : List ℕ) → AreDraftFields a → Added a b r numbers →
+    AreDraftFields b
 added a b r numbers is new =
     grind (arith, common_steps, no_fault, good_push, few, count_append, defined_push, marks_push, few_more, gates_push)
 
 -- the mark that is read by the number of a name
-pub mark_of_line : (a : Inside) (entries : List CircuitLine) → IsDraft a → a.entries.items ≡ entries →
+pub mark_of_line : (a : Inside) (entries : List CircuitLine) → AreDraftFields a → a.entries.items ≡ entries →
     (n : List ℕ) (i : ℕ) (b : Bool) → has (defined entries) n ≡ true →
     Some i ≡ position (bytes_eq n) a.wires.keys → b ≡ get_or a.consumed.items i b → b ≡ has (consumed entries) n
 mark_of_line a entries is same n i b known at read = grind (arith, common_steps, mark_read, found_number)

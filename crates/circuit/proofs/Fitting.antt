@@ -1,5 +1,6 @@
 -- A line that is read has as many names as its kind.
-use Rattle.circuit.proofs.Imports.{CircuitLine, CircuitLineKind, FitsKind, Header, Input, Item, Line, List, None, Some}
+use Rattle.circuit.proofs.Imports.{CircuitLine, CircuitLineKind, HasNameCountOfKind, Header, Input, Item, Line, List}
+use Rattle.circuit.proofs.Imports.{None, Some}
 use Rattle.circuit.proofs.Imports.{[], ap}
 use Rattle.circuit.proofs.Imports.{arith, chosen, codes, common_steps, cond, cond_some, defines, entry, eqb, form_of}
 use Rattle.circuit.proofs.Imports.{gate_entry, gate_kind, gate_line_of_kind, if_one_word, inl, inr, is_gate, is_input}
@@ -19,7 +20,7 @@ names_length ws i (suc n) ns e =
     let l = names_length ws (i + 1) n others more in
     ap length (sym (same_Some (first ∷ others) ns made)) ∙ omega (arith, l)))
 
-gate_fits : (ws : List (List ℕ)) (r : CircuitLine) → gate_entry ws ≡ Some r → FitsKind r
+gate_fits : (ws : List (List ℕ)) (r : CircuitLine) → gate_entry ws ≡ Some r → HasNameCountOfKind r
 unfolding gate_entry gate_line_of_kind
 gate_fits ws r e =
     option_and_then_some (λ kind.
@@ -36,12 +37,12 @@ gate_fits ws r e =
     option_and_then_some (λ outs. Some (entry (Gate kind) ins outs))
     (names_at ws (words_before_names kind + uses kind + 1) (defines kind)) r rest_ins
     (λ outs some_outs made.
-    subst FitsKind (same_Some (entry (Gate kind) ins outs) r made)
+    subst HasNameCountOfKind (same_Some (entry (Gate kind) ins outs) r made)
     (names_length ws _ _ ins some_ins, names_length ws _ _ outs some_outs))))
 
 -- what a form says of its entry
 OfForm : Line → Type 0
-OfForm (Item r) = FitsKind r
+OfForm (Item r) = HasNameCountOfKind r
 OfForm _ = Unit {0}
 
 lone_fits : (ws : List (List ℕ)) (f g : Line) → OfForm f → if_one_word ws f ≡ Some g → OfForm g
@@ -56,7 +57,7 @@ form_fits ws f e =
       | inr p ↦ grind (arith, common_steps, chosen, lone_fits, option_and_then_some, same_Some, gate_fits)
     ]
 
-pub entry_fits : (ws : List (List ℕ)) (r : CircuitLine) → form_of ws ≡ Some (Item r) → FitsKind r
+pub entry_fits : (ws : List (List ℕ)) (r : CircuitLine) → form_of ws ≡ Some (Item r) → HasNameCountOfKind r
 unfolding OfForm
 entry_fits ws r e = form_fits ws (Item r) e
 

@@ -1,5 +1,6 @@
 -- The names from outside this folder that two or more proofs of this crate use, in one file to import them from.
-pub use Rattle.circuit.specs.Bridge.{AreGoodCircuitLines, AreValues, FitsKind, IsNoInputAfterGate, IsValuesFault}
+pub use Rattle.circuit.specs.Bridge.{AreGoodCircuitLines, AreWireValues, HasNameCountOfKind, IsNoInputAfterGate}
+pub use Rattle.circuit.specs.Bridge.{IsValuesFault}
 pub use Rattle.circuit.specs.Bridge.{as_values, gate_of_line_kind, gates_of, input_count, input_names, is_input}
 pub use Rattle.circuit.specs.Bridge.{netlist_of}
 unfoldable pub use Rattle.circuit.specs.Bridge.{AreGoodAfter}
@@ -11,7 +12,7 @@ unfoldable pub use Rattle.circuit.specs.Forms.{form_of, gate_entry, gate_kind, g
 pub use Rattle.circuit.specs.Gates.{defines, is_inverse, uses}
 unfoldable pub use Rattle.circuit.specs.Gates.{row}
 pub use Rattle.circuit.specs.Meaning.{FollowsRow, Gate, Netlist, Satisfies, Valuation, wires}
-unfoldable pub use Rattle.circuit.specs.Meaning.{AreOrdered, number, wires_after}
+unfoldable pub use Rattle.circuit.specs.Meaning.{AreGatesOrdered, number, wires_after}
 pub use Rattle.circuit.specs.Rules.{consume_fault, consumed, define_fault, exceeds_largest_limit, gate_count, is_gate}
 unfoldable pub use Rattle.circuit.specs.Rules.{limit_or_name_code}
 pub use Rattle.circuit.specs.Text.{Line, form_text}

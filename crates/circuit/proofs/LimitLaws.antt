@@ -4,7 +4,7 @@ use Rattle.circuit.proofs.Imports.{or_else, true, ℕ, ◌≡◌}
 use Rattle.lemmas.proofs.Common.{false≢true, nat_le, nat_lt, ◌&&◌, ◌||◌}
 use Rattle.section_text.specs.Codes.{code_if}
 use Rattle.section_text.specs.declared.code.RefusalCode.TheVariants.{PastLimit}
-use Rattle.circuit.specs.Laws.{FirstLimitsAreKept, SecondLimitsAreWider}
+use Rattle.circuit.specs.Laws.{FirstLimitsAreUnchanged, SecondLimitsAreWider}
 use Rattle.section_text.proofs.Codes.{no_code_second}
 
 -- the code of two tests in a row, of which the first fails if the second does
@@ -18,9 +18,9 @@ past_first : (g : Bool) (x y : ℕ) → (nat_lt 65000 x || (g && nat_le 16384 y)
     (nat_lt 4096 x || (g && nat_le 1024 y)) ≡ true
 past_first g x y e = grind (arith, common_steps)
 
-pub first_limits_are_kept : FirstLimitsAreKept
+pub first_limits_are_unchanged : FirstLimitsAreUnchanged
 unfolding limit_or_name_code
-first_limits_are_kept entries r = grind (arith, common_steps, nested, past_first)
+first_limits_are_unchanged entries r = grind (arith, common_steps, nested, past_first)
 
 -- a test that is made twice
 twice : (d b : Bool) (rest : Option RefusalCode) → or_else (code_if (d || b) PastLimit) rest ≡ None →

@@ -1,5 +1,6 @@
 -- The names of wires.
-use Rattle.circuit.proofs.Imports.{AreGoodAfter, AreGoodCircuitLines, CircuitLine, CircuitLineKind, FitsKind, Gate}
+use Rattle.circuit.proofs.Imports.{AreGoodAfter, AreGoodCircuitLines, CircuitLine, CircuitLineKind, Gate}
+use Rattle.circuit.proofs.Imports.{HasNameCountOfKind}
 use Rattle.circuit.proofs.Imports.{List, None}
 use Rattle.circuit.proofs.Imports.{Some, [], append-nil, append_assoc, arith, bytes_eq, cases_Bool, cases_lt}
 use Rattle.circuit.proofs.Imports.{common_steps, cond, define_fault, defined, false, gate_count, gate_of_line_kind}
@@ -39,7 +40,7 @@ place_position d n =
 
 wires_line : (names : List (List ℕ)) (n : ℕ) (kind : CircuitLineKind) (ins outs : List (List ℕ))
     (rest : List CircuitLine) →
-    FitsKind (record { kind = kind; ins = ins; outs = outs }) →
+    HasNameCountOfKind (record { kind = kind; ins = ins; outs = outs }) →
     ((m : ℕ) → wires_after m (gates_of names rest) + input_count rest ≡ m + length (defined rest)) →
     wires_after n (gate_of_line_kind names ins outs kind ++ gates_of names rest) + input_count
     (record { kind = kind; ins = ins; outs = outs } ∷ rest) ≡ n + length (outs ++ defined rest)

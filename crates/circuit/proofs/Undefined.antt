@@ -1,5 +1,5 @@
 -- The first gate that has no row, if there is one; else the gates have a valuation
-use Rattle.circuit.proofs.Imports.{All, All-head, All-tail, AreOrdered, Bool, EvaluatesUpTo, FollowsRow, Gate}
+use Rattle.circuit.proofs.Imports.{All, All-head, All-tail, AreGatesOrdered, Bool, EvaluatesUpTo, FollowsRow, Gate}
 use Rattle.circuit.proofs.Imports.{IsGateEvaluationError, IsValuesFault, List, Netlist, None, Option, Satisfies, Some}
 use Rattle.circuit.proofs.Imports.{Valuation, [], ap, arith, as_values, cases_Bool, cases_lt, common_steps, defines}
 use Rattle.circuit.proofs.Imports.{evaluate, false, get_or-append-add, get_or-map-range_with_len, get_or_append_left}
@@ -31,25 +31,26 @@ total : (vs r : List Bool) (d : ℕ) → length r ≡ d → length vs + d ≡ le
 total vs r d e = sym (length-append vs r ∙ ap (λ n. length vs + n) e)
 
 -- no gate: all gates were evaluated
-pub all_evaluated : (vs : List Bool) (gs : List Gate) → AreOrdered (length vs) gs → first_undefined_gate vs gs ≡ None →
+pub all_evaluated : (vs : List Bool) (gs : List Gate) → AreGatesOrdered (length vs) gs →
+    first_undefined_gate vs gs ≡ None →
     (out : List Bool) × (evaluate vs gs ≡ Some out)
-unfolding evaluate first_undefined_gate AreOrdered
+unfolding evaluate first_undefined_gate AreGatesOrdered
 all_evaluated vs [] ordered e = (vs, refl)
 all_evaluated vs (g ∷ gs) ordered e =
     elim (row_cases g.kind (map (as_values vs) g.ins) (length-map g.ins (as_values vs) ∙ ordered.1)) [
       | inl none ↦ absurd (clash 0 (sym e ∙ ap (this_or_later_undefined (λ r. first_undefined_gate (vs ++ r) gs)) none))
       | inr s ↦
-          let rest = all_evaluated (vs ++ s.0) gs (subst (λ n. AreOrdered n gs) (total vs s.0 _ s.2) ordered.3)
+          let rest = all_evaluated (vs ++ s.0) gs (subst (λ n. AreGatesOrdered n gs) (total vs s.0 _ s.2) ordered.3)
           (this_or_later_undefined-none _
           (sym (ap (this_or_later_undefined (λ r. first_undefined_gate (vs ++ r) gs)) s.1) ∙ e)) in
           (rest.0, ap (option_and_then (λ r. evaluate (vs ++ r) gs)) s.1 ∙ rest.1)
     ]
 
 -- some gate: those before it were evaluated, and it has no row
-pub up_to : (vs : List Bool) (gs : List Gate) (k : ℕ) → AreOrdered (length vs) gs →
+pub up_to : (vs : List Bool) (gs : List Gate) (k : ℕ) → AreGatesOrdered (length vs) gs →
     first_undefined_gate vs gs ≡ Some k →
     (before : List Bool) × EvaluatesUpTo vs gs k before
-unfolding evaluate first_undefined_gate AreOrdered
+unfolding evaluate first_undefined_gate AreGatesOrdered
 up_to vs [] k ordered e = absurd (clash k e)
 up_to vs (g ∷ gs) k ordered e =
     elim (row_cases g.kind (map (as_values vs) g.ins) (length-map g.ins (as_values vs) ∙ ordered.1)) [
@@ -59,7 +60,8 @@ up_to vs (g ∷ gs) k ordered e =
           let later = this_or_later_undefined-cases _ k
           (sym (ap (this_or_later_undefined (λ r. first_undefined_gate (vs ++ r) gs)) s.1) ∙ e) in
           let m : ℕ = later.0 in
-          let rest = up_to (vs ++ s.0) gs m (subst (λ n. AreOrdered n gs) (total vs s.0 _ s.2) ordered.3) later.1 in
+          let rest = up_to (vs ++ s.0) gs m
+          (subst (λ n. AreGatesOrdered n gs) (total vs s.0 _ s.2) ordered.3) later.1 in
           let is : EvaluatesUpTo (vs ++ s.0) gs m rest.0 = rest.1 in (grind (arith, common_steps, option_and_then))
     ]
 
@@ -70,9 +72,9 @@ record IsNext (vs : List Bool) (g : Gate) (v : Valuation) : Type 0 where
   long : length vs + defines g.kind ≡ length (vs ++ map v g.outs)
   agree : (w : ℕ) → w < length (vs ++ map v g.outs) → v w ≡ as_values (vs ++ map v g.outs) w
 
-next : (vs : List Bool) (g : Gate) (gs : List Gate) (v : Valuation) → AreOrdered (length vs) (g ∷ gs) →
+next : (vs : List Bool) (g : Gate) (gs : List Gate) (v : Valuation) → AreGatesOrdered (length vs) (g ∷ gs) →
     ((w : ℕ) → w < length vs → v w ≡ as_values vs w) → FollowsRow v g → IsNext vs g v
-unfolding AreOrdered
+unfolding AreGatesOrdered
 next vs g gs v ordered agree here =
     let r : List Bool = map v g.outs in
     let outs : r ≡ map v (range_with_len (length vs) (defines g.kind)) = ap (map v) ordered.2 in
@@ -86,10 +88,11 @@ next vs g gs v ordered agree here =
     }
 
 -- where they do up to a gate that has none, that is the first one
-pub undefined_from : (vs : List Bool) (gs : List Gate) (v : Valuation) (k : ℕ) (g : Gate) → AreOrdered (length vs) gs →
+pub undefined_from : (vs : List Bool) (gs : List Gate) (v : Valuation) (k : ℕ) (g : Gate) →
+    AreGatesOrdered (length vs) gs →
     ((w : ℕ) → w < length vs → v w ≡ as_values vs w) → FirstGatesFollowRows k gs v →
     slice_get gs k ≡ Some g → row g.kind (map v g.ins) ≡ None → first_undefined_gate vs gs ≡ Some k
-unfolding first_undefined_gate AreOrdered
+unfolding first_undefined_gate AreGatesOrdered
 undefined_from vs [] v k g ordered agree rows at none = absurd (clash g at)
 undefined_from vs (h ∷ gs) v zero g ordered agree rows at none =
     let same : h ≡ g = same_Some h g at in
@@ -99,7 +102,7 @@ undefined_from vs (h ∷ gs) v zero g ordered agree rows at none =
     (ap (row h.kind) (sym (map_below (length vs) v (as_values vs) h.ins ordered.0 agree)) ∙ here)
 undefined_from vs (h ∷ gs) v (suc k) g ordered agree rows at none =
     let n : IsNext vs h v = next vs h gs v ordered agree (rows 0 h (omega arith) refl) in
-    let rest = undefined_from (vs ++ map v h.outs) gs v k g (subst (λ n. AreOrdered n gs) n.long ordered.3) n.agree
+    let rest = undefined_from (vs ++ map v h.outs) gs v k g (subst (λ n. AreGatesOrdered n gs) n.long ordered.3) n.agree
     (λ j f l e. rows (suc j) f (omega arith) e) at none in
     ap (this_or_later_undefined (λ r. first_undefined_gate (vs ++ r) gs)) n.is ∙ ap (option_map (λ k. k + 1)) rest
     ∙ ap Some (plus_one k)
@@ -108,13 +111,13 @@ undefined_from vs (h ∷ gs) v (suc k) g ordered agree rows at none =
     plus_one k = omega arith
 
 -- where they all do, there is none
-pub defined_from : (vs : List Bool) (gs : List Gate) (v : Valuation) → AreOrdered (length vs) gs →
+pub defined_from : (vs : List Bool) (gs : List Gate) (v : Valuation) → AreGatesOrdered (length vs) gs →
     ((w : ℕ) → w < length vs → v w ≡ as_values vs w) → All (FollowsRow v) gs → first_undefined_gate vs gs ≡ None
-unfolding first_undefined_gate AreOrdered
+unfolding first_undefined_gate AreGatesOrdered
 defined_from vs [] v ordered agree rows = refl
 defined_from vs (h ∷ gs) v ordered agree rows =
     let n : IsNext vs h v = next vs h gs v ordered agree (All-head (FollowsRow v) h gs rows) in
-    let rest = defined_from (vs ++ map v h.outs) gs v (subst (λ n. AreOrdered n gs) n.long ordered.3) n.agree
+    let rest = defined_from (vs ++ map v h.outs) gs v (subst (λ n. AreGatesOrdered n gs) n.long ordered.3) n.agree
     (All-tail (FollowsRow v) h gs rows) in
     ap (this_or_later_undefined (λ r. first_undefined_gate (vs ++ r) gs)) n.is ∙ ap (option_map (λ k. k + 1)) rest
 
@@ -127,24 +130,24 @@ record IsGiven (n : Netlist) (a : Valuation) (given : List Bool) : Type 0 where
 given_of : (n : Netlist) (a : Valuation) → IsGiven n a (map a (range_with_len 0 n.given))
 given_of n a = grind (arith, common_steps, length-map, length-range_with_len, get_or-map-range_with_len)
 
-ordered_given : (n : Netlist) (given : List Bool) → length given ≡ n.given → AreOrdered n.given n.gates →
-    AreOrdered (length given) n.gates
-ordered_given n given long ordered = subst (λ m. AreOrdered m n.gates) (sym long) ordered
+ordered_given : (n : Netlist) (given : List Bool) → length given ≡ n.given → AreGatesOrdered n.given n.gates →
+    AreGatesOrdered (length given) n.gates
+ordered_given n given long ordered = subst (λ m. AreGatesOrdered m n.gates) (sym long) ordered
 
-pub undefined_at : (n : Netlist) (a : Valuation) (given : List Bool) (k : ℕ) → AreOrdered n.given n.gates →
+pub undefined_at : (n : Netlist) (a : Valuation) (given : List Bool) (k : ℕ) → AreGatesOrdered n.given n.gates →
     length given ≡ n.given → ((i : ℕ) → i < n.given → as_values given i ≡ a i) → IsFirstGateWithoutRow n a k →
     first_undefined_gate given n.gates ≡ Some k
 undefined_at n a given k ordered long same u = grind (arith, common_steps, undefined_from, ordered_given)
 
-pub defined_at : (n : Netlist) (a v : Valuation) (given : List Bool) → AreOrdered n.given n.gates →
+pub defined_at : (n : Netlist) (a v : Valuation) (given : List Bool) → AreGatesOrdered n.given n.gates →
     length given ≡ n.given → ((i : ℕ) → i < n.given → as_values given i ≡ a i) → Satisfies n a v →
     first_undefined_gate given n.gates ≡ None
 defined_at n a v given ordered long same s =
     defined_from given n.gates v (ordered_given n given long ordered)
     (λ w h. s.given w (omega (arith, long)) ∙ sym (same w (omega (arith, long)))) s.rows
 
-ordered_take : (m : ℕ) (gs : List Gate) (k : ℕ) → AreOrdered m gs → AreOrdered m (take k gs)
-unfolding AreOrdered
+ordered_take : (m : ℕ) (gs : List Gate) (k : ℕ) → AreGatesOrdered m gs → AreGatesOrdered m (take k gs)
+unfolding AreGatesOrdered
 ordered_take m [] zero ordered = tt
 ordered_take m [] (suc k) ordered = tt
 ordered_take m (g ∷ gs) zero ordered = tt
@@ -166,7 +169,8 @@ row_at v gates k g all e = subst (FollowsRow v) (get_or_from_slice_get gates k g
 pub stopped : ValuesStopAtUndefinedGate
 stopped n a k vs s = grind (arith, common_steps, row_at, slice_get_take)
 
-pub stops : (n : Netlist) (a : Valuation) (given : List Bool) (k : ℕ) (vs : List Bool) → AreOrdered n.given n.gates →
+pub stops : (n : Netlist) (a : Valuation) (given : List Bool) (k : ℕ) (vs : List Bool) →
+    AreGatesOrdered n.given n.gates →
     length given ≡ n.given → ((i : ℕ) → i < n.given → as_values given i ≡ a i) →
     EvaluatesUpTo given n.gates k vs → ValuesStopAt n a k vs
 stops n a given k vs ordered long same e = record {
@@ -176,12 +180,13 @@ stops n a given k vs ordered long same e = record {
   none = e.none;
 }
 
-pub fault_stops : (n : Netlist) (a : Valuation) (given : List Bool) (e : ValuesFault) → AreOrdered n.given n.gates →
+pub fault_stops : (n : Netlist) (a : Valuation) (given : List Bool) (e : ValuesFault) →
+    AreGatesOrdered n.given n.gates →
     length given ≡ n.given → ((i : ℕ) → i < n.given → as_values given i ≡ a i) →
     IsGateEvaluationError given n.gates e → IsValuesFault n a e
 fault_stops n a given e h1 h2 h3 h4 = grind (arith, common_steps, stops)
 
-pub undefined_is : (n : Netlist) (a : Valuation) (given : List Bool) (k : ℕ) → AreOrdered n.given n.gates →
+pub undefined_is : (n : Netlist) (a : Valuation) (given : List Bool) (k : ℕ) → AreGatesOrdered n.given n.gates →
     length given ≡ n.given → ((i : ℕ) → i < n.given → as_values given i ≡ a i) →
     first_undefined_gate given n.gates ≡ Some k → IsFirstGateWithoutRow n a k
 undefined_is n a given k ordered long same e =
@@ -189,7 +194,7 @@ undefined_is n a given k ordered long same e =
     stopped n a k found.0 (stops n a given k found.0 ordered long same found.1)
 
 by_answer : (n : Netlist) (a : Valuation) (given : List Bool) (o : Option ℕ) → first_undefined_gate given n.gates ≡ o →
-    AreOrdered n.given n.gates → IsGiven n a given → ((k : ℕ) → ¬ IsFirstGateWithoutRow n a k) →
+    AreGatesOrdered n.given n.gates → IsGiven n a given → ((k : ℕ) → ¬ IsFirstGateWithoutRow n a k) →
     (v : Valuation) × Satisfies n a v
 by_answer n a given None e ordered is none =
     let found = all_evaluated given n.gates (ordered_given n given is.long ordered) e in
@@ -210,9 +215,9 @@ undefined_is_one n a k m ordered u w =
     same_Some k m (sym (undefined_at n a _ k ordered is.long is.same u)
     ∙ undefined_at n a _ m ordered is.long is.same w)
 
-uses_as_many : (n : ℕ) (gs : List Gate) (k : ℕ) (g : Gate) → AreOrdered n gs → slice_get gs k ≡ Some g →
+uses_as_many : (n : ℕ) (gs : List Gate) (k : ℕ) (g : Gate) → AreGatesOrdered n gs → slice_get gs k ≡ Some g →
     length g.ins ≡ uses g.kind
-unfolding AreOrdered
+unfolding AreGatesOrdered
 uses_as_many n [] k g ordered e = absurd (clash g e)
 uses_as_many n (f ∷ gs) zero g ordered e = subst (λ (g : Gate). length g.ins ≡ uses g.kind) (same_Some f g e) ordered.1
 uses_as_many n (f ∷ gs) (suc k) g ordered e = uses_as_many (n + defines f.kind) gs k g ordered.3 e
@@ -227,7 +232,7 @@ only_inverse n a k ordered u = elim (cases_Bool (is_inverse u.gate.kind)) [
 ]
 
 -- gates without inverse gates have a valuation
-pub forward_valuation : (n : Netlist) (a : Valuation) → AreOrdered n.given n.gates → AreNonInverse n.gates →
+pub forward_valuation : (n : Netlist) (a : Valuation) → AreGatesOrdered n.given n.gates → AreNonInverse n.gates →
     (v : Valuation) × Satisfies n a v
 forward_valuation n a ordered forward =
     has_valuation n a ordered (λ k u. elim (cases_Bool (is_inverse u.gate.kind)) [

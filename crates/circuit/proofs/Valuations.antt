@@ -1,5 +1,6 @@
 -- Gates that are ordered have at most one valuation, and what `evaluate` finds is one.
-use Rattle.circuit.proofs.Imports.{All, All-head, All-tail, AreOrdered, AreValues, Bool, Cswap, Delay, Fredkin, Gate}
+use Rattle.circuit.proofs.Imports.{All, All-head, All-tail, AreGatesOrdered, AreWireValues, Bool, Cswap, Delay, Fredkin}
+use Rattle.circuit.proofs.Imports.{Gate}
 use Rattle.circuit.proofs.Imports.{FollowsRow, GateKind, Interact, List, Netlist, None, Option, Satisfies, Some, Source}
 use Rattle.circuit.proofs.Imports.{Switch, Uninteract, Unswitch, Valuation, [], ap, ap₂, arith, as_values, cases_lt}
 use Rattle.circuit.proofs.Imports.{common_steps, defines, evaluate, false, get_or, get_or-append-add}
@@ -99,10 +100,10 @@ record Found (vs : List Bool) (gs : List Gate) (out : List Bool) : Type 0 where
   rows : All (FollowsRow (as_values out)) gs
 
 -- one gate more in front
-found_more : (vs out r : List Bool) (g : Gate) (gs : List Gate) → AreOrdered (length vs) (g ∷ gs) →
+found_more : (vs out r : List Bool) (g : Gate) (gs : List Gate) → AreGatesOrdered (length vs) (g ∷ gs) →
     row g.kind (map (as_values vs) g.ins) ≡ Some r → length r ≡ defines g.kind → Found (vs ++ r) gs out →
     Found vs (g ∷ gs) out
-unfolding AreOrdered wires_after
+unfolding AreGatesOrdered wires_after
 found_more vs out r g gs ordered is many rest =
     let total : length (vs ++ r) ≡ length vs + defines g.kind = length-append vs r ∙ ap (λ n. length vs + n) many in
     let below : (w : ℕ) → w < length vs → as_values out w ≡ as_values vs w =
@@ -120,9 +121,9 @@ none_some : (x : List Bool) (o : Option (List Bool)) → o ≡ None → o ≡ So
 none_some x o e f = cc
 
 -- what is evaluated was found gate after gate
-found_from : (vs : List Bool) (gs : List Gate) (out : List Bool) → AreOrdered (length vs) gs →
+found_from : (vs : List Bool) (gs : List Gate) (out : List Bool) → AreGatesOrdered (length vs) gs →
     evaluate vs gs ≡ Some out → Found vs gs out
-unfolding evaluate AreOrdered wires_after
+unfolding evaluate AreGatesOrdered wires_after
 found_from vs [] out ordered e = grind (arith, common_steps, some_is)
 found_from vs (g ∷ gs) out ordered e =
     elim (row_cases g.kind (map (as_values vs) g.ins) (length-map g.ins (as_values vs) ∙ ordered.1)) [
@@ -131,15 +132,15 @@ found_from vs (g ∷ gs) out ordered e =
           let total : length (vs ++ s.0) ≡ length vs + defines g.kind =
           length-append vs s.0 ∙ ap (λ n. length vs + n) s.2 in
           found_more vs out s.0 g gs ordered s.1 s.2
-          (found_from (vs ++ s.0) gs out (subst (λ n. AreOrdered n gs) (sym total) ordered.3)
+          (found_from (vs ++ s.0) gs out (subst (λ n. AreGatesOrdered n gs) (sym total) ordered.3)
           (sym (ap (option_and_then (λ r. evaluate (vs ++ r) gs)) s.1) ∙ e))
     ]
 
 -- ---- only one
-unique_after : (n : ℕ) (gs : List Gate) (v v' : Valuation) → AreOrdered n gs → All (FollowsRow v) gs →
+unique_after : (n : ℕ) (gs : List Gate) (v v' : Valuation) → AreGatesOrdered n gs → All (FollowsRow v) gs →
     All (FollowsRow v') gs →
     ((w : ℕ) → w < n → v w ≡ v' w) → (w : ℕ) → w < wires_after n gs → v w ≡ v' w
-unfolding AreOrdered wires_after
+unfolding AreGatesOrdered wires_after
 unique_after n [] v v' ordered rows rows' same w h = same w h
 unique_after n (g ∷ gs) v v' ordered rows rows' same w h =
     let ins : map v g.ins ≡ map v' g.ins = map_below n v v' g.ins ordered.0 same in
@@ -158,12 +159,12 @@ at_most_one n a v v' ordered s s' w h =
     unique_after n.given n.gates v v' ordered s.rows s'.rows (λ i l. s.given i l ∙ sym (s'.given i l)) w h
 
 -- what is evaluated are the values
-pub evaluated : (n : Netlist) (a : Valuation) (given vs : List Bool) → AreOrdered n.given n.gates →
+pub evaluated : (n : Netlist) (a : Valuation) (given vs : List Bool) → AreGatesOrdered n.given n.gates →
     length given ≡ n.given → ((i : ℕ) → i < n.given → as_values given i ≡ a i) →
-    evaluate given n.gates ≡ Some vs → AreValues n a vs
+    evaluate given n.gates ≡ Some vs → AreWireValues n a vs
 evaluated n a given vs ordered len same e =
     let f : Found given n.gates vs =
-    found_from given n.gates vs (subst (λ m. AreOrdered m n.gates) (sym len) ordered) e in
+    found_from given n.gates vs (subst (λ m. AreGatesOrdered m n.gates) (sym len) ordered) e in
     let all : length vs ≡ wires n = f.all ∙ ap (λ m. wires_after m n.gates) len in
     let s : Satisfies n a (as_values vs) =
     record { given = λ i h. f.same i (omega (arith, len)) ∙ same i h; rows = f.rows } in

@@ -69,8 +69,8 @@ kind_out_count Output = 0
 kind_out_count Spill = 0
 
 -- the line has as many names as its kind
-abbrev pub FitsKind : CircuitLine → Type 0
-FitsKind r = (length r.ins ≡ kind_in_count r.kind) × (length r.outs ≡ kind_out_count r.kind)
+abbrev pub HasNameCountOfKind : CircuitLine → Type 0
+HasNameCountOfKind r = (length r.ins ≡ kind_in_count r.kind) × (length r.outs ≡ kind_out_count r.kind)
 
 -- no input comes after a gate
 abbrev pub IsNoInputAfterGate : List CircuitLine → CircuitLine → Type 0
@@ -79,7 +79,7 @@ IsNoInputAfterGate before r = is_input r.kind ≡ true → gate_count before ≡
 -- the line is good after those before it
 pub record IsGoodAfter (before : List CircuitLine) (r : CircuitLine) : Type 0 where
   pub adds : limit_or_name_code before r ≡ None
-  pub fits : FitsKind r
+  pub fits : HasNameCountOfKind r
   pub inputs_first : IsNoInputAfterGate before r
 
 -- each line is good after those before it
@@ -96,7 +96,7 @@ abbrev pub as_values : List Bool → Valuation
 as_values vs w = slice_index_or vs w false
 
 -- vs lists each wire's value in the one valuation that satisfies the netlist if the given wires have the values a
-pub record AreValues (n : Netlist) (a : Valuation) (vs : List Bool) : Type 0 where
+pub record AreWireValues (n : Netlist) (a : Valuation) (vs : List Bool) : Type 0 where
   pub all : length vs ≡ wires n
   pub satisfies : Satisfies n a (as_values vs)
   pub only : (v : Valuation) → Satisfies n a v → (w : ℕ) → w < length vs → v w ≡ as_values vs w
@@ -105,7 +105,7 @@ pub record AreValues (n : Netlist) (a : Valuation) (vs : List Bool) : Type 0 whe
 pub record ValuesStopAt (n : Netlist) (a : Valuation) (k : ℕ) (vs : List Bool) : Type 0 where
   pub gate : Gate
   pub numbered : slice_get n.gates k ≡ Some gate
-  pub before : AreValues (first_gates k n) a vs
+  pub before : AreWireValues (first_gates k n) a vs
   pub none : row gate.kind (map (as_values vs) gate.ins) ≡ None
 
 -- the reason why there are no values: a gate without a row, or out of memory, about which it says no more

@@ -13,7 +13,7 @@ abbrev pub circuit_entries : Inside → List CircuitLine
 circuit_entries a = a.entries.items
 
 -- the fields of every circuit: good lines, of which each wire is consumed, within the limits
-pub record IsCircuit (a : Inside) : Type 0 where
+pub record AreCircuitFields (a : Inside) : Type 0 where
   pub wires : a.wires.keys ≡ defined a.entries.items
   pub all_used : first_unconsumed (consumed a.entries.items) (defined a.entries.items) ≡ None
   pub few_wires : length (defined a.entries.items) ≤ max_wires

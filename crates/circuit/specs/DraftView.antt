@@ -30,7 +30,7 @@ draft_view a = record { limits = a.limits; lines = a.entries.items }
 
 -- the fields of every draft: good lines within the largest limits, with the names that they define. The mark of each of
 -- these is set exactly if the lines consume it
-pub record IsDraft (a : Inside) : Type 0 where
+pub record AreDraftFields (a : Inside) : Type 0 where
   pub wires : a.wires.keys ≡ defined a.entries.items
   pub consumed : a.consumed.items ≡ map (has (consumed a.entries.items)) (defined a.entries.items)
   pub gates : a.gates ≡ gate_count a.entries.items

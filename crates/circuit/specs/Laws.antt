@@ -12,9 +12,9 @@ use Rattle.circuit.specs.declared.circuit_line.CircuitLine.{CircuitLine}
 use Rattle.circuit.specs.Grammars.{circuit_grammar}
 use Rattle.section_text.specs.declared.limits.Limits.{Limits}
 use Rattle.circuit.specs.Text.{circuit_text}
-use Rattle.circuit.specs.Meaning.{Netlist, Valuation, Satisfies, AreOrdered, AreNonInverse, IsFirstGateWithoutRow}
+use Rattle.circuit.specs.Meaning.{Netlist, Valuation, Satisfies, AreGatesOrdered, AreNonInverse, IsFirstGateWithoutRow}
 use Rattle.circuit.specs.Meaning.{wires, wire_of}
-use Rattle.circuit.specs.Bridge.{AreGoodCircuitLines, AreValues, ValuesStopAt, input_count, input_names, gates_of}
+use Rattle.circuit.specs.Bridge.{AreGoodCircuitLines, AreWireValues, ValuesStopAt, input_count, input_names, gates_of}
 use Rattle.circuit.specs.Bridge.{circuit_of, netlist_of}
 use Rattle.circuit.specs.Rules.{gate_count, is_gate, is_wrong_delay, limit_or_name_code_within, name_fault}
 use Rattle.section_text.specs.Codes.{code_if, or_else}
@@ -36,29 +36,29 @@ ReadsWhatIsPrinted = (l : Limits) (text : List ℕ) (from n m : ℕ) (entries : 
 -- the gates of a good list of lines are ordered
 abbrev pub GatesAreOrdered : Type 0
 GatesAreOrdered = (entries : List CircuitLine) → AreGoodCircuitLines entries →
-    AreOrdered (input_count entries) (gates_of (defined entries) entries)
+    AreGatesOrdered (input_count entries) (gates_of (defined entries) entries)
 
 -- ordered gates have a valuation if none of them is undefined
 abbrev pub HasValuationIfDefined : Type 0
-HasValuationIfDefined = (n : Netlist) (a : Valuation) → AreOrdered n.given n.gates →
+HasValuationIfDefined = (n : Netlist) (a : Valuation) → AreGatesOrdered n.given n.gates →
     ((k : ℕ) → ¬ IsFirstGateWithoutRow n a k) →
     (v : Valuation) × Satisfies n a v
 
 -- and only there
 abbrev pub UndefinedHasNoValuation : Type 0
-UndefinedHasNoValuation = (n : Netlist) (a v : Valuation) (k : ℕ) → AreOrdered n.given n.gates →
+UndefinedHasNoValuation = (n : Netlist) (a v : Valuation) (k : ℕ) → AreGatesOrdered n.given n.gates →
     IsFirstGateWithoutRow n a k →
     ¬ Satisfies n a v
 
 -- only an inverse gate is undefined
 abbrev pub OnlyInverseGatesAreUndefined : Type 0
 OnlyInverseGatesAreUndefined =
-    (n : Netlist) (a : Valuation) (k : ℕ) → AreOrdered n.given n.gates → (u : IsFirstGateWithoutRow n a k) →
+    (n : Netlist) (a : Valuation) (k : ℕ) → AreGatesOrdered n.given n.gates → (u : IsFirstGateWithoutRow n a k) →
     IsTrue (is_inverse u.gate.kind)
 
 -- at most one gate is
 abbrev pub AtMostOneGateIsUndefined : Type 0
-AtMostOneGateIsUndefined = (n : Netlist) (a : Valuation) (k m : ℕ) → AreOrdered n.given n.gates →
+AtMostOneGateIsUndefined = (n : Netlist) (a : Valuation) (k m : ℕ) → AreGatesOrdered n.given n.gates →
     IsFirstGateWithoutRow n a k →
     IsFirstGateWithoutRow n a m → k ≡ m
 
@@ -69,7 +69,7 @@ ValuesStopAtUndefinedGate = (n : Netlist) (a : Valuation) (k : ℕ) (vs : List B
 
 -- ordered gates have at most one, with inverse gates too
 abbrev pub HasAtMostOneValuation : Type 0
-HasAtMostOneValuation = (n : Netlist) (a u v : Valuation) → AreOrdered n.given n.gates → Satisfies n a u →
+HasAtMostOneValuation = (n : Netlist) (a u v : Valuation) → AreGatesOrdered n.given n.gates → Satisfies n a u →
     Satisfies n a v → (w : ℕ) → w < wires n → u w ≡ v w
 
 -- a circuit of good lines without inverse gates has one valuation, whatever its inputs are
@@ -81,7 +81,7 @@ NoninverseHasOneValuation = (entries : List CircuitLine) (a : Valuation) → Are
 
 -- what lists the values lists them of every valuation that satisfies the netlist
 abbrev pub ValuesAreTheValuation : Type 0
-ValuesAreTheValuation = (n : Netlist) (a v : Valuation) (vs : List Bool) → AreValues n a vs → Satisfies n a v →
+ValuesAreTheValuation = (n : Netlist) (a v : Valuation) (vs : List Bool) → AreWireValues n a vs → Satisfies n a v →
     map v (range_with_len 0 (wires n)) ≡ vs
 
 -- the wires of a circuit have names of their own: the wire of the name of a wire is that wire
@@ -122,8 +122,8 @@ pub record InverseGatesUndo : Type 0 where
 
 -- With the first limits a line is tested as in a text without the line `limits 2`: a delay of 1 to 4096, at most 4096
 -- wires and 1024 gates, and then the names.
-abbrev pub FirstLimitsAreKept : Type 0
-FirstLimitsAreKept = (entries : List CircuitLine) (r : CircuitLine) →
+abbrev pub FirstLimitsAreUnchanged : Type 0
+FirstLimitsAreUnchanged = (entries : List CircuitLine) (r : CircuitLine) →
     limit_or_name_code_within First entries r ≡ or_else (code_if (is_wrong_delay r.kind
     || (nat_lt 4096 (length (defined entries) + length r.outs) || (is_gate r.kind && nat_le 1024 (gate_count entries))))
     PastLimit) (name_fault entries r)

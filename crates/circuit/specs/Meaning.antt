@@ -59,11 +59,11 @@ abbrev pub values_by_name : Circuit → Valuation → List ℕ → Bool
 values_by_name c v n = option_map_or v (place_of n c.names) false
 
 -- n wires are defined so far. Each gate uses wires that are defined before it, and defines the next ones
-unfoldable pub AreOrdered : ℕ → List Gate → Type 0
-AreOrdered n [] = ⊤
-AreOrdered n (g ∷ gs) =
+unfoldable pub AreGatesOrdered : ℕ → List Gate → Type 0
+AreGatesOrdered n [] = ⊤
+AreGatesOrdered n (g ∷ gs) =
     All (λ w. w < n) g.ins × (length g.ins ≡ uses g.kind) × (g.outs ≡ range_with_len n (defines g.kind))
-    × AreOrdered (n + defines g.kind) gs
+    × AreGatesOrdered (n + defines g.kind) gs
 
 -- none of the gates is an inverse gate
 abbrev pub AreNonInverse : List Gate → Type 0

@@ -12,7 +12,7 @@ ghost use Rattle.circuit.specs.Meaning.{number};
 ghost use Rattle.section_text.specs.Words.{has};
 ghost use Rattle.section_text.specs.declared.limits.Limits.TheVariants.{First};
 ghost use Rattle.section_text.specs.Adding.{HasRefusalCode};
-ghost use Rattle.circuit.specs.Bridge.{FitsKind, IsNoInputAfterGate};
+ghost use Rattle.circuit.specs.Bridge.{HasNameCountOfKind, IsNoInputAfterGate};
 ghost use Rattle.lemmas.specs.Bounds.{max_wires};
 
 use crate::circuit_line::{CircuitLine, CircuitLineKind, GateKind};
@@ -47,11 +47,11 @@ impl Model for Draft {
 
     ghost Value = { DraftView };
 
-    ghost use Rattle.circuit.specs.DraftView.{draft_view, IsDraft};
+    ghost use Rattle.circuit.specs.DraftView.{AreDraftFields, draft_view};
 
     ghost view = { draft_view };
 
-    ghost invariant = { IsDraft };
+    ghost invariant = { AreDraftFields };
 }
 
 /// A draft that is no circuit, and its first wire, in order of definition, that no line consumes.
@@ -204,7 +204,7 @@ impl Draft {
     // Adds a line, whatever the kinds of the lines before it. A fault changes nothing.
     #[tactic(auto, unfolding(crate::specs::Rules::limit_or_name_code))]
     pub(crate) fn add(&mut self, entry: CircuitLine) -> Result<(), LineFault>
-        requires fits { FitsKind entry }
+        requires fits { HasNameCountOfKind entry }
         requires inputs_first { IsNoInputAfterGate self.old.lines entry }
         ensures ok { OnOk result ((draft_fault self.old entry ≡ None)
             × (self.new ≡ with_line self.old entry)) }

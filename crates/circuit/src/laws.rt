@@ -1,5 +1,5 @@
 //! Laws of the definitions.
-ghost use Rattle.circuit.specs.Laws.{PrintsWhatIsRead, ReadsWhatIsPrinted, GatesAreOrdered, HasValuationIfDefined, UndefinedHasNoValuation, OnlyInverseGatesAreUndefined, AtMostOneGateIsUndefined, ValuesStopAtUndefinedGate, HasAtMostOneValuation, NoninverseHasOneValuation, ValuesAreTheValuation, WiresAreNamed, WireNamesAreDistinct, InputsAreFirst, GatesKeepOnes, InverseGatesUndo, FirstLimitsAreKept, SecondLimitsAreWider};
+ghost use Rattle.circuit.specs.Laws.{PrintsWhatIsRead, ReadsWhatIsPrinted, GatesAreOrdered, HasValuationIfDefined, UndefinedHasNoValuation, OnlyInverseGatesAreUndefined, AtMostOneGateIsUndefined, ValuesStopAtUndefinedGate, HasAtMostOneValuation, NoninverseHasOneValuation, ValuesAreTheValuation, WiresAreNamed, WireNamesAreDistinct, InputsAreFirst, GatesKeepOnes, InverseGatesUndo, FirstLimitsAreUnchanged, SecondLimitsAreWider};
 
 /// States that a circuit has one text.
 ///
@@ -68,8 +68,8 @@ pub fn inverse_gates_undo()
 {}
 
 /// States that the first limits are those of a text without the line `limits 2`, and that the second ones let in more.
-#[tactic(auto, using(crate::proofs::LimitLaws::first_limits_are_kept, crate::proofs::LimitLaws::second_limits_are_wider))]
-pub fn first_limits_are_kept()
-    ensures kept { FirstLimitsAreKept }
+#[tactic(auto, using(crate::proofs::LimitLaws::first_limits_are_unchanged, crate::proofs::LimitLaws::second_limits_are_wider))]
+pub fn first_limits_are_unchanged()
+    ensures kept { FirstLimitsAreUnchanged }
     ensures wider { SecondLimitsAreWider }
 {}

@@ -19,7 +19,7 @@ pub use draft::{Draft, Unused};
 pub use netlist::{Circuit, ValuesFault};
 pub use number::{GateNo, WireNo};
 pub use ports::port_names;
-pub use printing::{print_circuit, print_values};
+pub use printing::{print_all_wire_values, print_circuit};
 pub use reading::{read_circuit, read_circuit_within};
 /// The reason why a draft does not take a line: out of memory, or the code, 2 to 5, of the first test that the line
 /// fails.

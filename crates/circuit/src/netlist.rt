@@ -1,8 +1,8 @@
 //! Circuits: their wires, their gates, and their values.
 ghost use Rattle.std.specs.Prelude.{◌≡◌, ◌<◌, ◌≤◌, Some, true, length, take, slice_get, IfErr, IfOk, IfSome};
 ghost use Rattle.circuit.specs.Entries.{defined};
-ghost use Rattle.circuit.specs.Bridge.{AreValues, IsValuesFault, circuit_of, input_count, input_names, is_input, netlist_of, as_values};
-ghost use Rattle.circuit.specs.Meaning.{AreOrdered, wire_of, wires};
+ghost use Rattle.circuit.specs.Bridge.{AreWireValues, IsValuesFault, circuit_of, input_count, input_names, is_input, netlist_of, as_values};
+ghost use Rattle.circuit.specs.Meaning.{AreGatesOrdered, wire_of, wires};
 ghost use Rattle.circuit.specs.Wiring.{gate_of};
 ghost use Rattle.lemmas.specs.Bounds.{max_gates, max_wires};
 
@@ -32,11 +32,11 @@ impl Model for Circuit {
 
     ghost Value = { List CircuitLine };
 
-    ghost use Rattle.circuit.specs.CircuitView.{circuit_entries, IsCircuit};
+    ghost use Rattle.circuit.specs.CircuitView.{AreCircuitFields, circuit_entries};
 
     ghost view = { circuit_entries };
 
-    ghost invariant = { IsCircuit };
+    ghost invariant = { AreCircuitFields };
 }
 
 /// The reason why a circuit has no values.
@@ -168,7 +168,8 @@ impl Circuit {
     pub fn gates(&self) -> usize
         ensures count { result ≡ length (netlist_of self.now).gates }
         ensures at_most_max_gates { result ≤ max_gates }
-        ensures gates_ordered { AreOrdered (netlist_of self.now).given (netlist_of self.now).gates }
+        ensures gates_ordered { AreGatesOrdered (netlist_of self.now).given
+            (netlist_of self.now).gates }
     {
         self.wired.len()
     }
@@ -179,7 +180,8 @@ impl Circuit {
     pub fn prove_valid(&self)
         ensures at_most_max_gates { length (netlist_of self.now).gates ≤ max_gates }
         ensures at_most_max_wires { wires (netlist_of self.now) ≤ max_wires }
-        ensures gates_ordered { AreOrdered (netlist_of self.now).given (netlist_of self.now).gates }
+        ensures gates_ordered { AreGatesOrdered (netlist_of self.now).given
+            (netlist_of self.now).gates }
         ensures inputs_come_first { take (netlist_of self.now).given (defined self.now)
             ≡ input_names self.now }
     {
@@ -204,8 +206,8 @@ impl Circuit {
     /// If there is no valuation, the first gate without a row, and the values of the wires that are defined before it.
     pub fn values(&self, alloc: Global, inputs: &[bool]) -> Result<Vec<bool>, ValuesFault>
         requires { length inputs.now ≡ (netlist_of self.now).given }
-        ensures values { IfOk result (λ vs. AreValues (netlist_of self.now) (as_values inputs.now)
-            vs.items) }
+        ensures values { IfOk result (λ vs. AreWireValues (netlist_of self.now)
+            (as_values inputs.now) vs.items) }
         ensures fault { IfErr result (λ e. IsValuesFault (netlist_of self.now)
             (as_values inputs.now) e) }
     {

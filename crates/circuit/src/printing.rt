@@ -118,7 +118,7 @@ fn print_value_lines(out: &mut Vec<u8>, names: &[Name], values: &[bool]) -> Resu
 }
 
 /// Returns a line `NAME 0` or `NAME 1` for each wire that has a value, in order of definition.
-pub fn print_values(
+pub fn print_all_wire_values(
     alloc: Global,
     circuit: &Circuit,
     values: &[bool],

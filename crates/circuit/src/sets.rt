@@ -10,7 +10,7 @@ use crate::number::WireNo;
 use indexmap::IndexSet;
 use section_text::{LineFault, Name, RefusalCode, Seed};
 
-fn define_one(wires: &mut IndexSet<Name, Seed>, name: Name) -> Result<(), LineFault>
+fn insert_wire_name(wires: &mut IndexSet<Name, Seed>, name: Name) -> Result<(), LineFault>
     ensures ok { OnOk result ((has wires.old.keys name ≡ false)
         × (wires.new.keys ≡ wires.old.keys ++ name ∷ [])) }
     ensures err { OnErr result (wires.new.keys ≡ wires.old.keys) }
@@ -24,7 +24,7 @@ fn define_one(wires: &mut IndexSet<Name, Seed>, name: Name) -> Result<(), LineFa
 }
 
 // Defines names from left to right. An error changes nothing.
-fn define_all(wires: &mut IndexSet<Name, Seed>, names: &[Name]) -> Result<(), LineFault>
+fn insert_wire_names(wires: &mut IndexSet<Name, Seed>, names: &[Name]) -> Result<(), LineFault>
     ensures ok { OnOk result ((define_fault wires.old.keys names.now ≡ None)
         × (wires.new.keys ≡ wires.old.keys ++ names.now)) }
     ensures err { OnErr result (wires.new.keys ≡ wires.old.keys) }
@@ -32,7 +32,7 @@ fn define_all(wires: &mut IndexSet<Name, Seed>, names: &[Name]) -> Result<(), Li
 {
     let before = wires.len();
     for name in names {
-        if let Err(fault) = define_one(wires, *name) {
+        if let Err(fault) = insert_wire_name(wires, *name) {
             wires.truncate(before);
             return Err(fault);
         }
@@ -57,7 +57,7 @@ pub(crate) fn define_wires(
     ensures fault { IfErr result (λ e. HasRefusalCode e (define_fault wires.old.keys names.now)) }
 {
     let first = wires.len();
-    define_all(wires, names)?;
+    insert_wire_names(wires, names)?;
     if consumed
         .extend_from_slice(&[false; 4][..names.len()])
         .is_err()

@@ -92,7 +92,7 @@ fn worker_count_error(alloc: Global) -> Result<Error, AllocError>
 fn command<'a>(alloc: Global) -> Result<Command<'a>, AllocError>
     ensures { IfOk result (λ command. app_of command ≡ bbmcheck) }
 {
-    top_command(alloc)?
+    top_command_without_commands(alloc)?
         .subcommand(check_command(alloc)?)?
         .subcommand(plain_command(alloc, "run", texts::RUN))?
         .subcommand(plain_command(alloc, "value", texts::VALUE))?
@@ -101,7 +101,7 @@ fn command<'a>(alloc: Global) -> Result<Command<'a>, AllocError>
 }
 
 // The command line without its commands.
-fn top_command<'a>(alloc: Global) -> Result<Command<'a>, AllocError>
+fn top_command_without_commands<'a>(alloc: Global) -> Result<Command<'a>, AllocError>
     ensures app { IfOk result (λ command. app_of command ≡ top_app) }
 {
     let named = plain_command(alloc, "bbmcheck", texts::PROGRAM).bin_name("bbmcheck")?;

@@ -14,7 +14,7 @@ use Rattle.core_book.specs.Laws.{MatchingFindingIsNoStranger, FilingKeepsBookVal
 use Rattle.core_book.specs.declared.reply.Mismatch.{Mismatch}
 use Rattle.core_book.proofs.Filings.{IsBook-filed, accepted-inside, accepted-new, accepted-own, findings_after-accepted}
 use Rattle.core_book.proofs.Filings.{findings_after-other, is_job_of-true, reply_to-closed, reply_to-held, reply_to-new}
-use Rattle.core_book.proofs.Replays.{IsReplayed-closed, IsReplayed-filed}
+use Rattle.core_book.proofs.Replays.{IsHistoryReplayed-closed, IsHistoryReplayed-filed}
 
 pub none_held : (o : Option Finding) → is_some o ≡ false → o ≡ None
 none_held o h1 = grind (arith, common_steps)
@@ -122,7 +122,7 @@ pub stays-book : FilingKeepsBookValid
 stays-book b f is = IsBook-filed b f is
 
 pub stays-replayed : EachEntryKeepsReplay
-stays-replayed b book is = ((λ f. IsReplayed-filed b f book is), IsReplayed-closed b is)
+stays-replayed b book is = ((λ f. IsHistoryReplayed-filed b f book is), IsHistoryReplayed-closed b is)
 
 -- a filing that is accepted changes nothing at another number
 pub held-elsewhere : (b : BookView) (f : Finding) (k : ℕ) → reply_to b f ≡ Accepted → k ≢ number_of f →

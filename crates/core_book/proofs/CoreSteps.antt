@@ -1,14 +1,16 @@
 -- The parts of a core that each event keeps
-use Rattle.core_book.proofs.Imports.{All, Bool, CoreView, Event, HasSeatBelow, IsCore, IsDrawn, JobView, List, []}
+use Rattle.core_book.proofs.Imports.{All, Bool, CoreView, Event, HasSeatBelow, IsCore, IsEachNumberDrawnOnce, JobView}
+use Rattle.core_book.proofs.Imports.{List, []}
 use Rattle.core_book.proofs.Imports.{after_claim, after_event, after_events, ap, arith, common_steps, draws_after_claim}
 use Rattle.core_book.proofs.Imports.{draws_of, false, get_or, if◌then◌else◌, is_seat_finished, job_count_of, length}
-use Rattle.core_book.proofs.Imports.{length-replicate, length-set, map, nat_tests, new_core, next_after_claim, refl}
+use Rattle.core_book.proofs.Imports.{length-replicate, length-set, map, nat_tests, new_core, next_unless_seat_finished}
+use Rattle.core_book.proofs.Imports.{refl}
 use Rattle.core_book.proofs.Imports.{set, subst, suc, sym, total, true, zero, ℕ, ◌++◌, ◌+◌, ◌<◌, ◌∙◌, ◌∷◌, ◌≡◌, ◌≤◌}
 use Rattle.lemmas.proofs.Common.{All-head, All-tail}
-use Rattle.core_book.specs.Core.{one_if_ended}
+use Rattle.core_book.specs.Core.{one_if_seat_finished}
 use Rattle.core_book.proofs.Counting.{drawn-none, drawn-push, is_seat_finished-push, total-le, total-set}
 use Rattle.core_book.proofs.Filings.{IsBook-filed}
-use Rattle.core_book.proofs.Replays.{IsBook-new, IsReplayed-filed, IsReplayed-new}
+use Rattle.core_book.proofs.Replays.{IsBook-new, IsHistoryReplayed-filed, IsHistoryReplayed-new}
 use Rattle.core_book.specs.declared.machine.Event.TheVariants as Events
 
 -- ---- a claim
@@ -19,17 +21,19 @@ set-same [] seat = refl
 set-same (xs ∷ lists) zero = refl
 set-same (xs ∷ lists) (suc seat) = ap (λ ls. xs ∷ ls) (set-same lists seat)
 
-claim-drawn : (n next seat : ℕ) (lists : List (List ℕ)) → seat < length lists → (has : Bool) → IsDrawn next lists →
-    IsDrawn (if has then next else next + 1)
+claim-drawn : (n next seat : ℕ) (lists : List (List ℕ)) → seat < length lists → (has : Bool) →
+    IsEachNumberDrawnOnce next lists →
+    IsEachNumberDrawnOnce (if has then next else next + 1)
     (set lists seat (if has then get_or lists seat [] else get_or lists seat [] ++ next ∷ []))
 claim-drawn n next seat lists h1 has h2 = grind (arith, common_steps, set-same, drawn-push)
 
 claim-few : (n next seat : ℕ) (lists : List (List ℕ)) → seat < length lists → (has : Bool) →
-    is_seat_finished n (get_or lists seat []) ≡ has → next ≤ n + total (one_if_ended n) lists →
+    is_seat_finished n (get_or lists seat []) ≡ has → next ≤ n + total (one_if_seat_finished n) lists →
     (if has then next else next + 1)
-    ≤ n + total (one_if_ended n) (set lists seat
+    ≤ n + total (one_if_seat_finished n) (set lists seat
     (if has then get_or lists seat [] else get_or lists seat [] ++ next ∷ []))
-claim-few n next seat lists inside true e few = omega (arith, few, ap (total (one_if_ended n)) (set-same lists seat))
+claim-few n next seat lists inside true e few =
+    omega (arith, few, ap (total (one_if_seat_finished n)) (set-same lists seat))
 claim-few n next seat lists inside false e few =
     grind (arith, common_steps, total-set, is_seat_finished-push, nat_tests)
 
@@ -44,7 +48,7 @@ event-core c (Events.File f) seated is = record {
   drawn = is.drawn;
   few = is.few;
   book_is = IsBook-filed c.book f is.book_is;
-  replayed = IsReplayed-filed c.book f is.book_is is.replayed;
+  replayed = IsHistoryReplayed-filed c.book f is.book_is is.replayed;
 }
 event-core c (Events.Lose number) seated is = is
 
@@ -70,7 +74,7 @@ new-core digest jobs seats = record {
   drawn = drawn-none seats;
   few = omega arith;
   book_is = IsBook-new digest jobs;
-  replayed = IsReplayed-new digest jobs;
+  replayed = IsHistoryReplayed-new digest jobs;
 }
 
 pub length-new : (digest : List ℕ) (jobs : List JobView) (seats : ℕ) →
@@ -78,12 +82,12 @@ pub length-new : (digest : List ℕ) (jobs : List JobView) (seats : ℕ) →
 unfolding new_core
 length-new digest jobs seats = length-replicate seats []
 
-one_if_ended-one : (n : ℕ) (xs : List ℕ) → one_if_ended n xs ≤ 1
-one_if_ended-one n xs = grind (arith, common_steps)
+one_if_seat_finished-one : (n : ℕ) (xs : List ℕ) → one_if_seat_finished n xs ≤ 1
+one_if_seat_finished-one n xs = grind (arith, common_steps)
 
 -- at most one draw of each seat is past the numbers
 pub next-few : (c : CoreView) → IsCore c → c.next ≤ job_count_of c + length c.draws
-next-few c is = grind (arith, common_steps, total-le, one_if_ended-one)
+next-few c is = grind (arith, common_steps, total-le, one_if_seat_finished-one)
 
 -- ---- what the code leaves of a claim
 
@@ -96,7 +100,7 @@ drawn-at f (x ∷ vs) (suc k) v inside at = drawn-at f vs k v (omega (arith, ins
 
 pub left-claim : (c : CoreView) (seat count next : ℕ) (before after : List ℕ) (draws : List (List ℕ)) →
     count ≡ job_count_of c → before ≡ draws_of c seat →
-    next ≡ next_after_claim count before c.next → after ≡ draws_after_claim count before c.next →
+    next ≡ next_unless_seat_finished count before c.next → after ≡ draws_after_claim count before c.next →
     draws ≡ set c.draws seat after →
     record c { next = next; draws = draws } ≡ after_claim c seat
 left-claim c seat count next before after draws counts was next_is after_is draws_are = grind (arith, common_steps)

@@ -1,5 +1,6 @@
 -- Sums over lists, and lists of numbers that were drawn
-use Rattle.core_book.proofs.Imports.{IsDrawn, List, Some, [], ap, arith, common_steps, get_or, is_seat_finished, length}
+use Rattle.core_book.proofs.Imports.{IsEachNumberDrawnOnce, List, Some, [], ap, arith, common_steps, get_or}
+use Rattle.core_book.proofs.Imports.{is_seat_finished, length}
 use Rattle.core_book.proofs.Imports.{length-append, nat_lt, nat_tests, occurrences, refl, replicate, same_Some, set}
 use Rattle.core_book.proofs.Imports.{slice_get, suc, total, true, zero, ℕ, ◌++◌, ◌+◌, ◌<◌, ◌∷◌, ◌≡◌, ◌≤◌}
 use Rattle.lemmas.proofs.Common.{◌-◌, nat_le}
@@ -42,8 +43,9 @@ pub is_seat_finished-push : (n : ℕ) (xs : List ℕ) (x : ℕ) →
     is_seat_finished n (xs ++ x ∷ []) ≡ nat_lt n (x + 1)
 is_seat_finished-push n xs x = ap (nat_lt n) (past_last-push xs x)
 
-pub drawn-push : (counter : ℕ) (lists : List (List ℕ)) (seat : ℕ) → seat < length lists → IsDrawn counter lists →
-    IsDrawn (counter + 1) (set lists seat (get_or lists seat [] ++ counter ∷ []))
+pub drawn-push : (counter : ℕ) (lists : List (List ℕ)) (seat : ℕ) → seat < length lists →
+    IsEachNumberDrawnOnce counter lists →
+    IsEachNumberDrawnOnce (counter + 1) (set lists seat (get_or lists seat [] ++ counter ∷ []))
 drawn-push counter lists seat inside is =
     let xs : List ℕ = get_or lists seat [] in
     let ys : List ℕ = xs ++ counter ∷ [] in
@@ -56,7 +58,7 @@ drawn-push counter lists seat inside is =
           grind (arith, nat_tests);
     }
 
-pub drawn-none : (seats : ℕ) → IsDrawn 0 (replicate seats [])
+pub drawn-none : (seats : ℕ) → IsEachNumberDrawnOnce 0 (replicate seats [])
 drawn-none seats = grind (arith, common_steps, total-replicate, nat_tests)
 
 -- ---- what a list that has ended tells
@@ -68,9 +70,9 @@ end-stands (y ∷ []) n below = (y, omega (arith, below), grind (arith, nat_test
 end-stands (y ∷ z ∷ zs) n below = grind (arith, common_steps, (end-stands (z ∷ zs) n below))
 
 -- where a seat has ended, all numbers were drawn
-pub one_if_ended-all : (n counter : ℕ) (lists : List (List ℕ)) (seat : ℕ) → seat < length lists →
-    is_seat_finished n (get_or lists seat []) ≡ true → IsDrawn counter lists → n < counter
-one_if_ended-all n counter lists seat inside has is =
+pub one_if_seat_finished-all : (n counter : ℕ) (lists : List (List ℕ)) (seat : ℕ) → seat < length lists →
+    is_seat_finished n (get_or lists seat []) ≡ true → IsEachNumberDrawnOnce counter lists → n < counter
+one_if_seat_finished-all n counter lists seat inside has is =
     let below : n < past_last (get_or lists seat []) = grind (arith, nat_tests) in
     let there = end-stands (get_or lists seat []) n below in
     let within = at-le-total (occurrences there.0) lists seat [] inside in

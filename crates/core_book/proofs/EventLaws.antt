@@ -1,6 +1,7 @@
 -- The laws of the core
 use Rattle.core_book.proofs.Imports.{Accepted, All, Bool, Closed, CoreView, Double, Event, Finding, HasSeatBelow}
-use Rattle.core_book.proofs.Imports.{IsBook, IsCore, IsDrawn, IsReplayed, JobView, List, None, Option, Reply, Some}
+use Rattle.core_book.proofs.Imports.{IsBook, IsCore, IsEachNumberDrawnOnce, IsHistoryReplayed, JobView, List, None}
+use Rattle.core_book.proofs.Imports.{Option, Reply, Some}
 use Rattle.core_book.proofs.Imports.{Stranger, [], after_claim, after_event, after_events, after_filing, ap, arith}
 use Rattle.core_book.proofs.Imports.{common_steps, cond, draws_of, eqb_tells, false, get_or, held_finding}
 use Rattle.core_book.proofs.Imports.{if◌then◌else◌}
@@ -11,15 +12,16 @@ use Rattle.lemmas.proofs.Common.{◌⊎◌, Contains, Contains-append_cases, Con
 use Rattle.lemmas.proofs.Common.{Contains-push, sum_by-append, nothing_in, one_in}
 use Rattle.core_book.specs.Claims.{claim_answer_of_draw}
 use Rattle.core_book.specs.Core.{answer_of_claim, answer_to}
-use Rattle.core_book.specs.CoreLaws.{AcceptsAtMostOnePerNumber, AreAllDrawn, DrawsEachOnce, EmptyOnlyIfAllAreDrawn}
+use Rattle.core_book.specs.CoreLaws.{AcceptsAtMostOnePerNumber, AreAllNumbersDrawn, DrawsEachNumberOnce}
+use Rattle.core_book.specs.CoreLaws.{EmptyOnlyIfAllAreDrawn}
 use Rattle.core_book.specs.CoreLaws.{EventsKeepHeldFindings, HistoryReplaysAfterEvents, HeldFindingsAreBooksAndLeast}
-use Rattle.core_book.specs.CoreLaws.{HoldsWhatWasAccepted, OnlyAcceptedChangesWhatIsHeld, findings_accepted_in}
+use Rattle.core_book.specs.CoreLaws.{HoldsAcceptedFindings, OnlyAcceptedChangesFindings, findings_accepted_in}
 use Rattle.core_book.specs.CoreLaws.{findings_accepted_by, finding_if_accepted, core_after}
 use Rattle.core_book.proofs.BookLaws.{held-elsewhere, holds-nothing_else, holds-what_is_accepted, keeps-what_is_held}
 use Rattle.core_book.proofs.CoreSteps.{claim-core, events-core, length-events, length-new, new-core}
-use Rattle.core_book.proofs.Counting.{one_if_ended-all}
+use Rattle.core_book.proofs.Counting.{one_if_seat_finished-all}
 use Rattle.core_book.proofs.Filings.{IsBook-filed, accepted-new}
-use Rattle.core_book.proofs.Replays.{IsBook-new, IsReplayed-filed, IsReplayed-new, held_finding-new}
+use Rattle.core_book.proofs.Replays.{IsBook-new, IsHistoryReplayed-filed, IsHistoryReplayed-new, held_finding-new}
 use Rattle.core_book.specs.declared.machine.Answer.TheVariants as Answered
 use Rattle.core_book.specs.declared.machine.Event.TheVariants as Events
 use Rattle.core_book.specs.declared.claim.Claim.TheVariants as Claimed
@@ -30,15 +32,16 @@ all-core : (digest : List ℕ) (jobs : List JobView) (seats : ℕ) (es : List Ev
     IsCore (core_after digest jobs seats es)
 all-core digest jobs seats es seated = grind (arith, common_steps, events-core, length-new, new-core)
 
-pub draws-each-once : DrawsEachOnce
+pub draws-each-once : DrawsEachNumberOnce
 draws-each-once digest jobs seats es seated = (all-core digest jobs seats es seated).drawn
 
 -- where a claim answers `Empty`, the next number after it is past the numbers
-empty-past : (n next : ℕ) (lists : List (List ℕ)) (seat : ℕ) → seat < length lists → IsDrawn next lists → (has : Bool) →
+empty-past : (n next : ℕ) (lists : List (List ℕ)) (seat : ℕ) → seat < length lists → IsEachNumberDrawnOnce next lists →
+    (has : Bool) →
     is_seat_finished n (get_or lists seat []) ≡ has →
     answer_of_claim (if has then Claimed.Empty else claim_answer_of_draw n next) ≡ Answered.Empty →
     n ≤ (if has then next else next + 1)
-empty-past n next lists seat inside is true e h = let past = one_if_ended-all n next lists seat inside e is in
+empty-past n next lists seat inside is true e h = let past = one_if_seat_finished-all n next lists seat inside e is in
     omega (arith, past)
 empty-past n next lists seat inside is false e h = by_case (nat_lt next n) refl h
   where
@@ -46,12 +49,12 @@ empty-past n next lists seat inside is false e h = by_case (nat_lt next n) refl 
         answer_of_claim (if b then Claimed.Number next else Claimed.Empty) ≡ Answered.Empty → n ≤ next + 1
     by_case b h1 h2 = grind (arith, common_steps, nat_tests)
 
-all-below : (next : ℕ) (lists : List (List ℕ)) (n : ℕ) → IsDrawn next lists → n ≤ next → (k : ℕ) → k < n →
+all-below : (next : ℕ) (lists : List (List ℕ)) (n : ℕ) → IsEachNumberDrawnOnce next lists → n ≤ next → (k : ℕ) → k < n →
     total (occurrences k) lists ≡ 1
 all-below next lists n is most k below = let once = is.once k in grind (arith, nat_tests)
 
 empty-all : (c : CoreView) (seat : ℕ) → seat < length c.draws → IsCore c →
-    answer_to c (Events.Claim seat) ≡ Answered.Empty → AreAllDrawn (after_claim c seat)
+    answer_to c (Events.Claim seat) ≡ Answered.Empty → AreAllNumbersDrawn (after_claim c seat)
 empty-all c seat inside is h =
     let n = job_count_of c in
     let past = empty-past n c.next c.draws seat inside is.drawn (is_seat_finished n (draws_of c seat)) refl h in
@@ -69,23 +72,24 @@ pub events-keep : EventsKeepHeldFindings
 events-keep c (Events.File g) k f h = keeps-what_is_held c.book g f k h
 events-keep c _ k f h = h
 
-pub only-accepted_changes : OnlyAcceptedChangesWhatIsHeld
+pub only-accepted_changes : OnlyAcceptedChangesFindings
 only-accepted_changes = grind (arith, common_steps, holds-nothing_else)
 
 event-book : (c : CoreView) (e : Event) → IsBook c.book → IsBook (after_event c e).book
 event-book c (Events.File g) is = IsBook-filed c.book g is
 event-book c _ is = is
 
-event-replayed : (c : CoreView) (e : Event) → IsBook c.book → IsReplayed c.book → IsReplayed (after_event c e).book
-event-replayed c (Events.File g) book is = IsReplayed-filed c.book g book is
+event-replayed : (c : CoreView) (e : Event) → IsBook c.book → IsHistoryReplayed c.book →
+    IsHistoryReplayed (after_event c e).book
+event-replayed c (Events.File g) book is = IsHistoryReplayed-filed c.book g book is
 event-replayed c _ book is = is
 
 events-book : (es : List Event) (c : CoreView) → IsBook c.book → IsBook (after_events c es).book
 events-book [] c is = is
 events-book (e ∷ es) c is = events-book es (after_event c e) (event-book c e is)
 
-events-replayed : (es : List Event) (c : CoreView) → IsBook c.book → IsReplayed c.book →
-    IsReplayed (after_events c es).book
+events-replayed : (es : List Event) (c : CoreView) → IsBook c.book → IsHistoryReplayed c.book →
+    IsHistoryReplayed (after_events c es).book
 events-replayed [] c book is = is
 events-replayed (e ∷ es) c book is =
     events-replayed es (after_event c e) (event-book c e book) (event-replayed c e book is)
@@ -94,9 +98,9 @@ new-book : (digest : List ℕ) (jobs : List JobView) (seats : ℕ) → IsBook (n
 unfolding new_core
 new-book digest jobs seats = IsBook-new digest jobs
 
-new-replayed : (digest : List ℕ) (jobs : List JobView) (seats : ℕ) → IsReplayed (new_core digest jobs seats).book
+new-replayed : (digest : List ℕ) (jobs : List JobView) (seats : ℕ) → IsHistoryReplayed (new_core digest jobs seats).book
 unfolding new_core
-new-replayed digest jobs seats = IsReplayed-new digest jobs
+new-replayed digest jobs seats = IsHistoryReplayed-new digest jobs
 
 new-nothing : (digest : List ℕ) (jobs : List JobView) (seats : ℕ) (k : ℕ) →
     held_finding (new_core digest jobs seats).book k ≡ None
@@ -182,7 +186,7 @@ among-held (e ∷ es) c f is m =
       | inr rest ↦ among-held es (after_event c e) f (event-book c e is) rest
     ]
 
-pub holds-what_was_accepted : HoldsWhatWasAccepted
+pub holds-what_was_accepted : HoldsAcceptedFindings
 holds-what_was_accepted digest jobs seats es k f = (forth, back)
   where
     forth : held_finding (core_after digest jobs seats es).book k ≡ Some f →

@@ -1,7 +1,8 @@
 -- Replies, and what filing keeps
 use Rattle.core_book.proofs.Imports.{Accepted, BookView, Bool, Closed, Content, Digest, Double, Filed, Filing, Finding}
 use Rattle.core_book.proofs.Imports.{BelongsToBook, IsBook, JobView, List, LogEntry, None, Number, Option, Reply, Some}
-use Rattle.core_book.proofs.Imports.{Stranger, [], after_closing, after_filing, ap, arith, common_steps, held_count}
+use Rattle.core_book.proofs.Imports.{Stranger, [], after_closing, after_filing, ap, arith, common_steps}
+use Rattle.core_book.proofs.Imports.{held_finding_count}
 use Rattle.core_book.proofs.Imports.{cond, digest_of, eqb_tells, false, filing_of, findings_after, get_or, held_finding}
 use Rattle.core_book.proofs.Imports.{get_or-set_other, get_or-set_same, if◌then◌else◌, is_job_of, is_some, job_of}
 use Rattle.core_book.proofs.Imports.{jobs_decide, length, length-set, map, nat_eq, nat_lt, nat_tests, not, number_of}
@@ -201,28 +202,28 @@ IsBook-closed b is = book-of b (after_closing b) b.findings refl refl refl is.pl
 abbrev counted : Option Finding → ℕ
 counted o = cond (is_some o) 1 0
 
-pub held_count-accepted : (b : BookView) (f : Finding) → IsBook b → reply_to b f ≡ Accepted →
-    held_count (after_filing b f) ≡ held_count b + 1
-held_count-accepted b f is e =
+pub held_finding_count-accepted : (b : BookView) (f : Finding) → IsBook b → reply_to b f ≡ Accepted →
+    held_finding_count (after_filing b f) ≡ held_finding_count b + 1
+held_finding_count-accepted b f is e =
     let inside : number_of f < length b.findings = accepted-inside b f is e in
     let sum = sum_by-set counted b.findings (number_of f) (Some f) None inside in
     let none : counted (get_or b.findings (number_of f) None) ≡ counted None =
     ap (λ (t : Bool). cond t 1 0) (accepted-new b f e) in
-    let one : held_count (after_filing b f) ≡ sum_by counted (set b.findings (number_of f) (Some f)) =
+    let one : held_finding_count (after_filing b f) ≡ sum_by counted (set b.findings (number_of f) (Some f)) =
     ap (sum_by counted) (findings_after-accepted b f e) in
     omega (arith, sum, none, one)
 
-pub held_count-other : (b : BookView) (f : Finding) → reply_to b f ≢ Accepted →
-    held_count (after_filing b f) ≡ held_count b
-held_count-other b f other = ap (sum_by counted) (findings_after-other b.findings f (reply_to b f) other)
+pub held_finding_count-other : (b : BookView) (f : Finding) → reply_to b f ≢ Accepted →
+    held_finding_count (after_filing b f) ≡ held_finding_count b
+held_finding_count-other b f other = ap (sum_by counted) (findings_after-other b.findings f (reply_to b f) other)
 
 by_reply : (b : BookView) (f : Finding) (r : Reply) → reply_to b f ≡ r → IsBook b →
-    held_count (after_filing b f) ≡ accepted_count_after (held_count b) r
-by_reply b f r h1 h2 = grind (arith, common_steps, held_count-accepted, held_count-other)
+    held_finding_count (after_filing b f) ≡ accepted_count_after (held_finding_count b) r
+by_reply b f r h1 h2 = grind (arith, common_steps, held_finding_count-accepted, held_finding_count-other)
 
-pub held_count-filed : (b c after : BookView) (f : Finding) (r : Reply) → IsBook b → b ≡ c → r ≡ reply_to c f →
-    after ≡ after_filing c f → held_count after ≡ accepted_count_after (held_count c) r
-held_count-filed b c after f r is same e left = grind (arith, common_steps, by_reply)
+pub held_finding_count-filed : (b c after : BookView) (f : Finding) (r : Reply) → IsBook b → b ≡ c → r ≡ reply_to c f →
+    after ≡ after_filing c f → held_finding_count after ≡ accepted_count_after (held_finding_count c) r
+held_finding_count-filed b c after f r is same e left = grind (arith, common_steps, by_reply)
 
 pub accepted_count_after-other : (n : ℕ) (r : Reply) → (r ≡ Accepted → ⊥) → accepted_count_after n r ≡ n
 accepted_count_after-other n r h1 = grind (arith, common_steps)

@@ -1,19 +1,20 @@
 -- While a book is filled up, one job of each shape is run at most
-use Rattle.core_book.proofs.Imports.{AreGroups, BookView, Bool, Finding, HoldsOfSameShape, IsSome, JobView, List, None}
+use Rattle.core_book.proofs.Imports.{AreGroups, BookView, Bool, Finding, HoldsFindingOfSameShape, IsSome, JobView, List}
+use Rattle.core_book.proofs.Imports.{None}
 use Rattle.core_book.proofs.Imports.{Option, Some, ap, arith, common_steps, false, get_or, group_count_below}
 use Rattle.core_book.proofs.Imports.{held_finding}
 use Rattle.core_book.proofs.Imports.{if◌then◌else◌, inl, inr, job_of, length, nat_tests, option_map, refl, same_Some}
 use Rattle.core_book.proofs.Imports.{shape_of, shapes_of, slice_get, slice_get-map, subst, suc, sym, true, zero, ℕ, ◌+◌}
 use Rattle.core_book.proofs.Imports.{◌<◌, ◌==◌, ◌∙◌, ◌≡◌, ◌≢◌, ◌≤◌}
 use Rattle.lemmas.proofs.Common.{slice_index, cases_order, get_or_default}
-use Rattle.module_job.specs.Groups.{IsFirstLike}
+use Rattle.module_job.specs.Groups.{IsFirstEqualElement}
 use Rattle.module_job.specs.Shapes.{ShapeView}
 use Rattle.core_book.specs.Filling.{RunsAtMostOncePerShape}
 use Rattle.core_book.proofs.Fillings.{IsFilling}
 
 -- ---- groups
 
-same_first : {A : Type 0} (xs : List A) (k a b : ℕ) → IsFirstLike xs k a → IsFirstLike xs k b → a ≡ b
+same_first : {A : Type 0} (xs : List A) (k a b : ℕ) → IsFirstEqualElement xs k a → IsFirstEqualElement xs k b → a ≡ b
 same_first xs k a b f h = grind (arith, common_steps, cases_order)
 
 -- the number that is read at a place
@@ -45,7 +46,7 @@ some_of (Some f) h = (f, refl)
 
 pub holds_alike : (b c : BookView) (g : List ℕ) (n : ℕ) (job : JobView) → IsFilling b c n →
     AreGroups (shapes_of c.jobs) g → n < length (shapes_of c.jobs) →
-    slice_get c.jobs n ≡ Some job → slice_index g n ≢ n → HoldsOfSameShape c (slice_index g n) job
+    slice_get c.jobs n ≡ Some job → slice_index g n ≢ n → HoldsFindingOfSameShape c (slice_index g n) job
 holds_alike b c g n job filling are below at other =
     let first = are.each n below in
     let g_n = slice_index g n in

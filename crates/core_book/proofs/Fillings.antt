@@ -1,7 +1,9 @@
 -- Books that are filled up
-use Rattle.core_book.proofs.Imports.{Accepted, BookView, Bool, Filed, Finding, IsBook, IsHeldOrFiled, IsOpenFor}
-use Rattle.core_book.proofs.Imports.{IsPartlyFilled, IsReplayed, IsSome, JobView, List, None, Option, Some, []}
-use Rattle.core_book.proofs.Imports.{after_filing, ap, append-nil, append_assoc, arith, common_steps, cond, held_count}
+use Rattle.core_book.proofs.Imports.{Accepted, BookView, Bool, Filed, Finding, IsBook, IsFindingHeldOrFiled, IsOpenFor}
+use Rattle.core_book.proofs.Imports.{IsBookFilledSoFar, IsHistoryReplayed, IsSome, JobView, List, None, Option, Some}
+use Rattle.core_book.proofs.Imports.{[]}
+use Rattle.core_book.proofs.Imports.{after_filing, ap, append-nil, append_assoc, arith, common_steps, cond}
+use Rattle.core_book.proofs.Imports.{held_finding_count}
 use Rattle.core_book.proofs.Imports.{digest_of, eqb_tells, false, filing_of, get_or, held_finding, if◌then◌else◌, inl}
 use Rattle.core_book.proofs.Imports.{inr}
 use Rattle.core_book.proofs.Imports.{is_some, job_of, jobs_decide, length, map, new_book, number_of, pointwise, refl}
@@ -10,7 +12,7 @@ use Rattle.core_book.proofs.Imports.{◌≡◌, ◌≢◌, ◌≤◌}
 use Rattle.lemmas.proofs.Common.{AllZip, Decides, map-append, slice_eq-Decides}
 use Rattle.std.specs.List.{count_by}
 use Rattle.std.specs.Cmp.Derive.Mapped.{pointwise-map}
-use Rattle.core_book.specs.Filling.{IsFilledTo, IsFull, accepted_entry, missing_numbers_below}
+use Rattle.core_book.specs.Filling.{IsBookFilledBelow, IsFullBook, accepted_entry, missing_numbers_below}
 use Rattle.core_book.proofs.BookLaws.{held-elsewhere, holds-what_is_accepted, keeps-what_is_held, own-digest, own-job}
 use Rattle.core_book.proofs.BookLaws.{own-number}
 use Rattle.core_book.proofs.Filings.{IsBook-filed, accepted-own, reply_to-new}
@@ -48,7 +50,7 @@ new-accepted b f n job still_open digest number whole at lacks =
 
 pub filed-for : (b c : BookView) (f : Finding) (n : ℕ) (job : JobView) → b.closed ≡ false → digest_of f ≡ b.digest →
     number_of f ≡ n → job_of f ≡ job → slice_get b.jobs n ≡ Some job → is_some (held_finding b n) ≡ false →
-    c ≡ after_filing b f → IsHeldOrFiled b c n
+    c ≡ after_filing b f → IsFindingHeldOrFiled b c n
 filed-for b c f n job still_open digest number whole at lacks after =
     inr (record {
       lacked = lacks;
@@ -69,7 +71,8 @@ missing_numbers_below-new : (b : BookView) (n : ℕ) → is_some (held_finding b
     missing_numbers_below b (suc n) ≡ missing_numbers_below b n ++ n ∷ []
 missing_numbers_below-new b n lacks = ap (λ (t : Bool). missing_numbers_below b n ++ (if t then [] else n ∷ [])) lacks
 
-step-held : (b c : BookView) (n : ℕ) → IsFilledTo b c n → is_some (held_finding c n) ≡ true → IsFilledTo b c (suc n)
+step-held : (b c : BookView) (n : ℕ) → IsBookFilledBelow b c n → is_some (held_finding c n) ≡ true →
+    IsBookFilledBelow b c (suc n)
 step-held b c n is held = grind (arith, common_steps, missing_numbers_below-held, eqb_tells)
 
 -- the entry of a finding that is accepted
@@ -77,14 +80,15 @@ entry-accepted : (b c : BookView) (f : Finding) (n : ℕ) → c.digest ≡ b.dig
     reply_to c f ≡ Accepted → Filed (filing_of c f) ≡ accepted_entry b.digest n
 entry-accepted b c f n digest number accepted = grind (arith, common_steps, accepted-own, own-job, c.jobs)
 
-history-filed : (b c : BookView) (f : Finding) (n : ℕ) → IsFilledTo b c n → is_some (held_finding c n) ≡ false →
+history-filed : (b c : BookView) (f : Finding) (n : ℕ) → IsBookFilledBelow b c n → is_some (held_finding c n) ≡ false →
     number_of f ≡ n → reply_to c f ≡ Accepted
     → (after_filing c f).history ≡ b.history ++ map (accepted_entry b.digest) (missing_numbers_below b (suc n))
 history-filed b c f n is lacks number accepted =
     grind (arith, common_steps, missing_numbers_below-new, entry-accepted, append_assoc, map-append, c.history)
 
-step-filed : (b c : BookView) (f : Finding) (n : ℕ) → IsBook c → IsFilledTo b c n → is_some (held_finding c n) ≡ false →
-    number_of f ≡ n → reply_to c f ≡ Accepted → IsFilledTo b (after_filing c f) (suc n)
+step-filed : (b c : BookView) (f : Finding) (n : ℕ) → IsBook c → IsBookFilledBelow b c n →
+    is_some (held_finding c n) ≡ false →
+    number_of f ≡ n → reply_to c f ≡ Accepted → IsBookFilledBelow b (after_filing c f) (suc n)
 step-filed b c f n book is lacks number accepted = record {
   digest_stays = is.digest_stays;
   jobs_stay = is.jobs_stay;
@@ -109,26 +113,26 @@ step-filed b c f n book is lacks number accepted = record {
 
 -- what the loop keeps
 pub record IsFilling (b c : BookView) (n : ℕ) : Type 0 where
-  pub filled : IsFilledTo b c n
+  pub filled : IsBookFilledBelow b c n
   pub book : IsBook c
 
-pub filling-step : (b c d : BookView) (n : ℕ) → IsFilling b c n → IsHeldOrFiled c d n → IsFilling b d (n + 1)
+pub filling-step : (b c d : BookView) (n : ℕ) → IsFilling b c n → IsFindingHeldOrFiled c d n → IsFilling b d (n + 1)
 filling-step b c d n is (inl p) = grind (arith, common_steps, step-held)
 filling-step b c d n is (inr h) =
     let next : suc n ≡ n + 1 = omega arith in
     subst (λ (x : BookView). IsFilling b x (n + 1)) (sym h.after) (record {
-      filled = subst (IsFilledTo b (after_filing c h.finding)) next
+      filled = subst (IsBookFilledBelow b (after_filing c h.finding)) next
           (step-filed b c h.finding n is.book is.filled h.lacked h.number_is h.accepted);
       book = IsBook-filed c h.finding is.book;
     })
 
 -- ---- a full book
 
-pub partly : (b c : BookView) (n : ℕ) → n ≤ length b.jobs → IsFilledTo b c n → IsPartlyFilled b c
+pub partly : (b c : BookView) (n : ℕ) → n ≤ length b.jobs → IsBookFilledBelow b c n → IsBookFilledSoFar b c
 partly b c n most is = record { below = n; at_most = most; filled = is }
 
 pub open-stays : (digest : List ℕ) (jobs : List JobView) (b c : BookView) (n : ℕ) → IsOpenFor digest jobs b →
-    IsFilledTo b c n → IsOpenFor digest jobs c
+    IsBookFilledBelow b c n → IsOpenFor digest jobs c
 open-stays digest jobs b c n own is = grind (arith, common_steps)
 
 count-all : (os : List (Option Finding)) → ((k : ℕ) → k < length os → is_some (get_or os k None) ≡ true) →
@@ -139,9 +143,9 @@ count-all (o ∷ os) all =
     let one : ◌≡◌ {A = ℕ} (cond (is_some o) 1 0) 1 = ap (λ (t : Bool). cond t 1 0) (all 0 (omega arith)) in
     omega (arith, count o os, rest, one)
 
-pub is-full : (digest : List ℕ) (jobs : List JobView) (b : BookView) → IsOpenFor digest jobs b → IsReplayed b →
-    IsBook b → held_count b ≡ length b.jobs → IsFull digest jobs b
+pub is-full : (digest : List ℕ) (jobs : List JobView) (b : BookView) → IsOpenFor digest jobs b → IsHistoryReplayed b →
+    IsBook b → held_finding_count b ≡ length b.jobs → IsFullBook digest jobs b
 is-full digest jobs b own replays book all = grind (arith, common_steps, full_book_holds-all)
 
-pub filled-all : (b c : BookView) (n : ℕ) → length b.jobs ≤ n → IsFilling b c n → held_count c ≡ length c.jobs
+pub filled-all : (b c : BookView) (n : ℕ) → length b.jobs ≤ n → IsFilling b c n → held_finding_count c ≡ length c.jobs
 filled-all b c n past is = grind (arith, common_steps, count-all, c.jobs, c.findings)

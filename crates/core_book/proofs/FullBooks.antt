@@ -1,5 +1,6 @@
 -- Books that hold a finding for each job
-use Rattle.core_book.proofs.Imports.{BookView, Finding, IsBook, IsHeld, JobView, List, None, Option, Some, [], arith}
+use Rattle.core_book.proofs.Imports.{BookView, Finding, IsBook, IsFindingHeld, JobView, List, None, Option, Some, []}
+use Rattle.core_book.proofs.Imports.{arith}
 use Rattle.core_book.proofs.Imports.{common_steps, cond, count_by, get_or, held_finding, is_some, length, refl}
 use Rattle.core_book.proofs.Imports.{same_Some}
 use Rattle.core_book.proofs.Imports.{slice_get, suc, sym, true, zero, ℕ, ◌+◌, ◌<◌, ◌∙◌, ◌∷◌, ◌≡◌}
@@ -20,7 +21,7 @@ all_there (Some f ∷ os) (suc k) full below =
     all_there os k (omega (arith, full, count (Some f) os)) (omega (arith, below))
 
 held : (b : BookView) (k : ℕ) (j : JobView) (o : Option Finding) → IsBook b → held_finding b k ≡ o → is_some o ≡ true →
-    slice_get b.jobs k ≡ Some j → IsHeld b k j
+    slice_get b.jobs k ≡ Some j → IsFindingHeld b k j
 held b k j None is e some at = cc
 held b k j (Some f) is e some at = record { finding = f; held = e; whole = same_Some _ _ (sym (is.own k f e).job ∙ at) }
 

@@ -1,12 +1,13 @@
 -- Jobs for which a finding is held, and their least faults
-use Rattle.core_book.proofs.Imports.{AreLeastFaultsOfJob, BookView, Bool, Finding, IsHeld, JobView, LeastFaults, List}
+use Rattle.core_book.proofs.Imports.{AreLeastFaultsOfJob, BookView, Bool, Finding, IsFindingHeld, JobView, LeastFaults}
+use Rattle.core_book.proofs.Imports.{List}
 use Rattle.core_book.proofs.Imports.{Some, [], ap, arith, common_steps, eqb_tells, false, get_or, held_finding, inl}
 use Rattle.core_book.proofs.Imports.{inr}
 use Rattle.core_book.proofs.Imports.{job_of, jobs_decide, length, length-append, map, same_Some, same_job, slice_get}
 use Rattle.core_book.proofs.Imports.{slice_get-map, slice_get_read, subst, sym, true, ℕ, ◌++◌, ◌+◌, ◌<◌, ◌∙◌, ◌∷◌, ◌≡◌}
 use Rattle.core_book.proofs.Imports.{◌≢◌}
 use Rattle.module_box.proofs.Rising.{pushed}
-use Rattle.core_book.specs.Verdicts.{AreFindingsHeldBelow, IsFirstMissing}
+use Rattle.core_book.specs.Verdicts.{AreFindingsHeldBelow, IsFirstMissingFinding}
 
 -- ---- the finding of a number, beside a job
 
@@ -15,7 +16,7 @@ pub whole-job : (wanted theirs : JobView) (f : Finding) (r : Bool) → r ≡ sam
 whole-job wanted theirs f r e t is = sym t ∙ (jobs_decide theirs wanted).0 (sym e ∙ is)
 
 pub other-job : (b : BookView) (n : ℕ) (f : Finding) (wanted theirs : JobView) (r : Bool) → Some f ≡ held_finding b n →
-    r ≡ same_job theirs wanted → theirs ≡ job_of f → r ≡ false → ¬ IsHeld b n wanted
+    r ≡ same_job theirs wanted → theirs ≡ job_of f → r ≡ false → ¬ IsFindingHeld b n wanted
 other-job b n f wanted theirs r held e t is = grind (arith, common_steps, same_Some, jobs_decide)
 
 -- the job of a number, where the jobs are seen through a function
@@ -34,12 +35,12 @@ pub record AreFaultsBelow (b : BookView) (jobs : List JobView) (count : ℕ) (fs
 
 -- a job more
 held_more : (b : BookView) (jobs : List JobView) (n : ℕ) (j : JobView) → slice_get jobs n ≡ Some j →
-    AreFindingsHeldBelow b jobs n → IsHeld b n j → AreFindingsHeldBelow b jobs (n + 1)
+    AreFindingsHeldBelow b jobs n → IsFindingHeld b n j → AreFindingsHeldBelow b jobs (n + 1)
 held_more b jobs n j at below now k i less there =
     elim (eqb_tells k n) [
       | inl p ↦
           let same : j ≡ i = same_Some _ _ (sym at ∙ ap (slice_get jobs) (sym p.1) ∙ there) in
-          subst (λ (x : JobView). IsHeld b k x) same (subst (λ (m : ℕ). IsHeld b m j) (sym p.1) now)
+          subst (λ (x : JobView). IsFindingHeld b k x) same (subst (λ (m : ℕ). IsFindingHeld b m j) (sym p.1) now)
       | inr q ↦ below k i (let other : k ≢ n = q.1 in omega arith) there
     ]
 
@@ -69,5 +70,5 @@ one-more b jobs n fs j f r below at held whole told = record {
 }
 
 pub first-missing : (b : BookView) (jobs : List JobView) (n : ℕ) (fs : List LeastFaults) (j : JobView) →
-    AreFaultsBelow b jobs n fs → slice_get jobs n ≡ Some j → ¬ IsHeld b n j → IsFirstMissing b jobs n
+    AreFaultsBelow b jobs n fs → slice_get jobs n ≡ Some j → ¬ IsFindingHeld b n j → IsFirstMissingFinding b jobs n
 first-missing b jobs n fs j below at missing = record { job = j; numbered = at; missing = missing; before = below.held }

@@ -1,6 +1,7 @@
 -- The history of a book replays to it
-use Rattle.core_book.proofs.Imports.{Accepted, BookView, Bool, Filed, Filing, Finding, IsBook, IsReplayed, JobView}
-use Rattle.core_book.proofs.Imports.{List, LogEntry, None, Option, Reply, Some, [], after_closing, held_count}
+use Rattle.core_book.proofs.Imports.{Accepted, BookView, Bool, Filed, Filing, Finding, IsBook, IsHistoryReplayed}
+use Rattle.core_book.proofs.Imports.{JobView}
+use Rattle.core_book.proofs.Imports.{List, LogEntry, None, Option, Reply, Some, [], after_closing, held_finding_count}
 use Rattle.core_book.proofs.Imports.{after_filing, ap, arith, common_steps, count_by, eqb_tells, false, filing_of}
 use Rattle.core_book.proofs.Imports.{findings_after, get_or, get_or-set_other, get_or-set_same, held_finding}
 use Rattle.core_book.proofs.Imports.{if◌then◌else◌}
@@ -10,7 +11,8 @@ use Rattle.lemmas.proofs.Common.{list_any-append}
 use Rattle.core_book.specs.Replay.{Replayed, AreRepliesByRule, IsReplyByRule, accepted_after, after_entry}
 use Rattle.core_book.specs.Replay.{empty_replayed, has_closing, has_number, replay, replay_from}
 use Rattle.core_book.specs.declared.log_entry.LogEntry.TheVariants.{Closing}
-use Rattle.core_book.proofs.Filings.{accepted-inside, findings_after-accepted, held_count-accepted, held_count-other}
+use Rattle.core_book.proofs.Filings.{accepted-inside, findings_after-accepted, held_finding_count-accepted}
+use Rattle.core_book.proofs.Filings.{held_finding_count-other}
 use Rattle.core_book.proofs.Filings.{findings_after-other}
 
 -- ---- one entry more
@@ -28,7 +30,7 @@ AreRepliesByRule-push own count p (x ∷ es) e h due =
     (h.0, AreRepliesByRule-push own count (after_entry p x) es e h.1 due)
 
 -- the reply that is stored is the one that the rule gives there
-due-filing : (b : BookView) (f : Finding) → IsReplayed b →
+due-filing : (b : BookView) (f : Finding) → IsHistoryReplayed b →
     IsReplyByRule b.digest (length b.jobs) (replay b.history) (Filed (filing_of b f))
 unfolding reply_to
 due-filing b f is = grind (arith, common_steps)
@@ -42,11 +44,11 @@ number-more ks held n f inside h k =
     grind (arith, common_steps, list_any-append, eqb_tells, get_or-set_same, get_or-set_other)
 
 -- the book after a filing, by the numbers that were accepted then and what is held then
-by-reply : (b : BookView) (f : Finding) (ks : List ℕ) (held : List (Option Finding)) → IsReplayed b →
+by-reply : (b : BookView) (f : Finding) (ks : List ℕ) (held : List (Option Finding)) → IsHistoryReplayed b →
     accepted_after (replay b.history).accepted (number_of f) (reply_to b f) ≡ ks →
     findings_after b.findings f (reply_to b f) ≡ held →
-    length ks ≡ held_count (after_filing b f) → ((k : ℕ) → has_number ks k ≡ is_some (get_or held k None)) →
-    IsReplayed (after_filing b f)
+    length ks ≡ held_finding_count (after_filing b f) → ((k : ℕ) → has_number ks k ≡ is_some (get_or held k None)) →
+    IsHistoryReplayed (after_filing b f)
 by-reply b f ks held is numbers same count each =
     let e : LogEntry = Filed (filing_of b f) in
     let push = replay_from-push empty_replayed b.history e in
@@ -59,23 +61,26 @@ by-reply b f ks held is numbers same count each =
       closed_is = ap (λ (p : Replayed). p.closed) push ∙ is.closed_is;
     }
 
-filed-by : (b : BookView) (f : Finding) (r : Reply) → reply_to b f ≡ r → IsBook b → IsReplayed b →
-    IsReplayed (after_filing b f)
+filed-by : (b : BookView) (f : Finding) (r : Reply) → reply_to b f ≡ r → IsBook b → IsHistoryReplayed b →
+    IsHistoryReplayed (after_filing b f)
 filed-by b f Accepted e book is =
     let ks = (replay b.history).accepted in
     by-reply b f (ks ++ number_of f ∷ []) (set b.findings (number_of f) (Some f)) is
     (ap (accepted_after ks (number_of f)) e) (findings_after-accepted b f e)
-    (length-append ks (number_of f ∷ []) ∙ ap (λ (n : ℕ). n + 1) is.count ∙ sym (held_count-accepted b f book e))
+    (length-append ks (number_of f ∷ []) ∙ ap (λ (n : ℕ). n + 1) is.count
+    ∙ sym (held_finding_count-accepted b f book e))
     (number-more ks b.findings (number_of f) f (accepted-inside b f book e) is.accepted)
 filed-by b f _ e book is =
     by-reply b f _ b.findings is (ap (accepted_after (replay b.history).accepted (number_of f)) e)
-    (findings_after-other b.findings f _ (λ s. cc)) (is.count ∙ sym (held_count-other b f (λ s. cc))) is.accepted
+    (findings_after-other b.findings f _ (λ s. cc))
+    (is.count ∙ sym (held_finding_count-other b f (λ s. cc))) is.accepted
 
-pub IsReplayed-filed : (b : BookView) (f : Finding) → IsBook b → IsReplayed b → IsReplayed (after_filing b f)
-IsReplayed-filed b f book is = filed-by b f (reply_to b f) refl book is
+pub IsHistoryReplayed-filed : (b : BookView) (f : Finding) → IsBook b → IsHistoryReplayed b →
+    IsHistoryReplayed (after_filing b f)
+IsHistoryReplayed-filed b f book is = filed-by b f (reply_to b f) refl book is
 
-pub IsReplayed-closed : (b : BookView) → IsReplayed b → IsReplayed (after_closing b)
-IsReplayed-closed b is =
+pub IsHistoryReplayed-closed : (b : BookView) → IsHistoryReplayed b → IsHistoryReplayed (after_closing b)
+IsHistoryReplayed-closed b is =
     let push = replay_from-push empty_replayed b.history Closing in
     let same : (replay (b.history ++ Closing ∷ [])).accepted ≡ (replay b.history).accepted =
     ap (λ (p : Replayed). p.accepted) push in
@@ -100,9 +105,9 @@ none-counted : (n : ℕ) → 0 ≡ count_by is_some (nothing n)
 none-counted zero = refl
 none-counted (suc n) = none-counted n
 
-pub IsReplayed-new : (digest : List ℕ) (jobs : List JobView) → IsReplayed (new_book digest jobs)
+pub IsHistoryReplayed-new : (digest : List ℕ) (jobs : List JobView) → IsHistoryReplayed (new_book digest jobs)
 unfolding new_book
-IsReplayed-new digest jobs = grind (arith, common_steps, none-there, none-counted)
+IsHistoryReplayed-new digest jobs = grind (arith, common_steps, none-there, none-counted)
 
 none-found : (n k : ℕ) (f : Finding) → get_or (nothing n) k None ≡ Some f → ⊥
 none-found zero k f e = cc
@@ -133,7 +138,7 @@ closed-from p (Closing ∷ es) = closed-from (after_entry p Closing) es ∙ by_c
     by_case true = refl
     by_case false = refl
 
-pub closed-by_its_history : (b : BookView) → IsReplayed b → b.closed ≡ has_closing b.history
+pub closed-by_its_history : (b : BookView) → IsHistoryReplayed b → b.closed ≡ has_closing b.history
 closed-by_its_history b is = sym is.closed_is ∙ closed-from empty_replayed b.history
 
 found-nothing : (n k : ℕ) → get_or (nothing n) k None ≡ None

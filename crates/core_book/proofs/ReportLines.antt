@@ -9,7 +9,7 @@ use Rattle.core_book.proofs.Imports.{◌∙◌, ◌∷◌, ◌≡◌, ◌≤◌}
 use Rattle.lemmas.proofs.Common.{◌&&◌, add-one, ap₂, drop, drop-cons, option_to_list, drop_all, slice_get_cases}
 use Rattle.circuit.specs.Gates.{is_inverse}
 use Rattle.circuit.specs.Meaning.{Gate}
-use Rattle.certificate.specs.Keeps.{is_kept, unkept_from}
+use Rattle.certificate.specs.Keeps.{is_kept, unkept_gates_from}
 use Rattle.certificate.specs.Times.{are_all_timings_obeyed}
 use Rattle.local_run.specs.Faults.{IsFault, IsKeepFault}
 use Rattle.local_run.specs.declared.fault.Fault.{Fault}
@@ -82,9 +82,9 @@ no_lines n (f ∷ fs) (b ∷ bs) no_fs no_bs =
     (no_lines (n + 1) fs bs (λ k. no_fs (suc k)) (λ k. no_bs (suc k)))
 
 -- ---- gates that nobody keeps
-kept_from : (ms : List ModuleLines) (n : ℕ) (gs : List Gate) → unkept_from ms n gs ≡ [] → (k : ℕ) (g : Gate) →
+kept_from : (ms : List ModuleLines) (n : ℕ) (gs : List Gate) → unkept_gates_from ms n gs ≡ [] → (k : ℕ) (g : Gate) →
     slice_get gs k ≡ Some g → is_inverse g.kind ≡ true → is_kept ms (n + k) ≡ true
-unfolding unkept_from
+unfolding unkept_gates_from
 kept_from ms n [] e k g at inverse = absurd cc
 kept_from ms n (h ∷ gs) e zero g at inverse =
     let same : h ≡ g = same_Some h g at in
@@ -102,8 +102,8 @@ kept_from ms n (h ∷ gs) e (suc k) g at inverse =
 
 all_kept_from : (ms : List ModuleLines) (n : ℕ) (gs : List Gate) →
     ((k : ℕ) (g : Gate) → slice_get gs k ≡ Some g → is_inverse g.kind ≡ true → is_kept ms (n + k) ≡ true) →
-    unkept_from ms n gs ≡ []
-unfolding unkept_from
+    unkept_gates_from ms n gs ≡ []
+unfolding unkept_gates_from
 all_kept_from ms n [] kept = refl
 all_kept_from ms n (g ∷ gs) kept =
     ap₂ (λ (x y : List ℕ). x ++ y)

@@ -34,8 +34,8 @@ abbrev pub held_finding : BookView → ℕ → Option Finding
 held_finding b number = slice_index_or b.findings number None
 
 -- for how many numbers one is held
-abbrev pub held_count : BookView → ℕ
-held_count b = count_by is_some b.findings
+abbrev pub held_finding_count : BookView → ℕ
+held_finding_count b = count_by is_some b.findings
 
 -- whether this is the job of that number
 unfoldable pub is_job_of : List JobView → ℕ → JobView → Bool
@@ -89,8 +89,8 @@ pub record IsBook (b : BookView) : Type 0 where
 
 -- The history replays to what the book is. Each stored reply is the one that the rule gives there. The numbers that
 -- were accepted are those for which a finding is held, and as many. The book is closed where the history says so.
-pub record IsReplayed (b : BookView) : Type 0 where
+pub record IsHistoryReplayed (b : BookView) : Type 0 where
   pub due : AreRepliesByRule b.digest (length b.jobs) empty_replayed b.history
   pub accepted : (number : ℕ) → has_number (replay b.history).accepted number ≡ is_some (held_finding b number)
-  pub count : length (replay b.history).accepted ≡ held_count b
+  pub count : length (replay b.history).accepted ≡ held_finding_count b
   pub closed_is : (replay b.history).closed ≡ b.closed

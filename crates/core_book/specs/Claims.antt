@@ -21,5 +21,5 @@ abbrev pub draws_after_claim : ℕ → List ℕ → ℕ → List ℕ
 draws_after_claim n draws next = if is_seat_finished n draws then draws else draws ++ next ∷ []
 
 -- the next number after it
-abbrev pub next_after_claim : ℕ → List ℕ → ℕ → ℕ
-next_after_claim n draws next = if is_seat_finished n draws then next else next + 1
+abbrev pub next_unless_seat_finished : ℕ → List ℕ → ℕ → ℕ
+next_unless_seat_finished n draws next = if is_seat_finished n draws then next else next + 1

@@ -2,9 +2,9 @@
 use Rattle.std.specs.Prelude.{ℕ, ◌+◌, ◌<◌, ◌≤◌, List, [], ◌∷◌, length, replicate, slice_index_or, slice_set}
 use Rattle.std.specs.Prelude.{if◌then◌else◌, ⊤}
 use Rattle.module_job.specs.Jobs.{JobView}
-use Rattle.core_book.specs.Draws.{IsDrawn, total}
-use Rattle.core_book.specs.Claims.{claim_answer, draws_after_claim, next_after_claim, is_seat_finished}
-use Rattle.core_book.specs.Book.{BookView, IsBook, IsReplayed, after_filing, new_book, reply_to}
+use Rattle.core_book.specs.Draws.{IsEachNumberDrawnOnce, total}
+use Rattle.core_book.specs.Claims.{claim_answer, draws_after_claim, next_unless_seat_finished, is_seat_finished}
+use Rattle.core_book.specs.Book.{BookView, IsBook, IsHistoryReplayed, after_filing, new_book, reply_to}
 use Rattle.core_book.specs.declared.claim.Claim.{Claim}
 use Rattle.core_book.specs.declared.claim.Claim.TheVariants as Claimed
 use Rattle.core_book.specs.declared.machine.Answer.{Answer}
@@ -33,13 +33,13 @@ draws_of c seat = slice_index_or c.draws seat []
 -- ---- a claim of a seat
 
 -- the answer to a claim of a seat
-abbrev pub claim_of_seat : CoreView → ℕ → Claim
-claim_of_seat c seat = claim_answer (job_count_of c) (draws_of c seat) c.next
+abbrev pub claim_answer_of_seat : CoreView → ℕ → Claim
+claim_answer_of_seat c seat = claim_answer (job_count_of c) (draws_of c seat) c.next
 
 -- the core after a claim of a seat
 abbrev pub after_claim : CoreView → ℕ → CoreView
 after_claim c seat = record c {
-  next = next_after_claim (job_count_of c) (draws_of c seat) c.next;
+  next = next_unless_seat_finished (job_count_of c) (draws_of c seat) c.next;
   draws = slice_set c.draws seat (draws_after_claim (job_count_of c) (draws_of c seat) c.next);
 }
 
@@ -58,7 +58,7 @@ after_event c (Events.Lose number) = c
 
 -- the answer to an event
 abbrev pub answer_to : CoreView → Event → Answer
-answer_to c (Events.Claim seat) = answer_of_claim (claim_of_seat c seat)
+answer_to c (Events.Claim seat) = answer_of_claim (claim_answer_of_seat c seat)
 answer_to c (Events.File f) = Answered.Reply (reply_to c.book f)
 answer_to c (Events.Lose number) = Answered.Lost
 
@@ -76,13 +76,13 @@ HasSeatBelow seats (Events.Lose number) = ⊤
 -- ---- what is true of each core
 
 -- 1 for a list that has ended, and else 0
-abbrev pub one_if_ended : ℕ → List ℕ → ℕ
-one_if_ended n draws = if is_seat_finished n draws then 1 else 0
+abbrev pub one_if_seat_finished : ℕ → List ℕ → ℕ
+one_if_seat_finished n draws = if is_seat_finished n draws then 1 else 0
 
 -- Each number below the next was drawn, once. No more numbers were drawn than there are, but for one of each seat that
 -- has ended. The book is one, and its history replays to it
 pub record IsCore (c : CoreView) : Type 0 where
-  pub drawn : IsDrawn c.next c.draws
-  pub few : c.next ≤ job_count_of c + total (one_if_ended (job_count_of c)) c.draws
+  pub drawn : IsEachNumberDrawnOnce c.next c.draws
+  pub few : c.next ≤ job_count_of c + total (one_if_seat_finished (job_count_of c)) c.draws
   pub book_is : IsBook c.book
-  pub replayed : IsReplayed c.book
+  pub replayed : IsHistoryReplayed c.book

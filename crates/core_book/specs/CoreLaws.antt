@@ -4,10 +4,10 @@ use Rattle.std.specs.List.{count_by}
 use Rattle.certificate_lines.specs.Entries.{Setting, ModuleLines}
 use Rattle.module_job.specs.Jobs.{JobView}
 use Rattle.local_run.specs.Faults.{IsLeastFault, IsLeastKeepFault}
-use Rattle.local_run.specs.Shown.{number_of, job_of, fault_of, keep_of}
+use Rattle.local_run.specs.Shown.{number_of, job_of, fault_of, keep_fault_of}
 use Rattle.local_run.specs.declared.finding.Finding.{Finding}
-use Rattle.core_book.specs.Draws.{IsDrawn, occurrences, total}
-use Rattle.core_book.specs.Book.{BelongsToBook, IsReplayed, held_finding, reply_to}
+use Rattle.core_book.specs.Draws.{IsEachNumberDrawnOnce, occurrences, total}
+use Rattle.core_book.specs.Book.{BelongsToBook, IsHistoryReplayed, held_finding, reply_to}
 use Rattle.core_book.specs.Core.{CoreView, HasSeatBelow, after_event, after_events, answer_to, new_core, job_count_of}
 use Rattle.core_book.specs.Verdicts.{IsVerdict}
 use Rattle.core_book.specs.declared.machine.Answer.TheVariants as Answered
@@ -25,21 +25,21 @@ core_after digest jobs seats events = after_events (new_core digest jobs seats) 
 -- ---- draws
 
 -- each number below the next is in one seat's list, once, and no other is in any
-abbrev pub DrawsEachOnce : Type 0
-DrawsEachOnce = (digest : List ℕ) (jobs : List JobView) (seats : ℕ) (events : List Event) →
+abbrev pub DrawsEachNumberOnce : Type 0
+DrawsEachNumberOnce = (digest : List ℕ) (jobs : List JobView) (seats : ℕ) (events : List Event) →
     All (HasSeatBelow seats) events →
-    IsDrawn (core_after digest jobs seats events).next (core_after digest jobs seats events).draws
+    IsEachNumberDrawnOnce (core_after digest jobs seats events).next (core_after digest jobs seats events).draws
 
 -- each of the numbers is in one seat's list, once
-abbrev pub AreAllDrawn : CoreView → Type 0
-AreAllDrawn c = (number : ℕ) → number < job_count_of c → total (occurrences number) c.draws ≡ 1
+abbrev pub AreAllNumbersDrawn : CoreView → Type 0
+AreAllNumbersDrawn c = (number : ℕ) → number < job_count_of c → total (occurrences number) c.draws ≡ 1
 
 -- a claim answers `Empty` only if all numbers were drawn
 abbrev pub EmptyOnlyIfAllAreDrawn : Type 0
 EmptyOnlyIfAllAreDrawn = (digest : List ℕ) (jobs : List JobView) (seats : ℕ) (events : List Event) (seat : ℕ) →
     All (HasSeatBelow seats) events → seat < seats →
     answer_to (core_after digest jobs seats events) (Events.Claim seat) ≡ Answered.Empty →
-    AreAllDrawn (after_event (core_after digest jobs seats events) (Events.Claim seat))
+    AreAllNumbersDrawn (after_event (core_after digest jobs seats events) (Events.Claim seat))
 
 -- ---- findings
 
@@ -60,8 +60,8 @@ findings_accepted_in c [] = []
 findings_accepted_in c (e ∷ es) = findings_accepted_by c e ++ findings_accepted_in (after_event c e) es
 
 -- the findings held are those that were answered `Accepted`, each for its number
-abbrev pub HoldsWhatWasAccepted : Type 0
-HoldsWhatWasAccepted = (digest : List ℕ) (jobs : List JobView) (seats : ℕ) (events : List Event) (number : ℕ)
+abbrev pub HoldsAcceptedFindings : Type 0
+HoldsAcceptedFindings = (digest : List ℕ) (jobs : List JobView) (seats : ℕ) (events : List Event) (number : ℕ)
     (f : Finding) →
     (held_finding (core_after digest jobs seats events).book number ≡ Some f)
     ↔ (Contains (findings_accepted_in (new_core digest jobs seats) events) f × (number_of f ≡ number))
@@ -77,7 +77,7 @@ HeldFindingsAreBooksAndLeast = (digest : List ℕ) (jobs : List JobView) (seats 
     (f : Finding) →
     held_finding (core_after digest jobs seats events).book number ≡ Some f →
     BelongsToBook (core_after digest jobs seats events).book number f × IsLeastFault (job_of f) (fault_of f)
-    × IsLeastKeepFault (job_of f) (keep_of f)
+    × IsLeastKeepFault (job_of f) (keep_fault_of f)
 
 -- no event changes a finding that is held
 abbrev pub EventsKeepHeldFindings : Type 0
@@ -85,15 +85,15 @@ EventsKeepHeldFindings = (c : CoreView) (e : Event) (number : ℕ) (f : Finding)
     held_finding (after_event c e).book number ≡ Some f
 
 -- no event but a filing that is answered `Accepted` changes what is held
-abbrev pub OnlyAcceptedChangesWhatIsHeld : Type 0
-OnlyAcceptedChangesWhatIsHeld =
+abbrev pub OnlyAcceptedChangesFindings : Type 0
+OnlyAcceptedChangesFindings =
     (c : CoreView) (e : Event) → answer_to c e ≢ Answered.Reply Accepted →
     (after_event c e).book.findings ≡ c.book.findings
 
 -- the history replays to the book
 abbrev pub HistoryReplaysAfterEvents : Type 0
 HistoryReplaysAfterEvents = (digest : List ℕ) (jobs : List JobView) (seats : ℕ) (events : List Event) →
-    IsReplayed (core_after digest jobs seats events).book
+    IsHistoryReplayed (core_after digest jobs seats events).book
 
 -- ---- verdicts
 

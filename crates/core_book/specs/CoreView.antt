@@ -15,7 +15,7 @@ abbrev pub core_view : Inside → CoreView
 core_view a = record { next = a.next; draws = lists_of a.draws.items; book = a.book }
 
 -- the fields of every core: a core of at most 65,536 numbers and at most 64 seats
-pub record IsStoredCore (a : Inside) : Type 0 where
+pub record AreCoreFields (a : Inside) : Type 0 where
   pub core : IsCore (core_view a)
   pub numbers : job_count_of (core_view a) ≤ max_modules
   pub seats : length a.draws.items ≤ 64

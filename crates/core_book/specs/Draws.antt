@@ -23,6 +23,6 @@ past_last (y ∷ z ∷ zs) = past_last (z ∷ zs)
 
 -- The lists have as many numbers as the counter says: each number below it is in one list, once, and no other is in
 -- any.
-pub record IsDrawn (counter : ℕ) (lists : List (List ℕ)) : Type 0 where
+pub record IsEachNumberDrawnOnce (counter : ℕ) (lists : List (List ℕ)) : Type 0 where
   pub whole : total length lists ≡ counter
   pub once : (x : ℕ) → total (occurrences x) lists ≡ one_if_below x counter

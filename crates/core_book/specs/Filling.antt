@@ -6,7 +6,7 @@ use Rattle.module_job.specs.Jobs.{JobView}
 use Rattle.module_job.specs.Shapes.{ShapeView, shape_of}
 use Rattle.local_run.specs.Shown.{job_of, number_of}
 use Rattle.local_run.specs.declared.finding.Finding.{Finding}
-use Rattle.core_book.specs.Book.{BookView, IsReplayed, after_filing, held_count, held_finding, reply_to}
+use Rattle.core_book.specs.Book.{BookView, IsHistoryReplayed, after_filing, held_finding, held_finding_count, reply_to}
 use Rattle.core_book.specs.Verdicts.{AreFindingsHeldBelow}
 use Rattle.core_book.specs.declared.log_entry.LogEntry.{LogEntry}
 use Rattle.core_book.specs.declared.log_entry.LogEntry.TheVariants.{Filed}
@@ -20,11 +20,11 @@ pub record IsOpenFor (digest : List ℕ) (jobs : List JobView) (b : BookView) : 
 
 -- A book that is open for this digest and these jobs, to which its history replays, and which holds a finding of each
 -- job. As many findings were accepted as there are jobs.
-pub record IsFull (digest : List ℕ) (jobs : List JobView) (b : BookView) : Type 0 where
+pub record IsFullBook (digest : List ℕ) (jobs : List JobView) (b : BookView) : Type 0 where
   pub is_open : IsOpenFor digest jobs b
-  pub replays : IsReplayed b
+  pub replays : IsHistoryReplayed b
   pub all_held : AreFindingsHeldBelow b jobs (length jobs)
-  pub all_accepted : held_count b ≡ length jobs
+  pub all_accepted : held_finding_count b ≡ length jobs
 
 -- the numbers below this one for which the book holds nothing, in their order
 abbrev pub missing_numbers_below : BookView → ℕ → List ℕ
@@ -37,7 +37,7 @@ accepted_entry digest number = Filed (record { digest = digest; number = number;
 
 -- The second book is the first one after a finding was filed for each number below this one that lacked one, in order,
 -- and each was accepted: nothing else was filed, and what was held is held still.
-pub record IsFilledTo (b c : BookView) (below : ℕ) : Type 0 where
+pub record IsBookFilledBelow (b c : BookView) (below : ℕ) : Type 0 where
   pub digest_stays : c.digest ≡ b.digest
   pub jobs_stay : c.jobs ≡ b.jobs
   pub closed_stays : c.closed ≡ b.closed
@@ -47,13 +47,13 @@ pub record IsFilledTo (b c : BookView) (below : ℕ) : Type 0 where
   pub rest : (number : ℕ) → below ≤ number → held_finding c number ≡ held_finding b number
 
 -- the book is filled below some number, which is at most that of the jobs
-pub record IsPartlyFilled (b c : BookView) : Type 0 where
+pub record IsBookFilledSoFar (b c : BookView) : Type 0 where
   pub below : ℕ
   pub at_most : below ≤ length b.jobs
-  pub filled : IsFilledTo b c below
+  pub filled : IsBookFilledBelow b c below
 
 -- a finding for this number was filed, and accepted
-pub record IsFiledFor (b c : BookView) (number : ℕ) : Type 0 where
+pub record IsFindingFiledFor (b c : BookView) (number : ℕ) : Type 0 where
   pub lacked : is_some (held_finding b number) ≡ false
   pub finding : Finding
   pub number_is : number_of finding ≡ number
@@ -61,8 +61,8 @@ pub record IsFiledFor (b c : BookView) (number : ℕ) : Type 0 where
   pub after : c ≡ after_filing b finding
 
 -- the book held a finding for this number and is as it was, or one was filed and accepted
-abbrev pub IsHeldOrFiled : BookView → BookView → ℕ → Type 0
-IsHeldOrFiled b c number = ((is_some (held_finding b number) ≡ true) × (c ≡ b)) ⊎ IsFiledFor b c number
+abbrev pub IsFindingHeldOrFiled : BookView → BookView → ℕ → Type 0
+IsFindingHeldOrFiled b c number = ((is_some (held_finding b number) ≡ true) × (c ≡ b)) ⊎ IsFindingFiledFor b c number
 
 -- ---- how many jobs are run
 
@@ -71,11 +71,11 @@ abbrev pub shapes_of : List JobView → List ShapeView
 shapes_of jobs = map shape_of jobs
 
 -- A count after one more; the count stops at the greatest number that it can hold.
-abbrev pub IsOneMore : ℕ → ℕ → Type 0
-IsOneMore before after = before < 2 ^ 64 - 1 → after ≡ before + 1
+abbrev pub IsOneMoreOrGreatest : ℕ → ℕ → Type 0
+IsOneMoreOrGreatest before after = before < 2 ^ 64 - 1 → after ≡ before + 1
 
 -- the book holds a finding for this number, and of a job of the same shape
-pub record HoldsOfSameShape (b : BookView) (number : ℕ) (job : JobView) : Type 0 where
+pub record HoldsFindingOfSameShape (b : BookView) (number : ℕ) (job : JobView) : Type 0 where
   pub finding : Finding
   pub held : held_finding b number ≡ Some finding
   pub alike : shape_of (job_of finding) ≡ shape_of job

@@ -1,8 +1,9 @@
 -- Laws of books
 use Rattle.std.specs.Prelude.{◌≡◌, ◌≢◌, ◌↔◌, ℕ, length, None, Some, IsSome, true}
-use Rattle.local_run.specs.Shown.{number_of, fault_of, keep_of}
+use Rattle.local_run.specs.Shown.{number_of, fault_of, keep_fault_of}
 use Rattle.local_run.specs.declared.finding.Finding.{Finding}
-use Rattle.core_book.specs.Book.{BelongsToBook, BookView, IsBook, IsReplayed, after_closing, after_filing, held_count}
+use Rattle.core_book.specs.Book.{BelongsToBook, BookView, IsBook, IsHistoryReplayed, after_closing, after_filing}
+use Rattle.core_book.specs.Book.{held_finding_count}
 use Rattle.core_book.specs.Book.{held_finding, reply_to}
 use Rattle.core_book.specs.Verdicts.{AreFindingsHeldBelow}
 use Rattle.core_book.specs.Replay.{has_closing}
@@ -50,20 +51,20 @@ FilingKeepsBookValid = (b : BookView) (f : Finding) → IsBook b → IsBook (aft
 
 -- a history that replays to the book does so after a filing, and after a closing
 abbrev pub EachEntryKeepsReplay : Type 0
-EachEntryKeepsReplay = (b : BookView) → IsBook b → IsReplayed b →
-    ((f : Finding) → IsReplayed (after_filing b f)) × IsReplayed (after_closing b)
+EachEntryKeepsReplay = (b : BookView) → IsBook b → IsHistoryReplayed b →
+    ((f : Finding) → IsHistoryReplayed (after_filing b f)) × IsHistoryReplayed (after_closing b)
 
 -- a book to which its history replays is closed exactly if the history has a closing entry
 abbrev pub ClosedIfHistoryHasClosing : Type 0
-ClosedIfHistoryHasClosing = (b : BookView) → IsReplayed b → b.closed ≡ has_closing b.history
+ClosedIfHistoryHasClosing = (b : BookView) → IsHistoryReplayed b → b.closed ≡ has_closing b.history
 
 -- what two books of the same jobs hold for one number has the same fault
 abbrev pub BooksAgreeOnFaults : Type 0
 BooksAgreeOnFaults = (b c : BookView) (number : ℕ) (f g : Finding) → IsBook b → IsBook c → b.jobs ≡ c.jobs →
     held_finding b number ≡ Some f → held_finding c number ≡ Some g →
-    (fault_of f ≡ fault_of g) × (keep_of f ≡ keep_of g)
+    (fault_of f ≡ fault_of g) × (keep_fault_of f ≡ keep_fault_of g)
 
 -- a book that accepted as many findings as it has jobs holds one for each job
 abbrev pub FullBookHoldsAll : Type 0
-FullBookHoldsAll = (b : BookView) → IsBook b → held_count b ≡ length b.jobs →
+FullBookHoldsAll = (b : BookView) → IsBook b → held_finding_count b ≡ length b.jobs →
     AreFindingsHeldBelow b b.jobs (length b.jobs)

@@ -105,7 +105,7 @@ IsVerdict g ms jobs (No lines) = (¬ Accepts g ms jobs) × AreReportLines g ms j
 -- ---- which findings a verdict needs
 
 -- the book holds a finding for this number, and it is of this job
-pub record IsHeld (b : BookView) (number : ℕ) (j : JobView) : Type 0 where
+pub record IsFindingHeld (b : BookView) (number : ℕ) (j : JobView) : Type 0 where
   pub finding : Finding
   pub held : held_finding b number ≡ Some finding
   pub whole : job_of finding ≡ j
@@ -113,11 +113,11 @@ pub record IsHeld (b : BookView) (number : ℕ) (j : JobView) : Type 0 where
 -- it does for each of the jobs below this number
 abbrev pub AreFindingsHeldBelow : BookView → List JobView → ℕ → Type 0
 AreFindingsHeldBelow b jobs count = (number : ℕ) (j : JobView) → number < count → slice_get jobs number ≡ Some j →
-    IsHeld b number j
+    IsFindingHeld b number j
 
 -- the first of the jobs for which it does not
-pub record IsFirstMissing (b : BookView) (jobs : List JobView) (number : ℕ) : Type 0 where
+pub record IsFirstMissingFinding (b : BookView) (jobs : List JobView) (number : ℕ) : Type 0 where
   pub job : JobView
   pub numbered : slice_get jobs number ≡ Some job
-  pub missing : ¬ IsHeld b number job
+  pub missing : ¬ IsFindingHeld b number job
   pub before : AreFindingsHeldBelow b jobs number

@@ -37,11 +37,11 @@ impl Model for BookState {
 
     ghost coded = { Prim.hlevel (codes, finding.the_row.coded) };
 
-    ghost use Rattle.core_book.specs.BookView.{book_view, IsStoredBook};
+    ghost use Rattle.core_book.specs.BookView.{AreBookFields, book_view};
 
     ghost view = { book_view };
 
-    ghost invariant = { IsStoredBook };
+    ghost invariant = { AreBookFields };
 }
 
 /// The finding that could not be filed, since the book was out of memory.
@@ -52,8 +52,8 @@ pub struct NotFiled {
 
 impl BookState {
     ghost use Rattle.local_run.specs.Shown.{job_of, number_of};
-    ghost use Rattle.core_book.specs.Verdicts.{IsHeld};
-    ghost use Rattle.core_book.specs.Book.{IsBook, BelongsToBook, IsReplayed, held_count, after_closing, after_filing, accepted_count_after, filing_of, held_finding, is_job_of, new_book, reply_to};
+    ghost use Rattle.core_book.specs.Verdicts.{IsFindingHeld};
+    ghost use Rattle.core_book.specs.Book.{IsBook, BelongsToBook, IsHistoryReplayed, held_finding_count, after_closing, after_filing, accepted_count_after, filing_of, held_finding, is_job_of, new_book, reply_to};
 
     /// Creates an open book of these jobs, numbered from 0 in their order, without findings and without history.
     pub fn new(
@@ -85,8 +85,8 @@ impl BookState {
     pub fn file(&mut self, finding: Finding) -> Result<Reply, NotFiled>
         ensures reply { IfOk result (λ r. r ≡ reply_to self.old finding) }
         ensures after { IfOk result (λ _. self.new ≡ after_filing self.old finding) }
-        ensures counted { IfOk result (λ r. held_count self.new
-            ≡ accepted_count_after (held_count self.old) r) }
+        ensures counted { IfOk result (λ r. held_finding_count self.new
+            ≡ accepted_count_after (held_finding_count self.old) r) }
         ensures history_fits { OnOk result (length self.new.history < 2 ^ 64) }
         ensures unchanged { OnErr result (self.new ≡ self.old) }
         ensures returned { IfErr result (λ e. e.finding ≡ finding) }
@@ -178,7 +178,7 @@ impl BookState {
     /// They replay to what the book holds and to whether it is closed.
     pub fn history(&self) -> &[LogEntry]
         ensures entries { result.now ≡ self.now.history }
-        ensures replays { IsReplayed self.now }
+        ensures replays { IsHistoryReplayed self.now }
     {
         let history = &self.history;
         history.as_slice()
@@ -187,7 +187,7 @@ impl BookState {
     /// Shows that the history replays to the state. It does nothing.
     #[inline(always)]
     pub fn prove_replays(&self)
-        ensures { IsReplayed self.now }
+        ensures { IsHistoryReplayed self.now }
     {
         let _ = &self.history;
     }
@@ -209,7 +209,7 @@ impl BookState {
     pub fn held_finding_of_job(&self, number: usize, job: &Job) -> Option<&Finding>
         ensures finding_held { IfSome result (λ f. (held_finding self.now number ≡ Some f.now)
             × (job_of f.now ≡ job.now)) }
-        ensures missing { IfNone result (¬ IsHeld self.now number job.now) }
+        ensures missing { IfNone result (¬ IsFindingHeld self.now number job.now) }
     {
         match self.found(number) {
             Some(finding) => {
@@ -224,7 +224,7 @@ impl BookState {
 
     /// Returns for how many numbers a finding is held: at most as many as there are jobs.
     pub fn accepted(&self) -> usize
-        ensures count { result ≡ held_count self.now }
+        ensures count { result ≡ held_finding_count self.now }
         ensures at_most { result ≤ length self.now.jobs }
     {
         self.accepted
@@ -233,7 +233,7 @@ impl BookState {
     // Whether a finding is held for each number.
     pub(crate) fn is_full(&self) -> bool
         ensures book { IsBook self.now }
-        ensures full { result ≡ true → held_count self.now ≡ length self.now.jobs }
+        ensures full { result ≡ true → held_finding_count self.now ≡ length self.now.jobs }
     {
         self.accepted == self.jobs.len()
     }

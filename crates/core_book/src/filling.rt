@@ -2,7 +2,7 @@
 ghost use Rattle.std.specs.Prelude.{◌≡◌, ◌≢◌, ◌<◌, ◌≤◌, ◌+◌, ◌⊎◌, map, slice_get, true, false, Some, IfOk, IsErr, OnErr, OnOk};
 ghost use Rattle.std.specs.Arc.{arc_value};
 ghost use Rattle.core_book.specs.Book.{new_book};
-ghost use Rattle.core_book.specs.Filling.{HoldsOfSameShape, IsHeldOrFiled, IsFull, IsOneMore, IsOpenFor, IsPartlyFilled, RunsAtMostOncePerShape, shapes_of};
+ghost use Rattle.core_book.specs.Filling.{HoldsFindingOfSameShape, IsFindingHeldOrFiled, IsFullBook, IsOneMoreOrGreatest, IsOpenFor, IsBookFilledSoFar, RunsAtMostOncePerShape, shapes_of};
 ghost use Rattle.local_run.specs.Shown.{digest_of, job_of, number_of};
 
 use crate::book::BookState;
@@ -25,12 +25,12 @@ pub fn fill(
     digest: [u8; 32],
     jobs: &[Arc<Job>],
 ) -> Result<(), AllocError>
-    ensures full { OnOk result (IsFull digest (map arc_value jobs.now) state.new) }
+    ensures full { OnOk result (IsFullBook digest (map arc_value jobs.now) state.new) }
     ensures partly_filled { IsOpenFor digest (map arc_value jobs.now) state.old →
-        IsPartlyFilled state.old state.new }
+        IsBookFilledSoFar state.old state.new }
     ensures replaced { ¬ IsOpenFor digest (map arc_value jobs.now) state.old →
         (IsErr result × (state.new ≡ state.old))
-        ⊎ IsPartlyFilled (new_book digest (map arc_value jobs.now)) state.new }
+        ⊎ IsBookFilledSoFar (new_book digest (map arc_value jobs.now)) state.new }
 {
     let own = is_open_for(state, digest, jobs);
     if !own {
@@ -70,8 +70,8 @@ pub fn fill_open_book(
     runs: &mut usize,
 ) -> Result<(), AllocError>
     requires open_for_jobs { IsOpenFor digest (map arc_value jobs.now) state.old }
-    ensures full { OnOk result (IsFull digest (map arc_value jobs.now) state.new) }
-    ensures partly { IsPartlyFilled state.old state.new }
+    ensures full { OnOk result (IsFullBook digest (map arc_value jobs.now) state.new) }
+    ensures partly { IsBookFilledSoFar state.old state.new }
     ensures one_run_a_shape { RunsAtMostOncePerShape (shapes_of (map arc_value jobs.now)) runs.old
         runs.new }
 {
@@ -98,8 +98,9 @@ fn fill_number(
 ) -> Result<(), AllocError>
     requires still_open { state.old.closed ≡ false }
     requires job { slice_get state.old.jobs number ≡ Some (arc_value job.now) }
-    requires shapes_equal { first ≢ number → HoldsOfSameShape state.old first (arc_value job.now) }
-    ensures held_or_filed { OnOk result (IsHeldOrFiled state.old state.new number) }
+    requires shapes_equal { first ≢ number →
+        HoldsFindingOfSameShape state.old first (arc_value job.now) }
+    ensures held_or_filed { OnOk result (IsFindingHeldOrFiled state.old state.new number) }
     ensures unchanged { OnErr result (state.new ≡ state.old) }
     ensures no_run { first ≢ number → runs.new ≡ runs.old }
     ensures one_run { runs.new ≤ runs.old + 1 }
@@ -124,7 +125,8 @@ fn moved_or_run_finding(
     first: usize,
     runs: &mut usize,
 ) -> Result<Finding, AllocError>
-    requires shapes_equal { first ≢ number → HoldsOfSameShape state.now first (arc_value job.now) }
+    requires shapes_equal { first ≢ number →
+        HoldsFindingOfSameShape state.now first (arc_value job.now) }
     ensures digest { IfOk result (λ f. digest_of f ≡ state.now.digest) }
     ensures number { IfOk result (λ f. number_of f ≡ number) }
     ensures job { IfOk result (λ f. job_of f ≡ arc_value job.now) }
@@ -150,7 +152,7 @@ fn run_job_and_count(
     ensures digest { IfOk result (λ f. digest_of f ≡ digest) }
     ensures number { IfOk result (λ f. number_of f ≡ number) }
     ensures job { IfOk result (λ f. job_of f ≡ arc_value job.now) }
-    ensures counted { IsOneMore runs.old runs.new }
+    ensures counted { IsOneMoreOrGreatest runs.old runs.new }
     ensures one_run { runs.new ≤ runs.old + 1 }
 {
     *runs = runs.saturating_add(1);

@@ -1,12 +1,12 @@
 //! Laws of books and of the core, each the contract of a function without a body.
-ghost use Rattle.core_book.specs.CoreLaws.{AcceptsAtMostOnePerNumber, DrawsEachOnce, EmptyOnlyIfAllAreDrawn, EventsKeepHeldFindings, HistoryReplaysAfterEvents, HeldFindingsAreBooksAndLeast, HoldsWhatWasAccepted, OnlyAcceptedChangesWhatIsHeld, VerdictIsUnique};
+ghost use Rattle.core_book.specs.CoreLaws.{AcceptsAtMostOnePerNumber, DrawsEachNumberOnce, EmptyOnlyIfAllAreDrawn, EventsKeepHeldFindings, HistoryReplaysAfterEvents, HeldFindingsAreBooksAndLeast, HoldsAcceptedFindings, OnlyAcceptedChangesFindings, VerdictIsUnique};
 ghost use Rattle.core_book.specs.Laws.{AcceptedFindingMatchesBookAndIsNew, BooksAgreeOnFaults, ClosedBookAloneAnswersClosed, ClosedIfHistoryHasClosing, DoubleFindingMatchesBookAndIsHeld, FullBookHoldsAll, AcceptedFindingIsHeld, UnacceptedKeepsFindings, FilingKeepsHeldFindings, MatchingFindingIsNoStranger, FilingKeepsBookValid, EachEntryKeepsReplay};
 
 /// States that, after any events, a new core has given each number below the next to one seat, once.
 ///
 /// No other number was drawn. A claim answers `Empty` only if all numbers were drawn.
-pub fn core_draws_each_once()
-    ensures drawn_once { DrawsEachOnce }
+pub fn core_draws_each_number_once()
+    ensures drawn_once { DrawsEachNumberOnce }
     ensures empty { EmptyOnlyIfAllAreDrawn }
 {}
 
@@ -14,7 +14,7 @@ pub fn core_draws_each_once()
 ///
 /// Each is honest and of the book's job. The history replays to the book.
 pub fn core_holds_what_was_accepted()
-    ensures accepted { HoldsWhatWasAccepted }
+    ensures accepted { HoldsAcceptedFindings }
     ensures one { AcceptsAtMostOnePerNumber }
     ensures honest { HeldFindingsAreBooksAndLeast }
     ensures replays { HistoryReplaysAfterEvents }
@@ -25,7 +25,7 @@ pub fn core_holds_what_was_accepted()
 /// No claim, no loss and no filing that is not answered `Accepted` changes what is held.
 pub fn events_keep_held_findings()
     ensures keeps_findings { EventsKeepHeldFindings }
-    ensures only { OnlyAcceptedChangesWhatIsHeld }
+    ensures only { OnlyAcceptedChangesFindings }
 {}
 
 /// States that the modules of a certificate have exactly one verdict: two books from which it is concluded give the

@@ -1,7 +1,7 @@
 //! The core: seats that draw numbers, and a book.
 ghost use Rattle.std.specs.Prelude.{◌≡◌, ◌<◌, ◌≤◌, ◌^◌, IfErr, IfOk, OnErr, OnOk, [], length, map, replicate, vec_len};
 ghost use Rattle.std.specs.Arc.{arc_value};
-ghost use Rattle.core_book.specs.Claims.{claim_answer, draws_after_claim, next_after_claim, claim_answer_of_draw, is_seat_finished};
+ghost use Rattle.core_book.specs.Claims.{claim_answer, draws_after_claim, next_unless_seat_finished, claim_answer_of_draw, is_seat_finished};
 ghost use Rattle.core_book.specs.CoreView.{lists_of};
 ghost use Rattle.lemmas.specs.Bounds.{max_draws, max_modules};
 
@@ -64,16 +64,16 @@ impl Model for Core {
 
     ghost coded = { Prim.hlevel (codes, finding.the_row.coded) };
 
-    ghost use Rattle.core_book.specs.CoreView.{core_view, IsStoredCore};
+    ghost use Rattle.core_book.specs.CoreView.{AreCoreFields, core_view};
 
     ghost view = { core_view };
 
-    ghost invariant = { IsStoredCore };
+    ghost invariant = { AreCoreFields };
 }
 
 impl Core {
-    ghost use Rattle.core_book.specs.Draws.{IsDrawn};
-    ghost use Rattle.core_book.specs.Core.{HasSeatBelow, after_claim, after_event, answer_to, claim_of_seat, draws_of, new_core};
+    ghost use Rattle.core_book.specs.Draws.{IsEachNumberDrawnOnce};
+    ghost use Rattle.core_book.specs.Core.{HasSeatBelow, after_claim, after_event, answer_to, claim_answer_of_seat, draws_of, new_core};
 
     /// Creates a core of these jobs, numbered from 0 in their order, and of seats that have drawn nothing.
     ///
@@ -130,7 +130,7 @@ impl Core {
     // A claim of this seat.
     fn claim(&mut self, seat: usize) -> Result<Claim, AllocError>
         requires { seat < length self.old.draws }
-        ensures answer { IfOk result (λ a. a ≡ claim_of_seat self.old seat) }
+        ensures answer { IfOk result (λ a. a ≡ claim_answer_of_seat self.old seat) }
         ensures after { OnOk result (self.new ≡ after_claim self.old seat) }
         ensures unchanged { OnErr result (self.new ≡ self.old) }
     {
@@ -175,7 +175,7 @@ impl Core {
     pub fn draws(&self, seat: usize) -> &[usize]
         requires { seat < length self.now.draws }
         ensures value { result.now ≡ draws_of self.now seat }
-        ensures drawn_once { IsDrawn self.now.next self.now.draws }
+        ensures drawn_once { IsEachNumberDrawnOnce self.now.next self.now.draws }
     {
         let draws = &self.draws;
         draws[seat].as_slice()
@@ -197,7 +197,7 @@ fn next_claim(
 ) -> Result<(Claim, usize), AllocError>
     requires { next < 2 ^ 63 }
     ensures answer { IfOk result (λ r. r.0 ≡ claim_answer count drawn.old.items next) }
-    ensures next { IfOk result (λ r. r.1 ≡ next_after_claim count drawn.old.items next) }
+    ensures next { IfOk result (λ r. r.1 ≡ next_unless_seat_finished count drawn.old.items next) }
     ensures draws { OnOk result (drawn.new.items ≡ draws_after_claim count drawn.old.items next) }
     ensures unchanged { OnErr result (drawn.new.items ≡ drawn.old.items) }
 {

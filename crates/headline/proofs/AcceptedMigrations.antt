@@ -3,10 +3,10 @@ use Rattle.headline.proofs.Imports.{Accepts, AnswersOrRefuses, AreJobsOf, Bool, 
 use Rattle.headline.proofs.Imports.{IsFaultless, IsReportOf, IsVerdict, IsVerdictOn, List, ModuleLines, Ok, Pattern}
 use Rattle.headline.proofs.Imports.{Refusal, Result, SaysReport, Setting, Yes, ap, ap₂, arith, bundle_of}
 use Rattle.headline.proofs.Imports.{certificate_grammar, circuit_of, common_steps, false, faultless_modules}
-use Rattle.headline.proofs.Imports.{is_haloless_version, lacks_edge_wire_beside, layout_of, layout_section}
+use Rattle.headline.proofs.Imports.{has_nonlocal_edge_wire_beside, is_haloless_version, layout_of, layout_section}
 use Rattle.headline.proofs.Imports.{meant_modules, meant_old, migrate_of, migrated_bundle, modules_in, modules_of}
 use Rattle.headline.proofs.Imports.{nat_tests, read_complete, refl, report_text, setting_of, subst, sym, true}
-use Rattle.headline.proofs.Imports.{without_halos, ℕ, ◌++◌, ◌==◌, ◌∙◌, ◌≡◌, ◌≤◌}
+use Rattle.headline.proofs.Imports.{without_halo_lines, ℕ, ◌++◌, ◌==◌, ◌∙◌, ◌≡◌, ◌≤◌}
 use Rattle.certificate.specs.Grammars.{migrated}
 use Rattle.certificate.specs.Laws.{IsSectionOf}
 use Rattle.certificate.proofs.Migrated.{faultless_lines, migrated_lacks, migrated_modules}
@@ -76,7 +76,7 @@ module _ (text report output : List ℕ) (b : Bundle) (read : bundle_of text ≡
   accepted = migration_accepted l c says.is_verdict.jobs version section says.is_verdict.are_jobs accepts
 
   -- and without halo lines a section of version 2
-  faultless_two : IsFaultless (certificate_grammar l g) 2 (without_halos c.entries)
+  faultless_two : IsFaultless (certificate_grammar l g) 2 (without_halo_lines c.entries)
   faultless_two = grind (arith, common_steps, accepted, faultless_lines)
 
   good_two : IsGoodBundle l (migrated_bundle b)
@@ -89,8 +89,8 @@ module _ (text report output : List ℕ) (b : Bundle) (read : bundle_of text ≡
       (subst (λ t. HasSections t (migrated_bundle b)) (sym written)
       made.1) (subst (λ m. IsGoodBundle m (migrated_bundle b)) (sym (ap text_limits written ∙ made.0)) good_two)
 
-  complete : lacks_edge_wire_beside g ms ≡ false
-  complete = sym (migrated_lacks g c.entries) ∙ read_complete l g 2 (without_halos c.entries) faultless_two
+  complete : has_nonlocal_edge_wire_beside g ms ≡ false
+  complete = sym (migrated_lacks g c.entries) ∙ read_complete l g 2 (without_halo_lines c.entries) faultless_two
 
   same_modules : modules_in c ≡ ms
   same_modules = meant_old c.version g ms (ap is_haloless_version version)

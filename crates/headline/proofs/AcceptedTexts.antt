@@ -199,16 +199,18 @@ unfolding wide_text timed_modules_text there_and_back_text plain_yes_text plain_
     layout_rules.is_inside layout_rules.takes_cells_at_start layout_rules.takes_cells_at_end
     layout_rules.cells_taken_at_start
     layout_rules.cells_taken_at_end
-    layout_rules.is_taken layout_rules.cell_fault layout_rules.line_fault layout_rules.layout_line_fault
-    layout_rules.missing_fault cell_lists.rectangle_cells in_span boxes.in_box boxes.some_neighbour boxes.in_ring
+    layout_rules.has_taken_cell layout_rules.cell_fault layout_rules.line_fault layout_rules.layout_line_fault
+    layout_rules.missing_port_fault cell_lists.rectangle_cells in_span boxes.in_box boxes.has_neighbour_in_set
+    boxes.in_ring
     boxes.in_halo entries.change_last entries.last_of entries.add_line entries.modules_of layout_forms.corner_and_sides
     layout_forms.box_of forms.star_or_time_at_word forms.one_or_name_at_word forms.border_of_five_words forms.border_of
     forms.stop_of_five_words forms.stop_of
-    forms.form_of orders.rank_of orders.sort_number_of orders.cell_of orders.line_cmp orders.is_cut orders.may_precede
+    forms.form_of orders.rank_of orders.sort_number_of orders.cell_of orders.line_cmp orders.is_cut_line
+    orders.may_precede
     orders.may_follow rules.has_nonlocal_port rules.module_box_code rules.module_line_code rules.cut_line_code
     rules.are_new_and_distinct rules.used_gate_fault
-    rules.use_line_code rules.keep_line_code rules.is_line_time_allowed rules.is_edge_place_and_time
-    rules.is_halo_place_and_time rules.is_stop_place_and_time
+    rules.use_line_code rules.keep_line_code rules.is_line_time_allowed rules.is_edge_place_and_time_allowed
+    rules.is_halo_place_and_time_allowed rules.is_stop_place_and_time_allowed
     rules.signal_fault rules.border_or_stop_line_code rules.entry_fault rules.module_limit_fault rules.end_fault
     cell_cmp
     versions.modules_by_version
@@ -216,9 +218,11 @@ unfolding wide_text timed_modules_text there_and_back_text plain_yes_text plain_
     end_demand
     port_at places placed_gate placed_gates place_among numbered numbered_all_times numbered_event numbered_signals
     demanded placed_stop bit row evaluate job_start job_demand local_run local_step with_halo step partner turned
-    signal_at all_times_at event_at times.time_lines_by_number versions.edge_lines_beside versions.sorted_border_lines
-    versions.precedes_halos
-    versions.with_halos versions.is_halo versions.lacks_edge_wire_beside fault_cmp keeps.unkept_from
+    signal_at all_times_at event_at times.lines_of_numbered_gates versions.edge_lines_beside
+    versions.sorted_border_lines
+    versions.precedes_halo_lines
+    versions.with_halo_lines versions.is_halo_line versions.has_nonlocal_edge_wire_beside fault_cmp
+    keeps.unkept_gates_from
 are_read = record {
   timed = record { layout = refl; tests = record { jobs = refl; kept = refl; borders = refl; on_time = refl } };
   inverse = record { layout = refl; tests = record { jobs = refl; kept = refl; borders = refl; on_time = refl } };

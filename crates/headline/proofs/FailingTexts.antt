@@ -1,7 +1,8 @@
 -- A text is refuted by one `local` line if its one module passes tests, which a proof by computation can run.
 --
 -- By the tests a cell is not as asked at the end, and no fault comes before this one in the order of faults.
-use Rattle.headline.proofs.Imports.{All, All-head, AnswersOrRefuses, AreJobsOf, AreModules, AreOrdered, BelongTogether}
+use Rattle.headline.proofs.Imports.{All, All-head, AnswersOrRefuses, AreGatesOrdered, AreJobsOf, AreModules}
+use Rattle.headline.proofs.Imports.{BelongTogether}
 use Rattle.headline.proofs.Imports.{Bool, Bundle, Cell, CertView, CircuitLine, Fault, IsPlainModule, IsRead, IsReportOf}
 use Rattle.headline.proofs.Imports.{IsVerdict, JobView, Kind, LineMeans, List, Local, ModuleLines, No, None, Ok, Option}
 use Rattle.headline.proofs.Imports.{Pattern, ReportLine, SaysNoWith, SaysReport, Setting, Some, Valuation, Verdict, []}
@@ -21,7 +22,7 @@ use Rattle.certificate.specs.Times.{delay_and_meet_lines}
 use Rattle.module_job.specs.Jobs.{IsJob}
 use Rattle.module_job.specs.Signals.{MeetsDemand}
 use Rattle.module_job.specs.declared.job.Demand.{Demand}
-use Rattle.local_run.specs.Faults.{IsFaultUnder, IsLeastFault, assignments}
+use Rattle.local_run.specs.Faults.{IsFaultUnderValues, IsLeastFault, assignments}
 use Rattle.local_run.specs.declared.fault.Kind.TheVariants.{Edge, Stop, End}
 use Rattle.local_run.proofs.Decided.{decided}
 use Rattle.border_match.specs.BorderFaults.{IsBorderFault, IsLeastBorderFault}
@@ -86,7 +87,8 @@ record IsFound (j : JobView) (a : ℕ) (test : Valuation → Bool) : Type 0 wher
   local : IsLocalValuation j.locals a values
   passes : test values ≡ true
 
-found : (j : JobView) (a : ℕ) (test : Valuation → Bool) → AreOrdered j.locals.netlist.given j.locals.netlist.gates →
+found : (j : JobView) (a : ℕ) (test : Valuation → Bool) →
+    AreGatesOrdered j.locals.netlist.given j.locals.netlist.gates →
     found_by test (evaluate (given_of j a) j.locals.netlist.gates) ≡ true → IsFound j a test
 found j a test ordered = by (evaluate (given_of j a) j.locals.netlist.gates) refl
   where
@@ -106,9 +108,9 @@ found j a test ordered = by (evaluate (given_of j a) j.locals.netlist.gates) ref
 no_later : (o : Ordering) → is_no_later o ≡ true → o ≢ Greater
 no_later o h1 = grind (arith, common_steps, false≢true)
 
-module _ (j : JobView) (is : IsJob j) (ordered : AreOrdered j.locals.netlist.given j.locals.netlist.gates) where
+module _ (j : JobView) (is : IsJob j) (ordered : AreGatesOrdered j.locals.netlist.given j.locals.netlist.gates) where
   after : (f : Fault) (a : ℕ) (u : Valuation) (t : ℕ) (kind : Kind) (x y : ℤ) → none_before j f a u ≡ true →
-      IsFaultUnder j u t kind x y →
+      IsFaultUnderValues j u t kind x y →
       fault_cmp f (record { time = t; kind = kind; cell = record { x = x; y = y }; assignment = a }) ≢ Greater
   after f a u t Edge x y pass g =
       let all = (and_parts (at_odd_times j.steps (edge_test j u)) _ pass).0 in
@@ -205,7 +207,7 @@ module _ (text : List ℕ) (b : Bundle) (e : bundle_of text ≡ Ok b) (p : Patte
   abbrev lines : List ReportLine
   lines = Local 0 f ∷ times
 
-  ordered : AreOrdered (netlist_of b.circuit).given (netlist_of b.circuit).gates
+  ordered : AreGatesOrdered (netlist_of b.circuit).given (netlist_of b.circuit).gates
   ordered = gates_are_ordered b.circuit (bundle_good text b e).circuit
 
   good : AreModules g (m ∷ [])
@@ -214,7 +216,7 @@ module _ (text : List ℕ) (b : Bundle) (e : bundle_of text ≡ Ok b) (p : Patte
   are_jobs : AreJobsOf (circuit_of b.circuit) p (m ∷ []) (j ∷ [])
   are_jobs = are_jobs_of b.circuit p (m ∷ []) ordered (λ k n at. (good.each k n at, good.ports k n at))
 
-  job_is : IsJob j × AreOrdered j.locals.netlist.given j.locals.netlist.gates
+  job_is : IsJob j × AreGatesOrdered j.locals.netlist.given j.locals.netlist.gates
   job_is = jobs_good b.circuit p (m ∷ []) (j ∷ []) (limits text b e p fails.layout) good are_jobs 0 j refl
 
   least : IsLeastFault j (Some f)

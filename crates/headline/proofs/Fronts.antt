@@ -8,7 +8,7 @@ use Rattle.circuit.specs.declared.circuit_line.CircuitLine.{CircuitLine}
 use Rattle.certificate_lines.specs.declared.certificate_line.CertificateLine.{CertificateLine}
 use Rattle.pattern.specs.declared.layout_line.LayoutHeader.{LayoutHeader}
 use Rattle.pattern.specs.declared.layout_line.LayoutLine.{LayoutLine}
-use Rattle.section_text.specs.Limits.{front_lines}
+use Rattle.section_text.specs.Limits.{limits_line_count}
 use Rattle.section_text.specs.Section.{Grammar, refused_if_code, result_after_header, result_after_line}
 use Rattle.section_text.specs.Section.{section_body_of}
 use Rattle.section_text.specs.Section.{section_of}
@@ -151,7 +151,7 @@ wider_bundle text b first e =
     let read : section_then (circuit_grammar First) 0 (lines_of text) (after_circuit First rest) ≡ Ok b =
     ap (λ (l : Limits). bundle_with_limits l text) (sym first) ∙ e in
     let lines : drop 1 (lines_of (front_text Second ++ text)) ≡ lines_of text =
-    subst (λ (l : Limits). drop (front_lines l) (lines_of (front_text Second ++ text)) ≡ lines_of text)
+    subst (λ (l : Limits). drop (limits_line_count l) (lines_of (front_text Second ++ text)) ≡ lines_of text)
     behind.limits behind.lines in
     ap (λ (l : Limits). bundle_with_limits l (front_text Second ++ text)) behind.limits
     ∙ ap₂ (λ (ls : List (List ℕ)) (last : List ℕ).

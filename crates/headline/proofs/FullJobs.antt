@@ -1,9 +1,9 @@
 -- The modules without halo lines have the jobs of the modules whose halos are the edge lines beside them
 use Rattle.headline.proofs.Imports.{AreJobsOf, AreModules, Circuit, CircuitLine, JobView, List, ModuleLines, Pattern}
 use Rattle.headline.proofs.Imports.{Setting, Some, [], ap, ap₂, arith, circuit_of, common_steps, false, job_demand}
-use Rattle.headline.proofs.Imports.{job_start, known, lacks_edge_wire_beside, length, length-map, map}
+use Rattle.headline.proofs.Imports.{has_nonlocal_edge_wire_beside, job_start, known, length, length-map, map}
 use Rattle.headline.proofs.Imports.{numbered_all_times, numbered_event, numbered_signals, refl, setting_of, slice_get}
-use Rattle.headline.proofs.Imports.{subst, suc, sym, with_halos, zero, ℕ, ◌∙◌, ◌∷◌, ◌≡◌}
+use Rattle.headline.proofs.Imports.{subst, suc, sym, with_halo_lines, zero, ℕ, ◌∙◌, ◌∷◌, ◌≡◌}
 use Rattle.lemmas.proofs.Common.{mapped_at, mapped_from}
 use Rattle.certificate_lines.specs.Entries.{halos}
 use Rattle.certificate.specs.Jobs.{IsJobOf, line_signals, stops_of_lines}
@@ -20,10 +20,10 @@ use Rattle.certificate_lines.proofs.Pairs.{Each}
 
 new_job : Circuit → Setting → List ModuleLines → ModuleLines → JobView → JobView
 new_job c g ms m j = record j
-    { halos = numbered_signals c j.locals.circuit_wires (line_signals c (halos (with_halos g ms m))) }
+    { halos = numbered_signals c j.locals.circuit_wires (line_signals c (halos (with_halo_lines g ms m))) }
 
 module _ (lines : List CircuitLine) (p : Pattern) (ms : List ModuleLines) (good : AreModules (setting_of lines p) ms)
-    (complete : lacks_edge_wire_beside (setting_of lines p) ms ≡ false) where
+    (complete : has_nonlocal_edge_wire_beside (setting_of lines p) ms ≡ false) where
   abbrev g : Setting
   g = setting_of lines p
 
@@ -31,11 +31,11 @@ module _ (lines : List CircuitLine) (p : Pattern) (ms : List ModuleLines) (good 
   c = circuit_of lines
 
   new_is : (k : ℕ) (m : ModuleLines) (j : JobView) → slice_get ms k ≡ Some m → IsJobOf c p m j →
-      IsJobOf c p (with_halos g ms m) (new_job c g ms m j)
-  unfolding with_halos job_start job_demand new_job numbered_signals
+      IsJobOf c p (with_halo_lines g ms m) (new_job c g ms m j)
+  unfolding with_halo_lines job_start job_demand new_job numbered_signals
   new_is k m j at is =
-      let full = with_halos g ms m in
-      let module_is = (full_modules g ms good complete).each k full (mapped_at (with_halos g ms) ms k m at) in
+      let full = with_halo_lines g ms m in
+      let module_is = (full_modules g ms good complete).each k full (mapped_at (with_halo_lines g ms) ms k m at) in
       let ws = j.locals.circuit_wires in
       let same : known c full ≡ ws = full_known g ms good m ∙ sym is.wires in
       let named : Each (IsNamed c ws) (halos full) =
@@ -102,16 +102,16 @@ module _ (lines : List CircuitLine) (p : Pattern) (ms : List ModuleLines) (good 
   new_at (n ∷ ns) (j ∷ js) (suc k) m new at e = grind (arith, common_steps, (new_at ns js k m new at e))
 
   pub full_jobs : (js : List JobView) → AreJobsOf c p ms js →
-      (others : List JobView) × AreJobsOf c p (map (with_halos g ms) ms) others
+      (others : List JobView) × AreJobsOf c p (map (with_halo_lines g ms) ms) others
   full_jobs js own = (
     new_jobs ms js,
     record {
-      count = new_count ms js own.count ∙ sym (length-map ms (with_halos g ms));
+      count = new_count ms js own.count ∙ sym (length-map ms (with_halo_lines g ms));
       each = λ k n new at e.
-          let m = mapped_from (with_halos g ms) ms k n at in
+          let m = mapped_from (with_halo_lines g ms) ms k n at in
           let t = new_at ms js k m.0 new m.1 e in
           subst (λ o. IsJobOf c p o new) m.2
-          (subst (λ j. IsJobOf c p (with_halos g ms m.0) j) t.is
+          (subst (λ j. IsJobOf c p (with_halo_lines g ms m.0) j) t.is
           (new_is k m.0 t.job m.1 (own.each k m.0 t.job m.1 t.at)));
     },
   )

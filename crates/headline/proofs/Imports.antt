@@ -18,10 +18,11 @@ pub use Rattle.bbm_rule.specs.declared.block.Cell.{Cell}
 pub use Rattle.border_match.proofs.Imports.{ints, modules_in, ◌+ℤ◌}
 pub use Rattle.certificate.proofs.FullModules.{meant_modules, meant_old}
 pub use Rattle.certificate.proofs.Imports.{AreFaultless, CertView, IsFaultless, certificate_grammar, codes, cut_name_in}
-pub use Rattle.certificate.proofs.Imports.{drop, edge_in, filter, flat_map-append, is_haloless_version, is_module}
+pub use Rattle.certificate.proofs.Imports.{drop, edge_in, filter, flat_map-append, is_haloless_version, is_module_line}
 pub use Rattle.certificate.proofs.Imports.{map-append, stop_in}
-unfoldable pub use Rattle.certificate.proofs.Imports.{add_line, certificate_text, lacks_edge_wire_beside, modules_of}
-unfoldable pub use Rattle.certificate.proofs.Imports.{with_halos, without_halos}
+unfoldable pub use Rattle.certificate.proofs.Imports.{add_line, certificate_text, has_nonlocal_edge_wire_beside}
+unfoldable pub use Rattle.certificate.proofs.Imports.{modules_of}
+unfoldable pub use Rattle.certificate.proofs.Imports.{with_halo_lines, without_halo_lines}
 pub use Rattle.certificate.proofs.MeantLines.{stops_meant}
 pub use Rattle.certificate.proofs.Soundness.{faultless_modules, read_complete}
 pub use Rattle.certificate.proofs.TimeLemmas.{all_in_modules}
@@ -34,7 +35,7 @@ pub use Rattle.certificate_lines.specs.declared.certificate_line.CertificateLine
 pub use Rattle.certificate_lines.specs.declared.certificate_line.CertificateLine.TheVariants.{Use}
 pub use Rattle.certificate_lines.specs.declared.certificate_line.StopLine.{StopLine}
 pub use Rattle.circuit.proofs.Bridging.{gates_are_ordered, names_pass, push_cons}
-pub use Rattle.circuit.proofs.Imports.{AreGoodCircuitLines, FitsKind, cond_some, consumed, entry}
+pub use Rattle.circuit.proofs.Imports.{AreGoodCircuitLines, HasNameCountOfKind, cond_some, consumed, entry}
 unfoldable pub use Rattle.circuit.proofs.Imports.{AreGoodAfter, form_of, gate_entry, gate_line_of_kind}
 unfoldable pub use Rattle.circuit.proofs.Imports.{limit_or_name_code}
 unfoldable pub use Rattle.circuit.proofs.Imports.{if_one_word, name_after_keyword, names_at, row, value_lines}
@@ -54,10 +55,11 @@ pub use Rattle.core_book.specs.declared.verdict.Verdict.{Verdict}
 pub use Rattle.headline.specs.Laws.{HasAnAnswerToEachText, HasAtMostOneAnswerToEachText}
 pub use Rattle.headline.specs.MovedDesigns.{HasRoomToMove, enlarged, moved, moved_by_two, port_moved_by_two}
 pub use Rattle.headline.specs.MovedDesigns.{rectangle_moved_by_two}
-pub use Rattle.headline.specs.Plain.{HasRimTouch, SaysPlain}
+pub use Rattle.headline.specs.Plain.{HasRimTouch, SaysPlainCertificate}
 pub use Rattle.headline.specs.ReportLines.{SaysNoWith}
 pub use Rattle.headline.specs.RightInFull.{IsGoodDesign}
-pub use Rattle.headline.specs.SmallDesigns.{AreInOrder, HasNoDelay, IsDesign, IsPlainText, IsSmallDesign, design_text}
+pub use Rattle.headline.specs.SmallDesigns.{AreLinesInOrder, HasNoDelay, IsDesign, IsPlainText, IsSmallDesign}
+pub use Rattle.headline.specs.SmallDesigns.{design_text}
 pub use Rattle.headline.specs.SmallDesigns.{gate_numbers, plain_lines}
 pub use Rattle.headline.specs.Stops.{HasRightStops, SaysBundle}
 pub use Rattle.lemmas.proofs.Common.{All-from_recursion, slice_split_at}
@@ -122,8 +124,8 @@ pub use Rattle.soundness.proofs.Imports.{netlist_of, not, option_map, output_nam
 pub use Rattle.soundness.proofs.Imports.{run_under, same_Some, setting_of, slice_get, slice_get-map, slice_get_within}
 pub use Rattle.soundness.proofs.Imports.{subst, suc, sym, take, timing_report_line, true, true≢false, whole, zero, ℕ, ℤ}
 pub use Rattle.soundness.proofs.Imports.{◌%◌, ◌&&◌, ◌++◌, ◌+◌, ◌<◌, ◌==◌, ◌||◌, ◌∙◌, ◌∷◌, ◌≡◌, ◌≢◌, ◌≤◌, ◌⊎◌}
-unfoldable pub use Rattle.soundness.proofs.Imports.{AreOrdered, IsVerdict, bit, cell_fault, cells_of, evaluate}
-unfoldable pub use Rattle.soundness.proofs.Imports.{fault_cmp, in_box, in_ring, in_span, is_inside, is_taken}
+unfoldable pub use Rattle.soundness.proofs.Imports.{AreGatesOrdered, IsVerdict, bit, cell_fault, cells_of, evaluate}
+unfoldable pub use Rattle.soundness.proofs.Imports.{fault_cmp, has_taken_cell, in_box, in_ring, in_span, is_inside}
 unfoldable pub use Rattle.soundness.proofs.Imports.{job_demand, job_start, local_run, number, rectangle_cells, run}
 unfoldable pub use Rattle.soundness.proofs.Imports.{size_fault, start, step, takes_cells_at_start}
 pub use Rattle.soundness.proofs.InputRuns.{IsPlaced, placed, read_layout-names}

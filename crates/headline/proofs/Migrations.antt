@@ -11,16 +11,17 @@ use Rattle.headline.proofs.Imports.{layout_section_text, length, length-append, 
 use Rattle.headline.proofs.Imports.{migrate_of, migrated_bundle, nothing_follows, number_after_keyword, number_at}
 use Rattle.headline.proofs.Imports.{number_of, one_line, one_section, or_else, parts_of, port_names_of, read_faultless}
 use Rattle.headline.proofs.Imports.{refl, section_made, section_said, setting_of, subst, sym, take, take-append-drop}
-use Rattle.headline.proofs.Imports.{text_said, true, value_if_at_end, with_line_feed, without_halos, words_of, ℕ, ◌++◌}
+use Rattle.headline.proofs.Imports.{text_said, true, value_if_at_end, with_line_feed, without_halo_lines, words_of, ℕ}
+use Rattle.headline.proofs.Imports.{◌++◌}
 use Rattle.headline.proofs.Imports.{◌+◌, ◌∙◌, ◌∷◌, ◌≡◌}
 use Rattle.lemmas.proofs.Common.{drop-append_seam}
 use Rattle.section_text.specs.Sections.{section_then}
 use Rattle.section_text.proofs.Again.{drop_clean, lines_clean}
 use Rattle.section_text.proofs.Joined.{at_the_end}
 use Rattle.section_text.proofs.MadeSections.{clean_left, clean_right, forms, items_said}
-use Rattle.certificate_lines.specs.Versions.{is_halo}
+use Rattle.certificate_lines.specs.Versions.{is_halo_line}
 use Rattle.answers.proofs.KeptLines.{with_other, without_halo}
-use Rattle.headline.specs.Migration.{MigrationKeepsVersionTwo, MigrationIsIdempotent, MigrationSaysTheSame}
+use Rattle.headline.specs.Migration.{MigrationCopiesVersionTwo, MigrationIsIdempotent, MigrationKeepsAllButHalos}
 use Rattle.headline.proofs.YesIsRight.{bundle_good, in_sections, not_refused, past_circuit, past_layout}
 use Rattle.circuit.specs.Forms.{form_of as circuit_form}
 use Rattle.circuit.specs.Text.{circuit_text, form_text as circuit_line}
@@ -33,7 +34,7 @@ use Rattle.certificate.specs.Text.{form_text as certificate_line}
 use Rattle.certificate.proofs.Spelling.{form_line as certificate_spelled}
 use Rattle.section_text.specs.declared.limits.Limits.{Limits}
 use Rattle.section_text.specs.declared.limits.Limits.TheVariants.{First}
-use Rattle.section_text.specs.Limits.{front_lines, limits_of}
+use Rattle.section_text.specs.Limits.{limits_line_count, limits_of}
 use Rattle.meaning.specs.Design.{front_text, section_lines, text_limits}
 use Rattle.meaning.proofs.Fronts.{HasFront, first_limits, front_and_lines, has_front}
 
@@ -74,7 +75,7 @@ sections_read text b e =
       third = take n last;
       lines = grind (arith, common_steps, take-append-drop);
       rest = r.ended;
-      circuit_is = section_said (circuit_grammar l) (front_lines l) (section_lines text) tt b.circuit r.circuit;
+      circuit_is = section_said (circuit_grammar l) (limits_line_count l) (section_lines text) tt b.circuit r.circuit;
       layout_is = section_said (layout_grammar l (Some (port_names_of b.circuit))) _ later b.size b.parts r.layout;
       certificate_is = section_said
           (certificate_grammar l (setting_of b.circuit (layout_of b.size b.parts))) _ last b.version b.entries
@@ -86,7 +87,7 @@ good_read text b e =
     let l : Limits = text_limits text in
     let r = in_sections text b e in
     record {
-      circuit = read_faultless (circuit_grammar l) (front_lines l) (section_lines text) tt b.circuit r.circuit;
+      circuit = read_faultless (circuit_grammar l) (limits_line_count l) (section_lines text) tt b.circuit r.circuit;
       layout = (bundle_good text b e).layout;
       certificate = read_faultless (certificate_grammar l (setting_of b.circuit (layout_of b.size b.parts))) _ _
           b.version
@@ -129,14 +130,14 @@ bundle_made text b s good =
     let i = length b.circuit + 2 in
     let j = length b.parts + 2 in
     let n = length b.entries + 2 in
-    then_made (circuit_grammar l) (front_lines l) s.first (s.second ++ s.third) (section_lines text) tt b.circuit
+    then_made (circuit_grammar l) (limits_line_count l) s.first (s.second ++ s.third) (section_lines text) tt b.circuit
     (after_circuit l text) s.lines s.circuit_is good.circuit
-    ∙ then_made (layout_grammar l (Some (port_names_of b.circuit))) (front_lines l + i) s.second s.third
+    ∙ then_made (layout_grammar l (Some (port_names_of b.circuit))) (limits_line_count l + i) s.second s.third
     (s.second ++ s.third) b.size b.parts (after_layout l text b.circuit) refl s.layout_is good.layout
     ∙ then_made (certificate_grammar l (setting_of b.circuit (layout_of b.size b.parts)))
-    (front_lines l + i + j) s.third [] s.third b.version b.entries (ended l text b.circuit b.size b.parts)
+    (limits_line_count l + i + j) s.third [] s.third b.version b.entries (ended l text b.circuit b.size b.parts)
     (sym (append-nil s.third)) s.certificate_is good.certificate
-    ∙ at_the_end (front_lines l + i + j + n) [] (bytes_after_last_line_feed text) b refl s.rest
+    ∙ at_the_end (limits_line_count l + i + j + n) [] (bytes_after_last_line_feed text) b refl s.rest
 
 -- ---- they are those of one bundle
 
@@ -213,10 +214,10 @@ text_is text b s =
 
 record Kept (items : List CertificateLine) : Type 0 where
   pub lines : List (List ℕ)
-  pub said : forms certificate_form lines ≡ items_said certificate_form (without_halos items)
+  pub said : forms certificate_form lines ≡ items_said certificate_form (without_halo_lines items)
   pub clean : AreLines lines
 
-keep : (i : CertificateLine) (items : List CertificateLine) (line : List ℕ) (b : Bool) → is_halo i ≡ b →
+keep : (i : CertificateLine) (items : List CertificateLine) (line : List ℕ) (b : Bool) → is_halo_line i ≡ b →
     certificate_form (words_of line) ≡ Some (Item i) → AreLines (line ∷ []) → Kept items → Kept (i ∷ items)
 keep i items line true e is clean more = grind (arith, common_steps, items_said, without_halo)
 keep i items line false e is clean more = record {
@@ -228,12 +229,12 @@ keep i items line false e is clean more = record {
 kept : (items : List CertificateLine) (ls : List (List ℕ)) →
     forms certificate_form ls ≡ items_said certificate_form items →
     AreLines ls → Kept items
-unfolding without_halos
+unfolding without_halo_lines
 kept [] ls e clean = record { lines = ls; said = e; clean = clean }
 kept (i ∷ items) ls e clean =
     let one = one_line certificate_form (Some (Item i)) (items_said certificate_form items) ls e in
     let own : AreLines (one.line ∷ one.rest) = subst AreLines one.lines clean in
-    keep i items one.line (is_halo i) refl one.first_form (own.0, tt) (kept items one.rest one.other_forms own.1)
+    keep i items one.line (is_halo_line i) refl one.first_form (own.0, tt) (kept items one.rest one.other_forms own.1)
 
 -- the header line of version 2
 header : List ℕ
@@ -253,14 +254,14 @@ pub migrated_sections : (l : Limits) (text : List ℕ) (b : Bundle) → HasSecti
     (text_limits (front_text l ++ migrate_of b) ≡ l) × HasSections (front_text l ++ migrate_of b) (migrated_bundle b)
 migrated_sections l text b s =
     let clean : AreLines (s.first ++ (s.second ++ s.third)) =
-    subst AreLines s.lines (drop_clean (front_lines (text_limits text)) (lines_of text) (lines_clean text)) in
+    subst AreLines s.lines (drop_clean (limits_line_count (text_limits text)) (lines_of text) (lines_clean text)) in
     let later = clean_right s.first (s.second ++ s.third) clean in
     let one = one_line certificate_form (Some (Header b.version))
     (items_said certificate_form b.entries) s.third s.certificate_is in
     let own : AreLines (one.line ∷ one.rest) = subst AreLines one.lines (clean_right s.second s.third later) in
     let k = kept b.entries one.rest one.other_forms own.1 in
     let third = header ∷ k.lines in
-    let certificate_is : IsSection certificate_form third 2 (without_halos b.entries) =
+    let certificate_is : IsSection certificate_form third 2 (without_halo_lines b.entries) =
     ap₂ (λ a t. a ∷ t) header_said k.said in
     let all = s.first ++ (s.second ++ third) in
     let all_clean : AreLines all =
@@ -283,16 +284,16 @@ pub record IsMigrated (text output : List ℕ) : Type 0 where
 pub was_migrated : (text output : List ℕ) → IsMigrationOf text output Yes → IsMigrated text output
 was_migrated text output says = grind (arith, common_steps, not_refused)
 
-twice_on : (i : CertificateLine) (es : List CertificateLine) (b : Bool) → is_halo i ≡ b →
-    without_halos (without_halos es) ≡ without_halos es →
-    without_halos (without_halos (i ∷ es)) ≡ without_halos (i ∷ es)
-twice_on i es true e more = ap without_halos (without_halo i es e) ∙ more ∙ sym (without_halo i es e)
+twice_on : (i : CertificateLine) (es : List CertificateLine) (b : Bool) → is_halo_line i ≡ b →
+    without_halo_lines (without_halo_lines es) ≡ without_halo_lines es →
+    without_halo_lines (without_halo_lines (i ∷ es)) ≡ without_halo_lines (i ∷ es)
+twice_on i es true e more = ap without_halo_lines (without_halo i es e) ∙ more ∙ sym (without_halo i es e)
 twice_on i es false e more = grind (arith, common_steps, with_other)
 
-without_twice : (es : List CertificateLine) → without_halos (without_halos es) ≡ without_halos es
-unfolding without_halos
+without_twice : (es : List CertificateLine) → without_halo_lines (without_halo_lines es) ≡ without_halo_lines es
+unfolding without_halo_lines
 without_twice [] = refl
-without_twice (i ∷ es) = twice_on i es (is_halo i) refl (without_twice es)
+without_twice (i ∷ es) = twice_on i es (is_halo_line i) refl (without_twice es)
 
 pub migrates_once : MigrationIsIdempotent
 migrates_once text output again first second =
@@ -314,8 +315,8 @@ no_code b code more h1 = grind (arith, common_steps)
 
 no_halos : (l : Limits) (g : Setting) (before es : List CertificateLine) →
     AreFaultless (certificate_grammar l g) 2 before es →
-    without_halos es ≡ es
-unfolding without_halos
+    without_halo_lines es ≡ es
+unfolding without_halo_lines
 no_halos l g before [] good = refl
 no_halos l g before (i ∷ es) good = grind (arith, with_other, no_code, (no_halos l g (before ++ i ∷ []) es good.1))
 
@@ -329,7 +330,7 @@ unchanged text output m two =
     (in_place (text_limits text) m.bundle (good_read text m.bundle m.read) two)
     ∙ sym (text_is text m.bundle (sections_read text m.bundle m.read))
 
-pub keeps_version_two : MigrationKeepsVersionTwo
+pub keeps_version_two : MigrationCopiesVersionTwo
 keeps_version_two text output circuit layout certificate migrates says =
     let m = was_migrated text output migrates in
     unchanged text output m ((said_so text m.bundle circuit layout certificate
@@ -357,7 +358,7 @@ says_design text output circuit layout m d =
           (subst (λ size. IsSection layout_form s.second size b.parts) second.header s.layout_is);
     }
 
-pub says_the_same : MigrationSaysTheSame
+pub says_the_same : MigrationKeepsAllButHalos
 unfolding says_design
 says_the_same text output circuit layout certificate migrates says =
     let m = was_migrated text output migrates in
@@ -365,13 +366,13 @@ says_the_same text output circuit layout certificate migrates says =
     let read = sections_read text b m.read in
     let is = said_so text b circuit layout certificate read says in
     let s = (migrated_sections (text_limits text) text b read).1 in
-    let bundle : SaysBundle output circuit layout (without_halos certificate) = record {
+    let bundle : SaysBundle output circuit layout (without_halo_lines certificate) = record {
       design = says_design text output circuit layout m says.design;
       version = 2;
       third = s.third;
       rest = [];
       lines = sym (append-nil s.third);
-      certificate_is = subst (λ es. IsSection certificate_form s.third 2 (without_halos es)) is.entries_are
+      certificate_is = subst (λ es. IsSection certificate_form s.third 2 (without_halo_lines es)) is.entries_are
           s.certificate_is;
     } in
     record { says = bundle; of_version = refl }

@@ -3,7 +3,7 @@ use Rattle.headline.proofs.Imports.{CircuitLine, HasRoomToMove, IsCorrect, IsDes
 use Rattle.headline.proofs.Imports.{List}
 use Rattle.headline.proofs.Imports.{Outcome, Pattern, TouchesRim, Yes, arith, circuit_of, common_steps, design_text}
 use Rattle.headline.proofs.Imports.{enlarged, in_ring, moved, run_under, subst, whole, ℕ, ◌≡◌}
-use Rattle.headline.specs.MovedDesigns.{EachCorrectDesignGetsYes}
+use Rattle.headline.specs.MovedDesigns.{EachMovedCorrectDesignGetsYes}
 use Rattle.headline.proofs.MovedLines.{enlarged_good, moved_good}
 use Rattle.headline.proofs.MovedPlanes.{by_moved}
 use Rattle.headline.proofs.MovedRims.{not_rim}
@@ -35,7 +35,7 @@ off_rim circuit p correct t =
     (grind (arith, common_steps, under_moved, not_rim))
     t.x t.y t.touch.rim t.touch.live
 
-pub each_gets_yes : EachCorrectDesignGetsYes
+pub each_gets_yes : EachMovedCorrectDesignGetsYes
 each_gets_yes circuit p design room correct none =
     let text = design_text circuit (moved p) in
     let rules = design_moved circuit p design room in

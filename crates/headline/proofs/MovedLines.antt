@@ -1,7 +1,8 @@
 -- The lines of a moved layout keep the rules of lines
 use Rattle.headline.proofs.Imports.{Ball, In, LayoutHeader, LayoutLine, List, Mirror, None, Out, Pattern, Waste, []}
 use Rattle.headline.proofs.Imports.{and_parts, ap₂, arith, cell_fault, cells_of, cells_taken_at_start, common_steps}
-use Rattle.headline.proofs.Imports.{enlarged, flat_map, in_layout, in_span, in_span-negsuc, ints, is_inside, is_taken}
+use Rattle.headline.proofs.Imports.{enlarged, flat_map, has_taken_cell, in_layout, in_span, in_span-negsuc, ints}
+use Rattle.headline.proofs.Imports.{is_inside}
 use Rattle.headline.proofs.Imports.{largest_limit_code, map, map-append, moved, moved_by_two, negsuc, parts_of}
 use Rattle.headline.proofs.Imports.{port_moved_by_two, pos, range_with_len, rectangle_cells, rectangle_moved_by_two}
 use Rattle.headline.proofs.Imports.{refl, size_fault, span_from, span_parts, suc, sym, takes_cells_at_start, true, zero}
@@ -72,8 +73,8 @@ unfolding cells_taken_at_end
 ended_moved parts x y = grind (arith, common_steps, any_map, ends_moved, holds_moved)
 
 taken_moved : (before : List LayoutLine) (part : LayoutLine) →
-    is_taken (moved_lines before) (moved_line part) ≡ is_taken before part
-unfolding is_taken
+    has_taken_cell (moved_lines before) (moved_line part) ≡ has_taken_cell before part
+unfolding has_taken_cell
 taken_moved before part = grind (arith, common_steps, begins_moved, line_cells_moved, any_map, begun_moved, ended_moved)
 
 -- ---- cells inside

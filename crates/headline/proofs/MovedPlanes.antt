@@ -4,8 +4,8 @@ use Rattle.headline.proofs.Imports.{in_rectangles, ints, list_any, map, moved, m
 use Rattle.headline.proofs.Imports.{rectangle_moved_by_two, refl, run, start, subst, suc, zero, ℕ, ℤ, ◌&&◌, ◌+ℤ◌}
 use Rattle.headline.proofs.Imports.{◌-ℤ◌, ◌||◌, ◌∷◌, ◌≡◌}
 use Rattle.lemmas.proofs.Common.{int_eq}
-use Rattle.bbm_rule.specs.Moves.{IsMoved}
-use Rattle.bbm_rule.specs.Plane.{is_at}
+use Rattle.bbm_rule.specs.Moves.{IsStateMovedBy}
+use Rattle.bbm_rule.specs.Plane.{is_cell_at}
 use Rattle.bbm_rule.proofs.Moving.{step_moved}
 use Rattle.bbm_rule.specs.Boxes.{in_box}
 use Rattle.pattern.specs.Layout.{in_ports_on}
@@ -37,7 +37,7 @@ pub any_map : {X Y : Type 0} (f : X → Y) (test : Y → Bool) (test' : X → Bo
 any_map f test test' h [] = refl
 any_map f test test' h (x ∷ xs) = ap₂ (λ a b. a || b) (h x) (any_map f test test' h xs)
 
-pub is_at_moved : (c : Cell) (x y : ℤ) → is_at (moved_by_two c) (x +ℤ pos 2) (y +ℤ pos 2) ≡ is_at c x y
+pub is_at_moved : (c : Cell) (x y : ℤ) → is_cell_at (moved_by_two c) (x +ℤ pos 2) (y +ℤ pos 2) ≡ is_cell_at c x y
 is_at_moved c x y = ap₂ (λ a b. a && b) (eq_moved c.x x) (eq_moved c.y y)
 
 pub cells_moved : (cs : List Cell) (x y : ℤ) →
@@ -54,12 +54,12 @@ ports_on_moved on qs x y = any_map port_moved_by_two _ _ (λ q. ap (λ b. on q.n
 
 -- ---- the run
 
-start_moved : (p : Pattern) (on : List ℕ → Bool) → IsMoved (pos 2) (pos 2) (start p on) (start (moved p) on)
+start_moved : (p : Pattern) (on : List ℕ → Bool) → IsStateMovedBy (pos 2) (pos 2) (start p on) (start (moved p) on)
 unfolding start
 start_moved p on x y = grind (arith, common_steps, rectangles_moved, cells_moved, ports_on_moved)
 
 pub run_moved : (p : Pattern) (on : List ℕ → Bool) (t : ℕ) →
-    IsMoved (pos 2) (pos 2) (run (start p on) t) (run (start (moved p) on) t)
+    IsStateMovedBy (pos 2) (pos 2) (run (start p on) t) (run (start (moved p) on) t)
 unfolding run
 run_moved p on zero = start_moved p on
 run_moved p on (suc t) = grind (arith, common_steps, step_moved, (run_moved p on t))

@@ -1,10 +1,10 @@
 -- A circuit has one answer.
-use Rattle.headline.proofs.Imports.{AreOrdered, Bool, HasAtMostOneAnswerToEachText, IsValueAnswerOf, List, Outcome}
+use Rattle.headline.proofs.Imports.{AreGatesOrdered, Bool, HasAtMostOneAnswerToEachText, IsValueAnswerOf, List, Outcome}
 use Rattle.headline.proofs.Imports.{SaysValues, Valuation, ValueQuestion, [], ap₂, arith, as_values, common_steps}
 use Rattle.headline.proofs.Imports.{false, inl, inr, length, netlist_of, refl, subst, suc, sym, value_sections_of, zero}
 use Rattle.headline.proofs.Imports.{ℕ, ◌<◌, ◌∙◌, ◌∷◌, ◌≡◌, ◌⊎◌}
 use Rattle.lemmas.proofs.Common.{slice_index_or}
-use Rattle.circuit.specs.Bridge.{AreValues, ValuesStopAt}
+use Rattle.circuit.specs.Bridge.{AreWireValues, ValuesStopAt}
 use Rattle.circuit.specs.Meaning.{Netlist, first_gates}
 use Rattle.circuit.proofs.Undefined.{stopped, undefined_has_none, undefined_is_one}
 use Rattle.answers.specs.ValueText.{SaysAllValues, SaysValuesBeforeGate}
@@ -18,25 +18,27 @@ same_bits (x ∷ xs) [] e same = absurd (omega arith)
 same_bits (x ∷ xs) (y ∷ ys) e same =
     ap₂ (λ b bs. b ∷ bs) (same zero (omega arith)) (same_bits xs ys (omega arith) (λ w h. same (suc w) (omega arith)))
 
-one_list : (n : Netlist) (a : Valuation) (vs us : List Bool) → AreValues n a vs → AreValues n a us → vs ≡ us
+one_list : (n : Netlist) (a : Valuation) (vs us : List Bool) → AreWireValues n a vs → AreWireValues n a us → vs ≡ us
 one_list n a vs us h h' = same_bits vs us (h.all ∙ sym h'.all)
     (λ w below. sym (h.only (as_values us) h'.satisfies w below))
 
 -- values and a gate without a row exclude each other, and there is one such gate
-never_both : (n : Netlist) (a : Valuation) (k : ℕ) (vs us : List Bool) → AreOrdered n.given n.gates → AreValues n a vs →
+never_both : (n : Netlist) (a : Valuation) (k : ℕ) (vs us : List Bool) → AreGatesOrdered n.given n.gates →
+    AreWireValues n a vs →
     ValuesStopAt n a k us → ⊥
 never_both n a k vs us ordered v s = undefined_has_none n a (as_values vs) k ordered (stopped n a k us s) v.satisfies
 
-one_stop : (n : Netlist) (a : Valuation) (k m : ℕ) (vs us : List Bool) → AreOrdered n.given n.gates →
+one_stop : (n : Netlist) (a : Valuation) (k m : ℕ) (vs us : List Bool) → AreGatesOrdered n.given n.gates →
     ValuesStopAt n a k vs →
     ValuesStopAt n a m us → (k ≡ m) × (vs ≡ us)
 one_stop n a k m vs us ordered s t =
     let same : k ≡ m = undefined_is_one n a k m ordered (stopped n a k vs s) (stopped n a m us t) in
-    let before : AreValues (first_gates k n) a us = subst (λ j. AreValues (first_gates j n) a us) (sym same) t.before in
+    let before : AreWireValues (first_gates k n) a us =
+    subst (λ j. AreWireValues (first_gates j n) a us) (sym same) t.before in
     (same, one_list (first_gates k n) a vs us s.before before)
 
 one_of : (asked : ValueQuestion) (output output' : List ℕ) (outcome outcome' : Outcome) →
-    AreOrdered (netlist_of asked.0).given (netlist_of asked.0).gates →
+    AreGatesOrdered (netlist_of asked.0).given (netlist_of asked.0).gates →
     SaysAllValues asked output outcome ⊎ SaysValuesBeforeGate asked output outcome →
     SaysAllValues asked output' outcome' ⊎ SaysValuesBeforeGate asked output' outcome' →
     (output ≡ output') × (outcome ≡ outcome')

@@ -1,10 +1,12 @@
 -- The lines of the plain certificate of a design make a plain module
 use Rattle.headline.proofs.Imports.{All, All-cons, All-nil, AreGoodCircuitLines, Bool, Box2, CertificateLine}
 use Rattle.headline.proofs.Imports.{CircuitLine, Cut, IsGoodDesign, IsInputName, IsPlaced, IsPlainModule, Keep, List}
-use Rattle.headline.proofs.Imports.{ModuleLines, Pattern, SaysPlain, Some, Use, [], add_line, and_parts, any_at, ap}
+use Rattle.headline.proofs.Imports.{ModuleLines, Pattern, SaysPlainCertificate, Some, Use, [], add_line, and_parts}
+use Rattle.headline.proofs.Imports.{any_at, ap}
 use Rattle.headline.proofs.Imports.{append-nil, append_assoc, ap₂, arith, bytes_same, cases_Bool, common_steps, cuts}
 use Rattle.headline.proofs.Imports.{defined, edges, eq-eqb, eqb, eqb-true, false, filter, flat_map, gate_numbers, has}
-use Rattle.headline.proofs.Imports.{input_names, inputs_are_first, is_among, is_inverse_gate, is_module, list_all, map}
+use Rattle.headline.proofs.Imports.{input_names, inputs_are_first, is_among, is_inverse_gate, is_module_line, list_all}
+use Rattle.headline.proofs.Imports.{map}
 use Rattle.headline.proofs.Imports.{modules_of, netlist_of, not, placed, plain_lines, range_with_len, refl, slice_get}
 use Rattle.headline.proofs.Imports.{slice_get_within, subst, suc, sym, true, whole, zero, ℕ, ◌&&◌, ◌++◌, ◌+◌, ◌<◌, ◌∙◌}
 use Rattle.headline.proofs.Imports.{◌∷◌, ◌≡◌, ◌≤◌}
@@ -17,24 +19,24 @@ use Rattle.soundness.proofs.KeptGates.{listed_later}
 
 -- ---- lines that begin no module belong to the one before
 
-one_more : (b : Box2) (ms : List CertificateLine) (i : CertificateLine) → is_module i ≡ false →
+one_more : (b : Box2) (ms : List CertificateLine) (i : CertificateLine) → is_module_line i ≡ false →
     add_line (record { area = b; lines = ms } ∷ []) i ≡ record { area = b; lines = ms ++ i ∷ [] } ∷ []
 unfolding add_line change_last
 one_more b ms i h1 = grind (arith, common_steps)
 
-pub all_inner : (b : Box2) (ms ls : List CertificateLine) → list_all (λ i. not (is_module i)) ls ≡ true →
+pub all_inner : (b : Box2) (ms ls : List CertificateLine) → list_all (λ i. not (is_module_line i)) ls ≡ true →
     fold add_line (record { area = b; lines = ms } ∷ []) ls ≡ record { area = b; lines = ms ++ ls } ∷ []
 all_inner b ms [] h = ap (λ (l : List CertificateLine). (record { area = b; lines = l }) ∷ []) (sym (append-nil ms))
 all_inner b ms (i ∷ ls) h =
-    let both = and_parts (not (is_module i)) (list_all (λ i. not (is_module i)) ls) h in
-    ap (λ s. fold add_line s ls) (one_more b ms i (false_from_not (is_module i) both.0))
+    let both = and_parts (not (is_module_line i)) (list_all (λ i. not (is_module_line i)) ls) h in
+    ap (λ s. fold add_line s ls) (one_more b ms i (false_from_not (is_module_line i) both.0))
     ∙ all_inner b (ms ++ i ∷ []) ls both.1
     ∙ ap (λ (l : List CertificateLine). (record { area = b; lines = l }) ∷ []) (append_assoc ms (i ∷ []) ls)
 
 -- ---- lines of one kind after another
 
 module _ {X : Type 0} (mk : X → CertificateLine) where
-  pub all_mapped : ((x : X) → is_module (mk x) ≡ false) → (xs : List X) → list_all (λ i. not (is_module i))
+  pub all_mapped : ((x : X) → is_module_line (mk x) ≡ false) → (xs : List X) → list_all (λ i. not (is_module_line i))
       (map mk xs) ≡ true
   all_mapped h [] = refl
   all_mapped h (x ∷ xs) = ap₂ (λ a b. not a && b) (h x) (all_mapped h xs)
@@ -122,7 +124,7 @@ pub plain_lines_decide : PlainLinesTextIsDecided
 plain_lines_decide text output outcome circuit layout said reports some =
     let good : IsGoodDesign text circuit layout = good_designs text output outcome circuit layout reports some
     said.design in
-    let plain : SaysPlain text = record {
+    let plain : SaysPlainCertificate text = record {
       circuit = circuit;
       layout = layout;
       certificate = plain_lines circuit layout;

@@ -4,26 +4,28 @@ use Rattle.headline.proofs.Imports.{CertificateLine, Circuit, CircuitLine, Err, 
 use Rattle.headline.proofs.Imports.{IsCorrect, IsInputName, IsPlainModule, IsRead, IsRight, IsVerdict, LineMeans, List}
 use Rattle.headline.proofs.Imports.{Local}
 use Rattle.headline.proofs.Imports.{Meet, ModuleLines, No, Ok, Outcome, Pattern, Refusal, Refused, ReportLine, Result}
-use Rattle.headline.proofs.Imports.{Satisfies, SaysBundle, SaysDesign, SaysNoWith, SaysPlain, SaysReport, Setting, Some}
+use Rattle.headline.proofs.Imports.{Satisfies, SaysBundle, SaysDesign, SaysNoWith, SaysPlainCertificate, SaysReport}
+use Rattle.headline.proofs.Imports.{Setting, Some}
 use Rattle.headline.proofs.Imports.{StopHolds, TouchesRim, Valuation, Verdict, Yes, [], all_in_modules, all_stops, ap}
 use Rattle.headline.proofs.Imports.{arith, bundle_of, cases_Bool, certificate_text, circuit_of, common_steps}
 use Rattle.headline.proofs.Imports.{cut_name_in, cuts, edge_in, edges, flat_map, inl, inr, is_haloless_version, length}
 use Rattle.headline.proofs.Imports.{map, meant_old, modules_in, modules_of, netlist_of, option_map, read_layout-names}
 use Rattle.headline.proofs.Imports.{refl, report_text, setting_of, sha256, slice_get, slice_get-map, stop_in}
-use Rattle.headline.proofs.Imports.{stops_meant, subst, sym, verdict_outcome, with_halos, ℕ, ◌∙◌, ◌∷◌, ◌≡◌}
+use Rattle.headline.proofs.Imports.{stops_meant, subst, sym, verdict_outcome, with_halo_lines, ℕ, ◌∙◌, ◌∷◌, ◌≡◌}
 use Rattle.lemmas.proofs.Common.{Global, Vec}
 use Rattle.certificate_lines.specs.Entries.{stops}
 use Rattle.certificate_lines.specs.Versions.{edge_lines_beside, sorted_border_lines, modules_by_version}
 use Rattle.certificate.proofs.FullModules.{meant_new, other_lines, stop_lines}
 use Rattle.soundness.proofs.EarliestLines.{earliest_is_real}
 use Rattle.headline.specs.Plain.{IsWrongIfPlain, IsWrongText}
-use Rattle.headline.specs.ReportLines.{EarliestIsReal, LinesMeanIfPlain, LinesHaveMeaning}
-use Rattle.headline.specs.PlainLaws.{LinesOfNoHaveMeaning, PlainIsDecided, PlainNoMeansWrong, YesKeepsOffRim}
+use Rattle.headline.specs.ReportLines.{IsEarliestReportLineReal, LinesHaveMeaningIfPlain, LinesHaveMeaning}
+use Rattle.headline.specs.PlainLaws.{LinesOfNoHaveMeaning, PlainNoMeansWrongOrRimLive, PlainTextIsDecided}
+use Rattle.headline.specs.PlainLaws.{YesKeepsOffRim}
 use Rattle.core_book.specs.declared.verdict.ReportLine.TheVariants.{Keep, Delay}
 use Rattle.soundness.specs.FirstFaults.{IsModuleAssignmentOf, IsEarliestLine, IsRealFault}
 use Rattle.soundness.specs.HeadlineLaws.{HasInputNames}
 use Rattle.soundness.specs.PlainCertificates.{IsWrongDesign}
-use Rattle.soundness.specs.OnTime.{IsOnTime}
+use Rattle.soundness.specs.OnTime.{AreStopsTrueAndOnTime}
 use Rattle.soundness.proofs.PlainCertificates.{plain_no, plain_report_lines}
 use Rattle.soundness.proofs.WholeRuns.{off_rim}
 use Rattle.soundness.proofs.YesMeansCorrect.{bundle_read}
@@ -37,8 +39,8 @@ use Rattle.core_book.specs.declared.verdict.Verdict.TheVariants as verdict
 -- ---- a plain module is plain in either version
 
 full_plain : (g : Setting) (ms : List ModuleLines) (lines : List CircuitLine) (p : Pattern) (m : ModuleLines) →
-    IsPlainModule lines p m → IsPlainModule lines p (with_halos g ms m)
-unfolding with_halos
+    IsPlainModule lines p m → IsPlainModule lines p (with_halo_lines g ms m)
+unfolding with_halo_lines
 full_plain g ms lines p m plain = record {
   box = plain.box;
   inputs = subst (All (IsInputName lines))
@@ -58,8 +60,8 @@ record HaveSameLines (full m : ModuleLines) : Type 0 where
   edges_same : edges full ≡ edges m
   stops_same : stops full ≡ stops m
 
-with_halos_same : (g : Setting) (ms : List ModuleLines) (m : ModuleLines) → HaveSameLines (with_halos g ms m) m
-unfolding with_halos
+with_halos_same : (g : Setting) (ms : List ModuleLines) (m : ModuleLines) → HaveSameLines (with_halo_lines g ms m) m
+unfolding with_halo_lines
 with_halos_same g ms m = grind (arith, common_steps, other_lines, stop_lines)
 
 -- the module that module i means
@@ -72,9 +74,9 @@ means_module : (version : ℕ) (g : Setting) (ms : List ModuleLines) (i : ℕ) (
     slice_get ms i ≡ Some m → MeansModule version g ms i m
 means_module version g ms i m at = elim (cases_Bool (is_haloless_version version)) [
   | inl new ↦ record {
-    full = with_halos g ms m;
-    numbered = ap (λ ns. slice_get ns i) (meant_new version g ms new) ∙ slice_get-map (with_halos g ms) ms i
-        ∙ ap (option_map (with_halos g ms)) at;
+    full = with_halo_lines g ms m;
+    numbered = ap (λ ns. slice_get ns i) (meant_new version g ms new) ∙ slice_get-map (with_halo_lines g ms) ms i
+        ∙ ap (option_map (with_halo_lines g ms)) at;
     same = with_halos_same g ms m;
   }
   | inr old ↦ record {
@@ -128,8 +130,8 @@ means_plain : (version : ℕ) (g : Setting) (ms : List ModuleLines) (lines : Lis
     (m : ModuleLines) → ms ≡ m ∷ [] → IsPlainModule lines p m → MeansPlain version g ms lines p m
 means_plain version g ms lines p m is plain = elim (cases_Bool (is_haloless_version version)) [
   | inl new ↦ record {
-    one = with_halos g ms m;
-    alone = meant_new version g ms new ∙ ap (map (with_halos g ms)) is;
+    one = with_halo_lines g ms m;
+    alone = meant_new version g ms new ∙ ap (map (with_halo_lines g ms)) is;
     plain = full_plain g ms lines p m plain;
     same = with_halos_same g ms m;
   }
@@ -184,7 +186,7 @@ module _ (text : List ℕ) (b : Bundle) (output : List ℕ) (outcome : Outcome) 
       ∙ all_in_modules (text_limits text) (setting_of b.circuit c.layout) b.version b.entries
       (certificate_faultless text b c.layout reads says.its_own.layout)
 
-  stops_on_time : HasRightStops text → IsOnTime (circuit_of c.circuit) c.layout (modules_in c)
+  stops_on_time : HasRightStops text → AreStopsTrueAndOnTime (circuit_of c.circuit) c.layout (modules_in c)
   stops_on_time r =
       let same = same_design r.circuit r.layout r.says.design in
       let lines : r.certificate ≡ b.entries = one_certificate text r.circuit c.circuit r.layout c.layout r.certificate
@@ -218,7 +220,7 @@ module _ (text : List ℕ) (b : Bundle) (output : List ℕ) (outcome : Outcome) 
     touches = touch;
   }))
 
-  its_plain : (r : SaysPlain text) →
+  its_plain : (r : SaysPlainCertificate text) →
       MeansPlain c.version (setting_of c.circuit c.layout) (modules_of c.entries) c.circuit c.layout r.one
   its_plain r =
       let same = same_design r.circuit r.layout r.says.design in
@@ -271,7 +273,7 @@ module _ (text : List ℕ) (b : Bundle) (output : List ℕ) (outcome : Outcome) 
         together judged first own.numbered s
         (assignment_same (circuit_of c.circuit) own.full m v f.assignment own.same has))
 
-    earliest : EarliestIsReal text its_no.lines.items
+    earliest : IsEarliestReportLineReal text its_no.lines.items
     earliest circuit layout certificate r =
         let same = same_design circuit layout r.design in
         let lines : certificate ≡ b.entries =
@@ -280,7 +282,7 @@ module _ (text : List ℕ) (b : Bundle) (output : List ℕ) (outcome : Outcome) 
         (subst (λ p. Earliest c.circuit p certificate) (sym same.1)
         (subst (Earliest c.circuit c.layout) (says.its_own.entries ∙ sym lines) own_earliest))
 
-    meant_lines : LinesMeanIfPlain text its_no.lines.items
+    meant_lines : LinesHaveMeaningIfPlain text its_no.lines.items
     meant_lines r =
         let same = same_design r.circuit r.layout r.says.design in
         let it = its_plain r in
@@ -307,7 +309,7 @@ by_read : (text output : List ℕ) (read : Result Bundle Refusal) → bundle_of 
 by_read text output (Ok b) e says = wrong text b output No e says refl
 by_read text output (Err refusal) e told = absurd (not_refused told.1)
 
-pub no_is_wrong : PlainNoMeansWrong
+pub no_is_wrong : PlainNoMeansWrongOrRimLive
 no_is_wrong text output says = by_read text output (bundle_of text) refl says
 
 pub yes_off_rim : YesKeepsOffRim
@@ -319,7 +321,7 @@ contradicts text (inl incorrect) right stops off = incorrect right
 contradicts text (inr (inl late)) right stops off = late stops
 contradicts text (inr (inr touch)) right stops off = off touch
 
-pub plain_is_decided : PlainIsDecided
+pub plain_is_decided : PlainTextIsDecided
 plain_is_decided text output Yes plain says some =
     grind (arith, common_steps, yes_is_right, yes_has_right_stops, yes_off_rim)
 plain_is_decided text output No plain says some =

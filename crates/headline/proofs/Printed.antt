@@ -1,6 +1,7 @@
 -- A text that begins with a design says it, and the printing is the text of the sections.
 use Rattle.headline.proofs.Imports.{All, All-head, All-tail, AllByRecursion, AreLines, Ball, Cell, CircuitLine, End}
-use Rattle.headline.proofs.Imports.{FitsKind, Header, In, IsForm, IsLine, IsTrue, Item, LayoutLine, List, Mirror, None}
+use Rattle.headline.proofs.Imports.{HasNameCountOfKind, Header, In, IsForm, IsLine, IsTrue, Item, LayoutLine, List}
+use Rattle.headline.proofs.Imports.{Mirror, None}
 use Rattle.headline.proofs.Imports.{Out, Pattern, Waste, [], ap, append-nil, append_assoc, ap₂, arith, circuit_grammar}
 use Rattle.headline.proofs.Imports.{clean_both, codes, common_steps, ended-cons, entry, flat_map, flat_map-append}
 use Rattle.headline.proofs.Imports.{is_name, layout_grammar, length, line_text, lines_of, map, part_form, parts_of, pos}
@@ -43,10 +44,11 @@ lines_more (l ∷ ls) rest clean =
 kind_counts : (kind : CircuitLineKind) → ((form kind).1 ≡ kind_in_count kind) × ((form kind).3 ≡ kind_out_count kind)
 kind_counts kind = grind (arith, common_steps)
 
-pub fits_of : (r : CircuitLine) → IsLine r → FitsKind r
+pub fits_of : (r : CircuitLine) → IsLine r → HasNameCountOfKind r
 fits_of r is = (is.consumes ∙ (kind_counts r.kind).0, is.defines ∙ (kind_counts r.kind).1)
 
-pub counts_of : (r : CircuitLine) → FitsKind r → (length r.ins ≡ (form r.kind).1) × (length r.outs ≡ (form r.kind).3)
+pub counts_of : (r : CircuitLine) → HasNameCountOfKind r →
+    (length r.ins ≡ (form r.kind).1) × (length r.outs ≡ (form r.kind).3)
 counts_of r fits = (fits.0 ∙ sym (kind_counts r.kind).0, fits.1 ∙ sym (kind_counts r.kind).1)
 
 pub are_names : (ns : List (List ℕ)) → All (λ n. IsTrue (is_name n)) ns → AreNames ns
@@ -54,13 +56,13 @@ are_names [] h = refl
 are_names (n ∷ ns) h = ap₂ (λ a b. a && b) (All-head (λ n. IsTrue (is_name n)) n ns h)
     (are_names ns (All-tail (λ n. IsTrue (is_name n)) n ns h))
 
-line_printed : (kind : CircuitLineKind) (ins outs : List (List ℕ)) → FitsKind (entry kind ins outs) →
+line_printed : (kind : CircuitLineKind) (ins outs : List (List ℕ)) → HasNameCountOfKind (entry kind ins outs) →
     printed (line_words (entry kind ins outs)) ≡ entry_text (entry kind ins outs)
 unfolding entry_text first_word words_after_keyword
 line_printed kind ins outs h1 = grind (arith, common_steps, append-nil)
 
 abbrev pub Fit : List CircuitLine → Type 0
-Fit circuit = AllByRecursion FitsKind circuit
+Fit circuit = AllByRecursion HasNameCountOfKind circuit
 
 items_printed : (circuit : List CircuitLine) → Fit circuit →
     flat_map printed (map line_words circuit ++ (codes "end" ∷ []) ∷ [])

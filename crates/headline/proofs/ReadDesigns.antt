@@ -1,5 +1,5 @@
 -- What a text says that is not refused keeps the rules of a design
-use Rattle.headline.proofs.Imports.{All-from_recursion, AllByRecursion, AnswersOrRefuses, AreFaultless, AreInOrder}
+use Rattle.headline.proofs.Imports.{All-from_recursion, AllByRecursion, AnswersOrRefuses, AreFaultless, AreLinesInOrder}
 use Rattle.headline.proofs.Imports.{Bundle, CircuitLine, End, Err, Form, Header, IsDesign, IsFaultless}
 use Rattle.headline.proofs.Imports.{IsSection, IsTrue, Item, LayoutHeader, LayoutLine, List, Ok}
 use Rattle.headline.proofs.Imports.{Pattern, Refusal, Result, SaysReport, Some, [], and_parts}
@@ -89,7 +89,7 @@ each_name [] h = tt
 each_name (n ∷ ns) h = let both = and_parts (is_name n) (list_all is_name ns) h in (both.0, each_name ns both.1)
 
 in_order : (l : Limits) (before rest : List CircuitLine) → AreFaultless (circuit_grammar l) tt before rest →
-    AreInOrder before rest
+    AreLinesInOrder before rest
 in_order l before [] good = tt
 in_order l before (r ∷ rest) good =
     grind (arith, common_steps, no_code_first, (in_order l (before ++ r ∷ []) rest good.1))

@@ -1,6 +1,7 @@
 -- The lines of the plain certificate of a small design are good
 use Rattle.headline.proofs.Imports.{All, All-cons, All-head, All-nil, All-tail, AnswersOrRefuses, AreFaultless}
-use Rattle.headline.proofs.Imports.{AreGoodAfter, AreGoodCircuitLines, AreOrdered, Bool, Box2, Bundle, CertificateLine}
+use Rattle.headline.proofs.Imports.{AreGatesOrdered, AreGoodAfter, AreGoodCircuitLines, Bool, Box2, Bundle}
+use Rattle.headline.proofs.Imports.{CertificateLine}
 use Rattle.headline.proofs.Imports.{Circuit, CircuitLine, Cut, Grammar, Have, IsFaultless, IsInputName, IsPlaced}
 use Rattle.headline.proofs.Imports.{IsPlainText, IsSection, IsSmallDesign, Keep, LayoutHeader, LayoutLine, List, Module}
 use Rattle.headline.proofs.Imports.{ModuleLines, None, Ok, OutOfOrder, Outcome, Pattern, Port, Refused, SaysBundle}
@@ -10,7 +11,7 @@ use Rattle.headline.proofs.Imports.{bytes_same, cases_Bool, certificate_grammar,
 use Rattle.headline.proofs.Imports.{common_steps, cut_name_in, cuts, defined, defines, drop, eqb, eqb-true, false}
 use Rattle.headline.proofs.Imports.{faultless_named, filter, flat_map, flat_map-append, gate_numbers, gates_are_ordered}
 use Rattle.headline.proofs.Imports.{has, inl, input_names, inputs_are_first, inr, is_among, is_inverse_gate}
-use Rattle.headline.proofs.Imports.{is_layout_side, is_module, kept, known, layout_grammar, layout_section, length}
+use Rattle.headline.proofs.Imports.{is_layout_side, is_module_line, kept, known, layout_grammar, layout_section, length}
 use Rattle.headline.proofs.Imports.{length-append, list_all, list_any, map, map-append, modules_of, names_pass}
 use Rattle.headline.proofs.Imports.{netlist_of, no_code, not, number, option_map, or_else, output_names, parts_of}
 use Rattle.headline.proofs.Imports.{placed, plain_lines, port_names_of, push_cons, range_with_len, read_faultless}
@@ -27,14 +28,14 @@ use Rattle.circuit.proofs.Bridging.{define_first, defined_push, numbers_new}
 use Rattle.circuit.proofs.Naming.{wires_are_named}
 use Rattle.module_box.specs.Locals.{local_wires}
 use Rattle.certificate_lines.specs.Entries.{gates, last_of, areas}
-use Rattle.certificate_lines.specs.Orders.{is_cut, line_cmp, may_follow, may_precede, sort_number_of, rank_of}
+use Rattle.certificate_lines.specs.Orders.{is_cut_line, line_cmp, may_follow, may_precede, sort_number_of, rank_of}
 use Rattle.certificate_lines.specs.Rules.{are_new_and_distinct, cut_line_code, entry_fault, used_gate_fault}
 use Rattle.certificate_lines.specs.Rules.{keep_line_code, line_fault, use_line_code, code_but_for_order}
 use Rattle.certificate_lines.specs.Rules.{module_box_code}
 use Rattle.certificate_lines.specs.Rules.{end_fault, is_last_module_incomplete, is_local, is_local_wire}
 use Rattle.certificate_lines.specs.Rules.{has_nonlocal_port, leaves_gap, module_line_code, module_limit_fault}
 use Rattle.certificate_lines.proofs.LocalLemmas.{local_more}
-use Rattle.pattern.specs.Lines.{AreNamed}
+use Rattle.pattern.specs.Lines.{ArePortsNamed}
 use Rattle.certificate_lines.proofs.BoxPlaces.{cells_inside}
 use Rattle.soundness.proofs.Trials.{range_at}
 use Rattle.answers.proofs.Bundles.{same_setting}
@@ -125,7 +126,7 @@ module _ (circuit : List CircuitLine) (good : AreGoodCircuitLines circuit) where
 pub Inner : Setting → Box2 → List CertificateLine → List CertificateLine → Type 0
 Inner g b ms [] = Unit {0}
 Inner g b ms (i ∷ ls) =
-    (is_module i ≡ false) × (line_fault g (record { area = b; lines = ms }) i ≡ None) × Inner g b (ms ++ i ∷ []) ls
+    (is_module_line i ≡ false) × (line_fault g (record { area = b; lines = ms }) i ≡ None) × Inner g b (ms ++ i ∷ []) ls
 
 inner_append : (g : Setting) (b : Box2) (ms xs ys : List CertificateLine) → Inner g b ms xs → Inner g b (ms ++ xs) ys →
     Inner g b ms (xs ++ ys)
@@ -140,23 +141,23 @@ inner_append g b ms (x ∷ xs) ys h k =
 
 in_module : (g : Setting) (before : List CertificateLine) (m : ModuleLines) (i : CertificateLine) →
     last_of (modules_of before) ≡ Some m →
-    is_module i ≡ false → line_fault g m i ≡ None → entry_fault g before i ≡ None
+    is_module_line i ≡ false → line_fault g m i ≡ None → entry_fault g before i ≡ None
 unfolding entry_fault
 in_module g before m i h1 h2 h3 = grind (arith, common_steps)
 
-present_one : (b : Box2) (ms : List CertificateLine) → list_all (λ i. not (is_module i)) ms ≡ true →
+present_one : (b : Box2) (ms : List CertificateLine) → list_all (λ i. not (is_module_line i)) ms ≡ true →
     last_of (modules_of (Module b ∷ ms)) ≡ Some (record { area = b; lines = ms })
 unfolding modules_of last_of add_line
 present_one b ms inner = ap last_of (all_inner b [] ms inner)
 
-all_push : (ms : List CertificateLine) (i : CertificateLine) → list_all (λ i. not (is_module i)) ms ≡ true →
-    is_module i ≡ false →
-    list_all (λ i. not (is_module i)) (ms ++ i ∷ []) ≡ true
-all_push ms i h k = list_all-append (λ i. not (is_module i)) ms (i ∷ []) ∙ rw (h, k) refl
+all_push : (ms : List CertificateLine) (i : CertificateLine) → list_all (λ i. not (is_module_line i)) ms ≡ true →
+    is_module_line i ≡ false →
+    list_all (λ i. not (is_module_line i)) (ms ++ i ∷ []) ≡ true
+all_push ms i h k = list_all-append (λ i. not (is_module_line i)) ms (i ∷ []) ∙ rw (h, k) refl
 
 -- only a line of a module is one too many
 no_module_more : (l : Limits) (g : Setting) (before : List CertificateLine) (i : CertificateLine) →
-    is_module i ≡ false → module_limit_fault l g before i ≡ None
+    is_module_line i ≡ false → module_limit_fault l g before i ≡ None
 unfolding module_limit_fault
 no_module_more l g before i h1 = grind (arith, common_steps)
 
@@ -165,7 +166,7 @@ unfolding module_limit_fault modules_of
 first_module l g b = grind (arith, common_steps)
 
 inner_faultless : (l : Limits) (g : Setting) (b : Box2) (ms ls : List CertificateLine) →
-    list_all (λ i. not (is_module i)) ms ≡ true →
+    list_all (λ i. not (is_module_line i)) ms ≡ true →
     Inner g b ms ls → AreFaultless (certificate_grammar l g) 1 (Module b ∷ ms) ls
 unfolding Inner
 inner_faultless l g b ms [] all h = tt
@@ -193,27 +194,27 @@ follow_both : (j : CertificateLine) (xs ys : List CertificateLine) → list_all 
 follow_both j xs ys h k = list_all-append (λ i. may_precede i j) xs ys ∙ rw (h, k) refl
 
 cut_cut : (a b : List ℕ) → may_precede (Cut a) (Cut b) ≡ true
-unfolding may_precede is_cut
+unfolding may_precede is_cut_line
 cut_cut a b = or-true (is_lt (line_cmp (Cut a) (Cut b)))
 
 cut_use : (a : List ℕ) (k : ℕ) → may_precede (Cut a) (Use k) ≡ true
-unfolding may_precede is_cut line_cmp rank_of
+unfolding may_precede is_cut_line line_cmp rank_of
 cut_use a k = refl
 
 cut_keep : (a : List ℕ) (k : ℕ) → may_precede (Cut a) (Keep k) ≡ true
-unfolding may_precede is_cut line_cmp rank_of
+unfolding may_precede is_cut_line line_cmp rank_of
 cut_keep a k = refl
 
 use_keep : (j k : ℕ) → may_precede (Use j) (Keep k) ≡ true
-unfolding may_precede is_cut line_cmp rank_of
+unfolding may_precede is_cut_line line_cmp rank_of
 use_keep j k = refl
 
 use_use : (j k : ℕ) → j < k → may_precede (Use j) (Use k) ≡ true
-unfolding may_precede is_cut line_cmp rank_of sort_number_of
+unfolding may_precede is_cut_line line_cmp rank_of sort_number_of
 use_use j k lt = grind (arith, common_steps, ordering_then, less_nat)
 
 keep_keep : (j k : ℕ) → j < k → may_precede (Keep j) (Keep k) ≡ true
-unfolding may_precede is_cut line_cmp rank_of sort_number_of
+unfolding may_precede is_cut_line line_cmp rank_of sort_number_of
 keep_keep j k lt = grind (arith, common_steps, ordering_then, less_nat)
 
 follow_by : (g : Setting) (m : ModuleLines) (i : CertificateLine) → may_follow m.lines i ≡ true →
@@ -346,10 +347,10 @@ module _ (circuit : List CircuitLine) (good : AreGoodCircuitLines circuit) (p : 
       ∙ ap₂ (λ a b. a ++ b) now outs
       ∙ ap (λ k. range_with_len 0 n ++ range_with_len k (defines x.kind)) e ∙ range_append n 0 (defines x.kind)
 
-  uses_run : (n : ℕ) (done gs : List Gate) → done ++ gs ≡ all_gates → AreOrdered n gs →
+  uses_run : (n : ℕ) (done gs : List Gate) → done ++ gs ≡ all_gates → AreGatesOrdered n gs →
       after_gates (length done) ≡ range_with_len 0 n →
       Inner g b (front (range_with_len 0 (length done))) (map Use (range_with_len (length done) (length gs)))
-  unfolding Inner may_follow AreOrdered
+  unfolding Inner may_follow AreGatesOrdered
   uses_run n done [] e ordered now = tt
   uses_run n done (x ∷ gs) e ordered now =
       let k = length done in
@@ -442,10 +443,10 @@ module _ (circuit : List CircuitLine) (good : AreGoodCircuitLines circuit) (p : 
   keep_cuts : (done : List ℕ) → cuts (module_of (uses ++ map Keep done)) ≡ ins
   keep_cuts done = grind (arith, common_steps, flat_map-append, front_cuts, none_of)
 
-  final_known : (n : ℕ) (done gs : List Gate) → done ++ gs ≡ all_gates → AreOrdered n gs →
+  final_known : (n : ℕ) (done gs : List Gate) → done ++ gs ≡ all_gates → AreGatesOrdered n gs →
       after_gates (length done) ≡ range_with_len 0 n →
       after_gates (length all_gates) ≡ range_with_len 0 (wires_after n gs)
-  unfolding AreOrdered wires_after
+  unfolding AreGatesOrdered wires_after
   final_known n done [] e ordered now = grind (arith, common_steps)
   final_known n done (x ∷ gs) e ordered now =
       let k = length done in
@@ -503,7 +504,7 @@ module _ (k : Limits) (circuit : List CircuitLine) (p : Pattern) (good : AreGood
   pub its_given : length (input_names circuit) ≡ (netlist_of circuit).given
   its_given = grind (arith, common_steps, wires_are_named, wires_grow, inputs_are_first)
 
-  abbrev names_are : AreNamed (Some (port_names_of circuit)) (parts_of p)
+  abbrev names_are : ArePortsNamed (Some (port_names_of circuit)) (parts_of p)
   names_are = faultless_named k (Some (port_names_of circuit)) p.size (parts_of p) layout_good
 
   local_by : (n : List ℕ) (w : ℕ) → wire_of (circuit_of circuit) n ≡ Some w → w < wires (netlist_of circuit) →

@@ -1,5 +1,5 @@
 -- `modules`, `migrate` and `value` have an answer to each text
-use Rattle.headline.proofs.Imports.{AnswersOrRefuses, AreOrdered, CircuitLine, Err, HasAnAnswerToEachText}
+use Rattle.headline.proofs.Imports.{AnswersOrRefuses, AreGatesOrdered, CircuitLine, Err, HasAnAnswerToEachText}
 use Rattle.headline.proofs.Imports.{IsMigrationOf, IsModulesAnswerOf, IsValueAnswerOf, List, No, Ok, Outcome, Refusal}
 use Rattle.headline.proofs.Imports.{Refused}
 use Rattle.headline.proofs.Imports.{Result, SaysMigration, SaysModules, SaysValues, ValueQuestion, Yes, [], arith}
@@ -12,7 +12,7 @@ use Rattle.answers.specs.ValueText.{assigned_inputs}
 use Rattle.answers.specs.ValueText.{value_sections_with_limits}
 use Rattle.headline.proofs.YesIsRight.{circuit_good, went_on}
 use Rattle.section_text.specs.declared.limits.Limits.{Limits}
-use Rattle.section_text.specs.Limits.{front_lines}
+use Rattle.section_text.specs.Limits.{limits_line_count}
 use Rattle.meaning.specs.Design.{section_lines, text_limits}
 
 -- some output and some way to end
@@ -38,7 +38,7 @@ some_migration text = answered_always (SaysMigration (text_limits text)) (bundle
 
 -- ---- the values of a circuit
 
-says_values : (asked : ValueQuestion) (ordered : AreOrdered (netlist_of asked.0).given (netlist_of asked.0).gates)
+says_values : (asked : ValueQuestion) (ordered : AreGatesOrdered (netlist_of asked.0).given (netlist_of asked.0).gates)
     → HasValues (netlist_of asked.0) (assigned_inputs asked) ordered ⊎ HasStop (netlist_of asked.0)
     (assigned_inputs asked) ordered
     → SaysSomething SaysValues asked
@@ -59,15 +59,15 @@ asked_first : (entries : List CircuitLine) (read : Result (List (List ℕ)) Refu
 asked_first entries read asked h1 = grind (arith, common_steps)
 
 asked_ordered : (text : List ℕ) (asked : ValueQuestion) → value_sections_of text ≡ Ok asked
-    → AreOrdered (netlist_of asked.0).given (netlist_of asked.0).gates
+    → AreGatesOrdered (netlist_of asked.0).given (netlist_of asked.0).gates
 unfolding value_sections_of value_sections_with_limits
 asked_ordered text asked e =
     let l : Limits = text_limits text in
     let ls : List (List ℕ) = section_lines text in
-    let c = went_on (section_of (circuit_grammar l) (front_lines l) ls) _ asked e in
+    let c = went_on (section_of (circuit_grammar l) (limits_line_count l) ls) _ asked e in
     let same : c.items ≡ asked.0 = asked_first c.items _ asked c.then in
-    subst (λ es. AreOrdered (netlist_of es).given (netlist_of es).gates) same
-    (gates_are_ordered c.items (circuit_good l (front_lines l) ls c.header c.items c.was))
+    subst (λ es. AreGatesOrdered (netlist_of es).given (netlist_of es).gates) same
+    (gates_are_ordered c.items (circuit_good l (limits_line_count l) ls c.header c.items c.was))
 
 pub some_values : HasAnAnswerToEachText IsValueAnswerOf
 some_values text = answered_always SaysValues (value_sections_of text) (λ asked e.

@@ -10,7 +10,7 @@ use Rattle.headline.proofs.Imports.{ℤ, ◌<◌, ◌^◌, ◌∙◌, ◌∷◌,
 use Rattle.lemmas.proofs.Common.{◌*◌, cases_lt, mul-le-mul_right}
 use Rattle.bbm_rule.proofs.PlaneLemmas.{partner_twice}
 use Rattle.bbm_rule.proofs.Steps.{step_dead}
-use Rattle.pattern.specs.Run.{RunLeaves, live_cells}
+use Rattle.pattern.specs.Run.{RunFirstLeavesAt, live_cells}
 use Rattle.pattern.proofs.InsideLemmas.{begins_inside, size_sides, start_inside}
 use Rattle.certificate_lines.proofs.BoxPlaces.{box_length, box_place}
 use Rattle.certificate_lines.proofs.LineOrder.{In, flat_in}
@@ -23,7 +23,7 @@ use Rattle.headline.proofs.SomeAnswer.{SaysSomething, answered_always}
 use Rattle.headline.proofs.SomeReport.{some_layout}
 use Rattle.headline.proofs.YesIsRight.{laid_out, went_on}
 use Rattle.section_text.specs.declared.limits.Limits.{Limits}
-use Rattle.section_text.specs.Limits.{front_lines}
+use Rattle.section_text.specs.Limits.{limits_line_count}
 use Rattle.meaning.specs.Design.{section_lines, text_limits}
 use Rattle.lemmas.specs.Bounds.{max_side}
 use Rattle.section_text.proofs.Codes.{no_code_second}
@@ -95,7 +95,7 @@ module _ (s : LayoutHeader) where
   StaysUpTo first n = (k : ℕ) → k ≤ n → IsDeadOutside s (run first k)
 
   abbrev LeavesBoard : State → Type 0
-  LeavesBoard first = (k : ℕ) × RunLeaves s first k
+  LeavesBoard first = (k : ℕ) × RunFirstLeavesAt s first k
 
   run_to : (first : State) → IsDeadOutside s first → (n : ℕ) → n ≤ s.steps → StaysUpTo first n ⊎ LeavesBoard first
   unfolding run
@@ -167,11 +167,11 @@ unfolding run_sections_of run_sections_with_limits
 asked_layout text asked e =
     let k : Limits = text_limits text in
     let ls : List (List ℕ) = section_lines text in
-    let l = went_on (section_of (layout_grammar k None) (front_lines k) ls) _ asked e in
+    let l = went_on (section_of (layout_grammar k None) (limits_line_count k) ls) _ asked e in
     record {
       size = l.header;
       parts = l.items;
-      good = read_faultless (layout_grammar k None) (front_lines k) ls l.header l.items l.was;
+      good = read_faultless (layout_grammar k None) (limits_line_count k) ls l.header l.items l.was;
       same = asked_first (l.header, l.items) _ asked l.then;
     }
 

@@ -4,7 +4,7 @@ use Rattle.headline.proofs.Imports.{IsDesign, IsReportOf, IsSmallDesign, List, L
 use Rattle.headline.proofs.Imports.{Satisfies, Source, Spill, State, TouchesRim, Valuation, [], limit_or_name_code}
 use Rattle.headline.proofs.Imports.{ap, arith, cell_fault, cells_of, cells_taken_at_start, codes, common_steps}
 use Rattle.headline.proofs.Imports.{design_text, false, in_box, in_layout, in_ring, in_span, in_span-negsuc, inl, inr}
-use Rattle.headline.proofs.Imports.{ints, is_inside, is_taken, largest_limit_code, negsuc, number, partner}
+use Rattle.headline.proofs.Imports.{has_taken_cell, ints, is_inside, largest_limit_code, negsuc, number, partner}
 use Rattle.headline.proofs.Imports.{parts_of, plane_at, pos, rectangle_cells, refl, row, run, run_under, size_fault}
 use Rattle.headline.proofs.Imports.{span_from, span_parts, start, step, subst, suc, sym, takes_cells_at_start, true}
 use Rattle.headline.proofs.Imports.{turned}
@@ -14,8 +14,8 @@ use Rattle.bbm_rule.specs.Spans.{in_area}
 use Rattle.bbm_rule.proofs.Spans.{even_span, in_span-pos, partner_near}
 use Rattle.bbm_rule.proofs.Steps.{step_same}
 use Rattle.pattern.specs.Lines.{AreGoodAfter}
-use Rattle.bbm_rule.specs.Boxes.{some_neighbour}
-use Rattle.headline.specs.MovedDesigns.{SomeDesignNeedsRoom}
+use Rattle.bbm_rule.specs.Boxes.{has_neighbour_in_set}
+use Rattle.headline.specs.MovedDesigns.{SomeDesignNeedsMove}
 use Rattle.headline.proofs.AcceptedTexts.{no_of}
 use Rattle.headline.proofs.MovedDesigns.{each_gets_yes}
 use Rattle.headline.proofs.SomeReport.{some_report}
@@ -140,7 +140,7 @@ unfolding size_fault
 mirror_size = refl
 
 mirror_good : AreGoodAfter rim_mirror.size [] (parts_of rim_mirror)
-unfolding takes_cells_at_start cells_taken_at_start cell_fault cells_of is_inside is_taken largest_limit_code
+unfolding takes_cells_at_start cells_taken_at_start cell_fault cells_of is_inside has_taken_cell largest_limit_code
     rectangle_cells
 mirror_good = (refl, refl, tt)
 
@@ -160,7 +160,7 @@ small = grind (arith, common_steps)
 -- ---- it touches its rim
 
 touches : TouchesRim constant rim_mirror
-unfolding in_span in_box in_ring some_neighbour
+unfolding in_span in_box in_ring has_neighbour_in_set
 touches = record {
   inputs = always_on;
   time = 1;
@@ -169,7 +169,7 @@ touches = record {
   touch = record { odd = refl; early = omega arith; rim = refl; live = stays _ 1 (omega arith) (pos 1) (pos 0) };
 }
 
-pub needs_room : SomeDesignNeedsRoom
+pub needs_room : SomeDesignNeedsMove
 needs_room =
     let text = design_text constant rim_mirror in
     let r = some_report text in

@@ -1,5 +1,5 @@
 -- The lines of a good circuit can be written, if its wires have names
-use Rattle.headline.proofs.Imports.{AllByRecursion, AreGoodAfter, CircuitLine, Delay, End, FitsKind}
+use Rattle.headline.proofs.Imports.{AllByRecursion, AreGoodAfter, CircuitLine, Delay, End, HasNameCountOfKind}
 use Rattle.headline.proofs.Imports.{Gate, GateKind, Have, Header, Input, Item, List, None, Output, Some}
 use Rattle.headline.proofs.Imports.{Source, Spill, [], and_parts, ap, limit_or_name_code}
 use Rattle.headline.proofs.Imports.{ap₂, arith, bytes_eq, bytes_eq-Decides, cases_Bool, codes}
@@ -123,7 +123,8 @@ words_both : (xs ys : List (List ℕ)) → AllByRecursion IsWord xs → AllByRec
 words_both [] ys h k = k
 words_both (x ∷ xs) ys h k = (h.0, words_both xs ys h.1 k)
 
-module _ (k : GateKind) (ins outs : List (List ℕ)) (fits : FitsKind (entry (Gate k) ins outs)) (in_names : AreNames ins)
+module _ (k : GateKind) (ins outs : List (List ℕ)) (fits : HasNameCountOfKind (entry (Gate k) ins outs))
+    (in_names : AreNames ins)
     (out_names : AreNames outs) (right : IsShort (Gate k)) where
   abbrev head : List (List ℕ)
   head = gate_word k ∷ gate_parameter_words k
@@ -165,7 +166,8 @@ lone_line w n r h k e = line_by form_of (Item r) w (n ∷ []) h (name_word n k, 
 first_of : (n : List ℕ) (ns : List (List ℕ)) → AreNames (n ∷ ns) → is_name n ≡ true
 first_of n ns h = (and_parts (is_name n) (list_all is_name ns) h).0
 
-pub line_of : (kind : CircuitLineKind) (ins outs : List (List ℕ)) → FitsKind (entry kind ins outs) → AreNames ins →
+pub line_of : (kind : CircuitLineKind) (ins outs : List (List ℕ)) → HasNameCountOfKind (entry kind ins outs) →
+    AreNames ins →
     AreNames outs →
     IsShort kind → HasLine form_of (Item (entry kind ins outs))
 unfolding form_of is_word_at name_after_keyword name_at

@@ -1,6 +1,7 @@
 -- Each small design has a plain text, and `check` decides the design by it
 use Rattle.headline.proofs.Imports.{All, All-nil, AllByRecursion, AreFaultless, AreGoodAfter}
-use Rattle.headline.proofs.Imports.{AreInOrder, AreLines, AreOnTime, Bool, Bundle, CertificateLine, CircuitLine, Cut}
+use Rattle.headline.proofs.Imports.{AreLines, AreLinesInOrder, AreOnTime, Bool, Bundle, CertificateLine, CircuitLine}
+use Rattle.headline.proofs.Imports.{Cut}
 use Rattle.headline.proofs.Imports.{End, HasNoDelay, HasRightStops, HasRimTouch, Header, IsCorrect, IsDesign}
 use Rattle.headline.proofs.Imports.{IsFaultless, IsPlainText, IsRight, IsSmallDesign, Item, Keep}
 use Rattle.headline.proofs.Imports.{List, Module, Pattern, SaysBundle, SaysDesign, Some, StopHolds, TouchesRim, Use}
@@ -57,7 +58,7 @@ few_lines before r rest wires gates =
     grind (arith, common_steps, flat_map-append, length-append, count_append, nat_tests)
 
 circuit_on : (before rest : List CircuitLine) → length (defined (before ++ rest)) ≤ 4096 →
-    gate_count (before ++ rest) ≤ 1024 → AreInOrder before rest → AreGoodAfter before rest →
+    gate_count (before ++ rest) ≤ 1024 → AreLinesInOrder before rest → AreGoodAfter before rest →
     AreFaultless (circuit_grammar First) tt before rest
 unfolding AreGoodAfter
 circuit_on before [] wires gates order good = tt

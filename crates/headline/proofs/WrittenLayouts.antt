@@ -5,7 +5,7 @@ use Rattle.headline.proofs.Imports.{None, Option, Out, Pattern, Port, PortNameLi
 use Rattle.headline.proofs.Imports.{SomethingMissing, TakenCell, Waste, [], and_parts, any_at, ap, append-nil, ap₂}
 use Rattle.headline.proofs.Imports.{arith, box_of, bytes_same, cell, cell_fault, code_if, codes, common_steps}
 use Rattle.headline.proofs.Imports.{corner_and_sides, decimal, false, has, if_one_word, in_box, in_layout, input_names}
-use Rattle.headline.proofs.Imports.{is_inside, is_name, is_taken, is_word_at, layout_grammar, layout_line_fault}
+use Rattle.headline.proofs.Imports.{has_taken_cell, is_inside, is_name, is_word_at, layout_grammar, layout_line_fault}
 use Rattle.headline.proofs.Imports.{largest_limit_code, line_fault, list_all, list_any, map, name_at, nat_tests}
 use Rattle.headline.proofs.Imports.{no_code, not}
 use Rattle.headline.proofs.Imports.{number_at, number_written, option_map, or_else, output_names, parts_of}
@@ -17,7 +17,7 @@ use Rattle.module_box.proofs.BoxCells.{in_box_nats}
 use Rattle.pattern.specs.Forms.{cell_of_words_from, form_of, cell_after_keyword, port_after_keyword, port_of}
 use Rattle.pattern.specs.Forms.{sides_and_steps, size_of}
 use Rattle.pattern.specs.Lines.{AreGoodAfter, is_input_cell_named, has_later_kind_before, is_output_cell_named}
-use Rattle.pattern.specs.Lines.{missing_fault}
+use Rattle.pattern.specs.Lines.{missing_port_fault}
 use Rattle.pattern.specs.Lines.{name_fault, order_fault, rank_of}
 use Rattle.pattern.specs.Lines.{text_limit_fault, text_size_fault}
 use Rattle.soundness.proofs.PortNames.{in_lines, out_lines}
@@ -143,7 +143,7 @@ module _ (s : LayoutHeader) (l : HasLimits s) where
   pub inside : (before : List LayoutLine) (part : LayoutLine) → cell_fault s before part ≡ None →
       is_inside s part ≡ true
   unfolding cell_fault
-  inside before part e = first_holds (is_inside s part) (is_taken before part) e
+  inside before part e = first_holds (is_inside s part) (has_taken_cell before part) e
 
   line_of : (names : PortNameLists) (part : LayoutLine) → IsPortName names part → largest_limit_code part ≡ None →
       is_inside s part ≡ true → HasLine form_of (Item part)
@@ -315,7 +315,7 @@ module _ (circuit : List CircuitLine) (p : Pattern) (limits : size_fault p.size 
       end_line (lines_of s l names [] (parts_of p) good ports_named)
 
   pub layout_faultless : (k : Limits) → IsWithin k s → IsFaultless (layout_grammar k (Some names)) s (parts_of p)
-  unfolding missing_fault
+  unfolding missing_port_fault
   layout_faultless k within = record {
     header = ap₂ or_else (size_within k s within) limits;
     each = faultless_on k s l names [] (parts_of p) within (in_order p) good ports_named;

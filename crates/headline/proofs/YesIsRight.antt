@@ -42,7 +42,7 @@ use Rattle.section_text.specs.declared.limits.Limits.{Limits}
 use Rattle.meaning.specs.Design.{front_text, section_lines, text_limits}
 use Rattle.meaning.proofs.Fronts.{front_and_lines}
 use Rattle.section_text.specs.Codes.{code_if}
-use Rattle.section_text.specs.Limits.{front_lines}
+use Rattle.section_text.specs.Limits.{limits_line_count}
 use Rattle.section_text.specs.declared.code.RefusalCode.TheVariants.{PastLimit}
 use Rattle.section_text.proofs.Codes.{both_none}
 use Rattle.pattern.specs.Lines as lines
@@ -201,14 +201,15 @@ past_layout text b = drop (length b.parts + 2) (past_circuit text b)
 
 -- the three sections of a text are read one after the other, and no byte follows them
 pub record AreSections (text : List ℕ) (b : Bundle) : Type 0 where
-  pub circuit : section_of (circuit_grammar (text_limits text)) (front_lines (text_limits text)) (section_lines text)
+  pub circuit : section_of (circuit_grammar (text_limits text)) (limits_line_count (text_limits text))
+      (section_lines text)
       ≡ Ok (tt, b.circuit)
   pub layout : section_of (layout_grammar (text_limits text) (Some (port_names_of b.circuit)))
-      (front_lines (text_limits text) + (length b.circuit + 2))
+      (limits_line_count (text_limits text) + (length b.circuit + 2))
       (past_circuit text b) ≡ Ok (b.size, b.parts)
   pub certificate : section_of (certificate_grammar (text_limits text)
       (setting_of b.circuit (layout_of b.size b.parts)))
-      (front_lines (text_limits text) + (length b.circuit + 2) + (length b.parts + 2)) (past_layout text b)
+      (limits_line_count (text_limits text) + (length b.circuit + 2) + (length b.parts + 2)) (past_layout text b)
       ≡ Ok (b.version, b.entries)
   pub nothing_more : drop (length b.entries + 2) (past_layout text b) ≡ []
   pub ended : bytes_after_last_line_feed text ≡ []
@@ -222,7 +223,7 @@ bundle_good text b e =
     let r = in_sections text b e in
     let ports = Some (port_names_of b.circuit) in
     let l : Limits = text_limits text in
-    let from : ℕ = front_lines l in
+    let from : ℕ = limits_line_count l in
     let m : ℕ = from + (length b.circuit + 2) + (length b.parts + 2) in
     let setting = setting_of b.circuit (layout_of b.size b.parts) in
     record {

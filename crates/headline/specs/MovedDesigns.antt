@@ -71,12 +71,12 @@ pub record MovedGetsYes (circuit : List CircuitLine) (layout : Pattern) : Type 0
       IsReportOf (design_text circuit (moved layout)) output outcome → outcome ≡ Yes
 
 -- This holds of each design with room that keeps the rules and computes its circuit, if the circuit has no delay.
-abbrev pub EachCorrectDesignGetsYes : Type 0
-EachCorrectDesignGetsYes = (circuit : List CircuitLine) (layout : Pattern) → IsDesign circuit layout →
+abbrev pub EachMovedCorrectDesignGetsYes : Type 0
+EachMovedCorrectDesignGetsYes = (circuit : List CircuitLine) (layout : Pattern) → IsDesign circuit layout →
     HasRoomToMove circuit layout → IsCorrect circuit layout → HasNoDelay circuit → MovedGetsYes circuit layout
 
 -- Some design needs the move. It touches its rim, so its own plain text is reported with the outcome no.
-pub record SomeDesignNeedsRoom : Type 0 where
+pub record SomeDesignNeedsMove : Type 0 where
   pub circuit : List CircuitLine
   pub layout : Pattern
   pub design : IsDesign circuit layout

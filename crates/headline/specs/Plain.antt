@@ -13,7 +13,7 @@ use Rattle.meaning.specs.Headline.{IsRight}
 use Rattle.headline.specs.Stops.{HasRightStops, SaysBundle}
 
 -- The text says a circuit, a layout and the lines of a certificate, which make one module, and the module is plain.
-pub record SaysPlain (text : List ℕ) : Type 0 where
+pub record SaysPlainCertificate (text : List ℕ) : Type 0 where
   pub circuit : List CircuitLine
   pub layout : Pattern
   pub certificate : List CertificateLine
@@ -35,4 +35,4 @@ IsWrongText text = (¬ IsRight text) ⊎ ((¬ HasRightStops text) ⊎ HasRimTouc
 
 -- if the text is plain, it is wrong
 abbrev pub IsWrongIfPlain : List ℕ → Type 0
-IsWrongIfPlain text = SaysPlain text → IsWrongText text
+IsWrongIfPlain text = SaysPlainCertificate text → IsWrongText text

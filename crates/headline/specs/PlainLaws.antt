@@ -11,29 +11,30 @@ use Rattle.meaning.specs.Headline.{IsRight}
 use Rattle.meaning.specs.Implements.{IsCorrect}
 use Rattle.headline.specs.Stops.{HasRightStops, SaysBundle}
 use Rattle.headline.specs.ThereAndBack.{there_and_back_text}
-use Rattle.headline.specs.Plain.{SaysPlain, HasRimTouch, IsWrongIfPlain}
+use Rattle.headline.specs.Plain.{SaysPlainCertificate, HasRimTouch, IsWrongIfPlain}
 use Rattle.headline.specs.SmallDesigns.{plain_lines, design_text, HasNoDelay, IsDesign, IsNoSmallDesignText}
 use Rattle.headline.specs.SmallDesigns.{IsPlainText, IsSmallDesign}
 use Rattle.headline.specs.ReportLines.{LinesHaveMeaning}
 
 -- A text that is reported with the outcome no is wrong if it is plain.
-abbrev pub PlainNoMeansWrong : Type 0
-PlainNoMeansWrong = (text output : List ℕ) → IsReportOf text output No → IsWrongIfPlain text
+abbrev pub PlainNoMeansWrongOrRimLive : Type 0
+PlainNoMeansWrongOrRimLive = (text output : List ℕ) → IsReportOf text output No → IsWrongIfPlain text
 
 -- A text that is reported with the outcome yes keeps off its rim, plain or not.
 abbrev pub YesKeepsOffRim : Type 0
 YesKeepsOffRim = (text output : List ℕ) → IsReportOf text output Yes → ¬ HasRimTouch text
 
 -- So `check` decides whether a plain text is right, has right stops and keeps off its rim, if it does not refuse it.
-abbrev pub PlainIsDecided : Type 0
-PlainIsDecided = (text output : List ℕ) (outcome : Outcome) → SaysPlain text → IsReportOf text output outcome →
+abbrev pub PlainTextIsDecided : Type 0
+PlainTextIsDecided = (text output : List ℕ) (outcome : Outcome) → SaysPlainCertificate text →
+    IsReportOf text output outcome →
     outcome ≢ Refused → (outcome ≡ Yes) ↔ (IsRight text × HasRightStops text × ¬ HasRimTouch text)
 
 -- A text with the lines of the plain certificate is plain, so `check` decides it, if it does not refuse it.
 abbrev pub PlainLinesTextIsDecided : Type 0
 PlainLinesTextIsDecided = (text output : List ℕ) (outcome : Outcome) (circuit : List CircuitLine) (layout : Pattern) →
     SaysBundle text circuit layout (plain_lines circuit layout) → IsReportOf text output outcome → outcome ≢ Refused →
-    SaysPlain text × ((outcome ≡ Yes) ↔ (IsRight text × HasRightStops text × ¬ HasRimTouch text))
+    SaysPlainCertificate text × ((outcome ≡ Yes) ↔ (IsRight text × HasRightStops text × ¬ HasRimTouch text))
 
 -- A plain text of a small design is not refused. `check` says yes to it exactly if the layout computes the circuit and
 -- keeps off its rim, and its stops, delays and meetings are right.
@@ -66,7 +67,7 @@ UnrefusedKeepsDesignRules = (text output : List ℕ) (outcome : Outcome) (circui
 
 -- Some plain text is reported with the outcome yes (`ThereAndBackTextIsAccepted`), so the laws are not vacuous.
 abbrev pub ThereAndBackTextIsPlain : Type 0
-ThereAndBackTextIsPlain = SaysPlain there_and_back_text
+ThereAndBackTextIsPlain = SaysPlainCertificate there_and_back_text
 
 -- It is the plain text of a small design, so `SmallDesignIsDecided` is not vacuous.
 pub record ThereAndBackTextIsSmall : Type 0 where

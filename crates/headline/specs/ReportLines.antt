@@ -1,8 +1,8 @@
 -- The meaning of the lines of a report that says no, of texts and bytes.
 --
 -- Read before: Plain.antt; report/specs/ReportText.antt up to `lines_before_verdict` (how a line is spelled);
--- soundness/specs/FirstFaults.antt from `IsAsCertified` on, without the laws; soundness/specs/PlainCertificates.antt
--- from `Shows` to `LineMeans`.
+-- soundness/specs/FirstFaults.antt from `IsCellAsCertified` on, without the laws;
+-- soundness/specs/PlainCertificates.antt from `Shows` to `LineMeans`.
 use Rattle.std.specs.Prelude.{◌≡◌, ℕ, List, [], ◌∷◌, ◌++◌, slice_get, Some, Option, codes}
 use Rattle.std.specs.List.{All, flat_map}
 use Rattle.circuit.specs.Bridge.{netlist_of, circuit_of}
@@ -18,7 +18,7 @@ use Rattle.local_run.specs.declared.fault.Fault.{Fault}
 use Rattle.soundness.specs.FirstFaults.{IsModuleAssignmentOf, IsEarliestLine, IsRealFault}
 use Rattle.core_book.specs.declared.verdict.ReportLine.{ReportLine}
 use Rattle.report.specs.ReportText.{report_line_text, lines_before_verdict}
-use Rattle.headline.specs.Plain.{SaysPlain}
+use Rattle.headline.specs.Plain.{SaysPlainCertificate}
 
 -- the output is three opening lines, then `verdict no`, and then these lines as `report_line_text` spells them
 pub record SaysNoWith (output : List ℕ) (lines : List ReportLine) : Type 0 where
@@ -30,24 +30,26 @@ pub record SaysNoWith (output : List ℕ) (lines : List ReportLine) : Type 0 whe
 -- The text says a circuit, a layout and a certificate. Then the earliest of these lines is real, whatever the inputs
 -- and the values v of the wires for them. If v gives the module of the line the line's assignment, its fault is one of
 -- the whole plane.
-abbrev pub EarliestIsReal : List ℕ → List ReportLine → Type 0
-EarliestIsReal text lines = (circuit : List CircuitLine) (layout : Pattern) (certificate : List CertificateLine) →
+abbrev pub IsEarliestReportLineReal : List ℕ → List ReportLine → Type 0
+IsEarliestReportLineReal text lines =
+    (circuit : List CircuitLine) (layout : Pattern) (certificate : List CertificateLine) →
     SaysBundle text circuit layout certificate →
     (i : ℕ) (m : ModuleLines) (f : Fault) (inputs v : Valuation) → IsEarliestLine lines i f →
     slice_get (modules_of certificate) i ≡ Some m → Satisfies (netlist_of circuit) inputs v →
     IsModuleAssignmentOf (circuit_of circuit) m v f.assignment → IsRealFault circuit layout m inputs v f
 
 -- if the text is plain, each of these lines means what `LineMeans` says
-abbrev pub LinesMeanIfPlain : List ℕ → List ReportLine → Type 0
-LinesMeanIfPlain text lines = (said : SaysPlain text) → All (LineMeans said.circuit said.layout said.one) lines
+abbrev pub LinesHaveMeaningIfPlain : List ℕ → List ReportLine → Type 0
+LinesHaveMeaningIfPlain text lines =
+    (said : SaysPlainCertificate text) → All (LineMeans said.circuit said.layout said.one) lines
 
 -- The meaning of an output of no for a text: the earliest of the lines after its fourth is real. If the text is plain,
 -- each of them means something.
 pub record LinesHaveMeaning (text output : List ℕ) : Type 0 where
   pub lines : List ReportLine
   pub says : SaysNoWith output lines
-  pub earliest : EarliestIsReal text lines
-  pub plain : LinesMeanIfPlain text lines
+  pub earliest : IsEarliestReportLineReal text lines
+  pub plain : LinesHaveMeaningIfPlain text lines
 
 -- The bytes of a reader are known, and so are those of a writer before and after: P holds of what there was to read and
 -- of what was written.

@@ -70,16 +70,16 @@ pub record IsSmallDesign (circuit : List CircuitLine) (layout : Pattern) : Type 
 -- ---- the rules of a design
 
 -- no line of the circuit is of an earlier kind than the line before it
-abbrev pub AreInOrder : List CircuitLine → List CircuitLine → Type 0
-AreInOrder before [] = Unit {0}
-AreInOrder before (r ∷ rest) = (order_fault before r ≡ None) × AreInOrder (before ++ r ∷ []) rest
+abbrev pub AreLinesInOrder : List CircuitLine → List CircuitLine → Type 0
+AreLinesInOrder before [] = Unit {0}
+AreLinesInOrder before (r ∷ rest) = (order_fault before r ≡ None) × AreLinesInOrder (before ++ r ∷ []) rest
 
 -- The circuit and the layout keep the rules of their sections. Each line of the circuit is good after those before it,
 -- and of no earlier kind. Each wire's name is a name, and some line consumes the wire. The size of the layout is within
 -- its limits, and each line is good after those before it. The ports are named as the inputs and the outputs.
 pub record IsDesign (circuit : List CircuitLine) (layout : Pattern) : Type 0 where
   pub circuit_lines : AreGoodCircuitLines circuit
-  pub in_order : AreInOrder [] circuit
+  pub in_order : AreLinesInOrder [] circuit
   pub names : All (λ n. IsTrue (is_name n)) (defined circuit)
   pub all_consumed : first_unconsumed (consumed circuit) (defined circuit) ≡ None
   pub size : size_fault layout.size ≡ None

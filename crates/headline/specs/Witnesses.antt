@@ -16,7 +16,7 @@ use Rattle.core_book.specs.declared.verdict.ReportLine.TheVariants.{Local, Meet}
 use Rattle.answers.specs.CheckText.{IsReportOf}
 use Rattle.answers.specs.declared.outcome.Outcome.{Outcome}
 use Rattle.answers.specs.declared.outcome.Outcome.TheVariants.{Yes, No}
-use Rattle.headline.specs.Plain.{SaysPlain}
+use Rattle.headline.specs.Plain.{SaysPlainCertificate}
 use Rattle.headline.specs.PlainNo.{plain_no_text}
 use Rattle.headline.specs.PlainYes.{plain_yes_text}
 use Rattle.headline.specs.ReportLines.{SaysNoWith}
@@ -36,7 +36,7 @@ ThereAndBackTextIsAccepted = (output : List ℕ) × IsReportOf there_and_back_te
 -- whatever the inputs, the ball of p is at (3, 3) if p has one, and that of q at (4, 4) if q has one. Both cells are of
 -- one block of the next step, so the balls meet there if both are on.
 pub record PlainYesTextIsAccepted : Type 0 where
-  pub plain : SaysPlain plain_yes_text
+  pub plain : SaysPlainCertificate plain_yes_text
   pub steps : 2 ≤ plain.layout.size.steps
   pub first_ball : StopHolds (circuit_of plain.circuit) plain.layout
       (record { time = 1; wire = codes "p"; cell = cell 3 3 })
@@ -54,7 +54,7 @@ swapped_outputs_fault = record { time = 3; kind = End; cell = cell 2 2; assignme
 -- on this fault, and the line that says that p and q meet at time 1. The `local` line means what `LocalLineMeans` says:
 -- the plane has this fault, and so the layout does not compute the circuit.
 pub record PlainNoTextIsRefuted : Type 0 where
-  pub plain : SaysPlain plain_no_text
+  pub plain : SaysPlainCertificate plain_no_text
   pub steps : 2 ≤ plain.layout.size.steps
   pub output : List ℕ
   pub reported : IsReportOf plain_no_text output No
@@ -62,7 +62,7 @@ pub record PlainNoTextIsRefuted : Type 0 where
   pub shows : LocalLineMeans plain.circuit plain.layout plain.one swapped_outputs_fault
 
 -- A small design of at least two steps, whose plain text is reported with this outcome.
-pub record HasSmallDesign (outcome : Outcome) : Type 0 where
+pub record HasSmallDesignWithOutcome (outcome : Outcome) : Type 0 where
   pub circuit : List CircuitLine
   pub layout : Pattern
   pub design : IsDesign circuit layout
@@ -73,8 +73,8 @@ pub record HasSmallDesign (outcome : Outcome) : Type 0 where
 
 -- there is one with the outcome yes
 abbrev pub SmallDesignIsAccepted : Type 0
-SmallDesignIsAccepted = HasSmallDesign Yes
+SmallDesignIsAccepted = HasSmallDesignWithOutcome Yes
 
 -- and one with the outcome no
 abbrev pub SmallDesignIsRefuted : Type 0
-SmallDesignIsRefuted = HasSmallDesign No
+SmallDesignIsRefuted = HasSmallDesignWithOutcome No

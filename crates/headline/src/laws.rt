@@ -2,10 +2,10 @@
 ghost use Rattle.answers.specs.CheckText.{IsReportOf};
 ghost use Rattle.headline.specs.Fronts.{FrontLineKeepsReports, WideTextIsAccepted, WideTextIsRefused};
 ghost use Rattle.headline.specs.Laws.{BeginsWithOneDesign, SaysYesMeansFourthLine, FourthLineShowsOutcome, HasAnAnswerToEachText, HasAtMostOneAnswerToEachText, PrintedDesignIsRead, TextBeginsWithReadDesign, UnrefusedDesignIsGood, RightSaysCorrectDesign, SaysOneCertificate, SaysOneDesign, YesHasOneValuation, YesMeansRight, YesMeansRightInFull, YesMeansRightStops};
-ghost use Rattle.headline.specs.PlainLaws.{UnrefusedKeepsDesignRules, EachSmallDesignHasPlainText, EachSmallDesignIsDecided, PlainIsDecided, PlainLinesTextIsDecided, PlainNoMeansWrong, RefusedIsNoSmallDesign, SmallDesignIsDecided, ThereAndBackTextIsPlain, ThereAndBackTextIsSmall, YesKeepsOffRim, LinesOfNoHaveMeaning};
+ghost use Rattle.headline.specs.PlainLaws.{UnrefusedKeepsDesignRules, EachSmallDesignHasPlainText, EachSmallDesignIsDecided, PlainTextIsDecided, PlainLinesTextIsDecided, PlainNoMeansWrongOrRimLive, RefusedIsNoSmallDesign, SmallDesignIsDecided, ThereAndBackTextIsPlain, ThereAndBackTextIsSmall, YesKeepsOffRim, LinesOfNoHaveMeaning};
 ghost use Rattle.headline.specs.Witnesses.{PlainNoTextIsRefuted, PlainYesTextIsAccepted, SmallDesignIsAccepted, SmallDesignIsRefuted, ThereAndBackTextIsAccepted, TimedModulesTextIsAccepted};
-ghost use Rattle.headline.specs.MovedDesigns.{EachCorrectDesignGetsYes, SomeDesignNeedsRoom};
-ghost use Rattle.headline.specs.Migration.{MigrationKeepsVersionTwo, MigrationIsIdempotent, MigrationKeepsYes, MigrationSaysTheSame};
+ghost use Rattle.headline.specs.MovedDesigns.{EachMovedCorrectDesignGetsYes, SomeDesignNeedsMove};
+ghost use Rattle.headline.specs.Migration.{MigrationCopiesVersionTwo, MigrationIsIdempotent, MigrationKeepsYes, MigrationKeepsAllButHalos};
 ghost use Rattle.answers.specs.MigrateText.{IsMigrationOf};
 ghost use Rattle.answers.specs.ModulesText.{IsModulesAnswerOf};
 ghost use Rattle.answers.specs.RunText.{IsRunAnswerOf};
@@ -49,8 +49,8 @@ pub fn migrate_has_one_answer()
 ///   migrated to itself.
 /// - A text that is reported with a yes is reported so too after it is migrated.
 pub fn migration_keeps_what_is_accepted()
-    ensures unchanged { MigrationKeepsVersionTwo }
-    ensures says_the_same { MigrationSaysTheSame }
+    ensures unchanged { MigrationCopiesVersionTwo }
+    ensures says_the_same { MigrationKeepsAllButHalos }
     ensures migration_idempotent { MigrationIsIdempotent }
     ensures accepted { MigrationKeepsYes }
 {}
@@ -75,10 +75,10 @@ pub fn yes_means_right()
 ///
 /// The text is wrong: the layout does not compute the circuit, or the stops are not right, or the layout touches its
 /// rim. No text with a yes touches its rim. So `check` decides plain texts that are not refused.
-pub fn plain_no_means_wrong()
-    ensures plain_no_is_wrong { PlainNoMeansWrong }
+pub fn plain_no_means_wrong_or_rim_live()
+    ensures plain_no_is_wrong { PlainNoMeansWrongOrRimLive }
     ensures off_rim { YesKeepsOffRim }
-    ensures decided { PlainIsDecided }
+    ensures decided { PlainTextIsDecided }
     ensures lines { PlainLinesTextIsDecided }
 {}
 
@@ -104,9 +104,9 @@ pub fn small_designs_are_decided()
 /// moved layout keeps the rules, computes the circuit and keeps off its rim. So each report on its plain text is a yes.
 ///
 /// Some design needs this move, since it touches its rim: its own plain text is reported with a no.
-pub fn each_correct_design_gets_yes()
-    ensures each { EachCorrectDesignGetsYes }
-    ensures some { SomeDesignNeedsRoom }
+pub fn each_moved_correct_design_gets_yes()
+    ensures each { EachMovedCorrectDesignGetsYes }
+    ensures some { SomeDesignNeedsMove }
 {}
 
 /// States what the lines of a no mean.

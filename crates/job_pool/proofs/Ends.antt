@@ -1,6 +1,6 @@
 -- Facts on lists, for the end of a desk.
 use Rattle.std.proofs.lemmas.Grind.{common_steps}
-use Rattle.job_pool.proofs.Imports.{All, HasAllPlaces, IsDrawn, List, View, [], all_but_last, arith}
+use Rattle.job_pool.proofs.Imports.{All, HasAllPlaces, IsEachNumberDrawnOnce, List, View, [], all_but_last, arith}
 use Rattle.job_pool.proofs.Imports.{at_map, joined, length, map, map-append, nat_tests, occurrences, past_greatest}
 use Rattle.job_pool.proofs.Imports.{past_last, subst, suc, sym, zero, ℕ, ◌++◌, ◌+◌, ◌-◌, ◌<◌, ◌∷◌, ◌≡◌, ◌≤◌}
 use Rattle.lemmas.proofs.Common.{Any}
@@ -47,7 +47,7 @@ pub shares : (n seats counter : ℕ) (lists : List (List ℕ)) (v : View) → Ha
     AreAllDraws n seats counter lists
 shares n seats counter lists v w is count last = record {
   count = count;
-  drawn = joined_drawn counter lists (subst (λ l. IsDrawn counter (l ∷ [])) is w.drawn);
+  drawn = joined_drawn counter lists (subst (λ l. IsEachNumberDrawnOnce counter (l ∷ [])) is w.drawn);
   at_most = w.bounded;
   only_last = last;
 }
@@ -68,7 +68,7 @@ last_stands (y ∷ []) m e = let same : y ≡ m = omega arith in grind (arith, n
 last_stands (y ∷ z ∷ zs) m e = let h = last_stands (z ∷ zs) m e in omega arith
 
 -- the last draw of a list was counted
-pub end_counted : (counter n i : ℕ) (lists : List (List ℕ)) (xs : List ℕ) → IsDrawn counter lists →
+pub end_counted : (counter n i : ℕ) (lists : List (List ℕ)) (xs : List ℕ) → IsEachNumberDrawnOnce counter lists →
     get_elem? lists i ≡ some xs → n < past_last xs → n < counter
 end_counted counter n i lists xs r at ends =
     let m : ℕ = past_last xs - 1 in
@@ -79,7 +79,7 @@ end_counted counter n i lists xs r at ends =
     omega arith
 
 pub any_ended : {X : Type 0} (f : X → List ℕ) (xs : List X) (counter n : ℕ) (lists : List (List ℕ)) → lists ≡ map f xs →
-    IsDrawn counter lists → Any (λ x. n < past_last (f x)) xs → n < counter
+    IsEachNumberDrawnOnce counter lists → Any (λ x. n < past_last (f x)) xs → n < counter
 any_ended f xs counter n lists is r (k, x, below, at, ends) =
     end_counted counter n k lists (f x) r
     (subst (λ l. get_elem? l k ≡ some (f x)) (sym is) (at_map f xs k x (at_index xs k x below (sym at)))) ends

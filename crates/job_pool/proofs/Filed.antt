@@ -1,6 +1,6 @@
 -- The findings that are due from the draws of all workers.
 use Rattle.std.proofs.lemmas.Grind.{common_steps}
-use Rattle.job_pool.proofs.Imports.{All, All-map, Desk, HasWorked, IsDrawn, IsSeatOf, List, Worker, []}
+use Rattle.job_pool.proofs.Imports.{All, All-map, Desk, HasWorked, IsEachNumberDrawnOnce, IsSeatOf, List, Worker, []}
 use Rattle.job_pool.proofs.Imports.{arith, drawn_by, drop, due_finding_count, false, get_or, if◌then◌else◌, length, map}
 use Rattle.job_pool.proofs.Imports.{nat_tests, past_last, refl, seats_of, shares_of, subst, suc, sum_of_filed, take}
 use Rattle.job_pool.proofs.Imports.{total, ℕ, ◌++◌, ◌+◌, ◌<◌, ◌∷◌, ◌≡◌, ◌≤◌}
@@ -31,7 +31,7 @@ empty_adds_none groups n next before after below e is = grind (arith, common_ste
 
 -- where a list ends with a draw of n or more, all numbers below n were drawn, and so the findings of all members are
 -- due
-all_are_due : (counter n i : ℕ) (lists : List (List ℕ)) (xs groups : List ℕ) → IsDrawn counter lists →
+all_are_due : (counter n i : ℕ) (lists : List (List ℕ)) (xs groups : List ℕ) → IsEachNumberDrawnOnce counter lists →
     get_elem? lists i ≡ some xs → n < past_last xs → All (λ g. g < n) groups →
     total (due_finding_count groups) lists ≡ length groups
 all_are_due counter n i lists xs groups r at ends below =
@@ -79,7 +79,7 @@ module _ {F A : Type 0} (desk : Desk) (groups : List ℕ) where
     -- if no worker stopped out of memory, the finding of each number was filed
     pub every_number_was_filed : (counter : ℕ) (lists : List (List ℕ)) → 0 < length before →
         All (λ (w : Worker F A). w.starved ≡ false) after → lists ≡ map drawn_by (seats_of after) →
-        IsDrawn counter lists → All (λ g. g < desk.numbers) groups
+        IsEachNumberDrawnOnce counter lists → All (λ g. g < desk.numbers) groups
         → sum_of_filed (shares_of after) ≡ sum_of_filed (shares_of before) + length groups
     every_number_was_filed counter lists some_worker fed is r below =
         let sum = all_filed before after len (λ i d below. (each i d below).filed (fed i d (omega arith))) in
@@ -88,5 +88,5 @@ module _ {F A : Type 0} (desk : Desk) (groups : List ℕ) where
         let ended : desk.numbers < past_last (drawn_by first.0.seat) =
         subst (λ (w : Worker F A). desk.numbers < past_last (drawn_by w.seat)) first.2 ends in
         let all = all_are_due counter desk.numbers 0 (map drawn_by (seats_of after)) (drawn_by first.0.seat) groups
-        (subst (IsDrawn counter) is r) first.1 ended below in
+        (subst (IsEachNumberDrawnOnce counter) is r) first.1 ended below in
         omega (arith, sum, all)

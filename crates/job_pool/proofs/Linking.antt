@@ -6,13 +6,13 @@ use Rattle.job_pool.proofs.Imports.{sym, take, zero, ℕ, ◌+◌, ◌-◌, ◌<
 use Rattle.lemmas.proofs.Common.{cases_lt, inl, inr, length-set, set, slice_index, subst, ◌⊎◌}
 use Rattle.module_job.specs.Groups.{AreGroups}
 use Rattle.module_job.specs.Shapes.{ShapeView}
-use Rattle.job_pool.specs.Links.{AreLinks, IsNextMember}
+use Rattle.job_pool.specs.Links.{AreGroupLinks, IsNextOfGroup}
 use Rattle.job_pool.proofs.Members.{read_any, times_step}
 
 -- ---- one step of the loop that links
 
 -- a number is the next member of its own group, from itself on
-next_itself : (gs : List ℕ) (i : ℕ) → i < length gs → IsNextMember gs (slice_index gs i) i i
+next_itself : (gs : List ℕ) (i : ℕ) → i < length gs → IsNextOfGroup gs (slice_index gs i) i i
 next_itself gs i lt = record {
   low = omega arith;
   high = omega (arith, lt);
@@ -21,7 +21,7 @@ next_itself gs i lt = record {
 }
 
 -- the next member of any other group stays
-next_earlier : (gs : List ℕ) (g i n : ℕ) → slice_index gs i ≢ g → IsNextMember gs g (i + 1) n → IsNextMember gs g i n
+next_earlier : (gs : List ℕ) (g i n : ℕ) → slice_index gs i ≢ g → IsNextOfGroup gs g (i + 1) n → IsNextOfGroup gs g i n
 next_earlier gs g i n other next = record {
   low = let l = next.low in omega (arith, l);
   high = next.high;
@@ -49,8 +49,8 @@ pub record AreLinkedFrom (gs links nearest : List ℕ) (low : ℕ) : Type 0 wher
   pub count : length links ≡ length gs
   pub groups : length nearest ≡ length gs
   pub linked : (i : ℕ) → low ≤ i → i < length gs →
-      IsNextMember gs (slice_index gs i) (i + 1) (slice_index links i)
-  pub near : (g : ℕ) → g < length gs → IsNextMember gs g low (slice_index nearest g)
+      IsNextOfGroup gs (slice_index gs i) (i + 1) (slice_index links i)
+  pub near : (g : ℕ) → g < length gs → IsNextOfGroup gs g low (slice_index nearest g)
 
 -- the number before them is done too
 pub linked_one : (gs links nearest : List ℕ) (i low g n : ℕ) → low ≡ i + 1 → i < length gs → g ≡ slice_index gs i →
@@ -62,30 +62,30 @@ linked_one gs links nearest i low g n from lt own within is are = record {
   linked = λ k after below. elim (cases_lt i k) [
     | inl later ↦
         let c = are.count in
-        subst (λ z. IsNextMember gs (slice_index gs k) (k + 1) z)
+        subst (λ z. IsNextOfGroup gs (slice_index gs k) (k + 1) z)
         (sym (kept links i k n (λ e. omega (arith, later, e)) (omega (arith, below, c))))
         (are.linked k (omega (arith, from, later)) below)
     | inr not_later ↦
         let here : i ≡ k = omega (arith, after, not_later) in
         let c = are.count in
-        let next : IsNextMember gs g (i + 1) (slice_index nearest g) =
-        subst (λ z. IsNextMember gs g z (slice_index nearest g)) from (are.near g within) in
-        let linked : IsNextMember gs (slice_index gs i) (i + 1) n =
-        subst (λ z. IsNextMember gs z (i + 1) n) own (subst (IsNextMember gs g (i + 1)) (sym is) next) in
-        subst (λ z. IsNextMember gs (slice_index gs z) (z + 1) (slice_index (set links i n) z)) here
-        (subst (IsNextMember gs (slice_index gs i) (i + 1)) (sym (written links i n (omega (arith, lt, c)))) linked)
+        let next : IsNextOfGroup gs g (i + 1) (slice_index nearest g) =
+        subst (λ z. IsNextOfGroup gs g z (slice_index nearest g)) from (are.near g within) in
+        let linked : IsNextOfGroup gs (slice_index gs i) (i + 1) n =
+        subst (λ z. IsNextOfGroup gs z (i + 1) n) own (subst (IsNextOfGroup gs g (i + 1)) (sym is) next) in
+        subst (λ z. IsNextOfGroup gs (slice_index gs z) (z + 1) (slice_index (set links i n) z)) here
+        (subst (IsNextOfGroup gs (slice_index gs i) (i + 1)) (sym (written links i n (omega (arith, lt, c)))) linked)
   ];
   near = λ h below. elim (same_or_not h g) [
     | inl same ↦
         let c = are.groups in
-        let itself : IsNextMember gs g i i = subst (λ z. IsNextMember gs z i i) (sym own) (next_itself gs i lt) in
-        subst (λ z. IsNextMember gs z i (slice_index (set nearest g i) z)) (sym same)
-        (subst (IsNextMember gs g i) (sym (written nearest g i (omega (arith, within, c)))) itself)
+        let itself : IsNextOfGroup gs g i i = subst (λ z. IsNextOfGroup gs z i i) (sym own) (next_itself gs i lt) in
+        subst (λ z. IsNextOfGroup gs z i (slice_index (set nearest g i) z)) (sym same)
+        (subst (IsNextOfGroup gs g i) (sym (written nearest g i (omega (arith, within, c)))) itself)
     | inr other ↦
         let c = are.groups in
-        let next : IsNextMember gs h (i + 1) (slice_index nearest h) =
-        subst (λ z. IsNextMember gs h z (slice_index nearest h)) from (are.near h below) in
-        subst (IsNextMember gs h i) (sym (kept nearest g h i other (omega (arith, below, c))))
+        let next : IsNextOfGroup gs h (i + 1) (slice_index nearest h) =
+        subst (λ z. IsNextOfGroup gs h z (slice_index nearest h)) from (are.near h below) in
+        subst (IsNextOfGroup gs h i) (sym (kept nearest g h i other (omega (arith, below, c))))
         (next_earlier gs h i (slice_index nearest h) (λ e. other (sym e ∙ sym own)) next)
   ];
 }
@@ -117,7 +117,7 @@ none_linked gs links nearest count groups none = record {
 }
 
 -- when all are done
-pub all_linked : (gs links nearest : List ℕ) → AreLinkedFrom gs links nearest 0 → AreLinks gs links
+pub all_linked : (gs links nearest : List ℕ) → AreLinkedFrom gs links nearest 0 → AreGroupLinks gs links
 all_linked gs links nearest are = record {
   count = are.count;
   each = λ i below. are.linked i (omega arith) below;
@@ -155,7 +155,7 @@ none_before_first x gs fits none =
 
 -- one member, and none up to the next one
 pub to_next : (x : ℕ) (gs : List ℕ) (member n : ℕ) → member < length gs → slice_index gs member ≡ x →
-    IsNextMember gs x (member + 1) n → occurrences x (take n gs) ≡ occurrences x (take member gs) + 1
+    IsNextOfGroup gs x (member + 1) n → occurrences x (take n gs) ≡ occurrences x (take member gs) + 1
 to_next x gs member n lt own next =
     let l = next.low in let h = next.high in
     let step = times_step x gs member 0 lt in

@@ -1,6 +1,7 @@
 -- Groups of jobs, and the findings that are due for draws.
 use Rattle.std.proofs.lemmas.Grind.{common_steps}
-use Rattle.job_pool.proofs.Imports.{All, IsDrawn, List, [], ap, arith, due_finding_count, get_or, if◌then◌else◌, length}
+use Rattle.job_pool.proofs.Imports.{All, IsEachNumberDrawnOnce, List, [], ap, arith, due_finding_count, get_or}
+use Rattle.job_pool.proofs.Imports.{if◌then◌else◌, length}
 use Rattle.job_pool.proofs.Imports.{map}
 use Rattle.job_pool.proofs.Imports.{nat_tests, occurrences, refl, shape_of, shapes_of, suc, sym, take, total}
 use Rattle.job_pool.proofs.Imports.{zero, ℕ, ◌++◌, ◌+◌, ◌<◌, ◌==◌, ◌∙◌, ◌∷◌, ◌≡◌, ◌≢◌, ◌≤◌}
@@ -82,7 +83,8 @@ due_cons g gs [] = refl
 due_cons g gs (y ∷ ys) = let h = due_cons g gs ys in let t = one_test g y in omega (arith, h, t)
 
 -- where all numbers of groups were drawn, each member's finding was due once
-pub due_in_all : (counter n : ℕ) (lists : List (List ℕ)) → IsDrawn counter lists → n ≤ counter → (gs : List ℕ) →
+pub due_in_all : (counter n : ℕ) (lists : List (List ℕ)) → IsEachNumberDrawnOnce counter lists → n ≤ counter →
+    (gs : List ℕ) →
     All (λ g. g < n) gs → total (due_finding_count gs) lists ≡ length gs
 due_in_all counter n lists r le [] all = total_same (due_finding_count []) (λ _. 0) lists due_none ∙ nothing lists
 due_in_all counter n lists r le (g ∷ gs) all =

@@ -1,6 +1,7 @@
 -- Each step keeps the rule.
 use Rattle.std.proofs.lemmas.Grind.{common_steps}
-use Rattle.job_pool.proofs.Imports.{HasAllPlaces, IsDealt, IsDrawn, List, View, [], ap, arith, at_map, count_at_least}
+use Rattle.job_pool.proofs.Imports.{AreNumbersDealt, HasAllPlaces, IsEachNumberDrawnOnce, List, View, [], ap, arith}
+use Rattle.job_pool.proofs.Imports.{at_map, count_at_least}
 use Rattle.job_pool.proofs.Imports.{get_or, length, map-append, nat_tests, occurrences, refl, set, subst, suc, sym}
 use Rattle.job_pool.proofs.Imports.{total, seat_view, ℕ, ◌++◌, ◌+◌, ◌-◌, ◌<◌, ◌∙◌, ◌∷◌, ◌≡◌, ◌≢◌, ◌≤◌}
 use Rattle.lemmas.proofs.Common.{◌%◌, ◌^◌, get_or-set_same, ⊎_elim, map-set, mod-eq_of_lt}
@@ -8,7 +9,7 @@ use Rattle.std.proofs.Math.ListN.{length-set}
 use Rattle.atomic_table.specs.Table.{State, Me, keeps, step, Allows, Splits, Joins}
 use Rattle.atomic_table.proofs.Lists.{at_set, at_snoc, set_else, set_again}
 use Rattle.job_pool.specs.declared.rule.DeskSize.{DeskSize}
-use Rattle.job_pool.specs.Rule.{FitsDeskRule, MeetsRule, lists_of, view_after_claim, view_after_look, IsAfterClaim}
+use Rattle.job_pool.specs.Rule.{FitsDeskRule, MeetsDeskRule, lists_of, view_after_claim, view_after_look, IsAfterClaim}
 use Rattle.job_pool.specs.Rule.{IsAfterLook}
 use Rattle.job_pool.specs.Rule.{view_after_split, split_off_view, joined_view, spent_view}
 use Rattle.job_pool.proofs.Sums.{total_set, total_snoc, total-map, total_le, at_le, count_at_least-append}
@@ -17,7 +18,7 @@ use mathlib.Core.Option.{some, none}
 use lib.ListN.{get_elem?}
 
 -- the word is at most the numbers and the seats together
-pub bound : (n seats word : ℕ) (views : List View) → IsDealt n seats word views → word ≤ n + seats
+pub bound : (n seats word : ℕ) (views : List View) → AreNumbersDealt n seats word views → word ≤ n + seats
 bound n seats word views r =
     let a = total_le (λ (v : View). count_at_least n v.draws) (λ v. v.places) views
     (λ i v at. (r.each i v at).late_within) in
@@ -68,10 +69,10 @@ same_lists : (views : List View) (id : ℕ) (v w : View) → get_elem? views id 
 same_lists views id v w at same = grind (arith, common_steps, lists_set, set, set_again, at_lists)
 
 pub claim_keeps : (n seats word id : ℕ) (views : List View) (v : View) → get_elem? views id ≡ some v → v.places ≡ 1 →
-    count_at_least n v.draws ≡ 0 → IsDealt n seats word views →
-    IsDealt n seats (suc word) (set views id (view_after_claim v word))
+    count_at_least n v.draws ≡ 0 → AreNumbersDealt n seats word views →
+    AreNumbersDealt n seats (suc word) (set views id (view_after_claim v word))
 claim_keeps n seats word id views v at one clear r = let w = view_after_claim v word in record {
-  drawn = subst (IsDrawn (suc word)) (sym (lists_set views id w))
+  drawn = subst (IsEachNumberDrawnOnce (suc word)) (sym (lists_set views id w))
       (draw_keeps word (lists_of views) id v.draws (at_lists views id v at) r.drawn);
   places = let t = total_set (λ (u : View). u.places) views id v w at in let p = r.places in omega arith;
   each = fits_set n word (suc word) id views w (omega arith) r.each (fits_drew n word v one clear (r.each id v at));
@@ -81,7 +82,8 @@ module _ {S : Type 0} where
   pub claims : (size : DeskSize) (slots id : ℕ) (me : Me S View) → size.numbers + size.seats < 2 ^ 63 →
       me.0.places ≡ 1 →
       count_at_least size.numbers me.0.draws ≡ 0
-      → Allows {S = S} (MeetsRule size) slots id me 0 (λ n. (n + 1) % 2 ^ 64) (IsAfterClaim (step slots 0 1 0 none) me)
+      → Allows {S = S} (MeetsDeskRule size) slots id me 0 (λ n. (n + 1) % 2 ^ 64)
+      (IsAfterClaim (step slots 0 1 0 none) me)
   claims size slots id me small one clear s r wide at fits =
       let word : ℕ = get_or s.words 0 0 in
       let w : View = view_after_claim me.0 word in
@@ -96,20 +98,20 @@ module _ {S : Type 0} where
         tt,
         (
           length-set s.words 0 ((word + 1) % 2 ^ 64) ∙ r.0,
-          subst (λ k. IsDealt size.numbers size.seats k (set s.views id w)) (sym here)
+          subst (λ k. AreNumbersDealt size.numbers size.seats k (set s.views id w)) (sym here)
               (claim_keeps size.numbers size.seats word id s.views me.0 at one clear r.1),
         ),
         (f, refl, refl),
       )
 
-  unmoved : (size : DeskSize) (s : State S View) (views : List View) → MeetsRule size s →
-      ((word : ℕ) → word ≡ get_or s.words 0 0 → IsDealt size.numbers size.seats word s.views →
-      IsDealt size.numbers size.seats word views) →
-      (length s.words ≡ 1) × IsDealt size.numbers size.seats (get_or s.words 0 0) views
+  unmoved : (size : DeskSize) (s : State S View) (views : List View) → MeetsDeskRule size s →
+      ((word : ℕ) → word ≡ get_or s.words 0 0 → AreNumbersDealt size.numbers size.seats word s.views →
+      AreNumbersDealt size.numbers size.seats word views) →
+      (length s.words ≡ 1) × AreNumbersDealt size.numbers size.seats (get_or s.words 0 0) views
   unmoved size s views r step = (r.0, step (get_or s.words 0 0) refl r.1)
 
   pub looks : (size : DeskSize) (slots id : ℕ) (me : Me S View) → me.0.places ≡ 1 →
-      Allows {S = S} (MeetsRule size) slots id me 0 (λ n. n) (IsAfterLook (step slots 0 0 0 none) me)
+      Allows {S = S} (MeetsDeskRule size) slots id me 0 (λ n. n) (IsAfterLook (step slots 0 0 0 none) me)
   looks size slots id me one s r wide at fits =
       let word : ℕ = get_or s.words 0 0 in
       let w : View = view_after_look me.0 word in
@@ -121,7 +123,7 @@ module _ {S : Type 0} where
         tt,
         (
           length-set s.words 0 word ∙ r.0,
-          subst (λ k. IsDealt size.numbers size.seats k (set s.views id w)) (sym here)
+          subst (λ k. AreNumbersDealt size.numbers size.seats k (set s.views id w)) (sym here)
               (look_keeps size.numbers size.seats word id s.views me.0 at one r.1),
         ),
         (f, refl, refl),
@@ -138,9 +140,9 @@ module _ {S : Type 0} where
       }
 
       look_keeps : (n seats word id : ℕ) (views : List View) (v : View) → get_elem? views id ≡ some v → v.places ≡ 1 →
-          IsDealt n seats word views → IsDealt n seats word (set views id (view_after_look v word))
+          AreNumbersDealt n seats word views → AreNumbersDealt n seats word (set views id (view_after_look v word))
       look_keeps n seats word id views v at one r = let w = view_after_look v word in record {
-        drawn = subst (IsDrawn word) (sym (same_lists views id v w at refl)) r.drawn;
+        drawn = subst (IsEachNumberDrawnOnce word) (sym (same_lists views id v w at refl)) r.drawn;
         places = let t = total_set (λ (u : View). u.places) views id v w at in let p = r.places in omega arith;
         each = fits_set n word word id views w (omega arith) r.each (fits_saw n word v one (r.each id v at));
       }
@@ -163,12 +165,13 @@ fits_more n word views w others mine j v at =
     (at_snoc views w v j at)
 
 split_keeps : (n seats word id p : ℕ) (views : List View) → get_elem? views id ≡ some (seat_view [] 0 p) → 0 < p →
-    IsDealt n seats word views → IsDealt n seats word (set views id (seat_view [] 0 (p - 1)) ++ seat_view [] 0 1 ∷ [])
+    AreNumbersDealt n seats word views →
+    AreNumbersDealt n seats word (set views id (seat_view [] 0 (p - 1)) ++ seat_view [] 0 1 ∷ [])
 split_keeps n seats word id p views at some_place r =
     let v = seat_view [] 0 p in
     let w = seat_view [] 0 (p - 1) in
     let u = seat_view [] 0 1 in record {
-      drawn = subst (IsDrawn word) (sym
+      drawn = subst (IsEachNumberDrawnOnce word) (sym
           (map-append (λ (v : View). v.draws) (set views id w) (u ∷ [])
           ∙ ap (λ l. l ++ [] ∷ []) (same_lists views id v w at refl))) (empty_keeps word (lists_of views) r.drawn);
       places = let t = total_set (λ (u : View). u.places) views id v w at in let a =
@@ -191,13 +194,13 @@ fits_both n word v w some_place other_place f g = record {
 
 join_keeps : (n seats word id other : ℕ) (views : List View) (v w : View) → get_elem? views id ≡ some v →
     ¬ (other ≡ id) → get_elem? (set views id (joined_view v w)) other ≡ some w → 0 < v.places → 0 < w.places →
-    IsDealt n seats word views
-    → IsDealt n seats word (set (set views id (joined_view v w)) other spent_view)
+    AreNumbersDealt n seats word views
+    → AreNumbersDealt n seats word (set (set views id (joined_view v w)) other spent_view)
 join_keeps n seats word id other views v w at apart there some_place other_place r =
     let b = joined_view v w in
     let vs = set views id b in
     let at' : get_elem? views other ≡ some w = sym (set_else views id other b apart) ∙ there in record {
-      drawn = subst (IsDrawn word) (sym
+      drawn = subst (IsEachNumberDrawnOnce word) (sym
           (lists_set vs other spent_view ∙ ap (λ l. set l other []) (lists_set views id b)))
           (merge_keeps word (lists_of views) id other v.draws w.draws (at_lists views id v at)
           (subst (λ l. get_elem? l other ≡ some w.draws) (lists_set views id b) (at_lists vs other w there)) r.drawn);
@@ -210,19 +213,19 @@ join_keeps n seats word id other views v w at apart there some_place other_place
 
 module _ {S : Type 0} where
   pub splits : (size : DeskSize) (id p : ℕ) → 0 < p →
-      Splits {S = S} (MeetsRule size) id (seat_view [] 0 p) (view_after_split (seat_view [] 0 p))
+      Splits {S = S} (MeetsDeskRule size) id (seat_view [] 0 p) (view_after_split (seat_view [] 0 p))
       (split_off_view (seat_view [] 0 p))
   splits size id p some_place s r at =
       (r.0, split_keeps size.numbers size.seats (get_or s.words 0 0) id p s.views at some_place r.1)
 
   pub splits_as : (size : DeskSize) (id p : ℕ) (v : View) → v ≡ seat_view [] 0 p → 0 < p →
-      Splits {S = S} (MeetsRule size) id v (view_after_split v) (split_off_view v)
+      Splits {S = S} (MeetsDeskRule size) id v (view_after_split v) (split_off_view v)
   splits_as size id p v is some_place =
-      subst (λ u. Splits {S = S} (MeetsRule size) id u (view_after_split u) (split_off_view u)) (sym is)
+      subst (λ u. Splits {S = S} (MeetsDeskRule size) id u (view_after_split u) (split_off_view u)) (sym is)
       (splits size id p some_place)
 
   pub joins : (size : DeskSize) (id : ℕ) (v : View) (other : ℕ) (w : View) → 0 < v.places → 0 < w.places →
-      Joins {S = S} (MeetsRule size) id v other w (joined_view v w) spent_view
+      Joins {S = S} (MeetsDeskRule size) id v other w (joined_view v w) spent_view
   joins size id v other w some_place other_place s r at apart there = (
     r.0,
     join_keeps size.numbers size.seats
@@ -249,7 +252,7 @@ only_one f views id v at z each all =
     still i u e p = ⊎_elim (λ (x : (i ≡ id) × (spent_view ≡ u)). ap f (sym x.1) ∙ z)
         (λ (x : (i ≢ id) × (get_elem? views i ≡ some u)). each i u x.1 p) (at_set views id i spent_view u e)
 
-pub ends : (n seats word id : ℕ) (views : List View) (v : View) → IsDealt n seats word views →
+pub ends : (n seats word id : ℕ) (views : List View) (v : View) → AreNumbersDealt n seats word views →
     get_elem? views id ≡ some v → seats ≤ v.places → HasAllPlaces n seats word v
 ends n seats word id views v r at enough =
     let p = r.places in

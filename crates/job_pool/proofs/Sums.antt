@@ -1,6 +1,6 @@
 -- Sums over lists, and lists of numbers that were drawn.
 use Rattle.std.proofs.lemmas.Grind.{common_steps}
-use Rattle.job_pool.proofs.Imports.{IsDrawn, List, [], all_but_last, ap, append-nil, append_assoc, arith}
+use Rattle.job_pool.proofs.Imports.{IsEachNumberDrawnOnce, List, [], all_but_last, ap, append-nil, append_assoc, arith}
 use Rattle.job_pool.proofs.Imports.{count_at_least, get_or, joined, length, map, nat_tests, occurrences, past_greatest}
 use Rattle.job_pool.proofs.Imports.{past_last, refl, set, suc, sym, total, zero, ℕ, ◌++◌, ◌+◌, ◌-◌, ◌∙◌, ◌∷◌, ◌≡◌, ◌≤◌}
 use Rattle.lemmas.proofs.Common.{length-append, max, min}
@@ -92,7 +92,7 @@ nothing [] = refl
 nothing (y ∷ ys) = let h = nothing ys in omega arith
 
 -- as many numbers below n were drawn as n and the counter allow
-pub early_in_all : (counter : ℕ) (lists : List (List ℕ)) → IsDrawn counter lists → (n : ℕ) →
+pub early_in_all : (counter : ℕ) (lists : List (List ℕ)) → IsEachNumberDrawnOnce counter lists → (n : ℕ) →
     total (count_less_than n) lists ≡ min n counter
 early_in_all counter lists r zero =
     total_same (count_less_than 0) (λ _. 0) lists early_zero ∙ (nothing lists ∙ omega arith)
@@ -103,7 +103,7 @@ early_in_all counter lists r (suc k) =
     let o = r.once k in
     grind (arith, nat_tests)
 
-pub late_in_all : (counter : ℕ) (lists : List (List ℕ)) → IsDrawn counter lists → (n : ℕ) →
+pub late_in_all : (counter : ℕ) (lists : List (List ℕ)) → IsEachNumberDrawnOnce counter lists → (n : ℕ) →
     total (count_at_least n) lists ≡ counter - n
 late_in_all counter lists r n =
     let e = early_in_all counter lists r n in
@@ -114,7 +114,7 @@ late_in_all counter lists r n =
 
 -- the seat at i draws the next number
 pub draw_keeps : (counter : ℕ) (lists : List (List ℕ)) (i : ℕ) (xs : List ℕ) → get_elem? lists i ≡ some xs →
-    IsDrawn counter lists → IsDrawn (suc counter) (set lists i (xs ++ counter ∷ []))
+    IsEachNumberDrawnOnce counter lists → IsEachNumberDrawnOnce (suc counter) (set lists i (xs ++ counter ∷ []))
 draw_keeps counter lists i xs at r = let ys : List ℕ = xs ++ counter ∷ [] in record {
   whole = let t = total_set length lists i xs ys at in let a = length-append xs (counter ∷ []) in let w = r.whole in
       omega arith;
@@ -124,12 +124,13 @@ draw_keeps counter lists i xs at r = let ys : List ℕ = xs ++ counter ∷ [] in
 
 -- a list gets another appended, which is emptied
 pub merge_keeps : (counter : ℕ) (lists : List (List ℕ)) (i j : ℕ) (xs ys : List ℕ) → get_elem? lists i ≡ some xs →
-    get_elem? (set lists i (xs ++ ys)) j ≡ some ys → IsDrawn counter lists →
-    IsDrawn counter (set (set lists i (xs ++ ys)) j [])
+    get_elem? (set lists i (xs ++ ys)) j ≡ some ys → IsEachNumberDrawnOnce counter lists →
+    IsEachNumberDrawnOnce counter (set (set lists i (xs ++ ys)) j [])
 merge_keeps counter lists i j xs ys at there r = grind (arith, common_steps, total_set, set, times-append)
 
 -- an empty list more
-pub empty_keeps : (counter : ℕ) (lists : List (List ℕ)) → IsDrawn counter lists → IsDrawn counter (lists ++ [] ∷ [])
+pub empty_keeps : (counter : ℕ) (lists : List (List ℕ)) → IsEachNumberDrawnOnce counter lists →
+    IsEachNumberDrawnOnce counter (lists ++ [] ∷ [])
 empty_keeps counter lists r = record {
   whole = let t = total_snoc length lists [] in let w = r.whole in omega arith;
   once = λ x. let t = total_snoc (occurrences x) lists [] in let o = r.once x in omega arith;
@@ -152,7 +153,8 @@ times-joined x [] = refl
 times-joined x (xs ∷ xss) = let h = times-joined x xss in let a = times-append x xs (joined xss) in omega arith
 
 -- lists that stand end to end in one
-pub joined_drawn : (counter : ℕ) (lists : List (List ℕ)) → IsDrawn counter (joined lists ∷ []) → IsDrawn counter lists
+pub joined_drawn : (counter : ℕ) (lists : List (List ℕ)) → IsEachNumberDrawnOnce counter (joined lists ∷ []) →
+    IsEachNumberDrawnOnce counter lists
 joined_drawn counter lists r = record {
   whole = let w = r.whole in let l = length-joined lists in omega arith;
   once = λ x. let o = r.once x in let t = times-joined x lists in omega arith;

@@ -1,6 +1,6 @@
 -- Lists of draws
 use Rattle.std.specs.Prelude.{◌≡◌, ℕ, ◌+◌, ◌≤◌, max, nat_lt, if◌then◌else◌, List, [], ◌∷◌, ◌++◌, length, All}
-use Rattle.core_book.specs.Draws.{IsDrawn}
+use Rattle.core_book.specs.Draws.{IsEachNumberDrawnOnce}
 
 -- how many of a list are n or more
 abbrev pub count_at_least : ℕ → List ℕ → ℕ
@@ -31,6 +31,6 @@ joined (xs ∷ xss) = xs ++ joined xss
 -- the draws of the seats of a closed desk, a list for each, of which only the last draw may be n or more
 pub record AreAllDraws (n seats counter : ℕ) (lists : List (List ℕ)) : Type 0 where
   pub count : length lists ≡ seats
-  pub drawn : IsDrawn counter lists
+  pub drawn : IsEachNumberDrawnOnce counter lists
   pub at_most : counter ≤ n + seats
   pub only_last : All (λ xs. past_greatest (all_but_last xs) ≤ n) lists

@@ -4,7 +4,7 @@ use Rattle.std.specs.Prelude.{◌≡◌, ℕ, ◌+◌, ◌-◌, ◌≤◌, max, 
 use mathlib.Core.Option.{some}
 use lib.ListN.{get_elem?}
 use Rattle.atomic_table.specs.Table.{State, Me, Step}
-use Rattle.core_book.specs.Draws.{total, IsDrawn}
+use Rattle.core_book.specs.Draws.{total, IsEachNumberDrawnOnce}
 use Rattle.job_pool.specs.Lists.{count_at_least, past_greatest, all_but_last}
 use Rattle.job_pool.specs.declared.rule.DeskSize.{DeskSize}
 use Rattle.job_pool.specs.declared.rule.View.{View}
@@ -26,14 +26,14 @@ abbrev pub lists_of : List View → List (List ℕ)
 lists_of = map (λ v. v.draws)
 
 -- each number below the word was drawn, once; and the places of all views add up to the seats opened
-pub record IsDealt (n seats word : ℕ) (views : List View) : Type 0 where
-  pub drawn : IsDrawn word (lists_of views)
+pub record AreNumbersDealt (n seats word : ℕ) (views : List View) : Type 0 where
+  pub drawn : IsEachNumberDrawnOnce word (lists_of views)
   pub places : total (λ v. v.places) views ≡ seats
   pub each : (seat : ℕ) (v : View) → get_elem? views seat ≡ some v → FitsDeskRule n word v
 
 -- a desk has one word
-abbrev pub MeetsRule : {S : Type 0} → DeskSize → State S View → Type 0
-MeetsRule size s = (length s.words ≡ 1) × IsDealt size.numbers size.seats (slice_index s.words 0) s.views
+abbrev pub MeetsDeskRule : {S : Type 0} → DeskSize → State S View → Type 0
+MeetsDeskRule size s = (length s.words ≡ 1) × AreNumbersDealt size.numbers size.seats (slice_index s.words 0) s.views
 
 -- ---- views
 
@@ -86,5 +86,5 @@ spent_view = seat_view [] 0 0
 -- one view has all places, and so all draws
 pub record HasAllPlaces (n seats word : ℕ) (v : View) : Type 0 where
   pub places : v.places ≡ seats
-  pub drawn : IsDrawn word (v.draws ∷ [])
+  pub drawn : IsEachNumberDrawnOnce word (v.draws ∷ [])
   pub bounded : word ≤ n + seats

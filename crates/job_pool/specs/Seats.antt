@@ -32,7 +32,7 @@ abbrev pub IsNewSeatOf : Desk → DeskSeat → Type 0
 IsNewSeatOf desk seat = IsSeatOf desk seat × (drawn_by seat ≡ []) × (seen_by seat ≡ 0)
 
 -- the claim of the core, at a next number that the seat had not seen to be drawn
-pub record IsClaim (n : ℕ) (before after : DeskSeat) (answer : Claim) : Type 0 where
+pub record IsClaimOfSeat (n : ℕ) (before after : DeskSeat) (answer : Claim) : Type 0 where
   pub next : ℕ
   pub unseen : seen_by before ≤ next
   pub answers : answer ≡ claim_answer n (drawn_by before) next

@@ -12,14 +12,15 @@ abbrev pub sum_of_filed : List Counts → ℕ
 sum_of_filed shares = sum_by (λ (s : Counts). s.filed) shares
 
 -- a share's later counts are not less
-pub record HasRisen (before after : Counts) : Type 0 where
+pub record AreCountsNotLess (before after : Counts) : Type 0 where
   pub filed : before.filed ≤ after.filed
   pub accepted : before.accepted ≤ after.accepted
 
 -- the number of shares stays, and no count is less
-pub record HaveRisen (before after : List Counts) : Type 0 where
+pub record AreSharesNotLess (before after : List Counts) : Type 0 where
   pub count : length after ≡ length before
-  pub each : (i : ℕ) (d : Counts) → i < length before → HasRisen (slice_index_or before i d) (slice_index_or after i d)
+  pub each : (i : ℕ) (d : Counts) → i < length before →
+      AreCountsNotLess (slice_index_or before i d) (slice_index_or after i d)
 
 -- For each job `groups` has the number of the first of its shape. This many findings are due from the seat that drew
 -- these numbers: those of all members of the groups whose first numbers they are
@@ -35,7 +36,7 @@ module _ {F A : Type 0} where
   -- A worker that did not stop out of memory filed as many findings as were due from it, and drew on to the end
   pub record HasWorked (desk : Desk) (groups : List ℕ) (before after : Worker F A) : Type 0 where
     pub seat : IsSeatOf desk after.seat
-    pub risen : HasRisen before.share after.share
+    pub risen : AreCountsNotLess before.share after.share
     pub filed : after.starved ≡ false →
         after.share.filed ≡ before.share.filed + due_finding_count groups (drawn_by after.seat)
     pub ended : after.starved ≡ false → number_count_of desk < past_last (drawn_by after.seat)

@@ -57,7 +57,7 @@ impl DeskSeat {
 
 impl Desk {
     ghost use Rattle.job_pool.specs.Rule.{seat_view};
-    ghost use Rattle.job_pool.specs.Seats.{IsClaim, IsNewSeatOf, IsSeatOf, IsAnswerToClaim, drawn_by, number_count_of, seat_count_of, seen_by};
+    ghost use Rattle.job_pool.specs.Seats.{IsClaimOfSeat, IsNewSeatOf, IsSeatOf, IsAnswerToClaim, drawn_by, number_count_of, seat_count_of, seen_by};
 
     /// Opens a desk for the numbers below `numbers`, and its seats. It takes all memory that they need.
     pub fn open(
@@ -120,7 +120,7 @@ impl Desk {
     pub fn claim(&self, seat: &mut DeskSeat) -> Claim
         requires { IsSeatOf self.now seat.old }
         ensures seat { IsSeatOf self.now seat.new }
-        ensures claim { IsClaim (number_count_of self.now) seat.old seat.new result }
+        ensures claim { IsClaimOfSeat (number_count_of self.now) seat.old seat.new result }
         ensures answer { IsAnswerToClaim (number_count_of self.now) seat.old seat.new result }
         ensures seen { seen_by seat.old ≤ seen_by seat.new }
     {

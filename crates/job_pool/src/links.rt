@@ -1,7 +1,7 @@
 //! The members of groups, each linked to the next one, so that all members of all groups are met in one pass.
 ghost use Rattle.std.specs.Prelude.{◌<◌, length, IfOk};
 ghost use Rattle.std.specs.List.{All};
-ghost use Rattle.job_pool.specs.Links.{AreLinks};
+ghost use Rattle.job_pool.specs.Links.{AreGroupLinks};
 
 use std::alloc::{AllocError, Global};
 
@@ -11,7 +11,7 @@ use std::alloc::{AllocError, Global};
 #[tactic(auto, using(crate::proofs::Linking::all_linked, crate::proofs::Linking::linked_one, crate::proofs::Linking::none_linked))]
 pub(crate) fn link_members(alloc: Global, groups: &[usize]) -> Result<Vec<usize>, AllocError>
     requires { All (λ g. g < length groups.now) groups.now }
-    ensures { IfOk result (λ links. AreLinks groups.now links.items) }
+    ensures { IfOk result (λ links. AreGroupLinks groups.now links.items) }
 {
     let count = groups.len();
     let mut links = vec![in alloc; count; count]?;

@@ -2,10 +2,10 @@
 ghost use Rattle.std.specs.Prelude.{◌≡◌, ℕ, ◌+◌, ◌<◌, ◌≤◌, false, [], length, map, slice_index_or, vec_len, vec_capacity, All, IfOk};
 ghost use Rattle.std.specs.Arc.{arc_value};
 ghost use Rattle.module_job.specs.Groups.{AreGroups};
-ghost use Rattle.job_pool.specs.Links.{AreLinks};
+ghost use Rattle.job_pool.specs.Links.{AreGroupLinks};
 ghost use Rattle.job_pool.specs.Seats.{IsNewSeatOf, number_count_of, seat_count_of};
 ghost use Rattle.core_book.specs.Filling.{shapes_of};
-ghost use Rattle.job_pool.specs.Work.{HasWorked, HaveRisen, IsReadyWorker, sum_of_filed, seats_of, shares_of};
+ghost use Rattle.job_pool.specs.Work.{HasWorked, AreSharesNotLess, IsReadyWorker, sum_of_filed, seats_of, shares_of};
 ghost use Rattle.lemmas.specs.Bounds.{max_modules};
 
 use crate::desk::{Desk, DeskSeat};
@@ -62,7 +62,7 @@ pub fn work<F: Filings + Sync, A: Ledger + Sync, G: Gate + Sync, R: Threads + Wa
     requires jobs { length jobs.now ≤ max_modules }
     requires groups { AreGroups (shapes_of (map arc_value jobs.now)) groups.now }
     requires shares { (0 < vec_len shares) × (vec_len shares ≤ 64) }
-    ensures shares { HaveRisen shares.items result.shares.items }
+    ensures shares { AreSharesNotLess shares.items result.shares.items }
     ensures filed { result.memory ≡ false →
         sum_of_filed result.shares.items ≡ sum_of_filed shares.items + length jobs.now }
 {
@@ -114,7 +114,7 @@ fn open_desk_and_reserve<F: Filings, A: Ledger>(
     requires groups { All (λ g. g < length groups.now) groups.now }
     ensures desk { IfOk result (λ p. (number_count_of p.0 ≡ length groups.now)
         × (seat_count_of p.0 ≡ count) × (vec_len p.1 ≡ count)) }
-    ensures links { IfOk result (λ p. AreLinks groups.now p.2.links.items) }
+    ensures links { IfOk result (λ p. AreGroupLinks groups.now p.2.links.items) }
     ensures seats { IfOk result (λ p. All (IsNewSeatOf p.0) p.1.items) }
     ensures empty { IfOk result (λ p. (p.2.workers.items ≡ []) × (p.2.seats.items ≡ [])
         × (p.2.shares.items ≡ [])) }
@@ -176,7 +176,7 @@ fn run_all<F: Filings + Sync, A: Ledger + Sync, G: Gate + Sync, R: Threads + Wai
     requires all { number_count_of shared_work.now.desk.now ≡ length shared_work.now.jobs.now }
     requires groups { AreGroups (shapes_of (map arc_value shared_work.now.jobs.now))
         shared_work.now.groups.now }
-    requires links { AreLinks shared_work.now.groups.now shared_work.now.links.now }
+    requires links { AreGroupLinks shared_work.now.groups.now shared_work.now.links.now }
     ensures { (i : ℕ) (d : _) → i < length workers.old →
         HasWorked shared_work.now.desk.now shared_work.now.groups.now
         (slice_index_or workers.old i d) (slice_index_or workers.new i d) }

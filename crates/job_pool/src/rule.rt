@@ -23,9 +23,9 @@ pub struct DeskSize {
 pub struct DeskRule;
 
 impl<S> TableRule<S, View, DeskSize> for DeskRule {
-    ghost use Rattle.job_pool.specs.Rule.{MeetsRule, opening_view};
+    ghost use Rattle.job_pool.specs.Rule.{MeetsDeskRule, opening_view};
 
-    ghost holds = { MeetsRule };
+    ghost holds = { MeetsDeskRule };
 
     ghost first = { opening_view };
 }

@@ -7,10 +7,10 @@ ghost use Rattle.module_job.specs.Shapes.{shape_of};
 ghost use Rattle.local_run.specs.Shown.{digest_of, job_of};
 ghost use Rattle.verdict_book.specs.Counts.{counts_after_reply};
 ghost use Rattle.verdict_book.specs.Replies.{IsReplyOf};
-ghost use Rattle.job_pool.specs.Links.{AreLinks};
+ghost use Rattle.job_pool.specs.Links.{AreGroupLinks};
 ghost use Rattle.job_pool.specs.Seats.{number_count_of};
-ghost use Rattle.core_book.specs.Filling.{IsOneMore, shapes_of};
-ghost use Rattle.job_pool.specs.Work.{HasRisen, HasWorked, IsReadyWorker};
+ghost use Rattle.core_book.specs.Filling.{IsOneMoreOrGreatest, shapes_of};
+ghost use Rattle.job_pool.specs.Work.{AreCountsNotLess, HasWorked, IsReadyWorker};
 
 use crate::desk::{Desk, DeskSeat};
 use crate::gate::Gate;
@@ -59,7 +59,7 @@ impl<F: Filings, A: Ledger> Worker<F, A> {
         requires all { number_count_of shared_work.now.desk.now ≡ length shared_work.now.jobs.now }
         requires groups { AreGroups (shapes_of (map arc_value shared_work.now.jobs.now))
             shared_work.now.groups.now }
-        requires links { AreLinks shared_work.now.groups.now shared_work.now.links.now }
+        requires links { AreGroupLinks shared_work.now.groups.now shared_work.now.links.now }
         ensures { HasWorked shared_work.now.desk.now shared_work.now.groups.now self.old self.new }
     {
         let mut buffers = Buffers::new(alloc);
@@ -91,13 +91,13 @@ fn run_group_if_first<F: Filings, A: Ledger, G, R: Wait>(
     requires number { number < length shared_work.now.jobs.now }
     requires groups { AreGroups (shapes_of (map arc_value shared_work.now.jobs.now))
         shared_work.now.groups.now }
-    requires links { AreLinks shared_work.now.groups.now shared_work.now.links.now }
+    requires links { AreGroupLinks shared_work.now.groups.now shared_work.now.links.now }
     ensures filed { OnOk result (share.new.filed
         ≡ share.old.filed + occurrences number shared_work.now.groups.now) }
-    ensures risen { HasRisen share.old share.new }
+    ensures risen { AreCountsNotLess share.old share.new }
     ensures no_run { slice_index shared_work.now.groups.now number ≢ number → runs.new ≡ runs.old }
     ensures one_run { slice_index shared_work.now.groups.now number ≡ number →
-        IsOneMore runs.old runs.new }
+        IsOneMoreOrGreatest runs.old runs.new }
 {
     let (jobs, groups) = (shared_work.jobs, shared_work.groups);
     if groups[number] != number {
@@ -118,7 +118,7 @@ fn run_job_and_count(
 ) -> Result<Finding, AllocError>
     ensures digest { IfOk result (λ f. digest_of f ≡ digest) }
     ensures job { IfOk result (λ f. job_of f ≡ arc_value job.now) }
-    ensures counted { IsOneMore runs.old runs.new }
+    ensures counted { IsOneMoreOrGreatest runs.old runs.new }
 {
     *runs = runs.saturating_add(1);
     run_job_with_buffers(buffers, digest, number, job.clone()?)
@@ -134,14 +134,14 @@ fn file_members<F: Filings, A: Ledger, G, R: Wait>(
 ) -> Result<(), AllocError>
     requires groups { AreGroups (shapes_of (map arc_value shared_work.now.jobs.now))
         shared_work.now.groups.now }
-    requires links { AreLinks shared_work.now.groups.now shared_work.now.links.now }
+    requires links { AreGroupLinks shared_work.now.groups.now shared_work.now.links.now }
     requires first { slice_get (map arc_value shared_work.now.jobs.now) number
         ≡ Some (job_of finding.now) }
     requires in_own_group { slice_index shared_work.now.groups.now number ≡ number }
     requires digest { digest_of finding.now ≡ F.digest }
     ensures filed { OnOk result (share.new.filed
         ≡ share.old.filed + occurrences number shared_work.now.groups.now) }
-    ensures risen { HasRisen share.old share.new }
+    ensures risen { AreCountsNotLess share.old share.new }
 {
     let jobs = shared_work.jobs;
     let mut member = number;

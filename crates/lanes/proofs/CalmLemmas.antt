@@ -1,11 +1,15 @@
 -- Which blocks are still known to stay, after cells or marks changed
-use Rattle.lanes.proofs.Imports.{AntiStays, AreCellNumbers, AreUnmarkedBlocksStable, BlockMarks, BlockPlaces, Bool}
-use Rattle.lanes.proofs.Imports.{ChangesCells, Even, HasWordsStrideRows, IsNotRowEnd, IsSameOutsidePart, IsStable}
-use Rattle.lanes.proofs.Imports.{IsWordSame, List, MainStays, Odd, Partition, Planes, TurnsBlock, ap, arith, block_at}
-use Rattle.lanes.proofs.Imports.{block_count, by_eq_or_not, by_lt_or_le, common_steps, false, false≢true, get_or, inl}
+use Rattle.lanes.proofs.Imports.{AreCellNumbers, AreUnmarkedBlocksStable, BlockMarks, BlockPlaces, Bool}
+use Rattle.lanes.proofs.Imports.{IsAntiDiagonalStable}
+use Rattle.lanes.proofs.Imports.{ChangesOnlyDiagonals, Even, HasWordsStrideRows, IsBlockStable, IsNotRowEndBlock}
+use Rattle.lanes.proofs.Imports.{IsSameOutsidePart}
+use Rattle.lanes.proofs.Imports.{IsBlockWordSame, IsMainDiagonalStable, List, Odd, Partition, Planes, TurnsBlock, ap}
+use Rattle.lanes.proofs.Imports.{arith, block_at}
+use Rattle.lanes.proofs.Imports.{block_number_count, by_eq_or_not, by_lt_or_le, common_steps, false, false≢true, get_or}
+use Rattle.lanes.proofs.Imports.{inl}
 use Rattle.lanes.proofs.Imports.{inr, mul-le-mul_left, sym, true, ℕ, ◌*◌, ◌+◌, ◌-◌, ◌<◌, ◌≡◌, ◌≢◌, ◌≤◌}
 use Rattle.lemmas.proofs.Common.{cases_Bool}
-use Rattle.lanes.specs.Calm.{MarksBlocks, UnmarksOnlyBlock}
+use Rattle.lanes.specs.Calm.{MarksBlocksSharingCell, UnmarksAtMostBlock}
 use Rattle.lanes.proofs.TurnLemmas.{anti_words, main_words}
 
 -- ---- the cells of blocks
@@ -18,7 +22,7 @@ pub odd_even : Odd ≡ Even → ⊥
 odd_even e = false≢true (sym (ap is_odd e))
 
 -- the planes have the cells of each block
-pub cells_of : (part : Partition) (p : Planes) (u : ℕ) → u < block_count part p →
+pub cells_of : (part : Partition) (p : Planes) (u : ℕ) → u < block_number_count part p →
     AreCellNumbers (block_at part p.stride u) p
 cells_of part p u h1 = grind (arith, common_steps)
 
@@ -27,16 +31,17 @@ abbrev pub AreRangeCellNumbers : BlockPlaces → ℕ → Planes → Type 0
 AreRangeCellNumbers b n p = (b.odd + n ≤ p.stride * p.rows) × (b.right + n ≤ p.stride * p.rows)
     × (b.down + n ≤ p.stride * p.rows) × (b.even + n ≤ p.stride * p.rows)
 
-pub range_cell_numbers : (part : Partition) (p : Planes) (first end : ℕ) → first < end → end ≤ block_count part p →
+pub range_cell_numbers : (part : Partition) (p : Planes) (first end : ℕ) → first < end →
+    end ≤ block_number_count part p →
     AreRangeCellNumbers (block_at part p.stride first) (end - first) p
 range_cell_numbers part p first end h1 h2 = grind (arith, common_steps)
 
-pub count_below : (part : Partition) (p : Planes) (u : ℕ) → u < block_count part p → u < p.stride * p.rows
+pub count_below : (part : Partition) (p : Planes) (u : ℕ) → u < block_number_count part p → u < p.stride * p.rows
 count_below Odd p u l = l
 count_below Even p u l = omega (arith, l)
 
 pub same_count : (part : Partition) (p q : Planes) → HasWordsStrideRows p.words p.stride p.rows q →
-    block_count part q ≡ block_count part p
+    block_number_count part q ≡ block_number_count part p
 same_count part p q h1 = grind (arith, common_steps)
 
 -- other blocks of a partition have other cells
@@ -63,8 +68,8 @@ kept_cell : (changes : Bool) (w c v k : ℕ) (xs ys : List ℕ) → IsSameOutsid
     get_or ys (w * v + k) 0 ≡ get_or xs (w * v + k) 0
 kept_cell changes w c v k xs ys same l other stays = grind (arith, common_steps, by_eq_or_not, cases_Bool, other_cell)
 
-pub block_cells : (main anti : Bool) (b : BlockPlaces) (p q : Planes) → (main ≡ false → MainStays b p) →
-    (anti ≡ false → AntiStays b p) → TurnsBlock b p q → ChangesCells main anti b p q
+pub block_cells : (main anti : Bool) (b : BlockPlaces) (p q : Planes) → (main ≡ false → IsMainDiagonalStable b p) →
+    (anti ≡ false → IsAntiDiagonalStable b p) → TurnsBlock b p q → ChangesOnlyDiagonals main anti b p q
 block_cells main anti b p q main_stays anti_stays part = record {
   odd_same = λ v k l ne. kept_cell main p.words b.odd v k p.odd.items q.odd.items part.upper_left l ne
       (λ e. (main_words _ _ _ _ _ _ _ _ (main_stays e k l) (part.turned k l)).0);
@@ -79,8 +84,8 @@ block_cells main anti b p q main_stays anti_stays part = record {
 -- ---- after cells changed
 -- the blocks without a mark are not those with a cell that changed
 pub still_stable : (main anti : Bool) (b : BlockPlaces) (m m' : BlockMarks) (p q : Planes) →
-    HasWordsStrideRows p.words p.stride p.rows q → ChangesCells main anti b p q →
-    MarksBlocks main anti p.stride b m m' →
+    HasWordsStrideRows p.words p.stride p.rows q → ChangesOnlyDiagonals main anti b p q →
+    MarksBlocksSharingCell main anti p.stride b m m' →
     AreUnmarkedBlocksStable m p → AreUnmarkedBlocksStable m' q
 still_stable main anti b m m' p q size ch marks calm part u is free =
     let count = rw (same_count part p q size) at is.0 in
@@ -88,7 +93,7 @@ still_stable main anti b m m' p q size ch marks calm part u is free =
     let f = marks part u free in
     let c : BlockPlaces = block_at part p.stride u in
     let h = calm part u (count, inside) f.0 in
-    let same : (k : ℕ) → k < p.words → IsWordSame p.words c k p q = λ k i. record {
+    let same : (k : ℕ) → k < p.words → IsBlockWordSame p.words c k p q = λ k i. record {
       odd = ch.odd_same c.odd k i (λ e. (f.1.0 e).0);
       right = ch.right_same c.right k i (λ e. (f.1.1 e).0);
       down = ch.down_same c.down k i (λ e. (f.1.1 e).1);
@@ -101,8 +106,8 @@ still_stable main anti b m m' p q size ch marks calm part u is free =
 
 -- after a mark was taken off a block that stays, or off the last one of a row, of which nothing is known
 pub still_stable_unmarked : (part : Partition) (at : ℕ) (m m' : BlockMarks) (p : Planes) →
-    UnmarksOnlyBlock part at m m' →
-    (IsNotRowEnd part p.stride at → IsStable (block_at part p.stride at) p) → AreUnmarkedBlocksStable m p →
+    UnmarksAtMostBlock part at m m' →
+    (IsNotRowEndBlock part p.stride at → IsBlockStable (block_at part p.stride at) p) → AreUnmarkedBlocksStable m p →
     AreUnmarkedBlocksStable m' p
 still_stable_unmarked part at m m' p unmarks block calm other u is free = elim (unmarks other u free) [
   | inl old ↦ calm other u is old

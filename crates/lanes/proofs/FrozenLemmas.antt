@@ -1,16 +1,20 @@
 -- Blocks that no step changes
-use Rattle.lanes.proofs.Imports.{AllUnmarkedDead, AreMarkedBlocksStable, AreUnmarkedBlocksStable, AreWords, BlockMarks}
-use Rattle.lanes.proofs.Imports.{BlockPlaces, Bool, ChangesCells, Even, HasRoomForMarks, HasValueUnderAll}
-use Rattle.lanes.proofs.Imports.{HasWordsStrideRows, IsBlockEmpty, IsBlockHeld, IsDeadCell, IsUnmarked, IsWordSame}
-use Rattle.lanes.proofs.Imports.{IsWordTurned, KeepsCellsOutsideBlocks, List, LiveMarks, Odd, Partition, Planes}
-use Rattle.lanes.proofs.Imports.{TurnsBlock, TurnsBlocksBetween, ap, arith, bit, block_at, block_count, by_eq_or_not}
+use Rattle.lanes.proofs.Imports.{AreAllUnmarkedCellsDead, AreMarkedBlocksStable, ArePlaneWordsInRange}
+use Rattle.lanes.proofs.Imports.{AreUnmarkedBlocksStable, BlockMarks}
+use Rattle.lanes.proofs.Imports.{BlockPlaces, Bool, ChangesOnlyDiagonals, Even, HasRoomForAllBlockMarks}
+use Rattle.lanes.proofs.Imports.{HasValueUnderEachAssignment}
+use Rattle.lanes.proofs.Imports.{HasWordsStrideRows, IsBlockHeld, IsBlockHeldAndEmpty, IsBlockWordSame, IsDeadCell}
+use Rattle.lanes.proofs.Imports.{IsNumberUnmarked}
+use Rattle.lanes.proofs.Imports.{IsBlockWordTurned, KeepsCellsOutsideBlocks, List, LiveMarks, Odd, Partition, Planes}
+use Rattle.lanes.proofs.Imports.{TurnsBlock, TurnsNumberedBlocksBetween, ap, arith, bit, block_at, block_number_count}
+use Rattle.lanes.proofs.Imports.{by_eq_or_not}
 use Rattle.lanes.proofs.Imports.{by_lt_or_le, cell_at, cell_word_bit, common_steps, false, false≢true, get_or, inl, inr}
 use Rattle.lanes.proofs.Imports.{marks_of, subst, true, ℕ, ◌*◌, ◌+◌, ◌-◌, ◌<◌, ◌^◌, ◌≡◌, ◌≢◌, ◌≤◌, ◌⊎◌}
 use Rattle.lemmas.proofs.Common.{props, ∥∥₁_elim, ∥∥₁_map}
-use Rattle.lanes.specs.Blocks.{IsBlock}
-use Rattle.lanes.specs.Calm.{AreAllMarked, AreMarkedUnlessIn}
-use Rattle.lanes.specs.Frozen.{AreBlocksMarkedAt, AreFrozenIfFound, IsFrozen}
-use Rattle.lanes.specs.Live.{AllUnmarkedDead-prop, AreCellsMarkedUnlessInBoth}
+use Rattle.lanes.specs.Blocks.{IsNumberOfBlock}
+use Rattle.lanes.specs.Calm.{AreBlocksMarkedUnlessIn, AreFirstBlocksMarked}
+use Rattle.lanes.specs.Frozen.{AreBlocksFrozenIfFound, AreBlocksMarkedAt, AreMarkedBlocksFrozen}
+use Rattle.lanes.specs.Live.{AreAllUnmarkedCellsDead-prop, AreCellsMarkedUnlessInBoth}
 use Rattle.lanes.specs.declared.frozen.FrozenBlocks.{FrozenBlocks}
 use Rattle.lanes.proofs.CalmLemmas.{count_below, same_count}
 use Rattle.lanes.proofs.FieldLemmas.{by_row_end, one_named}
@@ -37,7 +41,7 @@ BlockSame b p q = BlockStays p.words (cell_word_bit p.words p.odd.items b.odd)
 
 -- each block of a partition is turned or stays; what is no block stays, and the cells that are in none
 pub record MayTurnBlocks (part : Partition) (p q : Planes) : Type 0 where
-  pub blocks : (n : ℕ) → (IsBlock part p n × BlockTurns (block_at part p.stride n) p q)
+  pub blocks : (n : ℕ) → (IsNumberOfBlock part p n × BlockTurns (block_at part p.stride n) p q)
       ⊎ BlockSame (block_at part p.stride n) p q
   pub first : KeepsCellsOutsideBlocks part p q
 
@@ -45,15 +49,16 @@ same_bits : (w a : ℕ) (xs ys : List ℕ) → ((k : ℕ) → k < w → get_or y
     StaysBits w (cell_word_bit w xs a) (cell_word_bit w ys a)
 same_bits w a xs ys same k j lk lj = ap (λ (n : ℕ). bit n j) (same k lk)
 
-turned_bits : (b : BlockPlaces) (p q : Planes) → ((k : ℕ) → k < p.words → IsWordTurned p.words b k p q) →
+turned_bits : (b : BlockPlaces) (p q : Planes) → ((k : ℕ) → k < p.words → IsBlockWordTurned p.words b k p q) →
     BlockTurns b p q
 turned_bits b p q t = grind (arith, common_steps)
 
-same_block : (b : BlockPlaces) (p q : Planes) → ((k : ℕ) → k < p.words → IsWordSame p.words b k p q) → BlockSame b p q
+same_block : (b : BlockPlaces) (p q : Planes) → ((k : ℕ) → k < p.words → IsBlockWordSame p.words b k p q) →
+    BlockSame b p q
 same_block b p q same = grind (arith, common_steps, same_bits)
 
 -- where one block is turned
-pub one_may_turn : (part : Partition) (p q : Planes) (u : ℕ) → IsBlock part p u →
+pub one_may_turn : (part : Partition) (p q : Planes) (u : ℕ) → IsNumberOfBlock part p u →
     TurnsBlock (block_at part p.stride u) p q → MayTurnBlocks part p q
 one_may_turn part p q u is t = let named = one_named part p q u t in record {
   blocks = λ n. by_eq_or_not n u
@@ -63,10 +68,11 @@ one_may_turn part p q u is t = let named = one_named part p q u t in record {
 }
 
 -- where all are
-pub all_may_turn : (part : Partition) (p q : Planes) → TurnsBlocksBetween part 0 (block_count part p) p q →
+pub all_may_turn : (part : Partition) (p q : Planes) →
+    TurnsNumberedBlocksBetween part 0 (block_number_count part p) p q →
     KeepsCellsOutsideBlocks part p q → MayTurnBlocks part p q
 all_may_turn part p q t first = record {
-  blocks = λ n. by_lt_or_le n (block_count part p)
+  blocks = λ n. by_lt_or_le n (block_number_count part p)
       (λ h. by_row_end part p.stride n
       (λ inside. inl ((h, inside), turned_bits _ p q (λ k l. t.turned n k (omega arith, h, inside) l)))
       (λ last. inr (same_block _ p q (λ k l. t.same n k (λ is. last is.2) l))))
@@ -75,8 +81,9 @@ all_may_turn part p q t first = record {
 }
 
 -- ---- frozen blocks after a step
-same_room : (b : FrozenBlocks) (p q : Planes) → HasWordsStrideRows p.words p.stride p.rows q → HasRoomForMarks b p →
-    HasRoomForMarks b q
+same_room : (b : FrozenBlocks) (p q : Planes) → HasWordsStrideRows p.words p.stride p.rows q →
+    HasRoomForAllBlockMarks b p →
+    HasRoomForAllBlockMarks b q
 same_room b p q size room = grind (arith, common_steps)
 
 -- a cell is before those of the first block, or has a block
@@ -145,13 +152,15 @@ held_on Even Even b p q u size stay cells m h = let s = stay u m in grind (arith
 
 empty_on : (part : Partition) (b : FrozenBlocks) (p q : Planes) (u : ℕ) →
     HasWordsStrideRows p.words p.stride p.rows q → MarkedStay part (marks_of part b.marks) p q →
-    CellsStay part (marks_of part b.marks) p q → cell_at b.marks.odd.items u ≡ true → IsBlockEmpty Odd b.marks p u →
-    IsBlockEmpty Odd b.marks q u
+    CellsStay part (marks_of part b.marks) p q → cell_at b.marks.odd.items u ≡ true →
+    IsBlockHeldAndEmpty Odd b.marks p u →
+    IsBlockHeldAndEmpty Odd b.marks q u
 empty_on Odd b p q u size stay cells m h = let s = stay u m in grind (arith, common_steps, still_empty)
 empty_on Even b p q u size stay cells m h = grind (arith, common_steps, still_empty)
 
 frozen_on : (part : Partition) (b : FrozenBlocks) (p q : Planes) → HasWordsStrideRows p.words p.stride p.rows q →
-    MarkedStay part (marks_of part b.marks) p q → KeepsCellsOutsideBlocks part p q → IsFrozen b p → IsFrozen b q
+    MarkedStay part (marks_of part b.marks) p q → KeepsCellsOutsideBlocks part p q → AreMarkedBlocksFrozen b p →
+    AreMarkedBlocksFrozen b q
 frozen_on part b p q size stay first f = record {
   room = same_room b p q size f.room;
   blocks = λ other. record {
@@ -172,10 +181,11 @@ frozen_on part b p q size stay first f = record {
 
 -- ---- frozen blocks, if they were found
 pub still_frozen : (part : Partition) (b : FrozenBlocks) (p q : Planes) →
-    HasWordsStrideRows p.words p.stride p.rows q → MayTurnBlocks part p q → AreFrozenIfFound b p → AreFrozenIfFound b q
+    HasWordsStrideRows p.words p.stride p.rows q → MayTurnBlocks part p q → AreBlocksFrozenIfFound b p →
+    AreBlocksFrozenIfFound b q
 still_frozen part b p q size may frozen = ∥∥₁_map frozen (λ h e. frozen_on part b p q size (stay (h e)) may.first (h e))
   where
-    stay : IsFrozen b p → MarkedStay part (marks_of part b.marks) p q
+    stay : AreMarkedBlocksFrozen b p → MarkedStay part (marks_of part b.marks) p q
     stay f n m = elim (may.blocks n) [
       | inl t ↦ held_stays p.words _ _ _ _ _ _ _ _ _ _ _ _ ((f.blocks part).held n t.0 m) (inl t.1)
       | inr s ↦ s
@@ -184,7 +194,8 @@ still_frozen part b p q size may frozen = ∥∥₁_map frozen (λ h e. frozen_o
 stable_prop : (part : Partition) (marks : List ℕ) (p : Planes) → IsProp (AreMarkedBlocksStable part marks p)
 stable_prop part marks p = Prim.hlevel props
 
-pub found_stable : (part : Partition) (b : FrozenBlocks) (p : Planes) → AreWords p → AreFrozenIfFound b p →
+pub found_stable : (part : Partition) (b : FrozenBlocks) (p : Planes) → ArePlaneWordsInRange p →
+    AreBlocksFrozenIfFound b p →
     b.is_found ≡ true → AreMarkedBlocksStable part (marks_of part b.marks) p
 found_stable part b p words frozen e = ∥∥₁_elim frozen (stable_prop part (marks_of part b.marks) p) (λ h. record {
   calm = λ u is m. held_stable (block_at part p.stride u) p _ _ _ _ words (((h e).blocks part).held u is m);
@@ -192,24 +203,26 @@ found_stable part b p words frozen e = ∥∥₁_elim frozen (stable_prop part (
 })
 
 -- and the room for their marks
-pub room_found : (b : FrozenBlocks) (p : Planes) → AreFrozenIfFound b p → b.is_found ≡ true → HasRoomForMarks b p
+pub room_found : (b : FrozenBlocks) (p : Planes) → AreBlocksFrozenIfFound b p → b.is_found ≡ true →
+    HasRoomForAllBlockMarks b p
 room_found b p f e = ∥∥₁_elim f (room_prop b p) (λ h. (h e).room)
   where
-    room_prop : (b : FrozenBlocks) (p : Planes) → IsProp (HasRoomForMarks b p)
+    room_prop : (b : FrozenBlocks) (p : Planes) → IsProp (HasRoomForAllBlockMarks b p)
     room_prop b p = Prim.hlevel props
 
 -- they are the same blocks whether they are known to be frozen or not
-pub found_again : (b : FrozenBlocks) (v : Bool) (p : Planes) → IsFrozen b p → IsFrozen (record b { is_found = v }) p
+pub found_again : (b : FrozenBlocks) (v : Bool) (p : Planes) → AreMarkedBlocksFrozen b p →
+    AreMarkedBlocksFrozen (record b { is_found = v }) p
 found_again b v p f = grind (arith, common_steps)
 
 -- ---- a cell of a block of the odd partition that is not frozen changes
 pub freezes_put : (main anti : Bool) (u : ℕ) (b : FrozenBlocks) (p q : Planes) →
-    HasWordsStrideRows p.words p.stride p.rows q → ChangesCells main anti (block_at Odd p.stride u) p q →
-    (b.is_found ≡ true → IsUnmarked b.marks.odd.items u) → AreFrozenIfFound b p → AreFrozenIfFound b q
+    HasWordsStrideRows p.words p.stride p.rows q → ChangesOnlyDiagonals main anti (block_at Odd p.stride u) p q →
+    (b.is_found ≡ true → IsNumberUnmarked b.marks.odd.items u) → AreBlocksFrozenIfFound b p → AreBlocksFrozenIfFound b q
 freezes_put main anti u b p q size ch free frozen =
     ∥∥₁_map frozen (λ h e. frozen_on Odd b p q size (stay (free e)) none (h e))
   where
-    stay : IsUnmarked b.marks.odd.items u → MarkedStay Odd b.marks.odd.items p q
+    stay : IsNumberUnmarked b.marks.odd.items u → MarkedStay Odd b.marks.odd.items p q
     stay unmarked n m = grind (arith, common_steps, false≢true, same_block)
 
     none : KeepsCellsOutsideBlocks Odd p q
@@ -217,29 +230,32 @@ freezes_put main anti u b p q size ch free frozen =
 
 -- the blocks are frozen still, if they were not given up
 pub given_up : (b b' : FrozenBlocks) (u : ℕ) (p : Planes) →
-    (b'.is_found ≡ true → (b' ≡ b) × IsUnmarked b.marks.odd.items u) → AreFrozenIfFound b p → AreFrozenIfFound b' p
+    (b'.is_found ≡ true → (b' ≡ b) × IsNumberUnmarked b.marks.odd.items u) → AreBlocksFrozenIfFound b p →
+    AreBlocksFrozenIfFound b' p
 given_up b b' u p kept f = ∥∥₁_map f (λ h e. grind (arith, common_steps))
 
 -- ---- marks on all blocks but the frozen ones, and on all cells but those of the frozen and empty ones
-pub active_stable : (b : FrozenBlocks) (m : BlockMarks) (p : Planes) → AreWords p → AreFrozenIfFound b p →
-    b.is_found ≡ true → AreMarkedUnlessIn (p.stride * p.rows) b.marks m → AreUnmarkedBlocksStable m p
+pub active_stable : (b : FrozenBlocks) (m : BlockMarks) (p : Planes) → ArePlaneWordsInRange p →
+    AreBlocksFrozenIfFound b p →
+    b.is_found ≡ true → AreBlocksMarkedUnlessIn (p.stride * p.rows) b.marks m → AreUnmarkedBlocksStable m p
 active_stable b m p words frozen e but part u is free =
     (found_stable part b p words frozen e).calm u is (but part u (count_below part p u is.0) free)
 
-pub marked_stable : (m : BlockMarks) (p : Planes) → AreAllMarked (p.stride * p.rows) m → AreUnmarkedBlocksStable m p
+pub marked_stable : (m : BlockMarks) (p : Planes) → AreFirstBlocksMarked (p.stride * p.rows) m →
+    AreUnmarkedBlocksStable m p
 marked_stable m p all part u is free = absurd (all part u (count_below part p u is.0) free)
 
 dead_cell : (w u : ℕ) (cells : List ℕ) → ((k : ℕ) → get_or cells k 0 < 2 ^ 64) →
-    HasValueUnderAll false w (cell_word_bit w cells u) → IsDeadCell w u cells
+    HasValueUnderEachAssignment false w (cell_word_bit w cells u) → IsDeadCell w u cells
 dead_cell w u cells small dead k l = zero_word (get_or cells (w * u + k) 0) (small (w * u + k)) (λ j h. dead k j l h)
 
-dead_but : (b : FrozenBlocks) (l : LiveMarks) (p : Planes) → AreWords p → IsFrozen b p →
-    AreCellsMarkedUnlessInBoth (p.stride * p.rows) b.marks.odd.items b.empty.items l → AllUnmarkedDead l p
+dead_but : (b : FrozenBlocks) (l : LiveMarks) (p : Planes) → ArePlaneWordsInRange p → AreMarkedBlocksFrozen b p →
+    AreCellsMarkedUnlessInBoth (p.stride * p.rows) b.marks.odd.items b.empty.items l → AreAllUnmarkedCellsDead l p
 dead_but b l p words f but = grind (arith, common_steps, dead_cell)
 
-pub dead_found : (b : FrozenBlocks) (l : LiveMarks) (p : Planes) → AreWords p → AreFrozenIfFound b p →
+pub dead_found : (b : FrozenBlocks) (l : LiveMarks) (p : Planes) → ArePlaneWordsInRange p → AreBlocksFrozenIfFound b p →
     b.is_found ≡ true →
-    (HasRoomForMarks b p → AreCellsMarkedUnlessInBoth (p.stride * p.rows) b.marks.odd.items b.empty.items l) →
-    AllUnmarkedDead l p
+    (HasRoomForAllBlockMarks b p → AreCellsMarkedUnlessInBoth (p.stride * p.rows) b.marks.odd.items b.empty.items l) →
+    AreAllUnmarkedCellsDead l p
 dead_found b l p words f e but =
-    ∥∥₁_elim f (AllUnmarkedDead-prop l p) (λ h. dead_but b l p words (h e) (but (h e).room))
+    ∥∥₁_elim f (AreAllUnmarkedCellsDead-prop l p) (λ h. dead_but b l p words (h e) (but (h e).room))

@@ -1,12 +1,13 @@
 -- Blocks that some of their cells hold
-use Rattle.lanes.proofs.Imports.{AreWords, BlockPlaces, Bool, HasValueUnderAll, IsStable, List, Planes, ap, arith, bit}
+use Rattle.lanes.proofs.Imports.{ArePlaneWordsInRange, BlockPlaces, Bool, HasValueUnderEachAssignment, IsBlockStable}
+use Rattle.lanes.proofs.Imports.{List, Planes, ap, arith, bit}
 use Rattle.lanes.proofs.Imports.{bit-zero, bit_ones, by_lt_or_le, cell_word_bit, common_steps, false, false≢true}
 use Rattle.lanes.proofs.Imports.{get_or, inl, inr, mul-le-mul_left, true, turned, ℕ, ◌*◌, ◌+◌, ◌<◌, ◌||◌, ◌∙◌, ◌≡◌, ◌≤◌}
 use Rattle.lanes.proofs.Imports.{◌⊎◌}
 use Rattle.lemmas.proofs.Common.{or_left, or_right}
 use Rattle.bbm_rule.proofs.BitLemmas.{bit_above}
 use Rattle.bbm_rule.proofs.PlaneLemmas.{dead_block}
-use Rattle.lanes.specs.Held.{HasLiveDiagonals, IsEmptyBlock, IsBlockHeldByCorners}
+use Rattle.lanes.specs.Held.{HasLiveCellOnEachDiagonal, IsEmptyBlock, IsBlockHeldByCorners}
 
 -- ---- cells whose words are the same
 pub room_of : (w u n long : ℕ) → u < n → long ≡ w * n → w * u + w ≤ long
@@ -17,11 +18,11 @@ run_room w at n cells long l e = let m : w * (at + n) ≤ w * cells = mul-le-mul
 
 pub all_live : (w at : ℕ) (cells : List ℕ) →
     ((k : ℕ) → k < w → get_or cells (w * at + k) 0 ≡ 18446744073709551615) →
-    HasValueUnderAll true w (cell_word_bit w cells at)
+    HasValueUnderEachAssignment true w (cell_word_bit w cells at)
 all_live w at cells same k j lk lj = ap (λ (n : ℕ). bit n j) (same k lk) ∙ bit_ones j lj
 
 pub all_dead : (w at : ℕ) (cells : List ℕ) → ((k : ℕ) → k < w → get_or cells (w * at + k) 0 ≡ 0) →
-    HasValueUnderAll false w (cell_word_bit w cells at)
+    HasValueUnderEachAssignment false w (cell_word_bit w cells at)
 all_dead w at cells same k j lk lj = ap (λ (n : ℕ). bit n j) (same k lk) ∙ bit-zero j
 
 -- ---- the rule on blocks whose diagonals both have a live cell, or none
@@ -68,7 +69,7 @@ calm_dead : (a b c d : Bool) → a ≡ false → b ≡ false → c ≡ false →
 calm_dead a b c d ea eb ec ed = grind (arith, common_steps, dead_block)
 
 one_live : (w : ℕ) (A D : Type 0) (a d : ℕ → ℕ → Bool) →
-    (A × HasValueUnderAll true w a) ⊎ (D × HasValueUnderAll true w d) → (k j : ℕ) →
+    (A × HasValueUnderEachAssignment true w a) ⊎ (D × HasValueUnderEachAssignment true w d) → (k j : ℕ) →
     k < w → j < 64 → (a k j || d k j) ≡ true
 one_live w A D a d h1 k j h2 h3 = grind (arith, common_steps, or_left, or_right)
 
@@ -79,10 +80,10 @@ held_calm w A B C D a b c d (inl h) k j lk lj = grind (arith, common_steps, calm
 held_calm w A B C D a b c d (inr h) k j lk lj = grind (arith, common_steps, calm_dead)
 
 -- a block of words that is held
-pub held_stable : (b : BlockPlaces) (p : Planes) (A B C D : Type 0) → AreWords p →
+pub held_stable : (b : BlockPlaces) (p : Planes) (A B C D : Type 0) → ArePlaneWordsInRange p →
     IsBlockHeldByCorners p.words A B C D (cell_word_bit p.words p.odd.items b.odd)
     (cell_word_bit p.words p.right.items b.right) (cell_word_bit p.words p.down.items b.down)
-    (cell_word_bit p.words p.even.items b.even) → IsStable b p
+    (cell_word_bit p.words p.even.items b.even) → IsBlockStable b p
 held_stable b p A B C D words held = (grind (arith, common_steps, calm))
   where
     calm : (k j : ℕ) → k < p.words →
@@ -105,13 +106,13 @@ held_stays w A B C D a b c d a' b' c' d' h (inl t) = record {
 }
 held_stays w A B C D a b c d a' b' c' d' h (inr s) = s
 
-still_all : (w : ℕ) (value : Bool) (a a' : ℕ → ℕ → Bool) → StaysBits w a a' → HasValueUnderAll value w a →
-    HasValueUnderAll value w a'
+still_all : (w : ℕ) (value : Bool) (a a' : ℕ → ℕ → Bool) → StaysBits w a a' → HasValueUnderEachAssignment value w a →
+    HasValueUnderEachAssignment value w a'
 still_all w value a a' same all k j lk lj = same k j lk lj ∙ all k j lk lj
 
 one_still : (w : ℕ) (A D : Type 0) (a d a' d' : ℕ → ℕ → Bool) → (A → StaysBits w a a') → (D → StaysBits w d d') →
-    (A × HasValueUnderAll true w a) ⊎ (D × HasValueUnderAll true w d) →
-    (A × HasValueUnderAll true w a') ⊎ (D × HasValueUnderAll true w d')
+    (A × HasValueUnderEachAssignment true w a) ⊎ (D × HasValueUnderEachAssignment true w d) →
+    (A × HasValueUnderEachAssignment true w a') ⊎ (D × HasValueUnderEachAssignment true w d')
 one_still w A D a d a' d' h1 h2 h3 = grind (arith, common_steps, still_all)
 
 -- an empty block is one still, if the cells that meet their conditions stay
@@ -129,5 +130,5 @@ still_held w A B C D a b c d a' b' c' d' sa sb sc sd (inr h) = grind (arith, com
 
 -- each diagonal has a live cell that meets another condition, where that follows
 pub live_if : (w : ℕ) (A B C D A' B' C' D' : Type 0) (a b c d : ℕ → ℕ → Bool) → (A → A') → (B → B') → (C → C') →
-    (D → D') → HasLiveDiagonals w A B C D a b c d → HasLiveDiagonals w A' B' C' D' a b c d
+    (D → D') → HasLiveCellOnEachDiagonal w A B C D a b c d → HasLiveCellOnEachDiagonal w A' B' C' D' a b c d
 live_if w A B C D A' B' C' D' a b c d fa fb fc fd h = grind (arith, common_steps)

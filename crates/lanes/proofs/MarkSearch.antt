@@ -1,5 +1,6 @@
 -- Words of marks: numbers that have a mark in one list, and one in another
-use Rattle.lanes.proofs.Imports.{AreNumberCellsUnmarked, Bool, IsUnmarked, List, LiveMarks, ap, arith, bit, bit-and}
+use Rattle.lanes.proofs.Imports.{AreNumberCellsUnmarked, Bool, IsNumberUnmarked, List, LiveMarks, ap, arith, bit}
+use Rattle.lanes.proofs.Imports.{bit-and}
 use Rattle.lanes.proofs.Imports.{bit-zero, bit_and, bit_or, cell_at, common_steps, false, get_or, refl, ℕ, ◌%◌, ◌&&◌}
 use Rattle.lanes.proofs.Imports.{◌/◌, ◌||◌, ◌∙◌, ◌≡◌, ◌⊎◌}
 use Rattle.lemmas.proofs.Common.{or_parts}
@@ -10,7 +11,7 @@ abbrev pub joined : List ℕ → ℕ → List ℕ → ℕ → ℕ
 joined a w c q = bit_and (get_or a q 0) (bit_or w (get_or c q 0))
 
 abbrev pub LacksMark : List ℕ → LiveMarks → List ℕ → ℕ → Type 0
-LacksMark a l c u = IsUnmarked a u ⊎ (AreNumberCellsUnmarked l u × IsUnmarked c u)
+LacksMark a l c u = IsNumberUnmarked a u ⊎ (AreNumberCellsUnmarked l u × IsNumberUnmarked c u)
 
 -- what a word of marks on live cells says
 abbrev pub IsWordOf : LiveMarks → ℕ → ℕ → Type 0
@@ -39,15 +40,15 @@ lacks_mark a l w c q u says e word = grind (arith, common_steps, bit-and, bit-or
 
 pub lacks_in_three : (word : ℕ) (a c d : List ℕ) (q u : ℕ) → u / 64 ≡ q →
     bit (bit_and word (bit_or (bit_or (get_or a q 0) (get_or c q 0)) (get_or d q 0))) (u % 64) ≡ false →
-    (bit word (u % 64) ≡ false) ⊎ (IsUnmarked a u × IsUnmarked c u × IsUnmarked d u)
+    (bit word (u % 64) ≡ false) ⊎ (IsNumberUnmarked a u × IsNumberUnmarked c u × IsNumberUnmarked d u)
 lacks_in_three word a c d q u e none = grind (arith, common_steps, bit-and, bit-or, parts, or_parts, cell_is)
 
 and_lacks : (a b : Bool) → (a && b) ≡ false → (a ≡ false) ⊎ (b ≡ false)
 and_lacks a b h1 = grind (arith, common_steps)
 
 pub lacks_live : (a : List ℕ) (l : LiveMarks) (w q u : ℕ) → IsWordOf l q w → u / 64 ≡ q →
-    bit (bit_and (get_or a q 0) w) (u % 64) ≡ false → IsUnmarked a u ⊎ AreNumberCellsUnmarked l u
+    bit (bit_and (get_or a q 0) w) (u % 64) ≡ false → IsNumberUnmarked a u ⊎ AreNumberCellsUnmarked l u
 lacks_live a l w q u says e word = grind (arith, common_steps, bit-and, and_lacks, cell_is)
 
-pub lacks_own : (a : List ℕ) (q u : ℕ) → u / 64 ≡ q → bit (get_or a q 0) (u % 64) ≡ false → IsUnmarked a u
+pub lacks_own : (a : List ℕ) (q u : ℕ) → u / 64 ≡ q → bit (get_or a q 0) (u % 64) ≡ false → IsNumberUnmarked a u
 lacks_own a q u e word = cell_is a q u e ∙ word

@@ -1,10 +1,11 @@
 -- Words of cells in their planes, and cells that are dead
-use Rattle.lanes.proofs.Imports.{AllUnmarkedDead, AreFourCellsDead, IsUnmarked, List, LiveMarks, Planes, ap, arith, bit}
+use Rattle.lanes.proofs.Imports.{AreAllUnmarkedCellsDead, AreNumberedCellsDead, IsNumberUnmarked, List, LiveMarks}
+use Rattle.lanes.proofs.Imports.{Planes, ap, arith, bit}
 use Rattle.lanes.proofs.Imports.{bit-zero, by_eq_or_not, by_lt_or_le, common_steps, false, get_or, get_or-set_other}
 use Rattle.lanes.proofs.Imports.{get_or-set_same, lane, length, mul-le-mul_left, plane_of, refl, set, sym, ℕ, ◌%◌, ◌*◌}
 use Rattle.lanes.proofs.Imports.{◌+◌, ◌/◌, ◌<◌, ◌∙◌, ◌≡◌, ◌≢◌, ◌≤◌}
 use Rattle.lemmas.proofs.Common.{[], ◌∷◌, suc, zero}
-use Rattle.lanes.specs.Lanes.{SetsWord}
+use Rattle.lanes.specs.Lanes.{SetsCellWord}
 
 -- ---- a place in rows of words
 pub quotient : (k b : ℕ) → b < 64 → (64 * k + b) / 64 ≡ k
@@ -67,7 +68,7 @@ pub sets_word : (p q : Planes) (x y k word : ℕ) → q.words ≡ p.words → q.
     plane_of q x' y' ≡ set (plane_of p x y) (p.words * (p.stride * (y / 2) + x / 2) + k) word) →
     ((x' y' : ℕ) → x' % 2 ≡ x % 2 → y' % 2 ≡ y % 2 → plane_of p x' y' ≡ plane_of p x y) →
     ((x' y' : ℕ) → ((x' % 2 ≡ x % 2) × (y' % 2 ≡ y % 2) → ⊥) → plane_of q x' y' ≡ plane_of p x' y') →
-    SetsWord x y k word p q
+    SetsCellWord x y k word p q
 unfolding lane
 sets_word p q x y k word ew es lx lk room same old other = record {
   there = grind (arith, common_steps, quotient, lane_at, remainder, get_or-set_same);
@@ -102,7 +103,8 @@ sets_word p q x y k word ew es lx lk room same old other = record {
 pub sets_odd : (p q : Planes) (x y k word : ℕ) → q.words ≡ p.words → q.stride ≡ p.stride → x / 2 < p.stride →
     k < p.words → p.words * (p.stride * (y / 2) + x / 2) + k < length p.odd.items →
     x % 2 ≡ 0 → y % 2 ≡ 0 → q.odd.items ≡ set p.odd.items (p.words * (p.stride * (y / 2) + x / 2) + k) word →
-    q.right.items ≡ p.right.items → q.down.items ≡ p.down.items → q.even.items ≡ p.even.items → SetsWord x y k word p q
+    q.right.items ≡ p.right.items → q.down.items ≡ p.down.items → q.even.items ≡ p.even.items →
+    SetsCellWord x y k word p q
 sets_odd p q x y k word ew es lx lk room px py e_odd e_right e_down e_even =
     grind (arith, common_steps, sets_word, plane_odd, by_eq_or_not, plane_down, plane_right, plane_even)
 
@@ -110,7 +112,7 @@ pub sets_down : (p q : Planes) (x y k word : ℕ) → q.words ≡ p.words → q.
     k < p.words → p.words * (p.stride * (y / 2) + x / 2) + k < length p.down.items →
     x % 2 ≡ 0 → y % 2 ≡ 1 → q.odd.items ≡ p.odd.items → q.right.items ≡ p.right.items →
     q.down.items ≡ set p.down.items (p.words * (p.stride * (y / 2) + x / 2) + k) word → q.even.items ≡ p.even.items →
-    SetsWord x y k word p q
+    SetsCellWord x y k word p q
 sets_down p q x y k word ew es lx lk room px py e_odd e_right e_down e_even =
     grind (arith, common_steps, sets_word, plane_down, by_eq_or_not, plane_odd, plane_right, plane_even)
 
@@ -118,18 +120,18 @@ pub sets_right : (p q : Planes) (x y k word : ℕ) → q.words ≡ p.words → q
     k < p.words → p.words * (p.stride * (y / 2) + x / 2) + k < length p.right.items →
     x % 2 ≡ 1 → y % 2 ≡ 0 → q.odd.items ≡ p.odd.items →
     q.right.items ≡ set p.right.items (p.words * (p.stride * (y / 2) + x / 2) + k) word → q.down.items ≡ p.down.items →
-    q.even.items ≡ p.even.items → SetsWord x y k word p q
+    q.even.items ≡ p.even.items → SetsCellWord x y k word p q
 sets_right p q x y k word ew es lx lk room px py e_odd e_right e_down e_even =
     grind (arith, common_steps, sets_word, plane_right, by_eq_or_not, plane_odd, plane_down, plane_even)
 
 pub sets_even : (p q : Planes) (x y k word : ℕ) → q.words ≡ p.words → q.stride ≡ p.stride → x / 2 < p.stride →
     k < p.words → p.words * (p.stride * (y / 2) + x / 2) + k < length p.even.items →
     x % 2 ≡ 1 → y % 2 ≡ 1 → q.odd.items ≡ p.odd.items → q.right.items ≡ p.right.items → q.down.items ≡ p.down.items →
-    q.even.items ≡ set p.even.items (p.words * (p.stride * (y / 2) + x / 2) + k) word → SetsWord x y k word p q
+    q.even.items ≡ set p.even.items (p.words * (p.stride * (y / 2) + x / 2) + k) word → SetsCellWord x y k word p q
 sets_even p q x y k word ew es lx lk room px py e_odd e_right e_down e_even =
     grind (arith, common_steps, sets_word, plane_even, by_eq_or_not, plane_odd, plane_down, plane_right)
 
-pub dead_lane : (p : Planes) (x y a : ℕ) → AreFourCellsDead (p.stride * (y / 2) + x / 2) p → a < 64 * p.words →
+pub dead_lane : (p : Planes) (x y a : ℕ) → AreNumberedCellsDead (p.stride * (y / 2) + x / 2) p → a < 64 * p.words →
     lane p a x y ≡ false
 unfolding lane
 dead_lane p x y a dead l =
@@ -140,22 +142,25 @@ small_number : (s r x y : ℕ) → x / 2 < s → y / 2 < r → s * (y / 2) + x /
 small_number s r x y lx ly = let m : s * (y / 2 + 1) ≤ s * r = mul-le-mul_left s (omega arith) in omega arith
 
 pub dead_odd : (l : LiveMarks) (p : Planes) (x y a : ℕ) → x % 2 ≡ 0 → y % 2 ≡ 0 → x / 2 < p.stride → y / 2 < p.rows →
-    AllUnmarkedDead l p → IsUnmarked l.odd.items (p.stride * (y / 2) + x / 2) → a < 64 * p.words → lane p a x y ≡ false
+    AreAllUnmarkedCellsDead l p → IsNumberUnmarked l.odd.items (p.stride * (y / 2) + x / 2) → a < 64 * p.words →
+    lane p a x y ≡ false
 unfolding lane
 dead_odd l p x y a ex ey lx ly dead free la = grind (arith, common_steps, plane_odd, small_number, bit-zero)
 
 pub dead_down : (l : LiveMarks) (p : Planes) (x y a : ℕ) → x % 2 ≡ 0 → y % 2 ≡ 1 → x / 2 < p.stride → y / 2 < p.rows →
-    AllUnmarkedDead l p → IsUnmarked l.down.items (p.stride * (y / 2) + x / 2) → a < 64 * p.words → lane p a x y ≡ false
+    AreAllUnmarkedCellsDead l p → IsNumberUnmarked l.down.items (p.stride * (y / 2) + x / 2) → a < 64 * p.words →
+    lane p a x y ≡ false
 unfolding lane
 dead_down l p x y a ex ey lx ly dead free la = grind (arith, common_steps, plane_down, small_number, bit-zero)
 
 pub dead_right : (l : LiveMarks) (p : Planes) (x y a : ℕ) → x % 2 ≡ 1 → y % 2 ≡ 0 → x / 2 < p.stride → y / 2 < p.rows →
-    AllUnmarkedDead l p → IsUnmarked l.right.items (p.stride * (y / 2) + x / 2) → a < 64 * p.words →
+    AreAllUnmarkedCellsDead l p → IsNumberUnmarked l.right.items (p.stride * (y / 2) + x / 2) → a < 64 * p.words →
     lane p a x y ≡ false
 unfolding lane
 dead_right l p x y a ex ey lx ly dead free la = grind (arith, common_steps, plane_right, small_number, bit-zero)
 
 pub dead_even : (l : LiveMarks) (p : Planes) (x y a : ℕ) → x % 2 ≡ 1 → y % 2 ≡ 1 → x / 2 < p.stride → y / 2 < p.rows →
-    AllUnmarkedDead l p → IsUnmarked l.even.items (p.stride * (y / 2) + x / 2) → a < 64 * p.words → lane p a x y ≡ false
+    AreAllUnmarkedCellsDead l p → IsNumberUnmarked l.even.items (p.stride * (y / 2) + x / 2) → a < 64 * p.words →
+    lane p a x y ≡ false
 unfolding lane
 dead_even l p x y a ex ey lx ly dead free la = grind (arith, common_steps, plane_even, small_number, bit-zero)

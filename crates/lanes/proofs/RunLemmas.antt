@@ -1,9 +1,11 @@
 -- Steps that turn runs of blocks, and pass over the blocks between them
-use Rattle.lanes.proofs.Imports.{AreMarkedBlocksStable, AreTurned, BlockPlaces, Even, HasWordsStrideRows, IsNotRowEnd}
+use Rattle.lanes.proofs.Imports.{AreCornerWordsTurned, AreMarkedBlocksStable, BlockPlaces, Even, HasWordsStrideRows}
+use Rattle.lanes.proofs.Imports.{IsNotRowEndBlock}
 use Rattle.lanes.proofs.Imports.{IsSameOutsidePart, KeepsCellsOutsideBlocks, List, Odd, Partition, Planes}
-use Rattle.lanes.proofs.Imports.{TurnsBlocksBetween, arith, block_at, block_count, by_lt_or_le, cell_at, common_steps}
+use Rattle.lanes.proofs.Imports.{TurnsNumberedBlocksBetween, arith, block_at, block_number_count, by_lt_or_le, cell_at}
+use Rattle.lanes.proofs.Imports.{common_steps}
 use Rattle.lanes.proofs.Imports.{get_or, inl, inr, mul-le-mul_left, true, ℕ, ◌*◌, ◌+◌, ◌-◌, ◌<◌, ◌≡◌, ◌≤◌}
-use Rattle.lanes.specs.Turns.{TurnsFrom}
+use Rattle.lanes.specs.Turns.{TurnsWordsFrom}
 use Rattle.lanes.proofs.FieldLemmas.{named_join, named_stay}
 use Rattle.lemmas.proofs.Common.{place_within}
 
@@ -20,9 +22,11 @@ beside_run w first len n k xs ys same l out = by_lt_or_le n first
 
 -- words by other places that are the same
 placed : (ul ur ll lr ul' ur' ll' lr' : List ℕ) (a b c d a' b' c' d' : ℕ) → a ≡ a' → b ≡ b' → c ≡ c' → d ≡ d' →
-    AreTurned (get_or ul a 0) (get_or ur b 0) (get_or ll c 0) (get_or lr d 0) (get_or ul' a 0) (get_or ur' b 0)
+    AreCornerWordsTurned (get_or ul a 0) (get_or ur b 0) (get_or ll c 0) (get_or lr d 0) (get_or ul' a 0)
+    (get_or ur' b 0)
     (get_or ll' c 0) (get_or lr' d 0) →
-    AreTurned (get_or ul a' 0) (get_or ur b' 0) (get_or ll c' 0) (get_or lr d' 0) (get_or ul' a' 0) (get_or ur' b' 0)
+    AreCornerWordsTurned (get_or ul a' 0) (get_or ur b' 0) (get_or ll c' 0) (get_or lr d' 0) (get_or ul' a' 0)
+    (get_or ur' b' 0)
     (get_or ll' c' 0) (get_or lr' d' 0)
 placed ul ur ll lr ul' ur' ll' lr' a b c d a' b' c' d' ea eb ec ed t = rw (ea, eb, ec, ed) at t
 
@@ -48,8 +52,8 @@ beside_block : (w at b c first len end n k : ℕ) (xs ys : List ℕ) → IsSameO
 beside_block w at b c first len end n k xs ys same l eb ec e out = grind (arith, common_steps, beside_run)
 
 pub run_turned : (part : Partition) (p q : Planes) (first len end : ℕ) → first + len ≡ end →
-    ((n : ℕ) → first ≤ n → n < end → IsNotRowEnd part p.stride n) →
-    TurnsFrom (block_at part p.stride first) (p.words * len) p q → TurnsBlocksBetween part first end p q
+    ((n : ℕ) → first ≤ n → n < end → IsNotRowEndBlock part p.stride n) →
+    TurnsWordsFrom (block_at part p.stride first) (p.words * len) p q → TurnsNumberedBlocksBetween part first end p q
 run_turned part p q first len end e inside t = record {
   turned = λ n k is l. let b = further part p.stride first in let c = further part p.stride n in
       placed _ _ _ _ _ _ _ _ _ _ _ _ _ _ _ _
@@ -69,18 +73,19 @@ run_turned part p q first len end e inside t = record {
 
 -- the blocks up to a place are turned, and those from it on to another stay
 pub run_skipped : (part : Partition) (p q : Planes) (marks : List ℕ) (at end : ℕ) → AreMarkedBlocksStable part marks p →
-    end ≤ block_count part p → ((n : ℕ) → at ≤ n → n < end → cell_at marks n ≡ true) →
-    TurnsBlocksBetween part 0 at p q → at ≤ end → TurnsBlocksBetween part 0 end p q
+    end ≤ block_number_count part p → ((n : ℕ) → at ≤ n → n < end → cell_at marks n ≡ true) →
+    TurnsNumberedBlocksBetween part 0 at p q → at ≤ end → TurnsNumberedBlocksBetween part 0 end p q
 run_skipped part p q marks at end calm room marked t le =
-    named_join p.words p.stride part (λ n. (at ≤ n) × (n < end) × IsNotRowEnd part p.stride n)
-    (λ n. (0 ≤ n) × (n < at) × IsNotRowEnd part p.stride n) (λ n. (0 ≤ n) × (n < end) × IsNotRowEnd part p.stride n)
+    named_join p.words p.stride part (λ n. (at ≤ n) × (n < end) × IsNotRowEndBlock part p.stride n)
+    (λ n. (0 ≤ n) × (n < at) × IsNotRowEndBlock part p.stride n)
+    (λ n. (0 ≤ n) × (n < end) × IsNotRowEndBlock part p.stride n)
     p p q (λ n g l. absurd (omega (arith, l.1, g.0)))
     (λ n l. by_lt_or_le n at (λ h. inr (l.0, h, l.2)) (λ h. inl (h, l.1, l.2)))
     (λ n g. (omega arith, g.1, g.2)) (λ n l. (l.0, omega (arith, l.1, le), l.2))
-    (named_stay part p (λ n. (at ≤ n) × (n < end) × IsNotRowEnd part p.stride n)
+    (named_stay part p (λ n. (at ≤ n) × (n < end) × IsNotRowEndBlock part p.stride n)
     (λ n is. calm.calm n (omega (arith, is.1, room), is.2) (marked n is.0 is.1))) t
 
-pub none_turned : (part : Partition) (p : Planes) → TurnsBlocksBetween part 0 0 p p
+pub none_turned : (part : Partition) (p : Planes) → TurnsNumberedBlocksBetween part 0 0 p p
 none_turned part p = grind (arith, common_steps, named_stay)
 
 -- ---- the cells that are in no block
@@ -88,7 +93,7 @@ pub first_none : (part : Partition) (p : Planes) → KeepsCellsOutsideBlocks par
 first_none part p = grind (arith, common_steps)
 
 pub first_part : (part : Partition) (p q : Planes) (first long : ℕ) →
-    TurnsFrom (block_at part p.stride first) long p q → KeepsCellsOutsideBlocks part p q
+    TurnsWordsFrom (block_at part p.stride first) long p q → KeepsCellsOutsideBlocks part p q
 first_part part p q first long t = let b = further part p.stride first in record {
   odd = λ u k h l. t.upper_left.below _ (place_within p.words _ u k (omega (arith, h, b.odd)) l);
   right = λ u k h l. t.upper_right.below _ (place_within p.words _ u k (omega (arith, h, b.right)) l);

@@ -1,15 +1,16 @@
 -- Numbers whose cells have not changed since the last odd step
-use Rattle.lanes.proofs.Imports.{AreUnmarkedBlocksStable, BlockMarks, BlockPlaces, Bool, ChangesCells, Even}
-use Rattle.lanes.proofs.Imports.{HasWordsStrideRows, IsStable, IsUnmarked, Odd, Partition, Planes, inl, inr, arith}
+use Rattle.lanes.proofs.Imports.{AreUnmarkedBlocksStable, BlockMarks, BlockPlaces, Bool, ChangesOnlyDiagonals, Even}
+use Rattle.lanes.proofs.Imports.{HasWordsStrideRows, IsBlockStable, IsNumberUnmarked, Odd, Partition, Planes, inl, inr}
+use Rattle.lanes.proofs.Imports.{arith}
 use Rattle.lanes.proofs.Imports.{block_at, by_eq_or_not, common_steps, lane, mul-le-mul_left, refl, turned, ℕ, ◌*◌, ◌+◌}
 use Rattle.lanes.proofs.Imports.{◌/◌, ◌<◌, ◌∙◌, ◌≡◌}
 use Rattle.bbm_rule.proofs.BlockRuns.{mate_lt}
 use Rattle.bbm_rule.proofs.PlaneLemmas.{mate_twice, turned_twice}
-use Rattle.bbm_rule.specs.Rows.{mate}
+use Rattle.bbm_rule.specs.Rows.{paired_place}
 use Rattle.lanes.specs.Blocks.{ShareNoChangingCell}
-use Rattle.lanes.specs.Calm.{UnmarksOnlyBlock}
-use Rattle.lanes.specs.Lanes.{TurnsCells}
-use Rattle.lanes.specs.Settled.{IsSameAtNumber, KeepsSettled}
+use Rattle.lanes.specs.Calm.{UnmarksAtMostBlock}
+use Rattle.lanes.specs.Lanes.{TurnsCellsOfPartition}
+use Rattle.lanes.specs.Settled.{AreCellsSameAtNumber, AreSettledBlocksUnchanged}
 use Rattle.lanes.specs.declared.marked_planes.MarkedPlanes.{MarkedPlanes}
 use Rattle.lanes.proofs.CalmLemmas.{odd_even}
 use Rattle.lanes.proofs.LaneLemmas.{block_lane}
@@ -17,26 +18,28 @@ use Rattle.lanes.proofs.PlaneWords.{plane_down, plane_even, plane_odd, plane_rig
 use Rattle.lanes.proofs.TurnLemmas.{calm_turned}
 
 -- nothing changes
-pub same_number : (u : ℕ) (p : Planes) → IsSameAtNumber u p p
+pub same_number : (u : ℕ) (p : Planes) → AreCellsSameAtNumber u p p
 same_number u p = record { words = refl; stride = refl; cells = λ a x y la lx e. refl }
 
 -- nothing changes twice
-pub same_number_twice : (u : ℕ) (p q r : Planes) → IsSameAtNumber u p q → IsSameAtNumber u q r → IsSameAtNumber u p r
+pub same_number_twice : (u : ℕ) (p q r : Planes) → AreCellsSameAtNumber u p q → AreCellsSameAtNumber u q r →
+    AreCellsSameAtNumber u p r
 same_number_twice u p q r e f = grind (arith, common_steps)
 
-pub settled_once : (m : MarkedPlanes) → KeepsSettled m m
+pub settled_once : (m : MarkedPlanes) → AreSettledBlocksUnchanged m m
 settled_once m u is = (is, same_number u m.planes)
 
 -- what is settled after two changes was so before both
-pub settled_twice : (m m' m'' : MarkedPlanes) → KeepsSettled m m' → KeepsSettled m' m'' → KeepsSettled m m''
+pub settled_twice : (m m' m'' : MarkedPlanes) → AreSettledBlocksUnchanged m m' → AreSettledBlocksUnchanged m' m'' →
+    AreSettledBlocksUnchanged m m''
 settled_twice m m' m'' first second u is =
     let s = second u is in
     let f = first u s.0 in
     (f.0, same_number_twice u m.planes m'.planes m''.planes f.1 s.1)
 
 -- the marks of the odd partition stay if one of the even partition is taken off
-pub odd_marks_kept : (part : Partition) (at : ℕ) (m m' : BlockMarks) → part ≡ Even → UnmarksOnlyBlock part at m m' →
-    (u : ℕ) → IsUnmarked m'.odd.items u → IsUnmarked m.odd.items u
+pub odd_marks_kept : (part : Partition) (at : ℕ) (m m' : BlockMarks) → part ≡ Even → UnmarksAtMostBlock part at m m' →
+    (u : ℕ) → IsNumberUnmarked m'.odd.items u → IsNumberUnmarked m.odd.items u
 odd_marks_kept part at m m' even unmarks u free = elim (unmarks Odd u free) [
   | inl old ↦ old
   | inr e ↦ absurd (odd_even (e.0 ∙ even))
@@ -44,7 +47,7 @@ odd_marks_kept part at m m' even unmarks u free = elim (unmarks Odd u free) [
 
 -- a cell stays if it is on no diagonal that changes
 kept_lane : (main anti : Bool) (b : BlockPlaces) (p q : Planes) (u a x y : ℕ) →
-    HasWordsStrideRows p.words p.stride p.rows q → ChangesCells main anti b p q →
+    HasWordsStrideRows p.words p.stride p.rows q → ChangesOnlyDiagonals main anti b p q →
     ShareNoChangingCell main anti (block_at Odd p.stride u) b → a < 64 * p.words → p.stride * (y / 2) + x / 2 ≡ u →
     lane q a x y ≡ lane p a x y
 unfolding lane
@@ -53,8 +56,8 @@ kept_lane main anti b p q u a x y size ch none la at =
 
 -- the cells of a number stay if they are on none
 pub kept_number : (main anti : Bool) (b : BlockPlaces) (p q : Planes) (u : ℕ) →
-    HasWordsStrideRows p.words p.stride p.rows q → ChangesCells main anti b p q →
-    ShareNoChangingCell main anti (block_at Odd p.stride u) b → IsSameAtNumber u p q
+    HasWordsStrideRows p.words p.stride p.rows q → ChangesOnlyDiagonals main anti b p q →
+    ShareNoChangingCell main anti (block_at Odd p.stride u) b → AreCellsSameAtNumber u p q
 kept_number main anti b p q u size ch none = record {
   words = size.0;
   stride = size.1;
@@ -62,9 +65,10 @@ kept_number main anti b p q u size ch none = record {
 }
 
 -- a cell whose block stays is what a turn makes of it
-stays_turned : (q : Planes) (u a x y : ℕ) → IsStable (block_at Odd q.stride u) q → a < 64 * q.words →
+stays_turned : (q : Planes) (u a x y : ℕ) → IsBlockStable (block_at Odd q.stride u) q → a < 64 * q.words →
     q.stride * (y / 2) + x / 2 ≡ u →
-    lane q a x y ≡ turned (lane q a x y) (lane q a (mate x) (mate y)) (lane q a (mate x) y) (lane q a x (mate y))
+    lane q a x y ≡ turned (lane q a x y) (lane q a (paired_place x) (paired_place y)) (lane q a (paired_place x) y)
+    (lane q a x (paired_place y))
 stays_turned q u a x y stable la at = block_lane q q a x y (refl, refl, refl)
     (rw at (calm_turned _ _ _ _ (stable.0 (a / 64) (omega arith)) (stable.1 (a / 64) (omega arith))))
 
@@ -74,11 +78,12 @@ row_below s r i y u at within = grind (arith, common_steps, mul-le-mul_left)
 
 -- a block that stays after all were turned did not change, since a turn undoes itself
 pub same_after_turn : (m : BlockMarks) (p q : Planes) (u : ℕ) → HasWordsStrideRows p.words p.stride p.rows q →
-    TurnsCells Odd p q → AreUnmarkedBlocksStable m q → u < p.stride * p.rows → IsUnmarked m.odd.items u →
-    IsSameAtNumber u p q
+    TurnsCellsOfPartition Odd p q → AreUnmarkedBlocksStable m q → u < p.stride * p.rows →
+    IsNumberUnmarked m.odd.items u →
+    AreCellsSameAtNumber u p q
 same_after_turn m p q u size turns calm within free = grind (arith, common_steps, same)
   where
-    stable : IsStable (block_at Odd q.stride u) q
+    stable : IsBlockStable (block_at Odd q.stride u) q
     stable = calm Odd u (rw (size.1, size.2) within, λ e. absurd (odd_even e)) free
 
     same : (a x y : ℕ) → a < 64 * p.words → x / 2 < p.stride → p.stride * (y / 2) + x / 2 ≡ u →
@@ -91,9 +96,9 @@ same_after_turn m p q u size turns calm within free = grind (arith, common_steps
         let mx = mate_lt x (2 * p.stride) (omega arith) lx' in
         let my = mate_lt y (2 * p.rows) (omega arith) ly' in
         let own = turns a x y la lx' ly' in
-        let opposite = turns a (mate x) (mate y) la mx my in
-        let across = turns a (mate x) y la mx ly' in
-        let down = turns a x (mate y) la lx' my in
+        let opposite = turns a (paired_place x) (paired_place y) la mx my in
+        let across = turns a (paired_place x) y la mx ly' in
+        let down = turns a x (paired_place y) la lx' my in
         let opposite = rw (mate_twice x, mate_twice y) at opposite in
         let across = rw (mate_twice x) at across in
         let down = rw (mate_twice y) at down in

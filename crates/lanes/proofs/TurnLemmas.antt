@@ -1,5 +1,6 @@
 -- Parts of lists whose blocks are turned, and blocks that stay
-use Rattle.lanes.proofs.Imports.{AreTurned, AreTurnedAt, BlockPlaces, DiagonalStays, IsSameOutsidePart, IsStable, List}
+use Rattle.lanes.proofs.Imports.{AreCornerWordsTurned, AreCornerWordsTurnedAt, BlockPlaces, IsBlockStable}
+use Rattle.lanes.proofs.Imports.{IsDiagonalStable, IsSameOutsidePart, List}
 use Rattle.lanes.proofs.Imports.{Planes, TurnsBlock, TurnsPart, ap, arith, bit, bit-is, bit-xor, bit-zero, bit_and}
 use Rattle.lanes.proofs.Imports.{bit_at, bit_or, bit_xor, common_steps, false, false≢true, get_or-drop, get_or-take}
 use Rattle.lanes.proofs.Imports.{length, not, not-false, refl, sym, xor, ℕ, ◌+◌, ◌<◌, ◌∙◌, ◌≡◌, ◌≤◌}
@@ -36,7 +37,8 @@ pub part_turned : (a b c d ka kb kc kd long : ℕ) (ul ur ll lr p q r s : List �
     kd ≡ long →
     a + long ≤ length ul → b + long ≤ length ur → c + long ≤ length ll → d + long ≤ length lr → length p ≡ long →
     length q ≡ long → length r ≡ long → length s ≡ long →
-    ((k : ℕ) → k < long → AreTurnedAt k (mid_of a ka ul) (mid_of b kb ur) (mid_of c kc ll) (mid_of d kd lr) p q r s) →
+    ((k : ℕ) → k < long → AreCornerWordsTurnedAt k (mid_of a ka ul) (mid_of b kb ur) (mid_of c kc ll)
+    (mid_of d kd lr) p q r s) →
     TurnsPart a b c d long ul ur ll lr (put_mid a ka ul p) (put_mid b kb ur q) (put_mid c kc ll r) (put_mid d kd lr s)
 part_turned a b c d ka kb kc kd long ul ur ll lr p q r s ea eb ec ed ra rb rc rd lp lq lr' ls turns = record {
   turned = λ k l.
@@ -66,16 +68,16 @@ same_beside a n xs = record { below = λ k l. refl; above = λ k l. refl }
 flips_none : (a f j : ℕ) → f ≡ 0 → bit (bit_xor a f) j ≡ bit a j
 flips_none a f j e = grind (arith, common_steps, bit-xor, bit-zero, xor)
 
-pub main_stays : (ul ur ll lr : ℕ) → main_flips_of ul ur ll lr ≡ 0 → DiagonalStays ul lr ur ll
+pub main_stays : (ul ur ll lr : ℕ) → main_flips_of ul ur ll lr ≡ 0 → IsDiagonalStable ul lr ur ll
 main_stays ul ur ll lr e j =
     let t = words_turned ul ur ll lr in grind (arith, common_steps, flips_none, main_flips_of)
 
-pub anti_stays : (ul ur ll lr : ℕ) → anti_flips_of ul ur ll lr ≡ 0 → DiagonalStays ur ll ul lr
+pub anti_stays : (ul ur ll lr : ℕ) → anti_flips_of ul ur ll lr ≡ 0 → IsDiagonalStable ur ll ul lr
 anti_stays ul ur ll lr e j =
     let t = words_turned ul ur ll lr in grind (arith, common_steps, flips_none, anti_flips_of)
 
-pub calm_turned : (ul ur ll lr : ℕ) → DiagonalStays ul lr ur ll → DiagonalStays ur ll ul lr →
-    AreTurned ul ur ll lr ul ur ll lr
+pub calm_turned : (ul ur ll lr : ℕ) → IsDiagonalStable ul lr ur ll → IsDiagonalStable ur ll ul lr →
+    AreCornerWordsTurned ul ur ll lr ul ur ll lr
 calm_turned ul ur ll lr main anti = grind (arith, common_steps)
 
 -- a word is what its bits are
@@ -89,20 +91,23 @@ word_of_bits a b same = same_from_bits a b (λ j. at_place j (same j))
     at_place j e = grind (arith, common_steps, zero_or_one, bit_at-lt, false≢true, set_at)
 
 -- the words of a diagonal that stays are as they were
-pub main_words : (ul ur ll lr ul' ur' ll' lr' : ℕ) → DiagonalStays ul lr ur ll → AreTurned ul ur ll lr ul' ur' ll' lr' →
+pub main_words : (ul ur ll lr ul' ur' ll' lr' : ℕ) → IsDiagonalStable ul lr ur ll →
+    AreCornerWordsTurned ul ur ll lr ul' ur' ll' lr' →
     (ul' ≡ ul) × (lr' ≡ lr)
 main_words ul ur ll lr ul' ur' ll' lr' stays t =
     (word_of_bits ul' ul (λ j. t.upper_left j ∙ (stays j).0), word_of_bits lr' lr (λ j. t.lower_right j ∙ (stays j).1))
 
-pub anti_words : (ul ur ll lr ul' ur' ll' lr' : ℕ) → DiagonalStays ur ll ul lr → AreTurned ul ur ll lr ul' ur' ll' lr' →
+pub anti_words : (ul ur ll lr ul' ur' ll' lr' : ℕ) → IsDiagonalStable ur ll ul lr →
+    AreCornerWordsTurned ul ur ll lr ul' ur' ll' lr' →
     (ur' ≡ ur) × (ll' ≡ ll)
 anti_words ul ur ll lr ul' ur' ll' lr' stays t =
     (word_of_bits ur' ur (λ j. t.upper_right j ∙ (stays j).0), word_of_bits ll' ll (λ j. t.lower_left j ∙ (stays j).1))
 
 -- one block that stays
-pub stable_turned : (b : BlockPlaces) (p : Planes) → IsStable b p → TurnsBlock b p p
+pub stable_turned : (b : BlockPlaces) (p : Planes) → IsBlockStable b p → TurnsBlock b p p
 stable_turned b p stable = grind (arith, common_steps, calm_turned, same_beside)
 
 -- the rule is the same after half a turn
-pub half_turned : (a b c d a' b' c' d' : ℕ) → AreTurned a b c d a' b' c' d' → AreTurned d c b a d' c' b' a'
+pub half_turned : (a b c d a' b' c' d' : ℕ) → AreCornerWordsTurned a b c d a' b' c' d' →
+    AreCornerWordsTurned d c b a d' c' b' a'
 half_turned a b c d a' b' c' d' t = grind (arith, common_steps)

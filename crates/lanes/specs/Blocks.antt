@@ -9,9 +9,9 @@ use Rattle.lanes.specs.declared.blocks.Partition.TheVariants.{Even, Odd}
 use Rattle.lanes.specs.declared.planes.Planes.{Planes}
 
 -- whether the diagonal is the main one
-abbrev pub is_main : Diagonal → Bool
-is_main Main = true
-is_main Anti = false
+abbrev pub is_main_diagonal : Diagonal → Bool
+is_main_diagonal Main = true
+is_main_diagonal Anti = false
 
 -- The numbers of the cells of block n, where a row of a plane has s cells. Block n of the odd partition has the cells
 -- with this number, and block n of the even partition begins with cell n of the plane even
@@ -30,18 +30,18 @@ marks_of Odd m = m.odd.items
 marks_of Even m = m.even.items
 
 -- how many numbers the blocks of a partition have
-abbrev pub block_count : Partition → Planes → ℕ
-block_count Odd p = p.stride * p.rows
-block_count Even p = p.stride * p.rows - p.stride - 1
+abbrev pub block_number_count : Partition → Planes → ℕ
+block_number_count Odd p = p.stride * p.rows
+block_number_count Even p = p.stride * p.rows - p.stride - 1
 
 -- The number is not that of the last block of a row of the even partition. The cells of that one are in the halo, at
 -- the right end of two rows and at the left end of the next two
-abbrev pub IsNotRowEnd : Partition → ℕ → ℕ → Type 0
-IsNotRowEnd part s n = part ≡ Even → (n + 1) % s ≢ 0
+abbrev pub IsNotRowEndBlock : Partition → ℕ → ℕ → Type 0
+IsNotRowEndBlock part s n = part ≡ Even → (n + 1) % s ≢ 0
 
 -- the number is that of a block that a step turns
-abbrev pub IsBlock : Partition → Planes → ℕ → Type 0
-IsBlock part p n = (n < block_count part p) × IsNotRowEnd part p.stride n
+abbrev pub IsNumberOfBlock : Partition → Planes → ℕ → Type 0
+IsNumberOfBlock part p n = (n < block_number_count part p) × IsNotRowEndBlock part p.stride n
 
 -- the planes have cells with these numbers
 abbrev pub AreCellNumbers : BlockPlaces → Planes → Type 0

@@ -3,7 +3,7 @@ use Rattle.std.specs.Prelude.{◌≡◌, ◌==◌, if◌then◌else◌, Bool, �
 use Rattle.std.specs.Prelude.{slice_index}
 use Rattle.bbm_rule.specs.Bits.{bit}
 use Rattle.bbm_rule.specs.Plane.{turned}
-use Rattle.bbm_rule.specs.Rows.{mate}
+use Rattle.bbm_rule.specs.Rows.{paired_place}
 use Rattle.lanes.specs.declared.blocks.Partition.{Partition}
 use Rattle.lanes.specs.declared.blocks.Partition.TheVariants.{Even, Odd}
 use Rattle.lanes.specs.declared.planes.Planes.{Planes}
@@ -26,15 +26,16 @@ lane p a x y = bit (slice_index (plane_of p x y) (p.words * (p.stride * (y / 2) 
 
 -- Each cell is turned in its block of the partition. In the even partition these are the cells of the box, if the
 -- planes have one more cell on each side
-abbrev pub TurnsCells : Partition → Planes → Planes → Type 0
-TurnsCells Odd p q = (a x y : ℕ) → a < 64 * p.words → x < 2 * p.stride → y < 2 * p.rows →
-    lane q a x y ≡ turned (lane p a x y) (lane p a (mate x) (mate y)) (lane p a (mate x) y) (lane p a x (mate y))
-TurnsCells Even p q = (a x y : ℕ) → a < 64 * p.words → x + 2 < 2 * p.stride → y + 2 < 2 * p.rows →
-    lane q a (1 + x) (1 + y) ≡ turned (lane p a (1 + x) (1 + y)) (lane p a (1 + mate x) (1 + mate y))
-    (lane p a (1 + mate x) (1 + y)) (lane p a (1 + x) (1 + mate y))
+abbrev pub TurnsCellsOfPartition : Partition → Planes → Planes → Type 0
+TurnsCellsOfPartition Odd p q = (a x y : ℕ) → a < 64 * p.words → x < 2 * p.stride → y < 2 * p.rows →
+    lane q a x y ≡ turned (lane p a x y) (lane p a (paired_place x) (paired_place y)) (lane p a (paired_place x) y)
+    (lane p a x (paired_place y))
+TurnsCellsOfPartition Even p q = (a x y : ℕ) → a < 64 * p.words → x + 2 < 2 * p.stride → y + 2 < 2 * p.rows →
+    lane q a (1 + x) (1 + y) ≡ turned (lane p a (1 + x) (1 + y)) (lane p a (1 + paired_place x) (1 + paired_place y))
+    (lane p a (1 + paired_place x) (1 + y)) (lane p a (1 + x) (1 + paired_place y))
 
 -- only the word k of the cell changes
-pub record SetsWord (x y k word : ℕ) (p q : Planes) : Type 0 where
+pub record SetsCellWord (x y k word : ℕ) (p q : Planes) : Type 0 where
   pub there : (b : ℕ) → b < 64 → lane q (64 * k + b) x y ≡ bit word b
   pub rest : (a x' y' : ℕ) → a < 64 * p.words → x' / 2 < p.stride → ((x' ≡ x) × (y' ≡ y) × (a / 64 ≡ k) → ⊥) →
       lane q a x' y' ≡ lane p a x' y'
@@ -45,18 +46,18 @@ AreSameInBox p q = (a x y : ℕ) → a < 64 * p.words → x + 2 < 2 * p.stride �
     lane q a (1 + x) (1 + y) ≡ lane p a (1 + x) (1 + y)
 
 -- a list has n words of the source
-abbrev pub HasWords : ℕ → List ℕ → WordSource → Type 0
-HasWords n list (Constant word) = Unit {0}
-HasWords n list (From first) = first + n ≤ length list
+abbrev pub HasSourceWords : ℕ → List ℕ → WordSource → Type 0
+HasSourceWords n list (Constant word) = Unit {0}
+HasSourceWords n list (From first) = first + n ≤ length list
 
 -- word k of the source
-abbrev pub word_of : List ℕ → WordSource → ℕ → ℕ
-word_of list (Constant word) k = word
-word_of list (From first) k = slice_index list (first + k)
+abbrev pub word_of_source : List ℕ → WordSource → ℕ → ℕ
+word_of_source list (Constant word) k = word
+word_of_source list (From first) k = slice_index list (first + k)
 
 -- the words of a cell become those of the source, and no other cell changes
 pub record SetsCell (x y : ℕ) (list : List ℕ) (source : WordSource) (p q : Planes) : Type 0 where
   pub size : HasWordsStrideRows p.words p.stride p.rows q
-  pub there : (k b : ℕ) → k < p.words → b < 64 → lane q (64 * k + b) x y ≡ bit (word_of list source k) b
+  pub there : (k b : ℕ) → k < p.words → b < 64 → lane q (64 * k + b) x y ≡ bit (word_of_source list source k) b
   pub rest : (a x' y' : ℕ) → a < 64 * p.words → x' / 2 < p.stride → ((x' ≡ x) × (y' ≡ y) → ⊥) →
       lane q a x' y' ≡ lane p a x' y'

@@ -2,7 +2,7 @@
 use Rattle.std.specs.Prelude.{◌≡◌, ◌==◌, Bool, ℕ, ◌+◌, ◌*◌, ◌%◌, ◌<◌, ◌≤◌, List, slice_index}
 use Rattle.bbm_rule.specs.Bits.{bit}
 use Rattle.bbm_rule.specs.Plane.{turned}
-use Rattle.bbm_rule.specs.Words.{AreTurned}
+use Rattle.bbm_rule.specs.Words.{AreCornerWordsTurned}
 use Rattle.lanes.specs.declared.blocks.BlockPlaces.{BlockPlaces}
 use Rattle.lanes.specs.declared.blocks.Diagonal.{Diagonal}
 use Rattle.lanes.specs.declared.blocks.Diagonal.TheVariants.{Anti, Main}
@@ -14,26 +14,27 @@ is_on_main_diagonal x y = x % 2 == y % 2
 
 -- A block has two diagonals: its upper left and lower right cells, and the other two. For the first cells of a diagonal
 -- and their others, then those of the other diagonal: under no assignment does a turn change a cell of the diagonal
-abbrev pub DiagonalStays : ℕ → ℕ → ℕ → ℕ → Type 0
-DiagonalStays first last a b =
+abbrev pub IsDiagonalStable : ℕ → ℕ → ℕ → ℕ → Type 0
+IsDiagonalStable first last a b =
     (j : ℕ) → (turned (bit first j) (bit last j) (bit a j) (bit b j) ≡ bit first j)
     × (turned (bit last j) (bit first j) (bit b j) (bit a j) ≡ bit last j)
 
 -- the main diagonal of a block of four planes stays
-abbrev pub MainStays : BlockPlaces → Planes → Type 0
-MainStays b p = (k : ℕ) → k < p.words →
-    DiagonalStays (slice_index p.odd.items (p.words * b.odd + k)) (slice_index p.even.items (p.words * b.even + k))
+abbrev pub IsMainDiagonalStable : BlockPlaces → Planes → Type 0
+IsMainDiagonalStable b p = (k : ℕ) → k < p.words →
+    IsDiagonalStable (slice_index p.odd.items (p.words * b.odd + k)) (slice_index p.even.items (p.words * b.even + k))
     (slice_index p.right.items (p.words * b.right + k)) (slice_index p.down.items (p.words * b.down + k))
 
 -- so does the other one
-abbrev pub AntiStays : BlockPlaces → Planes → Type 0
-AntiStays b p = (k : ℕ) → k < p.words →
-    DiagonalStays (slice_index p.right.items (p.words * b.right + k)) (slice_index p.down.items (p.words * b.down + k))
+abbrev pub IsAntiDiagonalStable : BlockPlaces → Planes → Type 0
+IsAntiDiagonalStable b p = (k : ℕ) → k < p.words →
+    IsDiagonalStable (slice_index p.right.items (p.words * b.right + k))
+    (slice_index p.down.items (p.words * b.down + k))
     (slice_index p.odd.items (p.words * b.odd + k)) (slice_index p.even.items (p.words * b.even + k))
 
 -- and so does the block
-abbrev pub IsStable : BlockPlaces → Planes → Type 0
-IsStable b p = MainStays b p × AntiStays b p
+abbrev pub IsBlockStable : BlockPlaces → Planes → Type 0
+IsBlockStable b p = IsMainDiagonalStable b p × IsAntiDiagonalStable b p
 
 -- the words from place a on, as many as `long`, may change, and no others
 pub record IsSameOutsidePart (a long : ℕ) (old new : List ℕ) : Type 0 where
@@ -52,7 +53,8 @@ pub record SwapsPart (a b long : ℕ) (xs ys xs' ys' : List ℕ) : Type 0 where
 -- others change
 pub record TurnsPart (a b c d long : ℕ) (ul ur ll lr ul' ur' ll' lr' : List ℕ) : Type 0 where
   pub turned : (k : ℕ) → k < long →
-      AreTurned (slice_index ul (a + k)) (slice_index ur (b + k)) (slice_index ll (c + k)) (slice_index lr (d + k))
+      AreCornerWordsTurned (slice_index ul (a + k)) (slice_index ur (b + k)) (slice_index ll (c + k))
+      (slice_index lr (d + k))
       (slice_index ul' (a + k)) (slice_index ur' (b + k)) (slice_index ll' (c + k)) (slice_index lr' (d + k))
   pub upper_left : IsSameOutsidePart a long ul ul'
   pub upper_right : IsSameOutsidePart b long ur ur'
@@ -60,14 +62,14 @@ pub record TurnsPart (a b c d long : ℕ) (ul ur ll lr ul' ur' ll' lr' : List �
   pub lower_right : IsSameOutsidePart d long lr lr'
 
 -- the words of four planes, as many as `long` from those of the cells of a block on, are turned
-abbrev pub TurnsFrom : BlockPlaces → ℕ → Planes → Planes → Type 0
-TurnsFrom b long p q =
+abbrev pub TurnsWordsFrom : BlockPlaces → ℕ → Planes → Planes → Type 0
+TurnsWordsFrom b long p q =
     TurnsPart (p.words * b.odd) (p.words * b.right) (p.words * b.down) (p.words * b.even) long p.odd.items p.right.items
     p.down.items p.even.items q.odd.items q.right.items q.down.items q.even.items
 
 -- one block of four planes is turned
 abbrev pub TurnsBlock : BlockPlaces → Planes → Planes → Type 0
-TurnsBlock b p q = TurnsFrom b p.words p q
+TurnsBlock b p q = TurnsWordsFrom b p.words p q
 
 -- the cells of a diagonal change places
 abbrev pub SwapsDiagonal : Diagonal → BlockPlaces → Planes → Planes → Type 0

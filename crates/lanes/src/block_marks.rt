@@ -1,13 +1,13 @@
 //! Marks on the blocks of both partitions.
 
 ghost use Rattle.lanes.specs.Blocks.{block_at, marks_of};
-ghost use Rattle.lanes.specs.Calm.{AreAllMarked, AreMarkedUnlessIn, HasRoomForBlockMarks, HasSameBlockRoom, MarksBlocks, UnmarksOnlyBlock};
+ghost use Rattle.lanes.specs.Calm.{AreBlocksMarkedUnlessIn, AreFirstBlocksMarked, HasRoomForBlockMarks, HasSameBlockMarkRoom, MarksBlocksSharingCell, UnmarksAtMostBlock};
 ghost use Rattle.std.specs.Prelude.{ℕ, ◌≡◌, ◌+◌, ◌*◌, ◌^◌, ◌<◌, ◌≤◌, vec_len, IfOk, true};
 
 use crate::blocks::Partition;
 use crate::buffers::Buffers;
 use crate::marks::{fill, mark_even_neighbours, mark_odd_neighbours, set_marks_to_not_both};
-use crate::words::Changes;
+use crate::words::ChangedDiagonals;
 use bbm_rule::marks::{mark, mark_all, unmark};
 use std::alloc::AllocError;
 
@@ -57,8 +57,8 @@ impl BlockMarks {
 
     /// Marks all blocks, in as many words as before.
     pub fn mark_all(&mut self)
-        ensures all { (n : ℕ) → HasRoomForBlockMarks n self.old → AreAllMarked n self.new }
-        ensures room { HasSameBlockRoom self.old self.new }
+        ensures all { (n : ℕ) → HasRoomForBlockMarks n self.old → AreFirstBlocksMarked n self.new }
+        ensures room { HasSameBlockMarkRoom self.old self.new }
     {
         mark_all(&mut self.odd);
         mark_all(&mut self.even);
@@ -67,8 +67,8 @@ impl BlockMarks {
     /// Marks the blocks that have no mark among other marks, as far as both reach, and unmarks the others.
     pub fn set_to_complement_of(&mut self, other: &BlockMarks)
         ensures marked { (n : ℕ) → HasRoomForBlockMarks n self.old →
-            HasRoomForBlockMarks n other.now → AreMarkedUnlessIn n other.now self.new }
-        ensures room { HasSameBlockRoom self.old self.new }
+            HasRoomForBlockMarks n other.now → AreBlocksMarkedUnlessIn n other.now self.new }
+        ensures room { HasSameBlockMarkRoom self.old self.new }
     {
         set_marks_to_not_both(&mut self.odd, &other.odd, &other.odd);
         set_marks_to_not_both(&mut self.even, &other.even, &other.even);
@@ -78,8 +78,8 @@ impl BlockMarks {
     #[inline(always)]
     pub fn unmark(&mut self, partition: Partition, u: usize)
         requires { HasRoomForBlockMarks (u + 1) self.old }
-        ensures unmarked { UnmarksOnlyBlock partition u self.old self.new }
-        ensures room { HasSameBlockRoom self.old self.new }
+        ensures unmarked { UnmarksAtMostBlock partition u self.old self.new }
+        ensures room { HasSameBlockMarkRoom self.old self.new }
     {
         match partition {
             Partition::Odd => unmark(&mut self.odd, u),
@@ -94,15 +94,15 @@ impl BlockMarks {
         partition: Partition,
         u: usize,
         stride: usize,
-        changes: Changes,
+        changes: ChangedDiagonals,
     )
         requires room { HasRoomForBlockMarks (u + 1) self.old }
         requires odd { let b = block_at partition stride u in
             (b.odd < 64 * vec_len self.old.odd) × (b.odd < 2 ^ 32) }
         requires stride { stride ≤ 64 }
-        ensures marked { MarksBlocks changes.main changes.anti stride (block_at partition stride u)
-            self.old self.new }
-        ensures room { HasSameBlockRoom self.old self.new }
+        ensures marked { MarksBlocksSharingCell changes.main changes.anti stride
+            (block_at partition stride u) self.old self.new }
+        ensures room { HasSameBlockMarkRoom self.old self.new }
     {
         match partition {
             Partition::Odd => {

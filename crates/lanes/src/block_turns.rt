@@ -1,18 +1,18 @@
 //! The turns of single blocks.
 
-ghost use Rattle.lanes.specs.Blocks.{AreCellNumbers, block_at, block_count};
-ghost use Rattle.lanes.specs.Turns.{AntiStays, MainStays, SwapsDiagonal, TurnsBlock, TurnsFrom};
+ghost use Rattle.lanes.specs.Blocks.{AreCellNumbers, block_at, block_number_count};
+ghost use Rattle.lanes.specs.Turns.{IsAntiDiagonalStable, IsMainDiagonalStable, SwapsDiagonal, TurnsBlock, TurnsWordsFrom};
 ghost use Rattle.std.specs.Prelude.{◌≡◌, ◌+◌, ◌-◌, ◌*◌, ◌<◌, ◌≤◌, vec_len, false};
 
 use crate::blocks::{BlockPlaces, Diagonal, Partition};
 use crate::live::LiveMarks;
 use crate::marks::unmark_if_dead;
 use crate::planes::Planes;
-use crate::words::{Changes, part_changes, swap_part, turn_part, turn_word, word_changes};
+use crate::words::{ChangedDiagonals, part_changes, swap_part, turn_part, turn_word, word_changes};
 
 impl Planes {
     ghost use Rattle.lanes.specs.Lanes.{HasWordsStrideRows};
-    ghost use Rattle.lanes.specs.Live.{UnmarksOnlyDeadCells, HasRoomForBlockCells, HasSameRoom};
+    ghost use Rattle.lanes.specs.Live.{UnmarksOnlyDeadCells, HasRoomForBlockCells, HasSameCellMarkRoom};
 
     // The places of the first words of a block's cells.
     #[inline(always)]
@@ -38,10 +38,10 @@ impl Planes {
     /// Returns which diagonals of a block a turn may change under some assignment.
     #[tactic(auto, using(crate::proofs::LiveLemmas::times_one, lemmas::proofs::Common::get_or_read, crate::proofs::LiveLemmas::one_main, crate::proofs::LiveLemmas::one_anti))]
     #[inline]
-    pub(crate) fn block_changes(&self, block: BlockPlaces) -> Changes
+    pub(crate) fn block_changes(&self, block: BlockPlaces) -> ChangedDiagonals
         requires { AreCellNumbers block self.now }
-        ensures main { result.main ≡ false → MainStays block self.now }
-        ensures anti { result.anti ≡ false → AntiStays block self.now }
+        ensures main { result.main ≡ false → IsMainDiagonalStable block self.now }
+        ensures anti { result.anti ≡ false → IsAntiDiagonalStable block self.now }
     {
         // The loop over words costs more than one word.
         if self.words == 1 {
@@ -96,8 +96,8 @@ impl Planes {
     /// Turns the blocks of a partition from `first` on to below `end`.
     #[inline]
     pub(crate) fn turn_block_range(&mut self, partition: Partition, first: usize, end: usize)
-        requires { (first < end) × (end ≤ block_count partition self.old) }
-        ensures part { TurnsFrom (block_at partition self.old.stride first)
+        requires { (first < end) × (end ≤ block_number_count partition self.old) }
+        ensures part { TurnsWordsFrom (block_at partition self.old.stride first)
             (self.old.words * (end - first)) self.old self.new }
         ensures size { HasWordsStrideRows self.old.words self.old.stride self.old.rows self.new }
     {
@@ -134,7 +134,7 @@ impl Planes {
         requires marks { HasRoomForBlockCells live.old block }
         requires cells { AreCellNumbers block self.now }
         ensures unmarked { UnmarksOnlyDeadCells self.now block live.old live.new }
-        ensures same_room { HasSameRoom live.old live.new }
+        ensures same_room { HasSameCellMarkRoom live.old live.new }
     {
         // Read once, as the compiler does not see that no mark lies there.
         let words = self.words;

@@ -4,10 +4,10 @@
 //! are always dead. A cell is always the same if both its blocks stay. The greatest set of blocks that hold one another
 //! in this way never changes, and steps that turn whole planes pass over it.
 
-ghost use Rattle.bbm_rule.specs.Marks.{IsUnmarked};
+ghost use Rattle.bbm_rule.specs.Marks.{IsNumberUnmarked};
 ghost use Rattle.bbm_rule.specs.Rows.{cell_at};
-ghost use Rattle.lanes.specs.Blocks.{IsNotRowEnd, block_count, marks_of};
-ghost use Rattle.lanes.specs.Frozen.{AreBlocksHeld, AreFrozenIfFound, HasRoomForMarks, IsBlockEmpty, IsBlockHeld, IsFrozen, IsMarkedAround, IsNumberBeforeMarked};
+ghost use Rattle.lanes.specs.Blocks.{IsNotRowEndBlock, block_number_count, marks_of};
+ghost use Rattle.lanes.specs.Frozen.{AreBlocksFrozenIfFound, AreMarkedBlocksFrozen, AreMarkedBlocksHeld, HasRoomForAllBlockMarks, IsBlockHeld, IsBlockHeldAndEmpty, IsNumberBeforeMarked, IsOtherBlockOfCellMarked};
 ghost use Rattle.std.specs.Prelude.{ℕ, ◌≡◌, ◌+◌, ◌*◌, ◌/◌, ◌<◌, ◌≤◌, length, vec_len, true, false};
 
 use crate::block_marks::BlockMarks;
@@ -94,7 +94,7 @@ impl FrozenBlocks {
     pub fn give_up_if_frozen(&mut self, u: usize)
         requires room { self.old.is_found ≡ true → u / 64 < vec_len self.old.marks.odd }
         ensures { self.new.is_found ≡ true →
-            (self.new ≡ self.old) × IsUnmarked self.old.marks.odd.items u }
+            (self.new ≡ self.old) × IsNumberUnmarked self.old.marks.odd.items u }
     {
         if self.is_found && is_marked(&self.marks.odd, u) {
             self.is_found = false;
@@ -104,7 +104,7 @@ impl FrozenBlocks {
     /// Looks for the set. If there is no memory for its marks, it is not found.
     #[tactic(auto, using(crate::proofs::FrozenLemmas::found_again))]
     pub fn find(&mut self, planes: &Planes)
-        ensures { AreFrozenIfFound self.new planes.now }
+        ensures { AreBlocksFrozenIfFound self.new planes.now }
     {
         self.is_found = false;
         let long = planes.cells_per_plane().div_ceil(64);
@@ -135,16 +135,16 @@ impl FrozenBlocks {
     // For each cell of block u of a partition, whether its block of the other partition has a mark, if there is one.
     #[inline(always)]
     fn marked_around(&self, planes: &Planes, partition: Partition, u: usize) -> CellConditions
-        requires room { HasRoomForMarks self.now planes.now }
-        requires place { u < block_count partition planes.now }
-        ensures odd { result.odd ≡ true → IsMarkedAround partition self.now.marks planes.now
-            (λ b. b.odd) u }
-        ensures right { result.right ≡ true → IsMarkedAround partition self.now.marks planes.now
-            (λ b. b.right) u }
-        ensures down { result.down ≡ true → IsMarkedAround partition self.now.marks planes.now
-            (λ b. b.down) u }
-        ensures even { result.even ≡ true → IsMarkedAround partition self.now.marks planes.now
-            (λ b. b.even) u }
+        requires room { HasRoomForAllBlockMarks self.now planes.now }
+        requires place { u < block_number_count partition planes.now }
+        ensures odd { result.odd ≡ true →
+            IsOtherBlockOfCellMarked partition self.now.marks planes.now (λ b. b.odd) u }
+        ensures right { result.right ≡ true →
+            IsOtherBlockOfCellMarked partition self.now.marks planes.now (λ b. b.right) u }
+        ensures down { result.down ≡ true →
+            IsOtherBlockOfCellMarked partition self.now.marks planes.now (λ b. b.down) u }
+        ensures even { result.even ≡ true →
+            IsOtherBlockOfCellMarked partition self.now.marks planes.now (λ b. b.even) u }
     {
         let stride = planes.stride();
         match partition {
@@ -164,12 +164,12 @@ impl FrozenBlocks {
     }
 
     // Whether block u of a partition is empty, and stays so if the blocks with marks stay.
-    fn is_block_empty(&self, planes: &Planes, u: usize) -> bool
-        requires room { HasRoomForMarks self.now planes.now }
+    fn is_block_held_and_empty(&self, planes: &Planes, u: usize) -> bool
+        requires room { HasRoomForAllBlockMarks self.now planes.now }
         requires place { u < planes.now.stride * planes.now.rows }
-        ensures { result ≡ true → IsBlockEmpty Partition.Odd self.now.marks planes.now u }
+        ensures { result ≡ true → IsBlockHeldAndEmpty Partition.Odd self.now.marks planes.now u }
     {
-        planes.is_block_empty(
+        planes.is_block_held_and_empty(
             planes.block_places(Partition::Odd, u),
             self.marked_around(planes, Partition::Odd, u),
         )
@@ -179,26 +179,26 @@ impl FrozenBlocks {
     #[tactic(auto, using(crate::proofs::HeldLemmas::live_if))]
     #[inline(always)]
     fn is_block_held(&self, planes: &Planes, partition: Partition, u: usize) -> bool
-        requires room { HasRoomForMarks self.now planes.now }
-        requires place { u < block_count partition planes.now }
+        requires room { HasRoomForAllBlockMarks self.now planes.now }
+        requires place { u < block_number_count partition planes.now }
         ensures { result ≡ true → IsBlockHeld partition self.now.marks planes.now u }
     {
         let block = planes.block_places(partition, u);
         let met = self.marked_around(planes, partition, u);
-        planes.has_always_live_diagonals(block, met) || planes.is_block_empty(block, met)
+        planes.has_always_live_diagonals(block, met) || planes.is_block_held_and_empty(block, met)
     }
 
     // Takes the marks off the blocks of a partition that are not held, and returns whether there were some. It counts
     // the blocks without a mark.
     #[inline(always)]
     fn unmark_unheld(&mut self, planes: &Planes, partition: Partition) -> bool
-        requires room { HasRoomForMarks self.old planes.now }
-        ensures room { HasRoomForMarks self.new planes.now }
+        requires room { HasRoomForAllBlockMarks self.old planes.now }
+        ensures room { HasRoomForAllBlockMarks self.new planes.now }
         ensures found { self.new.is_found ≡ self.old.is_found }
     {
         let mut is_some = false;
         let mut active_block_count = 0;
-        for u in 0..planes.block_count(partition) {
+        for u in 0..planes.block_number_count(partition) {
             if !is_marked(self.marks.marks_of(partition), u) {
                 active_block_count += 1;
             } else if !planes.is_row_end(partition, u)
@@ -214,12 +214,12 @@ impl FrozenBlocks {
 
     // Marks the blocks of the odd partition that are empty and stay.
     fn mark_empty(&mut self, planes: &Planes)
-        requires room { HasRoomForMarks self.old planes.now }
-        ensures room { HasRoomForMarks self.new planes.now }
+        requires room { HasRoomForAllBlockMarks self.old planes.now }
+        ensures room { HasRoomForAllBlockMarks self.new planes.now }
         ensures found { self.new.is_found ≡ self.old.is_found }
     {
         for u in 0..planes.cells_per_plane() {
-            if is_marked(&self.marks.odd, u) && self.is_block_empty(planes, u) {
+            if is_marked(&self.marks.odd, u) && self.is_block_held_and_empty(planes, u) {
                 mark(&mut self.empty, u);
             }
         }
@@ -227,11 +227,11 @@ impl FrozenBlocks {
 
     // Whether each block with a mark is frozen, and each with a mark as empty is empty.
     fn are_marks_correct(&self, planes: &Planes) -> bool
-        requires { HasRoomForMarks self.now planes.now }
-        ensures { result ≡ true → IsFrozen self.now planes.now }
+        requires { HasRoomForAllBlockMarks self.now planes.now }
+        ensures { result ≡ true → AreMarkedBlocksFrozen self.now planes.now }
     {
-        self.are_blocks_held(planes, Partition::Odd)
-            && self.are_blocks_held(planes, Partition::Even)
+        self.are_marked_blocks_held(planes, Partition::Odd)
+            && self.are_marked_blocks_held(planes, Partition::Even)
             && self.are_blocks_empty(planes)
     }
 
@@ -239,12 +239,13 @@ impl FrozenBlocks {
     // of its row.
     #[inline(always)]
     fn is_mark_correct(&self, planes: &Planes, partition: Partition, u: usize) -> bool
-        requires room { HasRoomForMarks self.now planes.now }
-        requires place { u < block_count partition planes.now }
-        ensures marked_block_held { result ≡ true → IsNotRowEnd partition planes.now.stride u →
+        requires room { HasRoomForAllBlockMarks self.now planes.now }
+        requires place { u < block_number_count partition planes.now }
+        ensures marked_block_held { result ≡ true → IsNotRowEndBlock partition planes.now.stride u →
             cell_at (marks_of partition self.now.marks) u ≡ true →
             IsBlockHeld partition self.now.marks planes.now u }
-        ensures row_end_marked { result ≡ true → (IsNotRowEnd partition planes.now.stride u → ⊥) →
+        ensures row_end_marked { result ≡ true →
+            (IsNotRowEndBlock partition planes.now.stride u → ⊥) →
             cell_at (marks_of partition self.now.marks) u ≡ true }
     {
         let is_marked = is_marked(self.marks.marks_of(partition), u);
@@ -257,11 +258,11 @@ impl FrozenBlocks {
     // Whether each block of a partition with a mark stays if those with marks do, and the last ones of the rows have
     // marks.
     #[inline(always)]
-    fn are_blocks_held(&self, planes: &Planes, partition: Partition) -> bool
-        requires { HasRoomForMarks self.now planes.now }
-        ensures { result ≡ true → AreBlocksHeld partition self.now.marks planes.now }
+    fn are_marked_blocks_held(&self, planes: &Planes, partition: Partition) -> bool
+        requires { HasRoomForAllBlockMarks self.now planes.now }
+        ensures { result ≡ true → AreMarkedBlocksHeld partition self.now.marks planes.now }
     {
-        for u in 0..planes.block_count(partition) {
+        for u in 0..planes.block_number_count(partition) {
             if !self.is_mark_correct(planes, partition, u) {
                 return false;
             }
@@ -271,13 +272,13 @@ impl FrozenBlocks {
 
     // Whether each block that is marked as empty is empty.
     fn are_blocks_empty(&self, planes: &Planes) -> bool
-        requires { HasRoomForMarks self.now planes.now }
+        requires { HasRoomForAllBlockMarks self.now planes.now }
         ensures { result ≡ true → (u : ℕ) → u < planes.now.stride * planes.now.rows →
             cell_at self.now.empty.items u ≡ true →
-            IsBlockEmpty Partition.Odd self.now.marks planes.now u }
+            IsBlockHeldAndEmpty Partition.Odd self.now.marks planes.now u }
     {
         for u in 0..planes.cells_per_plane() {
-            if is_marked(&self.empty, u) && !self.is_block_empty(planes, u) {
+            if is_marked(&self.empty, u) && !self.is_block_held_and_empty(planes, u) {
                 return false;
             }
         }

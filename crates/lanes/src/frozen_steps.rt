@@ -1,9 +1,9 @@
 //! Steps of whole planes that pass over frozen blocks, and the marks after them.
 
-ghost use Rattle.lanes.specs.Calm.{AreUnmarkedBlocksStable, HasRoomForBlockMarks, HasSameBlockRoom};
-ghost use Rattle.lanes.specs.Frozen.{AreFrozenIfFound};
-ghost use Rattle.lanes.specs.Lanes.{HasWordsStrideRows, TurnsCells};
-ghost use Rattle.lanes.specs.Live.{AllUnmarkedDead, HasRoomForCellMarks, HasSameRoom};
+ghost use Rattle.lanes.specs.Calm.{AreUnmarkedBlocksStable, HasRoomForBlockMarks, HasSameBlockMarkRoom};
+ghost use Rattle.lanes.specs.Frozen.{AreBlocksFrozenIfFound};
+ghost use Rattle.lanes.specs.Lanes.{HasWordsStrideRows, TurnsCellsOfPartition};
+ghost use Rattle.lanes.specs.Live.{AreAllUnmarkedCellsDead, HasRoomForCellMarks, HasSameCellMarkRoom};
 ghost use Rattle.std.specs.Prelude.{◌*◌};
 
 use crate::block_marks::BlockMarks;
@@ -16,10 +16,10 @@ impl FrozenBlocks {
     /// Marks the blocks of both partitions, but for the frozen ones.
     #[tactic(auto, using(crate::proofs::FrozenLemmas::room_found, crate::proofs::FrozenLemmas::active_stable))]
     pub fn mark_active_blocks(&self, planes: &Planes, marks: &mut BlockMarks)
-        requires frozen_if_found { AreFrozenIfFound self.now planes.now }
+        requires frozen_if_found { AreBlocksFrozenIfFound self.now planes.now }
         requires room { HasRoomForBlockMarks (planes.now.stride * planes.now.rows) marks.old }
         ensures unmarked_blocks_stable { AreUnmarkedBlocksStable marks.new planes.now }
-        ensures same_room { HasSameBlockRoom marks.old marks.new }
+        ensures same_room { HasSameBlockMarkRoom marks.old marks.new }
     {
         if self.is_found {
             planes.prove_planes_are_words();
@@ -31,10 +31,10 @@ impl FrozenBlocks {
 
     /// Marks the cells that may be live, which those of the frozen and empty blocks are not.
     pub fn mark_live(&self, planes: &Planes, live: &mut LiveMarks)
-        requires frozen_if_found { AreFrozenIfFound self.now planes.now }
+        requires frozen_if_found { AreBlocksFrozenIfFound self.now planes.now }
         requires room { HasRoomForCellMarks (planes.now.stride * planes.now.rows) live.old }
-        ensures unmarked_cells_dead { AllUnmarkedDead live.new planes.now }
-        ensures same_room { HasSameRoom live.old live.new }
+        ensures unmarked_cells_dead { AreAllUnmarkedCellsDead live.new planes.now }
+        ensures same_room { HasSameCellMarkRoom live.old live.new }
     {
         if self.is_found {
             planes.prove_planes_are_words();
@@ -48,11 +48,11 @@ impl FrozenBlocks {
     #[tactic(auto, using(crate::proofs::FrozenLemmas::found_stable, crate::proofs::FieldLemmas::all_turned, crate::proofs::FrozenLemmas::still_frozen, crate::proofs::FrozenLemmas::all_may_turn))]
     #[inline(always)]
     pub fn step(&self, partition: Partition, planes: &mut Planes)
-        requires frozen_if_found { AreFrozenIfFound self.now planes.old }
-        ensures turned { TurnsCells partition planes.old planes.new }
+        requires frozen_if_found { AreBlocksFrozenIfFound self.now planes.old }
+        ensures turned { TurnsCellsOfPartition partition planes.old planes.new }
         ensures size { HasWordsStrideRows planes.old.words planes.old.stride planes.old.rows
             planes.new }
-        ensures frozen_if_found { AreFrozenIfFound self.now planes.new }
+        ensures frozen_if_found { AreBlocksFrozenIfFound self.now planes.new }
     {
         if self.is_found {
             planes.prove_planes_are_words();

@@ -1,7 +1,7 @@
 //! Cells that are always the same, and runs of blocks between the blocks that they hold.
 
-ghost use Rattle.lanes.specs.Blocks.{AreCellNumbers, block_count};
-ghost use Rattle.lanes.specs.Held.{HasValueUnderAll, HasLiveDiagonals, IsEmptyBlock, cell_word_bit};
+ghost use Rattle.lanes.specs.Blocks.{AreCellNumbers, block_number_count};
+ghost use Rattle.lanes.specs.Held.{HasValueUnderEachAssignment, HasLiveCellOnEachDiagonal, IsEmptyBlock, cell_word_bit};
 ghost use Rattle.std.specs.Prelude.{ℕ, ◌≡◌, ◌+◌, ◌-◌, ◌*◌, ◌^◌, ◌<◌, ◌≤◌, length, slice_index, false, true};
 
 use crate::blocks::{BlockPlaces, Partition};
@@ -36,7 +36,8 @@ fn prove_cells_are_words(cells: &[u64])
 fn meets_condition_and_is_always_live(is_met: bool, cells: &[u64], at: usize, words: usize) -> bool
     requires { words * at + words ≤ length cells.now }
     ensures { result ≡ true →
-        (is_met ≡ true) × HasValueUnderAll true words (cell_word_bit words cells.now at) }
+        (is_met ≡ true) × HasValueUnderEachAssignment true words
+        (cell_word_bit words cells.now at) }
 {
     is_met && !has_word_other_than(cells, words * at, 0xFFFF_FFFF_FFFF_FFFF, words)
 }
@@ -47,20 +48,21 @@ fn meets_condition_and_is_always_live(is_met: bool, cells: &[u64], at: usize, wo
 fn meets_condition_and_is_always_dead(is_met: bool, cells: &[u64], at: usize, words: usize) -> bool
     requires { words * at + words ≤ length cells.now }
     ensures { result ≡ true →
-        (is_met ≡ true) × HasValueUnderAll false words (cell_word_bit words cells.now at) }
+        (is_met ≡ true) × HasValueUnderEachAssignment false words
+        (cell_word_bit words cells.now at) }
 {
     is_met && !has_word_other_than(cells, words * at, 0, words)
 }
 
 impl Planes {
-    ghost use Rattle.lanes.specs.Frozen.{AreWords, AreMarkedBlocksStable, KeepsCellsOutsideBlocks};
+    ghost use Rattle.lanes.specs.Frozen.{ArePlaneWordsInRange, AreMarkedBlocksStable, KeepsCellsOutsideBlocks};
     ghost use Rattle.lanes.specs.Lanes.{HasWordsStrideRows};
-    ghost use Rattle.lanes.specs.Sweeps.{TurnsBlocksBetween};
+    ghost use Rattle.lanes.specs.Sweeps.{TurnsNumberedBlocksBetween};
 
     /// Returns whether each diagonal of a block has a cell that meets its condition and is live under each assignment.
     pub(crate) fn has_always_live_diagonals(&self, block: BlockPlaces, met: CellConditions) -> bool
         requires { AreCellNumbers block self.now }
-        ensures { result ≡ true → HasLiveDiagonals self.now.words (met.odd ≡ true)
+        ensures { result ≡ true → HasLiveCellOnEachDiagonal self.now.words (met.odd ≡ true)
             (met.right ≡ true) (met.down ≡ true) (met.even ≡ true)
             (cell_word_bit self.now.words self.now.odd.items block.odd)
             (cell_word_bit self.now.words self.now.right.items block.right)
@@ -75,7 +77,7 @@ impl Planes {
     }
 
     /// Returns whether the cells of a block meet their conditions and are dead under each assignment.
-    pub(crate) fn is_block_empty(&self, block: BlockPlaces, met: CellConditions) -> bool
+    pub(crate) fn is_block_held_and_empty(&self, block: BlockPlaces, met: CellConditions) -> bool
         requires { AreCellNumbers block self.now }
         ensures { result ≡ true → IsEmptyBlock self.now.words (met.odd ≡ true) (met.right ≡ true)
             (met.down ≡ true) (met.even ≡ true)
@@ -94,7 +96,7 @@ impl Planes {
     /// Shows that the words of the planes have 64 bits each. It does nothing.
     #[inline(always)]
     pub(crate) fn prove_planes_are_words(&self)
-        ensures { AreWords self.now }
+        ensures { ArePlaneWordsInRange self.now }
     {
         prove_cells_are_words(&self.odd);
         prove_cells_are_words(&self.right);
@@ -108,12 +110,12 @@ impl Planes {
     pub(crate) fn step_between_marks(&mut self, partition: Partition, marks: &[u64])
         requires room { self.old.stride * self.old.rows ≤ 64 * length marks.now }
         requires marked_blocks_stable { AreMarkedBlocksStable partition marks.now self.old }
-        ensures turned { TurnsBlocksBetween partition 0 (block_count partition self.old) self.old
-            self.new }
+        ensures turned { TurnsNumberedBlocksBetween partition 0
+            (block_number_count partition self.old) self.old self.new }
         ensures outside_cells_kept { KeepsCellsOutsideBlocks partition self.old self.new }
         ensures size { HasWordsStrideRows self.old.words self.old.stride self.old.rows self.new }
     {
-        let blocks = self.block_count(partition);
+        let blocks = self.block_number_count(partition);
         let mut at = next_unmarked(marks, 0, blocks);
         while at < blocks {
             let end = next_marked(marks, at, blocks);

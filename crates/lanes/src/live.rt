@@ -3,8 +3,8 @@
 //! A cell without a mark is dead, so its words need not be read.
 
 ghost use Rattle.bbm_rule.specs.Bits.{bit};
-ghost use Rattle.bbm_rule.specs.Marks.{IsUnmarked};
-ghost use Rattle.lanes.specs.Live.{AreFirstCellsMarked, AreCellsMarkedUnlessInBoth, AreBlockCellsUnmarked, AreNumberCellsUnmarked, HasRoomForBlockCells, HasRoomForCellMarks, HasSameRoom, IsLone, MarksCells, SetsMark, SwapsMarks};
+ghost use Rattle.bbm_rule.specs.Marks.{IsNumberUnmarked};
+ghost use Rattle.lanes.specs.Live.{AreFirstCellsMarked, AreCellsMarkedUnlessInBoth, AreBlockCellsUnmarked, AreNumberCellsUnmarked, HasRoomForBlockCells, HasRoomForCellMarks, HasSameCellMarkRoom, HasAtMostOneDiagonalMark, MarksChangedCells, SetsCellMark, SwapsDiagonalMarks};
 ghost use Rattle.std.specs.Prelude.{ℕ, ◌≡◌, ◌/◌, ◌<◌, ◌≤◌, ◌%◌, ◌+◌, ◌*◌, ◌^◌, length, IfOk, true, false};
 
 use crate::blocks::{BlockPlaces, Diagonal};
@@ -12,7 +12,7 @@ use crate::buffers::Buffers;
 use crate::marks::{
     is_marked, mark_if, next_marked_in_either, set_mark, set_marks_to_not_both, swap_two_marks,
 };
-use crate::words::Changes;
+use crate::words::ChangedDiagonals;
 use bbm_rule::marks::mark_all;
 use std::alloc::AllocError;
 
@@ -60,7 +60,7 @@ impl LiveMarks {
 
     /// Marks all cells.
     pub fn mark_all(&mut self)
-        ensures same_room { HasSameRoom self.old self.new }
+        ensures same_room { HasSameCellMarkRoom self.old self.new }
         ensures all { (n : ℕ) → HasRoomForCellMarks n self.old → AreFirstCellsMarked n self.new }
     {
         mark_all(&mut self.odd);
@@ -71,7 +71,7 @@ impl LiveMarks {
 
     /// Marks all cells but those whose number has a mark in both lists.
     pub fn set_marks_to_not_both(&mut self, first: &[u64], second: &[u64])
-        ensures same_room { HasSameRoom self.old self.new }
+        ensures same_room { HasSameCellMarkRoom self.old self.new }
         ensures marked { (n : ℕ) → HasRoomForCellMarks n self.old → n ≤ 64 * length first.now →
             n ≤ 64 * length second.now →
             AreCellsMarkedUnlessInBoth n first.now second.now self.new }
@@ -100,9 +100,9 @@ impl LiveMarks {
         requires room { HasRoomForCellMarks end self.now }
         ensures range { (from ≤ result) × (result ≤ end) }
         ensures upper { y % 2 ≡ 0 → (u : ℕ) → from ≤ u → u < result →
-            IsUnmarked self.now.odd.items u × IsUnmarked self.now.right.items u }
+            IsNumberUnmarked self.now.odd.items u × IsNumberUnmarked self.now.right.items u }
         ensures lower { y % 2 ≡ 1 → (u : ℕ) → from ≤ u → u < result →
-            IsUnmarked self.now.down.items u × IsUnmarked self.now.even.items u }
+            IsNumberUnmarked self.now.down.items u × IsNumberUnmarked self.now.even.items u }
     {
         if y % 2 == 0 {
             return next_marked_in_either(&self.odd, &self.right, from, end);
@@ -124,9 +124,9 @@ impl LiveMarks {
 
     /// Returns whether no cell of a block has a mark but one of a diagonal.
     #[inline(always)]
-    pub fn is_lone(&self, diagonal: Diagonal, block: BlockPlaces) -> bool
+    pub fn has_at_most_one_diagonal_mark(&self, diagonal: Diagonal, block: BlockPlaces) -> bool
         requires { HasRoomForBlockCells self.now block }
-        ensures { result ≡ true → IsLone diagonal self.now block }
+        ensures { result ≡ true → HasAtMostOneDiagonalMark diagonal self.now block }
     {
         match diagonal {
             Diagonal::Main => {
@@ -144,10 +144,10 @@ impl LiveMarks {
 
     /// Marks the cells of a block that are on a diagonal that changes.
     #[inline]
-    pub fn mark_cells(&mut self, block: BlockPlaces, changes: Changes)
+    pub fn mark_changed_cells(&mut self, block: BlockPlaces, changes: ChangedDiagonals)
         requires { HasRoomForBlockCells self.old block }
-        ensures cells { MarksCells changes.main changes.anti block self.old self.new }
-        ensures same_room { HasSameRoom self.old self.new }
+        ensures cells { MarksChangedCells changes.main changes.anti block self.old self.new }
+        ensures same_room { HasSameCellMarkRoom self.old self.new }
     {
         mark_if(&mut self.odd, block.odd, changes.main);
         mark_if(&mut self.right, block.right, changes.anti);
@@ -161,8 +161,8 @@ impl LiveMarks {
     #[inline(always)]
     pub fn set(&mut self, x: usize, y: usize, u: usize, is_marked: bool)
         requires { HasRoomForCellMarks (u + 1) self.old }
-        ensures mark_set { SetsMark x y u is_marked self.old self.new }
-        ensures same_room { HasSameRoom self.old self.new }
+        ensures mark_set { SetsCellMark x y u is_marked self.old self.new }
+        ensures same_room { HasSameCellMarkRoom self.old self.new }
     {
         if x % 2 == 0 {
             if y % 2 == 0 {
@@ -181,8 +181,8 @@ impl LiveMarks {
     #[inline]
     pub fn swap(&mut self, diagonal: Diagonal, block: BlockPlaces)
         requires { HasRoomForBlockCells self.old block }
-        ensures swapped { SwapsMarks diagonal block self.old self.new }
-        ensures same_room { HasSameRoom self.old self.new }
+        ensures swapped { SwapsDiagonalMarks diagonal block self.old self.new }
+        ensures same_room { HasSameCellMarkRoom self.old self.new }
     {
         match diagonal {
             Diagonal::Main => swap_two_marks(&mut self.odd, &mut self.even, block.odd, block.even),

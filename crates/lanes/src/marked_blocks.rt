@@ -1,13 +1,13 @@
 //! The turns of single blocks, by their marks.
 
-ghost use Rattle.lanes.specs.Blocks.{AreCellNumbers, IsBlock, IsNotRowEnd, block_at, block_count};
-ghost use Rattle.lanes.specs.Settled.{KeepsSettled};
+ghost use Rattle.lanes.specs.Blocks.{AreCellNumbers, IsNotRowEndBlock, IsNumberOfBlock, block_at, block_number_count};
+ghost use Rattle.lanes.specs.Settled.{AreSettledBlocksUnchanged};
 ghost use Rattle.std.specs.Prelude.{◌≡◌, ◌+◌, ◌*◌, ◌<◌, ◌≤◌, true, false};
 
 use crate::blocks::{BlockPlaces, Diagonal, Partition};
 use crate::marked_planes::MarkedPlanes;
 use crate::marks::is_marked;
-use crate::words::Changes;
+use crate::words::ChangedDiagonals;
 
 // For how many odd times the words of all blocks are read, once the crowded blocks are too many.
 const WORD_READ_TIMES: u32 = 31;
@@ -16,7 +16,7 @@ const WORD_READ_TIMES: u32 = 31;
 const MAX_CROWDED_BLOCKS: u32 = 64;
 
 impl MarkedPlanes {
-    ghost use Rattle.lanes.specs.Live.{AreBlockCellsUnmarked, IsLone};
+    ghost use Rattle.lanes.specs.Live.{AreBlockCellsUnmarked, HasAtMostOneDiagonalMark};
     ghost use Rattle.lanes.specs.Turns.{TurnsBlock};
     ghost use Rattle.lanes.specs.Lanes.{HasWordsStrideRows};
 
@@ -24,7 +24,7 @@ impl MarkedPlanes {
     // each block that a step turned off twice at the end of the step.
     fn count_crowded_block(&mut self, is_turned: bool)
         ensures planes { self.new.planes ≡ self.old.planes }
-        ensures settled { KeepsSettled self.old self.new }
+        ensures settled { AreSettledBlocksUnchanged self.old self.new }
     {
         self.crowded_blocks = self.crowded_blocks.saturating_add(1);
         if is_turned {
@@ -37,7 +37,7 @@ impl MarkedPlanes {
     pub(crate) fn settle_crowded_blocks(&mut self, turned: usize)
         requires { turned ≤ 4096 }
         ensures planes { self.new.planes ≡ self.old.planes }
-        ensures settled { KeepsSettled self.old self.new }
+        ensures settled { AreSettledBlocksUnchanged self.old self.new }
     {
         self.crowded_blocks = self.crowded_blocks.saturating_sub(2 * turned as u32);
         if self.crowded_blocks > MAX_CROWDED_BLOCKS {
@@ -51,19 +51,20 @@ impl MarkedPlanes {
     #[tactic(auto, using(crate::proofs::LiveLemmas::lone_turned, crate::proofs::CalmLemmas::cells_of))]
     #[inline(always)]
     fn swap_lone(&mut self, partition: Partition, u: usize, diagonal: Diagonal)
-        requires block { IsBlock partition self.old.planes u }
-        requires diagonal_lone { IsLone diagonal self.old.live_marks
+        requires block { IsNumberOfBlock partition self.old.planes u }
+        requires diagonal_lone { HasAtMostOneDiagonalMark diagonal self.old.live_marks
             (block_at partition self.old.planes.stride u) }
         ensures turned { TurnsBlock (block_at partition self.old.planes.stride u) self.old.planes
             self.new.planes }
         ensures size { HasWordsStrideRows self.old.planes.words self.old.planes.stride
             self.old.planes.rows self.new.planes }
-        ensures settled_if_even { partition ≡ Partition.Even → KeepsSettled self.old self.new }
+        ensures settled_if_even { partition ≡ Partition.Even →
+            AreSettledBlocksUnchanged self.old self.new }
     {
         let stride = self.planes.stride();
         let block = self.planes.block_places(partition, u);
         self.block_marks
-            .mark_block_and_neighbours(partition, u, stride, Changes::of(diagonal));
+            .mark_block_and_neighbours(partition, u, stride, ChangedDiagonals::of(diagonal));
         self.live_marks.swap(diagonal, block);
         self.planes.swap(diagonal, block);
     }
@@ -71,14 +72,15 @@ impl MarkedPlanes {
     // Turns a block, unless it stays, and tells whether it turned it.
     #[tactic(auto, using(crate::proofs::FrozenLemmas::still_frozen, crate::proofs::FrozenLemmas::one_may_turn, crate::proofs::TurnLemmas::stable_turned))]
     #[inline(always)]
-    fn turn_words(&mut self, partition: Partition, u: usize) -> bool
-        requires { IsBlock partition self.old.planes u }
+    fn turn_block_unless_stable(&mut self, partition: Partition, u: usize) -> bool
+        requires { IsNumberOfBlock partition self.old.planes u }
         ensures turned { TurnsBlock (block_at partition self.old.planes.stride u) self.old.planes
             self.new.planes }
         ensures size { HasWordsStrideRows self.old.planes.words self.old.planes.stride
             self.old.planes.rows self.new.planes }
         ensures unchanged_if_false { result ≡ false → self.new.planes ≡ self.old.planes }
-        ensures settled_if_even { partition ≡ Partition.Even → KeepsSettled self.old self.new }
+        ensures settled_if_even { partition ≡ Partition.Even →
+            AreSettledBlocksUnchanged self.old self.new }
     {
         let block = self.planes.block_places(partition, u);
         let changes = self.planes.block_changes(block);
@@ -89,7 +91,7 @@ impl MarkedPlanes {
         let stride = self.planes.stride();
         self.block_marks
             .mark_block_and_neighbours(partition, u, stride, changes);
-        self.live_marks.mark_cells(block, changes);
+        self.live_marks.mark_changed_cells(block, changes);
         self.planes.turn_block(block);
         true
     }
@@ -107,10 +109,10 @@ impl MarkedPlanes {
     #[tactic(auto, using(crate::proofs::CalmLemmas::still_stable_unmarked, crate::proofs::LiveLemmas::dead_block, crate::proofs::CalmLemmas::cells_of))]
     #[inline]
     fn unmark_even_block_if_dead(&mut self, n: usize) -> bool
-        requires { n < block_count Partition.Even self.old.planes }
+        requires { n < block_number_count Partition.Even self.old.planes }
         ensures planes { self.new.planes ≡ self.old.planes }
         ensures marks_unchanged { self.new.live_marks ≡ self.old.live_marks }
-        ensures settled { KeepsSettled self.old self.new }
+        ensures settled { AreSettledBlocksUnchanged self.old self.new }
         ensures turned { result ≡ true →
             TurnsBlock (block_at Partition.Even self.old.planes.stride n) self.old.planes
             self.new.planes }
@@ -161,15 +163,16 @@ impl MarkedPlanes {
     // whether it turned it.
     #[inline(always)]
     fn turn_lone(&mut self, partition: Partition, u: usize, diagonal: Diagonal) -> bool
-        requires block { IsBlock partition self.old.planes u }
-        requires diagonal_lone { IsLone diagonal self.old.live_marks
+        requires block { IsNumberOfBlock partition self.old.planes u }
+        requires diagonal_lone { HasAtMostOneDiagonalMark diagonal self.old.live_marks
             (block_at partition self.old.planes.stride u) }
         ensures turned { TurnsBlock (block_at partition self.old.planes.stride u) self.old.planes
             self.new.planes }
         ensures size { HasWordsStrideRows self.old.planes.words self.old.planes.stride
             self.old.planes.rows self.new.planes }
         ensures unchanged_if_false { result ≡ false → self.new.planes ≡ self.old.planes }
-        ensures settled_if_even { partition ≡ Partition.Even → KeepsSettled self.old self.new }
+        ensures settled_if_even { partition ≡ Partition.Even →
+            AreSettledBlocksUnchanged self.old self.new }
     {
         if let (Partition::Even, Diagonal::Main) = (partition, diagonal) {
             if self.unmark_even_block_if_dead(u) {
@@ -186,9 +189,9 @@ impl MarkedPlanes {
     // Takes the marks off the dead cells of block u after its words were read, and counts it.
     #[inline(always)]
     fn unmark_and_count(&mut self, partition: Partition, u: usize, is_turned: bool)
-        requires { u < block_count partition self.old.planes }
+        requires { u < block_number_count partition self.old.planes }
         ensures planes { self.new.planes ≡ self.old.planes }
-        ensures settled { KeepsSettled self.old self.new }
+        ensures settled { AreSettledBlocksUnchanged self.old self.new }
     {
         if self.word_read_times == 0 {
             self.unmark_dead_cells(partition, u);
@@ -206,22 +209,31 @@ impl MarkedPlanes {
     // be live.
     #[inline(always)]
     fn turn_block_in_box(&mut self, partition: Partition, u: usize) -> bool
-        requires { IsBlock partition self.old.planes u }
+        requires { IsNumberOfBlock partition self.old.planes u }
         ensures turned { TurnsBlock (block_at partition self.old.planes.stride u) self.old.planes
             self.new.planes }
         ensures size { HasWordsStrideRows self.old.planes.words self.old.planes.stride
             self.old.planes.rows self.new.planes }
         ensures unchanged_if_false { result ≡ false → self.new.planes ≡ self.old.planes }
-        ensures settled_if_even { partition ≡ Partition.Even → KeepsSettled self.old self.new }
+        ensures settled_if_even { partition ≡ Partition.Even →
+            AreSettledBlocksUnchanged self.old self.new }
     {
         let block = self.planes.block_places(partition, u);
-        if self.is_exact && self.live_marks.is_lone(Diagonal::Main, block) {
+        if self.is_exact
+            && self
+                .live_marks
+                .has_at_most_one_diagonal_mark(Diagonal::Main, block)
+        {
             return self.turn_lone(partition, u, Diagonal::Main);
         }
-        if self.is_exact && self.live_marks.is_lone(Diagonal::Anti, block) {
+        if self.is_exact
+            && self
+                .live_marks
+                .has_at_most_one_diagonal_mark(Diagonal::Anti, block)
+        {
             return self.turn_lone(partition, u, Diagonal::Anti);
         }
-        let is_turned = self.turn_words(partition, u);
+        let is_turned = self.turn_block_unless_stable(partition, u);
         self.unmark_and_count(partition, u, is_turned);
         is_turned
     }
@@ -231,8 +243,9 @@ impl MarkedPlanes {
     #[inline(always)]
     fn is_row_end(&self, partition: Partition, u: usize) -> bool
         requires { u < self.now.planes.stride * self.now.planes.rows }
-        ensures is_row_end { result ≡ true → IsNotRowEnd partition self.now.planes.stride u → ⊥ }
-        ensures not_row_end { result ≡ false → IsNotRowEnd partition self.now.planes.stride u }
+        ensures is_row_end { result ≡ true → IsNotRowEndBlock partition self.now.planes.stride u →
+            ⊥ }
+        ensures not_row_end { result ≡ false → IsNotRowEndBlock partition self.now.planes.stride u }
     {
         is_marked(&self.border_marks, u) && self.planes.is_row_end(partition, u)
     }
@@ -243,16 +256,17 @@ impl MarkedPlanes {
     /// right end of two rows and at the left end of the next two.
     #[inline(always)]
     pub(crate) fn turn_block(&mut self, partition: Partition, u: usize) -> bool
-        requires { u < block_count partition self.old.planes }
-        ensures turned { IsNotRowEnd partition self.old.planes.stride u →
+        requires { u < block_number_count partition self.old.planes }
+        ensures turned { IsNotRowEndBlock partition self.old.planes.stride u →
             TurnsBlock (block_at partition self.old.planes.stride u) self.old.planes
             self.new.planes }
         ensures size { HasWordsStrideRows self.old.planes.words self.old.planes.stride
             self.old.planes.rows self.new.planes }
-        ensures row_end_unchanged { (IsNotRowEnd partition self.old.planes.stride u → ⊥) →
+        ensures row_end_unchanged { (IsNotRowEndBlock partition self.old.planes.stride u → ⊥) →
             self.new.planes ≡ self.old.planes }
         ensures unchanged_if_false { result ≡ false → self.new.planes ≡ self.old.planes }
-        ensures settled_if_even { partition ≡ Partition.Even → KeepsSettled self.old self.new }
+        ensures settled_if_even { partition ≡ Partition.Even →
+            AreSettledBlocksUnchanged self.old self.new }
     {
         if self.is_row_end(partition, u) {
             self.block_marks.unmark(partition, u);

@@ -5,12 +5,12 @@
 //! looks only at the blocks near cells that changed. It turns word by word only blocks in which two cells may be live.
 //! After a step in which many blocks change, some steps turn whole planes.
 
-ghost use Rattle.bbm_rule.specs.Marks.{IsUnmarked};
-ghost use Rattle.lanes.specs.Borders.{AreUnmarkedAwayFromBorder, AreUnmarkedAwayFromBorder-prop, AreSkippableBetween};
+ghost use Rattle.bbm_rule.specs.Marks.{IsNumberUnmarked};
+ghost use Rattle.lanes.specs.Borders.{AreBorderNumbersMarked, AreBorderNumbersMarked-prop, AreNumbersSkippableBetween};
 ghost use Rattle.lanes.specs.Calm.{AreUnmarkedBlocksStable, AreUnmarkedBlocksStable-prop, HasRoomForBlockMarks};
-ghost use Rattle.lanes.specs.Blocks.{block_count};
-ghost use Rattle.lanes.specs.Frozen.{AreFrozenIfFound};
-ghost use Rattle.lanes.specs.Live.{AllUnmarkedDead, AllUnmarkedDead-prop, HasRoomForCellMarks};
+ghost use Rattle.lanes.specs.Blocks.{block_number_count};
+ghost use Rattle.lanes.specs.Frozen.{AreBlocksFrozenIfFound};
+ghost use Rattle.lanes.specs.Live.{AreAllUnmarkedCellsDead, AreAllUnmarkedCellsDead-prop, HasRoomForCellMarks};
 ghost use Rattle.std.specs.Prelude.{ℕ, ◌≡◌, ◌+◌, ◌*◌, ◌/◌, ◌%◌, ◌<◌, ◌≤◌, ◌⊎◌, length, vec_len, IfOk, true, false};
 
 use crate::block_marks::BlockMarks;
@@ -24,7 +24,7 @@ use crate::marks::{
 };
 use crate::phases::WholePlaneSteps;
 use crate::planes::{Planes, WordSource};
-use crate::words::Changes;
+use crate::words::ChangedDiagonals;
 use std::alloc::AllocError;
 
 /// The planes of a run, with marks on the blocks that a turn may change.
@@ -57,9 +57,9 @@ pub struct MarkedPlanes {
     ghost live_room: { HasRoomForCellMarks (planes.stride * planes.rows) live_marks },
     ghost border_room: { planes.stride * planes.rows ≤ 64 * vec_len border_marks },
     ghost calm: { AreUnmarkedBlocksStable block_marks planes } by { AreUnmarkedBlocksStable-prop block_marks planes },
-    ghost all_dead: { AllUnmarkedDead live_marks planes } by { AllUnmarkedDead-prop live_marks planes },
-    ghost freezes: { AreFrozenIfFound frozen planes },
-    ghost all_inner: { AreUnmarkedAwayFromBorder planes.stride planes.rows border_marks.items } by { AreUnmarkedAwayFromBorder-prop planes.stride planes.rows border_marks.items },
+    ghost all_dead: { AreAllUnmarkedCellsDead live_marks planes } by { AreAllUnmarkedCellsDead-prop live_marks planes },
+    ghost freezes: { AreBlocksFrozenIfFound frozen planes },
+    ghost all_inner: { AreBorderNumbersMarked planes.stride planes.rows border_marks.items } by { AreBorderNumbersMarked-prop planes.stride planes.rows border_marks.items },
 }
 
 // How often the blocks that no step changes are looked for.
@@ -67,7 +67,7 @@ const MAX_FROZEN_SEARCHES: u32 = 4;
 
 impl MarkedPlanes {
     ghost use Rattle.bbm_rule.specs.Bits.{bit};
-    ghost use Rattle.lanes.specs.Settled.{IsSettled, KeepsSettled};
+    ghost use Rattle.lanes.specs.Settled.{AreSettledBlocksUnchanged, IsBlockSettled};
     ghost use Rattle.lanes.specs.Calm.{AreAllCellsDead};
     ghost use Rattle.lanes.specs.Lanes.{HasWordsStrideRows, lane};
 
@@ -86,7 +86,7 @@ impl MarkedPlanes {
         ensures size { IfOk result (λ m. HasWordsStrideRows words (width / 2 + 1)
             (height / 2 + 1) m.planes) }
         ensures all_cells_dead { IfOk result (λ m. AreAllCellsDead m.planes) }
-        ensures none_settled { IfOk result (λ m. (u : ℕ) → IsSettled m u → ⊥) }
+        ensures none_settled { IfOk result (λ m. (u : ℕ) → IsBlockSettled m u → ⊥) }
     {
         let planes = Planes::new(buffers, width, height, words)?;
         let long = planes.cells_per_plane().div_ceil(64);
@@ -135,7 +135,7 @@ impl MarkedPlanes {
     /// Counts an odd time. After some of them the words of all blocks are no longer read.
     pub fn count_down_word_reads(&mut self)
         ensures planes { self.new.planes ≡ self.old.planes }
-        ensures settled { KeepsSettled self.old self.new }
+        ensures settled { AreSettledBlocksUnchanged self.old self.new }
     {
         if self.word_read_times == 0 {
             return;
@@ -157,8 +157,9 @@ impl MarkedPlanes {
         requires room { k < length others.now }
         requires room_new_last { (k < length new.now) × (k < length last.now) }
         ensures unset_need_no_look { (u : ℕ) → u / 64 ≡ k → bit result (u % 64) ≡ false →
-            AreSkippableBetween u (u + 1) others.now self.now.planes
-            ⊎ (IsSettled self.now u × IsUnmarked new.now u × IsUnmarked last.now u) }
+            AreNumbersSkippableBetween u (u + 1) others.now self.now.planes
+            ⊎ (IsBlockSettled self.now u × IsNumberUnmarked new.now u
+            × IsNumberUnmarked last.now u) }
     {
         let word = marked_in_first_and_other(&self.border_marks, &self.live_marks, others, k);
         if self.is_settled {
@@ -208,9 +209,9 @@ impl MarkedPlanes {
     /// Takes the marks off the cells of block u of a partition that are dead.
     #[tactic(auto, using(crate::proofs::LiveLemmas::drops_dead))]
     pub(crate) fn unmark_dead_cells(&mut self, partition: Partition, u: usize)
-        requires { u < block_count partition self.old.planes }
+        requires { u < block_number_count partition self.old.planes }
         ensures planes { self.new.planes ≡ self.old.planes }
-        ensures settled { KeepsSettled self.old self.new }
+        ensures settled { AreSettledBlocksUnchanged self.old self.new }
     {
         let block = self.planes.block_places(partition, u);
         self.planes.unmark_dead_cells(&mut self.live_marks, block);
@@ -219,7 +220,7 @@ impl MarkedPlanes {
     // Takes the marks off all cells that are dead.
     fn unmark_all_dead(&mut self)
         ensures planes { self.new.planes ≡ self.old.planes }
-        ensures settled { KeepsSettled self.old self.new }
+        ensures settled { AreSettledBlocksUnchanged self.old self.new }
     {
         for u in 0..self.planes.cells_per_plane() {
             self.unmark_dead_cells(Partition::Odd, u);
@@ -229,23 +230,23 @@ impl MarkedPlanes {
 }
 
 impl MarkedPlanes {
-    ghost use Rattle.lanes.specs.Lanes.{HasWords, SetsCell};
-    ghost use Rattle.lanes.specs.Settled.{KeepsSettled};
+    ghost use Rattle.lanes.specs.Lanes.{HasSourceWords, SetsCell};
+    ghost use Rattle.lanes.specs.Settled.{AreSettledBlocksUnchanged};
 
     /// Sets a cell, counted from the halo, to the words of a source.
     #[tactic(auto, using(crate::proofs::FrozenLemmas::room_found, crate::proofs::FrozenLemmas::freezes_put, crate::proofs::FrozenLemmas::given_up))]
     pub fn put(&mut self, x: usize, y: usize, list: &[u64], source: WordSource)
         requires place { (x / 2 < self.old.planes.stride) × (y / 2 < self.old.planes.rows) }
-        requires source { HasWords self.old.planes.words list.now source }
+        requires source { HasSourceWords self.old.planes.words list.now source }
         ensures cell_set { SetsCell x y list.now source self.old.planes self.new.planes }
-        ensures settled { KeepsSettled self.old self.new }
+        ensures settled { AreSettledBlocksUnchanged self.old self.new }
     {
         let u = self.planes.cell_number(x, y);
         let stride = self.planes.stride();
         let is_live = self.planes.put(x, y, list, source);
         self.planes.prove_planes_are_words();
         self.live_marks.set(x, y, u, is_live);
-        let changes = Changes::of_cell(x, y);
+        let changes = ChangedDiagonals::of_cell(x, y);
         self.block_marks
             .mark_block_and_neighbours(Partition::Odd, u, stride, changes);
         self.frozen.give_up_if_frozen(u);

@@ -1,6 +1,6 @@
 //! The steps of the planes, by marks or of whole planes.
 
-ghost use Rattle.lanes.specs.Settled.{IsSameAtNumber, IsSettled, KeepsSettled};
+ghost use Rattle.lanes.specs.Settled.{AreCellsSameAtNumber, AreSettledBlocksUnchanged, IsBlockSettled};
 ghost use Rattle.std.specs.Prelude.{ℕ, ◌≡◌, ◌+◌, ◌*◌, ◌/◌, ◌%◌, ◌<◌, ◌≤◌, true, false};
 
 use crate::blocks::Partition;
@@ -17,9 +17,9 @@ pub(crate) const DENSE_STEPS_BEFORE_SEARCH: u32 = 128;
 const MAX_FEW_BLOCKS: usize = 4;
 
 impl MarkedPlanes {
-    ghost use Rattle.lanes.specs.Blocks.{block_count};
-    ghost use Rattle.lanes.specs.Sweeps.{IsPassedBlock, TurnsBlocksBetween, TurnsBlocksWhere};
-    ghost use Rattle.lanes.specs.Lanes.{HasWordsStrideRows, AreSameInBox, TurnsCells};
+    ghost use Rattle.lanes.specs.Blocks.{block_number_count};
+    ghost use Rattle.lanes.specs.Sweeps.{IsPassedBlock, TurnsBlocksSatisfying, TurnsNumberedBlocksBetween};
+    ghost use Rattle.lanes.specs.Lanes.{HasWordsStrideRows, AreSameInBox, TurnsCellsOfPartition};
 
     // Looks whether the next steps are to turn whole planes, after a step by marks in which `changed` blocks changed.
     // Where few did, they are not, even if most blocks are frozen.
@@ -27,7 +27,7 @@ impl MarkedPlanes {
     fn plan_next_steps(&mut self, changed: usize)
         requires { changed ≤ 4096 }
         ensures planes { self.new.planes ≡ self.old.planes }
-        ensures settled { KeepsSettled self.old self.new }
+        ensures settled { AreSettledBlocksUnchanged self.old self.new }
     {
         self.settle_crowded_blocks(changed);
         if changed > MAX_FEW_BLOCKS
@@ -48,7 +48,7 @@ impl MarkedPlanes {
     fn begin_phase_if_cheaper(&mut self, changed: usize)
         requires { changed ≤ 4096 }
         ensures planes { self.new.planes ≡ self.old.planes }
-        ensures settled { KeepsSettled self.old self.new }
+        ensures settled { AreSettledBlocksUnchanged self.old self.new }
     {
         self.count_dense_steps(1);
         let cells = self.planes.cells_per_plane();
@@ -69,7 +69,7 @@ impl MarkedPlanes {
     // Counts steps in which many blocks change, and looks for the blocks that no step changes after enough of them.
     fn count_dense_steps(&mut self, steps: u32)
         ensures planes { self.new.planes ≡ self.old.planes }
-        ensures settled { KeepsSettled self.old self.new }
+        ensures settled { AreSettledBlocksUnchanged self.old self.new }
     {
         if self.frozen.is_found() || self.searches_left == 0 {
             return;
@@ -86,9 +86,10 @@ impl MarkedPlanes {
     // Returns a word of marks on the blocks of a partition that may change.
     #[inline(always)]
     fn blocks_to_turn(&self, partition: Partition, k: usize) -> u64
-        requires { 64 * k < block_count partition self.now.planes }
-        ensures calm { (end : ℕ) → end ≤ 64 * k + 64 → end ≤ block_count partition self.now.planes →
-            TurnsBlocksWhere partition
+        requires { 64 * k < block_number_count partition self.now.planes }
+        ensures calm { (end : ℕ) → end ≤ 64 * k + 64 →
+            end ≤ block_number_count partition self.now.planes →
+            TurnsBlocksSatisfying partition
             (IsPassedBlock partition self.now.planes.stride (64 * k) end result) self.now.planes
             self.now.planes }
     {
@@ -113,16 +114,18 @@ impl MarkedPlanes {
         end: usize,
     ) -> usize
         requires word { (first % 64 ≡ 0) × (first < end) × (end ≤ first + 64) }
-        requires end_within_blocks { end ≤ block_count partition self.old.planes }
-        requires passed_stable { TurnsBlocksWhere partition
+        requires end_within_blocks { end ≤ block_number_count partition self.old.planes }
+        requires passed_stable { TurnsBlocksSatisfying partition
             (IsPassedBlock partition self.old.planes.stride first end word) self.old.planes
             self.old.planes }
-        ensures turned { TurnsBlocksBetween partition first end self.old.planes self.new.planes }
+        ensures turned { TurnsNumberedBlocksBetween partition first end self.old.planes
+            self.new.planes }
         ensures size { HasWordsStrideRows self.old.planes.words self.old.planes.stride
             self.old.planes.rows self.new.planes }
         ensures unchanged_if_zero { result ≡ 0 → self.new.planes ≡ self.old.planes }
         ensures count { first + result ≤ end }
-        ensures settled_if_even { partition ≡ Partition.Even → KeepsSettled self.old self.new }
+        ensures settled_if_even { partition ≡ Partition.Even →
+            AreSettledBlocksUnchanged self.old self.new }
     {
         let mut rest = word;
         let mut changed = 0;
@@ -144,14 +147,15 @@ impl MarkedPlanes {
     #[tactic(auto, using(crate::proofs::CalmLemmas::same_count))]
     #[inline(always)]
     fn step_by_marks(&mut self, partition: Partition) -> usize
-        ensures turned { TurnsCells partition self.old.planes self.new.planes }
+        ensures turned { TurnsCellsOfPartition partition self.old.planes self.new.planes }
         ensures size { HasWordsStrideRows self.old.planes.words self.old.planes.stride
             self.old.planes.rows self.new.planes }
         ensures unchanged_if_zero { result ≡ 0 → self.new.planes ≡ self.old.planes }
         ensures at_most_4096 { result ≤ 4096 }
-        ensures settled_if_even { partition ≡ Partition.Even → KeepsSettled self.old self.new }
+        ensures settled_if_even { partition ≡ Partition.Even →
+            AreSettledBlocksUnchanged self.old self.new }
     {
-        let blocks = self.planes.block_count(partition);
+        let blocks = self.planes.block_number_count(partition);
         let mut changed = 0;
         for k in 0..blocks.div_ceil(64) {
             let word = self.blocks_to_turn(partition, k);
@@ -167,7 +171,7 @@ impl MarkedPlanes {
     // Turns whole planes, but for the frozen blocks.
     #[inline(always)]
     fn turn_all_unfrozen(&mut self, partition: Partition)
-        ensures turned { TurnsCells partition self.old.planes self.new.planes }
+        ensures turned { TurnsCellsOfPartition partition self.old.planes self.new.planes }
         ensures size { HasWordsStrideRows self.old.planes.words self.old.planes.stride
             self.old.planes.rows self.new.planes }
         ensures settled_flag_kept { self.new.is_settled ≡ self.old.is_settled }
@@ -183,12 +187,12 @@ impl MarkedPlanes {
     /// Turns the blocks whose upper left corner is odd, which fill box and halo. Returns whether a block may have
     /// changed.
     pub fn odd_step(&mut self) -> bool
-        ensures turned { TurnsCells Partition.Odd self.old.planes self.new.planes }
+        ensures turned { TurnsCellsOfPartition Partition.Odd self.old.planes self.new.planes }
         ensures size { HasWordsStrideRows self.old.planes.words self.old.planes.stride
             self.old.planes.rows self.new.planes }
         ensures unchanged_if_false { result ≡ false → self.new.planes ≡ self.old.planes }
         ensures settled_are_same { (u : ℕ) → u < self.old.planes.stride * self.old.planes.rows →
-            IsSettled self.new u → IsSameAtNumber u self.old.planes self.new.planes }
+            IsBlockSettled self.new u → AreCellsSameAtNumber u self.old.planes self.new.planes }
     {
         self.is_settled = true;
         if self.whole_plane_steps.left > 0 {
@@ -206,11 +210,11 @@ impl MarkedPlanes {
     ///
     /// It does not read the cells of the halo.
     pub fn even_step(&mut self) -> bool
-        ensures turned { TurnsCells Partition.Even self.old.planes self.new.planes }
+        ensures turned { TurnsCellsOfPartition Partition.Even self.old.planes self.new.planes }
         ensures size { HasWordsStrideRows self.old.planes.words self.old.planes.stride
             self.old.planes.rows self.new.planes }
         ensures unchanged_if_false { result ≡ false → AreSameInBox self.old.planes self.new.planes }
-        ensures settled { KeepsSettled self.old self.new }
+        ensures settled { AreSettledBlocksUnchanged self.old self.new }
     {
         if self.whole_plane_steps.left > 0 {
             self.is_settled = false;

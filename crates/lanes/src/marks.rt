@@ -1,18 +1,18 @@
 //! Marks on the blocks around a block, and on the cells of ring and halo.
 
 ghost use Rattle.bbm_rule.specs.Bits.{bit};
-ghost use Rattle.bbm_rule.specs.Marks.{IsUnmarked};
-ghost use Rattle.bbm_rule.specs.Rows.{cell_at, SetsPlace};
-ghost use Rattle.lanes.specs.Borders.{AreUnmarkedAwayFromBorder};
+ghost use Rattle.bbm_rule.specs.Marks.{IsNumberUnmarked};
+ghost use Rattle.bbm_rule.specs.Rows.{cell_at, SetsCellAtPlace};
+ghost use Rattle.lanes.specs.Borders.{AreBorderNumbersMarked};
 ghost use Rattle.lanes.specs.Live.{AreNumberCellsUnmarked, UnmarksOnlyIfDead, HasRoomForCellMarks, IsDeadCell, MarksCellIf, TakesMarkOfOther};
 ghost use Rattle.lanes.specs.Blocks.{block_at};
-ghost use Rattle.lanes.specs.Calm.{MarksSharing};
+ghost use Rattle.lanes.specs.Calm.{MarksPartitionBlocksSharing};
 ghost use Rattle.std.specs.Int.{trailing_zeros, w64};
 ghost use Rattle.std.specs.Prelude.{ℕ, ◌≡◌, ◌≢◌, ◌+◌, ◌*◌, ◌/◌, ◌%◌, ◌^◌, ◌<◌, ◌≤◌, ◌⊎◌, ◌&&◌, length, vec_len, not, true, false};
 
 use crate::blocks::Partition;
 use crate::live::LiveMarks;
-use crate::words::Changes;
+use crate::words::ChangedDiagonals;
 use bbm_rule::marks::{mark, mark_number_before, next_marked, unmark};
 
 /// Returns whether a number has a mark.
@@ -40,7 +40,7 @@ pub fn mark_if(marks: &mut [u64], at: usize, changes: bool)
 #[inline(always)]
 pub fn set_mark(marks: &mut [u64], at: usize, is_marked: bool)
     requires { at / 64 < length marks.old }
-    ensures { SetsPlace at is_marked marks.old marks.new }
+    ensures { SetsCellAtPlace at is_marked marks.old marks.new }
 {
     if is_marked {
         marks[at / 64] |= 1u64 << (at % 64);
@@ -127,9 +127,9 @@ pub fn unmark_if_dead(marks: &mut [u64], at: usize, cells: &[u64], words: usize)
 }
 
 /// Marks the blocks of the even partition that share a cell of a changed diagonal with block `at` of the odd partition.
-pub fn mark_even_neighbours(marks: &mut [u64], at: usize, stride: usize, changes: Changes)
+pub fn mark_even_neighbours(marks: &mut [u64], at: usize, stride: usize, changes: ChangedDiagonals)
     requires { (at / 64 < length marks.old) × (stride ≤ 64) }
-    ensures { MarksSharing Partition.Even changes.main changes.anti stride
+    ensures { MarksPartitionBlocksSharing Partition.Even changes.main changes.anti stride
         (block_at Partition.Odd stride at) marks.old marks.new }
 {
     if changes.main {
@@ -143,9 +143,9 @@ pub fn mark_even_neighbours(marks: &mut [u64], at: usize, stride: usize, changes
 }
 
 /// Marks the blocks of the odd partition that share a cell of a changed diagonal with block `at` of the even partition.
-pub fn mark_odd_neighbours(marks: &mut [u64], at: usize, stride: usize, changes: Changes)
+pub fn mark_odd_neighbours(marks: &mut [u64], at: usize, stride: usize, changes: ChangedDiagonals)
     requires { ((at + stride + 1) / 64 < length marks.old) × (at + stride + 1 < 2 ^ 32) }
-    ensures { MarksSharing Partition.Odd changes.main changes.anti stride
+    ensures { MarksPartitionBlocksSharing Partition.Odd changes.main changes.anti stride
         (block_at Partition.Even stride at) marks.old marks.new }
 {
     if changes.main {
@@ -162,7 +162,7 @@ pub fn mark_odd_neighbours(marks: &mut [u64], at: usize, stride: usize, changes:
 pub fn mark_ring_and_halo_numbers(marks: &mut [u64], stride: usize, rows: usize)
     requires room_for_marks { stride * rows ≤ 64 * length marks.old }
     requires size { (2 ≤ stride) × (stride ≤ 64) × (2 ≤ rows) × (rows ≤ 64) }
-    ensures { AreUnmarkedAwayFromBorder stride rows marks.new }
+    ensures { AreBorderNumbersMarked stride rows marks.new }
 {
     for row in 0..rows {
         mark(marks, stride * row);
@@ -182,8 +182,8 @@ pub fn marked_in_first_and_other(first: &[u64], live: &LiveMarks, others: &[u64]
     requires live { HasRoomForCellMarks (64 * k + 1) live.now }
     requires room { (k < length first.now) × (k < length others.now) }
     ensures { (u : ℕ) → u / 64 ≡ k → bit result (u % 64) ≡ false →
-        IsUnmarked first.now u
-        ⊎ (AreNumberCellsUnmarked live.now u × IsUnmarked others.now u) }
+        IsNumberUnmarked first.now u
+        ⊎ (AreNumberCellsUnmarked live.now u × IsNumberUnmarked others.now u) }
 {
     first[k] & (live.word(k) | others[k])
 }
@@ -200,8 +200,10 @@ pub fn marked_in_word_and_any(
 ) -> u64
     requires first { k < length first.now }
     requires others { (k < length second.now) × (k < length third.now) }
-    ensures { (u : ℕ) → u / 64 ≡ k → bit result (u % 64) ≡ false → (bit word (u % 64) ≡ false)
-        ⊎ (IsUnmarked first.now u × IsUnmarked second.now u × IsUnmarked third.now u) }
+    ensures { (u : ℕ) → u / 64 ≡ k → bit result (u % 64) ≡ false →
+        (bit word (u % 64) ≡ false)
+        ⊎ (IsNumberUnmarked first.now u × IsNumberUnmarked second.now u
+        × IsNumberUnmarked third.now u) }
 {
     word & (first[k] | second[k] | third[k])
 }
@@ -228,7 +230,7 @@ pub fn next_marked_in_either(first: &[u64], second: &[u64], from: usize, end: us
     requires room { (end ≤ 64 * length first.now) × (end ≤ 64 * length second.now) }
     ensures range { (from ≤ result) × (result ≤ end) }
     ensures passed_unmarked { (u : ℕ) → from ≤ u → u < result →
-        IsUnmarked first.now u × IsUnmarked second.now u }
+        IsNumberUnmarked first.now u × IsNumberUnmarked second.now u }
 {
     next_marked(second, from, next_marked(first, from, end))
 }

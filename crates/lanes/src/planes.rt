@@ -3,7 +3,7 @@
 //! They lie in four planes by the parities of their coordinates, so that a block of either partition has one cell in
 //! each plane, and each step turns whole planes.
 
-ghost use Rattle.lanes.specs.Across.{TurnsAcross};
+ghost use Rattle.lanes.specs.Across.{TurnsBlocksAcrossLists};
 ghost use Rattle.std.specs.Prelude.{ℕ, ◌≡◌, ◌+◌, ◌-◌, ◌*◌, ◌/◌, ◌%◌, ◌<◌, ◌≤◌, ◌↔◌, length, slice_index, vec_len, IfOk, true, false, not};
 
 use crate::blocks::{BlockPlaces, Partition};
@@ -47,7 +47,7 @@ pub struct Planes {
 
 impl Planes {
     ghost use Rattle.lanes.specs.Calm.{AreAllCellsDead};
-    ghost use Rattle.lanes.specs.Lanes.{HasWordsStrideRows, TurnsCells};
+    ghost use Rattle.lanes.specs.Lanes.{HasWordsStrideRows, TurnsCellsOfPartition};
 
     /// Creates planes of dead cells, for a box of `width` by `height` cells.
     pub(crate) fn new(
@@ -95,7 +95,7 @@ impl Planes {
     /// Turns the blocks whose upper left corner is odd, which fill box and halo.
     #[tactic(auto, using(lemmas::proofs::Common::with_items_is, crate::proofs::LaneLemmas::odd_lane))]
     pub(crate) fn odd_step(&mut self)
-        ensures turned { TurnsCells Partition.Odd self.old self.new }
+        ensures turned { TurnsCellsOfPartition Partition.Odd self.old self.new }
         ensures size { HasWordsStrideRows self.old.words self.old.stride self.old.rows self.new }
     {
         turn_lanes(
@@ -109,7 +109,7 @@ impl Planes {
     /// Turns the blocks of the box whose upper left corner is even. It does not read the cells of the halo.
     #[tactic(auto, using(lemmas::proofs::Common::with_items_is, crate::proofs::LaneLemmas::even_lane))]
     pub(crate) fn even_step(&mut self)
-        ensures turned { TurnsCells Partition.Even self.old self.new }
+        ensures turned { TurnsCellsOfPartition Partition.Even self.old self.new }
         ensures size { HasWordsStrideRows self.old.words self.old.stride self.old.rows self.new }
     {
         turn_blocks_at_offsets(
@@ -137,8 +137,8 @@ fn turn_blocks_at_offsets(
     requires right { length right.old ≡ length even.old }
     requires odd { length odd.old ≡ length even.old }
     requires cells_inside { below + across ≤ length even.old }
-    ensures { TurnsAcross across below even.old down.old right.old odd.old even.new down.new
-        right.new odd.new }
+    ensures { TurnsBlocksAcrossLists across below even.old down.old right.old odd.old even.new
+        down.new right.new odd.new }
 {
     let long = even.len() - below - across;
     turn_lanes(
@@ -150,7 +150,7 @@ fn turn_blocks_at_offsets(
 }
 
 impl Planes {
-    ghost use Rattle.lanes.specs.Blocks.{AreCellNumbers, IsNotRowEnd, block_at, block_count};
+    ghost use Rattle.lanes.specs.Blocks.{AreCellNumbers, IsNotRowEndBlock, block_at, block_number_count};
     ghost use Rattle.lanes.specs.Live.{AreWordsZeroAt};
 
     /// Returns how many cells a plane has. A block of the odd partition has the number of its cells, counted row by
@@ -165,8 +165,8 @@ impl Planes {
 
     /// Returns how many numbers the blocks of a partition have.
     #[inline(always)]
-    pub(crate) fn block_count(&self, partition: Partition) -> usize
-        ensures count_is_exact { result ≡ block_count partition self.now }
+    pub(crate) fn block_number_count(&self, partition: Partition) -> usize
+        ensures count_is_exact { result ≡ block_number_count partition self.now }
         ensures at_most_4096 { (result ≤ 4096) × (result ≤ self.now.stride * self.now.rows) }
     {
         match partition {
@@ -179,8 +179,8 @@ impl Planes {
     #[inline(always)]
     pub(crate) fn is_row_end(&self, partition: Partition, u: usize) -> bool
         requires { u < self.now.stride * self.now.rows }
-        ensures is_row_end { result ≡ true → IsNotRowEnd partition self.now.stride u → ⊥ }
-        ensures not_row_end { result ≡ false → IsNotRowEnd partition self.now.stride u }
+        ensures is_row_end { result ≡ true → IsNotRowEndBlock partition self.now.stride u → ⊥ }
+        ensures not_row_end { result ≡ false → IsNotRowEndBlock partition self.now.stride u }
     {
         match partition {
             Partition::Odd => false,
@@ -191,7 +191,7 @@ impl Planes {
     /// Returns the cells of block u of a partition.
     #[inline(always)]
     pub(crate) fn block_places(&self, partition: Partition, u: usize) -> BlockPlaces
-        requires { u < block_count partition self.now }
+        requires { u < block_number_count partition self.now }
         ensures block { result ≡ block_at partition self.now.stride u }
         ensures cells { AreCellNumbers result self.now }
         ensures below_4096 { result.odd < 4096 }
@@ -262,9 +262,9 @@ impl Planes {
 impl Planes {
     ghost use Rattle.bbm_rule.specs.Bits.{bit};
     ghost use Rattle.lanes.specs.Blocks.{block_at};
-    ghost use Rattle.lanes.specs.Calm.{ChangesCells};
+    ghost use Rattle.lanes.specs.Calm.{ChangesOnlyDiagonals};
     ghost use Rattle.lanes.specs.Turns.{is_on_main_diagonal};
-    ghost use Rattle.lanes.specs.Lanes.{HasWordsStrideRows, lane, SetsWord};
+    ghost use Rattle.lanes.specs.Lanes.{HasWordsStrideRows, lane, SetsCellWord};
 
     /// Returns word k of a cell, counted from the halo.
     #[tactic(auto, using(crate::proofs::LaneLemmas::place_below, crate::proofs::PlaneWords::lane_in_word, crate::proofs::PlaneWords::plane_odd, crate::proofs::PlaneWords::plane_down, crate::proofs::PlaneWords::plane_right, crate::proofs::PlaneWords::plane_even))]
@@ -334,8 +334,9 @@ impl Planes {
     #[tactic(auto, using(crate::proofs::PlaneWords::other_word))]
     pub(crate) fn set_word(&mut self, x: usize, y: usize, k: usize, word: u64)
         requires { (x / 2 < self.old.stride) × (y / 2 < self.old.rows) × (k < self.old.words) }
-        ensures word_set { SetsWord x y k word self.old self.new }
-        ensures cells { ChangesCells (is_on_main_diagonal x y) (not (is_on_main_diagonal x y))
+        ensures word_set { SetsCellWord x y k word self.old self.new }
+        ensures cells { ChangesOnlyDiagonals (is_on_main_diagonal x y)
+            (not (is_on_main_diagonal x y))
             (block_at Partition.Odd self.old.stride (self.old.stride * (y / 2) + x / 2)) self.old
             self.new }
         ensures size { HasWordsStrideRows self.old.words self.old.stride self.old.rows self.new }
@@ -356,13 +357,13 @@ impl Planes {
 }
 
 impl WordSource {
-    ghost use Rattle.lanes.specs.Lanes.{HasWords, word_of};
+    ghost use Rattle.lanes.specs.Lanes.{HasSourceWords, word_of_source};
 
     /// Returns word k of the source, whose list this is.
     #[inline(always)]
     pub fn word(self, list: &[u64], k: usize) -> u64
-        requires { HasWords (k + 1) list.now self }
-        ensures { result ≡ word_of list.now self k }
+        requires { HasSourceWords (k + 1) list.now self }
+        ensures { result ≡ word_of_source list.now self k }
     {
         match self {
             WordSource::Constant(word) => word,
@@ -373,21 +374,22 @@ impl WordSource {
 
 impl Planes {
     ghost use Rattle.lanes.specs.Blocks.{block_at};
-    ghost use Rattle.lanes.specs.Calm.{ChangesCells};
+    ghost use Rattle.lanes.specs.Calm.{ChangesOnlyDiagonals};
     ghost use Rattle.lanes.specs.Turns.{is_on_main_diagonal};
-    ghost use Rattle.lanes.specs.Lanes.{HasWords, SetsCell, word_of};
+    ghost use Rattle.lanes.specs.Lanes.{HasSourceWords, SetsCell, word_of_source};
 
     /// Sets a cell, counted from the halo, to the words of a source. Returns whether one of them is not zero.
     #[tactic(auto, using(crate::proofs::TurnLemmas::none_first, crate::proofs::TurnLemmas::none_last, lemmas::proofs::Common::cases_lt))]
     pub(crate) fn put(&mut self, x: usize, y: usize, list: &[u64], source: WordSource) -> bool
         requires place { (x / 2 < self.old.stride) × (y / 2 < self.old.rows) }
-        requires source { HasWords self.old.words list.now source }
+        requires source { HasSourceWords self.old.words list.now source }
         ensures cell_set { SetsCell x y list.now source self.old self.new }
-        ensures cells { ChangesCells (is_on_main_diagonal x y) (not (is_on_main_diagonal x y))
+        ensures cells { ChangesOnlyDiagonals (is_on_main_diagonal x y)
+            (not (is_on_main_diagonal x y))
             (block_at Partition.Odd self.old.stride (self.old.stride * (y / 2) + x / 2)) self.old
             self.new }
         ensures words_zero { result ≡ false → (k : ℕ) → k < self.old.words →
-            word_of list.now source k ≡ 0 }
+            word_of_source list.now source k ≡ 0 }
     {
         let words = self.words;
         // The loop costs more than one word.

@@ -1,8 +1,8 @@
 //! Blocks of words: what a turn changes of them.
 
-ghost use Rattle.bbm_rule.specs.Words.{AreTurned};
-ghost use Rattle.lanes.specs.Blocks.{is_main};
-ghost use Rattle.lanes.specs.Turns.{DiagonalStays, SwapsPart, TurnsPart, is_on_main_diagonal};
+ghost use Rattle.bbm_rule.specs.Words.{AreCornerWordsTurned};
+ghost use Rattle.lanes.specs.Blocks.{is_main_diagonal};
+ghost use Rattle.lanes.specs.Turns.{IsDiagonalStable, SwapsPart, TurnsPart, is_on_main_diagonal};
 ghost use Rattle.std.specs.Prelude.{ℕ, ◌≡◌, ◌+◌, ◌-◌, ◌%◌, ◌^◌, ◌<◌, ◌≤◌, ◌⊎◌, length, bit_xor, slice_index, false, true, not};
 
 use crate::blocks::{BlockPlaces, Diagonal};
@@ -83,11 +83,11 @@ pub(crate) fn swap_part(first: &mut [u64], second: &mut [u64], a: usize, b: usiz
 #[tactic(auto, using(bbm_rule::proofs::Turning::words_turned))]
 #[inline(always)]
 fn flips_of(upper_left: u64, upper_right: u64, lower_left: u64, lower_right: u64) -> (u64, u64)
-    ensures turned { AreTurned upper_left upper_right lower_left lower_right
+    ensures turned { AreCornerWordsTurned upper_left upper_right lower_left lower_right
         (bit_xor upper_left result.0) (bit_xor upper_right result.1) (bit_xor lower_left result.1)
         (bit_xor lower_right result.0) }
-    ensures main { result.0 ≡ 0 → DiagonalStays upper_left lower_right upper_right lower_left }
-    ensures anti { result.1 ≡ 0 → DiagonalStays upper_right lower_left upper_left lower_right }
+    ensures main { result.0 ≡ 0 → IsDiagonalStable upper_left lower_right upper_right lower_left }
+    ensures anti { result.1 ≡ 0 → IsDiagonalStable upper_right lower_left upper_left lower_right }
 {
     // `a ^ (a & b)` stands for `a & !b`.
     let changed = (upper_left | lower_right) ^ (upper_right | lower_left);
@@ -143,32 +143,32 @@ pub(crate) fn has_word_other_than(words: &[u64], a: usize, word: u64, long: usiz
 
 /// The diagonals of a block that a turn changes: that of its upper left and lower right cells, and the other one.
 #[derive(Clone, Copy)]
-pub struct Changes {
+pub struct ChangedDiagonals {
     /// The cells of the main diagonal.
     pub main: bool,
     /// The cells of the other diagonal.
     pub anti: bool,
 }
 
-impl Changes {
+impl ChangedDiagonals {
     /// Returns the change of one diagonal alone.
     #[inline(always)]
-    pub fn of(diagonal: Diagonal) -> Changes
-        ensures main { result.main ≡ is_main diagonal }
-        ensures anti { result.anti ≡ not (is_main diagonal) }
+    pub fn of(diagonal: Diagonal) -> ChangedDiagonals
+        ensures main { result.main ≡ is_main_diagonal diagonal }
+        ensures anti { result.anti ≡ not (is_main_diagonal diagonal) }
     {
         let main = matches!(diagonal, Diagonal::Main);
-        Changes { main, anti: !main }
+        ChangedDiagonals { main, anti: !main }
     }
 
     /// Returns the change of the diagonal alone that a cell, counted from the halo, is on in its block of the odd
     /// partition.
-    pub fn of_cell(x: usize, y: usize) -> Changes
+    pub fn of_cell(x: usize, y: usize) -> ChangedDiagonals
         ensures main { result.main ≡ is_on_main_diagonal x y }
         ensures anti { result.anti ≡ not (is_on_main_diagonal x y) }
     {
         let main = x % 2 == y % 2;
-        Changes { main, anti: !main }
+        ChangedDiagonals { main, anti: !main }
     }
 
     /// Returns whether the turn changes no diagonal, so that the block stays.
@@ -213,14 +213,14 @@ pub(crate) fn word_changes(
     upper_right: u64,
     lower_left: u64,
     lower_right: u64,
-) -> Changes
+) -> ChangedDiagonals
     ensures main { result.main ≡ false →
-        DiagonalStays upper_left lower_right upper_right lower_left }
+        IsDiagonalStable upper_left lower_right upper_right lower_left }
     ensures anti { result.anti ≡ false →
-        DiagonalStays upper_right lower_left upper_left lower_right }
+        IsDiagonalStable upper_right lower_left upper_left lower_right }
 {
     let (main, anti) = flips_of(upper_left, upper_right, lower_left, lower_right);
-    Changes {
+    ChangedDiagonals {
         main: main != 0,
         anti: anti != 0,
     }
@@ -235,18 +235,18 @@ pub(crate) fn part_changes(
     even: &[u64],
     at: BlockPlaces,
     long: usize,
-) -> Changes
+) -> ChangedDiagonals
     requires first { (at.odd + long ≤ length odd.now)
         × (at.right + long ≤ length right.now) }
     requires last { (at.down + long ≤ length down.now)
         × (at.even + long ≤ length even.now) }
     ensures main { result.main ≡ false → (k : ℕ) → k < long →
-        DiagonalStays (slice_index odd.now (at.odd + k))
+        IsDiagonalStable (slice_index odd.now (at.odd + k))
         (slice_index even.now (at.even + k))
         (slice_index right.now (at.right + k))
         (slice_index down.now (at.down + k)) }
     ensures anti { result.anti ≡ false → (k : ℕ) → k < long →
-        DiagonalStays (slice_index right.now (at.right + k))
+        IsDiagonalStable (slice_index right.now (at.right + k))
         (slice_index down.now (at.down + k))
         (slice_index odd.now (at.odd + k))
         (slice_index even.now (at.even + k)) }
@@ -264,7 +264,7 @@ pub(crate) fn part_changes(
         main |= main_flips;
         anti |= anti_flips;
     }
-    Changes {
+    ChangedDiagonals {
         main: main != 0,
         anti: anti != 0,
     }

@@ -5,7 +5,7 @@ use Rattle.std.proofs.Common.{nat_le, nat_cmp, int_cmp, Less, Equal, true, false
 use Rattle.std.proofs.Math.Nat.{mul-le-mul_left}
 use Rattle.std.proofs.lemmas.Int.{ints}
 use Rattle.std.proofs.lemmas.Bool.Decides.{nat_tests}
-use Rattle.lemmas.specs.Bounds.{last_place, max_side}
+use Rattle.lemmas.specs.Bounds.{last_column_or_row, max_side}
 
 pub below_or_from : (i m : ℕ) → (i < m) ⊎ (m ≤ i)
 below_or_from i m = grind arith
@@ -78,7 +78,7 @@ pub down_moved : (x d : ℤ) → (x +ℤ d) -ℤ pos 1 ≡ (x -ℤ pos 1) +ℤ d
 down_moved x d = omega (arith, ints)
 
 -- a place of a layout, as an integer
-pub low_number : (z : ℤ) (k : ℕ) → z ≡ pos k → k < max_side → (pos 0 ≤ℤ z) × (z ≤ℤ pos last_place)
+pub low_number : (z : ℤ) (k : ℕ) → z ≡ pos k → k < max_side → (pos 0 ≤ℤ z) × (z ≤ℤ pos last_column_or_row)
 low_number z k e lt = (omega (arith, ints, e, lt), omega (arith, ints, e, lt))
 
 -- the place of an item in rows of m items

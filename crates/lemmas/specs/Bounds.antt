@@ -7,20 +7,20 @@ abbrev pub max_side : ℕ
 max_side = 4096
 
 -- the largest column or row of a cell in a layout
-abbrev pub last_place : ℕ
-last_place = 4095
+abbrev pub last_column_or_row : ℕ
+last_column_or_row = 4095
 
 -- the most words of 64 cells in a row of a grid, which has a margin of one cell on each side
-abbrev pub max_stride : ℕ
-max_stride = 65
+abbrev pub max_words_in_row : ℕ
+max_words_in_row = 65
 
 -- the most blocks of two by two cells beside each other in a layout
-abbrev pub max_blocks : ℕ
-max_blocks = 2048
+abbrev pub max_blocks_in_row : ℕ
+max_blocks_in_row = 2048
 
 -- the most blocks of two by two cells in a layout
-abbrev pub max_owners : ℕ
-max_owners = 4194304
+abbrev pub max_blocks_in_layout : ℕ
+max_blocks_in_layout = 4194304
 
 -- the farthest that a cell near the layout is moved, in cells
 abbrev pub max_shift : ℕ

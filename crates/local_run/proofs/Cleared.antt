@@ -5,7 +5,7 @@ use Rattle.local_run.proofs.Imports.{bit-and, bit_and, bit_of_row, by_lt_or_le, 
 use Rattle.local_run.proofs.Imports.{value_of, ℕ, ◌%◌, ◌*◌, ◌<◌, ◌≡◌, ◌≤◌}
 use Rattle.lemmas.proofs.Common.{slice_index, mod-mul-add, mul_comm}
 use Rattle.module_box.specs.declared.values.ValueRows.{ValueRows}
-use Rattle.local_run.specs.Scans.{KeepsValuesWhereDefined}
+use Rattle.local_run.specs.Scans.{KeepsDefinedValues}
 
 -- the words below a place are cleared, and the others are the old ones
 pub record AreCleared (defined : List ℕ) (place : ℕ) (old new : List ℕ) : Type 0 where
@@ -16,7 +16,7 @@ pub record AreCleared (defined : List ℕ) (place : ℕ) (old new : List ℕ) : 
 
 -- a bit of a defined assignment stays
 pub cleared_keeps : (defined : List ℕ) (place : ℕ) (old new : List ℕ) → AreCleared defined place old new →
-    KeepsValuesWhereDefined defined old new
+    KeepsDefinedValues defined old new
 unfolding value_of bit_of_row
 cleared_keeps defined place old new c a w small is =
     grind (arith, common_steps, common_steps, by_lt_or_le, bit-and, and-true, mul_comm, mod-mul-add)
@@ -24,7 +24,7 @@ cleared_keeps defined place old new c a w small is =
 -- so the rows of words stay what they are to be
 pub rows_kept : (n : Netlist) (words : ℕ) (old new : ValueRows) → new.defined ≡ old.defined →
     new.undefined ≡ old.undefined → length new.values.items ≡ length old.values.items →
-    KeepsValuesWhereDefined old.defined.items old.values.items new.values.items → AreValueRows n words old →
+    KeepsDefinedValues old.defined.items old.values.items new.values.items → AreValueRows n words old →
     AreValueRows n words new
 rows_kept n words old new whole lacking long keeps rows = grind (arith, common_steps, at)
   where

@@ -1,7 +1,8 @@
 -- Whether a job has a fault does not depend on the local valuation that is taken
-use Rattle.local_run.proofs.Imports.{AreOrdered, Bool, Contains, Demand, Edge, End, Fault, HasFault, IsDemandWireBelow}
-use Rattle.local_run.proofs.Imports.{IsFaultUnder, IsJob, IsStopFault, JobView, Kind, List, MeetsDemand, Moment}
-use Rattle.local_run.proofs.Imports.{NamesOwnWires, Stop, Valuation, [], and_from, and_parts, ap, arith, cases_Bool}
+use Rattle.local_run.proofs.Imports.{AreGatesOrdered, Bool, Contains, Demand, Edge, End, Fault, HasFaultWitness}
+use Rattle.local_run.proofs.Imports.{IsDemandWireBelow}
+use Rattle.local_run.proofs.Imports.{IsFaultUnderValues, IsJob, IsStopFault, JobView, Kind, List, MeetsDemand, Moment}
+use Rattle.local_run.proofs.Imports.{NamesOnlyOwnWires, Stop, Valuation, [], and_from, and_parts, ap, arith, cases_Bool}
 use Rattle.local_run.proofs.Imports.{common_steps, false, inl, inr, is_first, is_moment_at, local_run, moment_total}
 use Rattle.local_run.proofs.Imports.{props, refl, same_Some, slice_get-get_or, subst, suc, sym, three_ways, true}
 use Rattle.local_run.proofs.Imports.{true≢false, wires, zero, ℕ, ℤ, ∥∥₁_elim, ∥∥₁_map, ◌<◌, ◌∙◌, ◌∷◌, ◌≡◌, ◌≢◌, ◌⊎◌}
@@ -21,12 +22,12 @@ meets_same : (n : ℕ) (u u' : Valuation) (d : Demand) (b : Bool) → AgreeBelow
     MeetsDemand u' d b
 meets_same n u u' d b h1 h2 h3 = grind (arith, common_steps)
 
-own_stop : (j : JobView) (s : listed.Stop) → NamesOwnWires j → Contains j.stops s → s.wire < wires j.locals.netlist
+own_stop : (j : JobView) (s : listed.Stop) → NamesOnlyOwnWires j → Contains j.stops s → s.wire < wires j.locals.netlist
 own_stop j s own h = subst (λ (r : listed.Stop). r.wire < wires j.locals.netlist) h.2 (own.stops h.0 s h.1)
 
-pub fault_same : (j : JobView) (u u' : Valuation) (t : ℕ) (kind : Kind) (x y : ℤ) → NamesOwnWires j →
+pub fault_same : (j : JobView) (u u' : Valuation) (t : ℕ) (kind : Kind) (x y : ℤ) → NamesOnlyOwnWires j →
     AgreeBelow (wires j.locals.netlist) u u' →
-    IsFaultUnder j u t kind x y → IsFaultUnder j u' t kind x y
+    IsFaultUnderValues j u t kind x y → IsFaultUnderValues j u' t kind x y
 fault_same j u u' t Edge x y own same f = grind (arith, common_steps, run_same, live_same, edge_below)
 fault_same j u u' t Stop x y own same f = grind (arith, common_steps, run_same, own_stop)
 fault_same j u u' t End x y own same f = grind (arith, common_steps, meets_same, demand_below, run_same)
@@ -91,14 +92,15 @@ stop_told j u t x y is some = elim (found_stop j.stops t x y) [
   | inr none ↦ absurd (∥∥₁_elim some nothing_prop (λ g. none g.stop g.is_listed (its_then j u t x y g)))
 ]
 
-told : (j : JobView) (u : Valuation) (t : ℕ) (kind : Kind) (x y : ℤ) → IsJob j → ∥ IsFaultUnder j u t kind x y ∥₁ →
-    IsFaultUnder j u t kind x y
+told : (j : JobView) (u : Valuation) (t : ℕ) (kind : Kind) (x y : ℤ) → IsJob j →
+    ∥ IsFaultUnderValues j u t kind x y ∥₁ →
+    IsFaultUnderValues j u t kind x y
 told j u t Stop x y is some = stop_told j u t x y is some
 told j u t _ x y is some = ∥∥₁_elim some (Prim.hlevel props) (λ f. f)
 
 moved : (j : JobView) (f : Fault) (u : Valuation) → IsJob j →
-    AreOrdered j.locals.netlist.given j.locals.netlist.gates → IsLocalValuation j.locals f.assignment u →
-    HasFault j f → IsFaultUnder j u f.time f.kind f.cell.x f.cell.y
+    AreGatesOrdered j.locals.netlist.given j.locals.netlist.gates → IsLocalValuation j.locals f.assignment u →
+    HasFaultWitness j f → IsFaultUnderValues j u f.time f.kind f.cell.x f.cell.y
 moved j f u is ordered local h =
     fault_same j h.values u f.time f.kind f.cell.x f.cell.y is.own
     (λ w l. at_most_one j.locals.netlist _ h.values u ordered h.local local w l) h.differs

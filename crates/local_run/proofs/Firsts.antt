@@ -1,5 +1,6 @@
 -- From the cells that were looked at, in order, to the first fault
-use Rattle.local_run.proofs.Imports.{Bool, Box2, Demand, Edge, End, HasNoFaultOfKind, IsFaultUnder, IsFaultWhereDefined}
+use Rattle.local_run.proofs.Imports.{Bool, Box2, Demand, Edge, End, HasNoFaultOfKind, IsDefinedAndHasFault}
+use Rattle.local_run.proofs.Imports.{IsFaultUnderValues}
 use Rattle.local_run.proofs.Imports.{IsFirstFaultOfKind, IsKindScannedAt, IsLeastBelow, IsScanStride, JobView, Kind}
 use Rattle.local_run.proofs.Imports.{MeetsDemand, None, Option, Signal, Some, Valuation, Values, and_from, and_parts}
 use Rattle.local_run.proofs.Imports.{ap, arith, assignments, box_coord, common_steps, false, false≢true, in_box}
@@ -41,7 +42,7 @@ least_map n P Q h1 h2 r h3 = grind (arith, common_steps)
 -- no cell but those of the ring has a fault of its edge
 pub edge_none : (j : JobView) (n : ℕ) (u : ℕ → Valuation) (t : ℕ) (k : Kind) (x y : ℤ) → Edge ≡ k →
     in_ring j.area x y ≡ false →
-    IsLeastBelow n (λ a. IsFaultUnder j (u a) t k x y) None
+    IsLeastBelow n (λ a. IsFaultUnderValues j (u a) t k x y) None
 edge_none j n u t k x y e out a l f = grind (arith, common_steps, false≢true)
 
 pub end_least : (j : JobView) (vs : Values) (n : ℕ) (f : ℕ → Bool) (s : Signal) (d : Demand) (t : ℕ) (k : Kind)
@@ -51,22 +52,22 @@ pub end_least : (j : JobView) (vs : Values) (n : ℕ) (f : ℕ → Bool) (s : Si
     ((v : Valuation) (b : Bool) → b ≡ is_live v s → MeetsDemand v d b) →
     ((a : ℕ) → a < n → f a ≡ local_run j (valuation vs a) t x y) →
     IsLeastBelow n (λ a. (is_defined_under vs a ≡ true) × (f a ≢ is_live (valuation vs a) s)) r →
-    IsLeastBelow n (λ a. IsFaultWhereDefined j vs a t k x y) r
+    IsLeastBelow n (λ a. IsDefinedAndHasFault j vs a t k x y) r
 end_least j vs n f s d t k x y r e sought inside ed to from same h = grind (arith, common_steps, least_map)
 
 -- no cell but those of the ring is found
 pub edge_not_found : (j : JobView) (vs : Values) (n t : ℕ) (k : Kind) (x y : ℤ) → Edge ≡ k →
-    in_ring j.area x y ≡ false → IsLeastBelow n (λ a. IsFaultWhereDefined j vs a t k x y) None
+    in_ring j.area x y ≡ false → IsLeastBelow n (λ a. IsDefinedAndHasFault j vs a t k x y) None
 edge_not_found j vs n t k x y e out a l f = edge_none j n (λ a. valuation vs a) t k x y e out a l f.1
 
 -- ---- cells in order
 fault_in_box : (j : JobView) (v : Valuation) (t : ℕ) (kind : Kind) (x y : ℤ) → IsKindScannedAt j t kind →
-    IsFaultUnder j v t kind x y → in_box j.area x y ≡ true
+    IsFaultUnderValues j v t kind x y → in_box j.area x y ≡ true
 unfolding in_ring
 fault_in_box j v t kind x y h1 h2 = grind (arith, common_steps, and_parts)
 
 abbrev pub FreeAt : JobView → Values → ℕ → Kind → ℕ → ℕ → ℕ → Type 0
-FreeAt j vs t kind x y a = ¬ IsFaultWhereDefined j vs a t kind (box_coord j.area.x x) (box_coord j.area.y y)
+FreeAt j vs t kind x y a = ¬ IsDefinedAndHasFault j vs a t kind (box_coord j.area.x x) (box_coord j.area.y y)
 
 pub free_from : (j : JobView) (vs : Values) (t : ℕ) (kind : Kind) → IsKindScannedAt j t kind →
     ((x y a : ℕ) → x < j.area.w → y < j.area.h → a < assignments j → FreeAt j vs t kind x y a) →
@@ -84,7 +85,7 @@ pub first_from : (j : JobView) (vs : Values) (t : ℕ) (kind : Kind) (x y a : �
     ((x' y' a' : ℕ) → x' < j.area.w → y' < y → a' < assignments j → FreeAt j vs t kind x' y' a') →
     ((x' a' : ℕ) → x' < x → a' < assignments j → FreeAt j vs t kind x' y a') →
     IsLeastBelow (assignments j) (λ a'.
-    IsFaultWhereDefined j vs a' t kind (box_coord j.area.x x) (box_coord j.area.y y))
+    IsDefinedAndHasFault j vs a' t kind (box_coord j.area.x x) (box_coord j.area.y y))
     (Some a) →
     IsFirstFaultOfKind j vs t kind (record { time = t; kind = kind; cell = record { x = cx; y = cy }; assignment = a })
 unfolding in_box
@@ -99,13 +100,13 @@ first_from j vs t kind x y a cx cy s ex ey lx ly rows cells least = rw (ex, ey) 
       let py = span_at j.area.y j.area.h y' h.1 in
       rows px.number py.number a' px.below
       (inner_less j.area.y py.number y (subst (λ (z : ℤ). z <ℤ box_coord j.area.y y) py.is less)) l
-      (subst (λ (z : ℤ). IsFaultWhereDefined j vs a' t kind z (box_coord j.area.y py.number)) px.is
-      (subst (λ (z : ℤ). IsFaultWhereDefined j vs a' t kind x' z) py.is f));
+      (subst (λ (z : ℤ). IsDefinedAndHasFault j vs a' t kind z (box_coord j.area.y py.number)) px.is
+      (subst (λ (z : ℤ). IsDefinedAndHasFault j vs a' t kind x' z) py.is f));
   column = λ x' a' l less f.
       let h = and_parts _ _ (fault_in_box j _ t kind x' (box_coord j.area.y y) s f.1) in
       let px = span_at j.area.x j.area.w x' h.0 in
       cells px.number a' (inner_less j.area.x px.number x (subst (λ (z : ℤ). z <ℤ box_coord j.area.x x) px.is less)) l
-      (subst (λ (z : ℤ). IsFaultWhereDefined j vs a' t kind z (box_coord j.area.y y)) px.is f);
+      (subst (λ (z : ℤ). IsDefinedAndHasFault j vs a' t kind z (box_coord j.area.y y)) px.is f);
   assignment = least.2;
 })
 
@@ -143,5 +144,6 @@ still_at_either_end kind w h y x stride s at = grind (arith, common_steps)
 
 pub passed_over : (j : JobView) (u : Valuation) (t : ℕ) (kind : Kind) (x x' y stride : ℕ) →
     IsScanStride kind j.area.w j.area.h y stride → IsAtEitherEnd j.area.w x stride →
-    x < x' → x' < x + stride → x' < j.area.w → ¬ IsFaultUnder j u t kind (box_coord j.area.x x') (box_coord j.area.y y)
+    x < x' → x' < x + stride → x' < j.area.w →
+    ¬ IsFaultUnderValues j u t kind (box_coord j.area.x x') (box_coord j.area.y y)
 passed_over j u t kind x x' y stride s at after before within f = grind (arith, common_steps, edge_none, not_in_ring)

@@ -1,9 +1,10 @@
 -- Runs that stay as they are, and times that can be leapt over
 use Rattle.local_run.proofs.Imports.{AllTimesSignal, Cell, Greater, HasSameSignalsAtOddTimes, IsOddOfTimePair, IsRising}
-use Rattle.local_run.proofs.Imports.{IsRunUnchangedUntil, IsTimePlaceBetween, JobView, Less, List, Moment, None}
+use Rattle.local_run.proofs.Imports.{AreEventPlacesAroundTime, IsRunUnchangedUntil, JobView, Less, List, Moment, None}
 use Rattle.local_run.proofs.Imports.{Signal, Signals, Some, State, TimedSignal, Valuation, Zero, all_times_at}
 use Rattle.local_run.proofs.Imports.{all_times_none, ap, ap₂, arith, by_lt_or_le, common_steps, event_at}
-use Rattle.local_run.proofs.Imports.{event_none, false, false≢true, in_box, in_halo, inl, inr, is_at, is_first, is_live}
+use Rattle.local_run.proofs.Imports.{event_none, false, false≢true, in_box, in_halo, inl, inr, is_cell_at, is_first}
+use Rattle.local_run.proofs.Imports.{is_live}
 use Rattle.local_run.proofs.Imports.{length, local_run, moment_cmp, moment_total, moved_signals, nat_cmp, partner, refl}
 use Rattle.local_run.proofs.Imports.{signal_at, signals_moved, slice_get, slice_get_within, step, subst, suc, sym, true}
 use Rattle.local_run.proofs.Imports.{unwrap_or, with_halo, zero, ℕ, ℤ, ◌%◌, ◌&&◌, ◌+ℤ◌, ◌+◌, ◌-◌, ◌<◌, ◌||◌, ◌∙◌, ◌≡◌}
@@ -13,7 +14,7 @@ use Rattle.bbm_rule.proofs.SameCells.{cell_itself, cell_same}
 use Rattle.module_box.specs.Schedules.{moment_of}
 use Rattle.module_box.proofs.Rising.{all_times_found, event_found}
 use Rattle.local_run.specs.Laws.{QuietRunStaysUnchanged, QuietRunAddsNoEdgeFault}
-use Rattle.local_run.specs.Leaps.{AreLaterFrom, HasNoEventsBetween}
+use Rattle.local_run.specs.Leaps.{AreEventsLaterFrom, HasNoEventsBetween}
 use Rattle.local_run.proofs.LocalRuns.{even_or_odd, local_even, local_odd, step_all_same}
 
 -- ---- the signal of an event
@@ -26,11 +27,11 @@ abbrev pub AreOther : List AllTimesSignal → Cell → ℕ → Type 0
 AreOther hs c k = (i : ℕ) (h : AllTimesSignal) → i < k → slice_get hs i ≡ Some h → h.cell ≢ c
 
 pub one_more_other : (hs : List AllTimesSignal) (c : Cell) (k : ℕ) (h : AllTimesSignal) → slice_get hs k ≡ Some h →
-    is_at h.cell c.x c.y ≡ false → AreOther hs c k → AreOther hs c (k + 1)
+    is_cell_at h.cell c.x c.y ≡ false → AreOther hs c k → AreOther hs c (k + 1)
 one_more_other hs c k h at differs other i g l e same = grind (arith, common_steps, false≢true, cell_itself)
 
 pub all_times_there : (hs : List AllTimesSignal) (k : ℕ) (c : Cell) (h : AllTimesSignal) → AreOther hs c k →
-    slice_get hs k ≡ Some h → is_at h.cell c.x c.y ≡ true → all_times_at hs c.x c.y ≡ Some h.signal
+    slice_get hs k ≡ Some h → is_cell_at h.cell c.x c.y ≡ true → all_times_at hs c.x c.y ≡ Some h.signal
 all_times_there hs k c h other at same = grind (arith, common_steps, cell_same, all_times_found)
 
 pub all_times_nowhere : (hs : List AllTimesSignal) (c : Cell) → AreOther hs c (length hs) →
@@ -137,12 +138,12 @@ no_new_faults j u t o n k x y of stays halos edges from l f =
     grind (arith, common_steps)
 
 -- ---- events by their times
-pub met : (es : List TimedSignal) (t low high : ℕ) → high ≤ low → IsTimePlaceBetween es t low high →
-    IsTimePlaceBetween es t low low
+pub met : (es : List TimedSignal) (t low high : ℕ) → high ≤ low → AreEventPlacesAroundTime es t low high →
+    AreEventPlacesAroundTime es t low low
 met es t low high l b = grind (arith, common_steps)
 
 -- before the search nothing is known, and then that events at a place and before it are earlier
-pub any_place : (es : List TimedSignal) (t : ℕ) → IsTimePlaceBetween es t 0 (length es)
+pub any_place : (es : List TimedSignal) (t : ℕ) → AreEventPlacesAroundTime es t 0 (length es)
 any_place es t = grind (arith, common_steps, slice_get_within)
 
 nat_less : (a b : ℕ) → nat_cmp a b ≢ Greater → a ≤ b
@@ -168,43 +169,46 @@ later : (es : List TimedSignal) (i j : ℕ) (a b : TimedSignal) → IsRising mom
 later = later_in_time moment_of
 
 pub raise_time : (es : List TimedSignal) (t low high m : ℕ) (a : TimedSignal) → IsRising moment_cmp moment_of es →
-    IsTimePlaceBetween es t low high → slice_get es m ≡ Some a → a.at.time < t → IsTimePlaceBetween es t (m + 1) high
+    AreEventPlacesAroundTime es t low high → slice_get es m ≡ Some a → a.at.time < t →
+    AreEventPlacesAroundTime es t (m + 1) high
 raise_time es t low high m a rising b at less = grind (arith, common_steps, later)
 
 pub sure : (es : List TimedSignal) (t place : ℕ) (a : TimedSignal) → IsRising moment_cmp moment_of es → 0 < place →
-    slice_get es (place - 1) ≡ Some a → a.at.time < t → IsTimePlaceBetween es t place (length es)
+    slice_get es (place - 1) ≡ Some a → a.at.time < t → AreEventPlacesAroundTime es t place (length es)
 sure es t place a rising some at less =
     let e : place - 1 + 1 ≡ place = omega arith in
-    subst (λ n. IsTimePlaceBetween es t n (length es)) e
+    subst (λ n. AreEventPlacesAroundTime es t n (length es)) e
     (raise_time es t 0 (length es) (place - 1) a rising (any_place es t) at less)
 
 pub drop_time : (es : List TimedSignal) (t low high m : ℕ) (a : TimedSignal) → IsRising moment_cmp moment_of es →
-    IsTimePlaceBetween es t low high → slice_get es m ≡ Some a → t ≤ a.at.time → IsTimePlaceBetween es t low m
+    AreEventPlacesAroundTime es t low high → slice_get es m ≡ Some a → t ≤ a.at.time →
+    AreEventPlacesAroundTime es t low m
 drop_time es t low high m a rising b at le = grind (arith, common_steps, later)
 
 -- where an event is later, so are those behind it
 pub all_later : (es : List TimedSignal) (place t : ℕ) (a : TimedSignal) → IsRising moment_cmp moment_of es →
-    slice_get es place ≡ Some a → t < a.at.time → AreLaterFrom es place t
+    slice_get es place ≡ Some a → t < a.at.time → AreEventsLaterFrom es place t
 all_later es place t a rising at less i e from ei = grind (arith, common_steps, later)
 
 -- the bounds have met at an event: there is none between t and its time
 pub none_until : (es : List TimedSignal) (t low high n : ℕ) (a : TimedSignal) → IsRising moment_cmp moment_of es →
-    IsTimePlaceBetween es t low high → high ≤ low → slice_get es low ≡ Some a → n ≤ a.at.time →
+    AreEventPlacesAroundTime es t low high → high ≤ low → slice_get es low ≡ Some a → n ≤ a.at.time →
     HasNoEventsBetween es t n
 none_until es t low high n a rising b met at le i e ei from to = grind (arith, common_steps, by_lt_or_le, later)
 
 pub none_before : (es : List TimedSignal) (t low high : ℕ) (a : TimedSignal) → IsRising moment_cmp moment_of es →
-    IsTimePlaceBetween es t low high → high ≤ low → slice_get es low ≡ Some a → HasNoEventsBetween es t a.at.time
+    AreEventPlacesAroundTime es t low high → high ≤ low → slice_get es low ≡ Some a → HasNoEventsBetween es t a.at.time
 none_before es t low high a rising b met at = none_until es t low high a.at.time a rising b met at (omega arith)
 
 -- that time is not before t
-pub above_at : (es : List TimedSignal) (t low high : ℕ) (a : TimedSignal) → IsTimePlaceBetween es t low high →
+pub above_at : (es : List TimedSignal) (t low high : ℕ) (a : TimedSignal) → AreEventPlacesAroundTime es t low high →
     high ≤ low →
     slice_get es low ≡ Some a → t ≤ a.at.time
 above_at es t low high a b met at = b.above low a met at
 
 -- or at the end
-pub none_at_all : (es : List TimedSignal) (t low high n : ℕ) → IsTimePlaceBetween es t low high → length es ≤ low →
+pub none_at_all : (es : List TimedSignal) (t low high n : ℕ) → AreEventPlacesAroundTime es t low high →
+    length es ≤ low →
     HasNoEventsBetween es t n
 none_at_all es t low high n b met i e ei from to = grind (arith, common_steps, by_lt_or_le, slice_get_within)
 

@@ -1,12 +1,13 @@
 -- Runs under all assignments that leap over times
-use Rattle.local_run.proofs.Imports.{Bool, HasSameSignalsAtOddTimes, IsJob, IsNextStop, IsOddOfTimePair, IsReady}
-use Rattle.local_run.proofs.Imports.{IsRunUnchangedUntil, JobView, Planes, Shows, Values, and_parts, arith, assignments}
+use Rattle.local_run.proofs.Imports.{Bool, HasSameSignalsAtOddTimes, IsJob, IsNextStop, IsOddOfTimePair, IsRunReady}
+use Rattle.local_run.proofs.Imports.{IsRunUnchangedUntil, JobView, Planes, ShowsRunAt, Values, and_parts, arith}
+use Rattle.local_run.proofs.Imports.{assignments}
 use Rattle.local_run.proofs.Imports.{by_eq_or_not, by_lt_or_le, cases_Bool, common_steps, false, in_box, in_span, inl}
 use Rattle.local_run.proofs.Imports.{inr, local_run, subst, sym, valuation, ℕ, ℤ, ◌%◌, ◌+◌, ◌-◌, ◌<◌, ◌||◌, ◌∙◌, ◌≡◌}
 use Rattle.local_run.proofs.Imports.{◌≤◌, ◌⊎◌}
 use Rattle.lemmas.proofs.Common.{or_parts}
 use Rattle.local_run.specs.Leaps.{IsLeap}
-use Rattle.local_run.specs.Scans.{IsTimePassed}
+use Rattle.local_run.specs.Scans.{IsTimeWithoutFault}
 use Rattle.local_run.proofs.Firsts.{span_at}
 use Rattle.local_run.proofs.LeapLemmas.{quiet_runs, no_new_faults}
 use Rattle.local_run.proofs.Leasts.{AreFreeBefore, free_more}
@@ -19,7 +20,7 @@ SameRuns j vs k m = (a : ℕ) → a < assignments j → (x y : ℤ) →
     local_run j (valuation vs a) k x y ≡ local_run j (valuation vs a) m x y
 
 -- planes that show both show it
-same_runs : (j : JobView) (vs : Values) (k m : ℕ) (p : Planes) → IsJob j → Shows j vs k p → Shows j vs m p →
+same_runs : (j : JobView) (vs : Values) (k m : ℕ) (p : Planes) → IsJob j → ShowsRunAt j vs k p → ShowsRunAt j vs m p →
     SameRuns j vs k m
 unfolding in_box
 same_runs j vs k m p is sk sm a la x y = elim (cases_Bool (in_box j.area x y)) [
@@ -32,7 +33,8 @@ same_runs j vs k m p is sk sm a la x y = elim (cases_Bool (in_box j.area x y)) [
       (grind (arith, common_steps))
 ]
 
-shows_same : (j : JobView) (vs : Values) (k m : ℕ) (p : Planes) → Shows j vs m p → SameRuns j vs k m → Shows j vs k p
+shows_same : (j : JobView) (vs : Values) (k m : ℕ) (p : Planes) → ShowsRunAt j vs m p → SameRuns j vs k m →
+    ShowsRunAt j vs k p
 shows_same j vs k m p shows same = grind (arith, common_steps)
 
 -- a run that did not change at the odd time o and at the even time after it
@@ -47,15 +49,15 @@ is_odd_of o odd = grind (arith, common_steps)
 -- No time before has a fault, the planes show time t, and the place is that of the next stop. Unless something changed,
 -- the time before was the same
 pub record InRun (j : JobView) (vs : Values) (t place : ℕ) (p : Planes) (changed : Bool) : Type 0 where
-  pub shows : Shows j vs t p
+  pub shows : ShowsRunAt j vs t p
   pub early : t ≤ j.steps
   pub next : IsNextStop j t place
   pub free : AreFreeBefore j vs t
   pub still : changed ≡ false → (1 ≤ t) × SameRuns j vs t (t - 1)
 
-one_next : (j : JobView) (vs : Values) (t old place : ℕ) (p q : Planes) (before changed : Bool) → IsReady j vs →
-    InRun j vs t old p before → t < j.steps → IsTimePassed j vs t place →
-    Shows j vs (t + 1) q → (changed ≡ false → Shows j vs t q) → InRun j vs (t + 1) place q changed
+one_next : (j : JobView) (vs : Values) (t old place : ℕ) (p q : Planes) (before changed : Bool) → IsRunReady j vs →
+    InRun j vs t old p before → t < j.steps → IsTimeWithoutFault j vs t place →
+    ShowsRunAt j vs (t + 1) q → (changed ≡ false → ShowsRunAt j vs t q) → InRun j vs (t + 1) place q changed
 one_next j vs t old place p q before changed ready run l passed next same =
     grind (arith, common_steps, free_more, same_as_before)
   where
@@ -66,7 +68,7 @@ one_next j vs t old place p q before changed ready run l passed next same =
 -- a leap from the odd time o, where the two steps from it on changed nothing
 leap_next : (j : JobView) (vs : Values) (o n place : ℕ) (q : Planes) (changed : Bool) → o % 2 ≡ 1 →
     SameRuns j vs (o + 1) o → SameRuns j vs (o + 2) (o + 1) →
-    AreFreeBefore j vs (o + 2) → Shows j vs (o + 2) q → IsNextStop j (o + 2) place → IsNextStop j n place →
+    AreFreeBefore j vs (o + 2) → ShowsRunAt j vs (o + 2) q → IsNextStop j (o + 2) place → IsNextStop j n place →
     HasSameSignalsAtOddTimes j.edges o n → HasSameSignalsAtOddTimes j.halos o n → o + 1 < n → n ≤ j.steps →
     InRun j vs n place q changed
 leap_next j vs o n place q changed odd first second free next low high edges halos l last = record {
@@ -95,9 +97,10 @@ leap_next j vs o n place q changed odd first second free next low high edges hal
     all : (a : ℕ) → a < assignments j → IsRunUnchangedUntil j (valuation vs a) o n
     all a la = quiet_runs j (valuation vs a) o o n (is_odd_of o odd) (both a la) halos
 
-pub next_run : (j : JobView) (vs : Values) (t n old place : ℕ) (p q : Planes) (before changed : Bool) → IsReady j vs →
-    InRun j vs t old p before → t < j.steps → IsTimePassed j vs t place →
-    Shows j vs (t + 1) q → (changed ≡ false → Shows j vs t q) → (t < n) × (n ≤ j.steps) →
+pub next_run : (j : JobView) (vs : Values) (t n old place : ℕ) (p q : Planes) (before changed : Bool) →
+    IsRunReady j vs →
+    InRun j vs t old p before → t < j.steps → IsTimeWithoutFault j vs t place →
+    ShowsRunAt j vs (t + 1) q → (changed ≡ false → ShowsRunAt j vs t q) → (t < n) × (n ≤ j.steps) →
     (n ≡ t + 1) ⊎ IsLeap j t (before || changed) n → IsNextStop j n place → InRun j vs n place q changed
 next_run j vs t n old place p q before changed ready run l passed next same range way high = elim way [
   | inl e ↦ subst (λ (m : ℕ). InRun j vs m place q changed) (sym e)
@@ -114,7 +117,7 @@ next_run j vs t n old place p q before changed ready run l passed next same rang
       (subst (λ (m : ℕ). SameRuns j vs m (t - 1 + 1)) b
       (subst (SameRuns j vs (t + 1)) (back ∙ c) (after.still none.1).1))
       (subst (AreFreeBefore j vs) b after.free)
-      (subst (λ (m : ℕ). Shows j vs m q) b next)
+      (subst (λ (m : ℕ). ShowsRunAt j vs m q) b next)
       (subst (λ (m : ℕ). IsNextStop j m place) b passed.next) high
       leap.edges leap.halos (omega (arith, range.0)) range.1
 ]

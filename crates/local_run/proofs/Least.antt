@@ -1,6 +1,7 @@
 -- A job has one least fault
 use Rattle.local_run.proofs.Imports.{Edge, End, Fault, KeepFault, Kind, None}
-use Rattle.local_run.proofs.Imports.{Some, Stop, ap, arith, cell_cmp, common_steps, fault_cmp, keep_cmp, kind_number}
+use Rattle.local_run.proofs.Imports.{Some, Stop, ap, arith, cell_cmp, common_steps, fault_cmp, keep_fault_cmp}
+use Rattle.local_run.proofs.Imports.{kind_number}
 use Rattle.local_run.proofs.Imports.{refl, suc, zero, ℕ, ℤ, ◌≡◌}
 use Rattle.lemmas.proofs.Common.{CmpEqualImpliesEq, IsTotalOrder, both_ways, exact_pairs, exact_signed, exact_unsigned}
 use Rattle.bbm_rule.proofs.CellOrder.{cell_total}
@@ -45,13 +46,13 @@ least_unique j None (Some b) f g = absurd (f b g.0)
 least_unique j (Some a) None f g = absurd (g a f.0)
 least_unique j (Some a) (Some b) f g = grind (arith, common_steps, fault_exact, both_ways, fault_total)
 
-pub keep_total : IsTotalOrder keep_cmp
-unfolding keep_cmp
+pub keep_total : IsTotalOrder keep_fault_cmp
+unfolding keep_fault_cmp
 keep_total = then_total (on_total (λ (f : KeepFault). f.gate) nat_cmp_total)
     (on_total (λ (f : KeepFault). f.assignment) nat_cmp_total)
 
-keep_exact : CmpEqualImpliesEq keep_cmp
-unfolding keep_cmp
+keep_exact : CmpEqualImpliesEq keep_fault_cmp
+unfolding keep_fault_cmp
 keep_exact a b e = grind (arith, common_steps, exact_pairs, exact_unsigned)
 
 pub least_keep_unique : LeastKeepFaultIsUnique

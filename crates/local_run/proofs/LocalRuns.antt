@@ -1,5 +1,5 @@
 -- The run of a module: its two steps, that it stays in its box, and which wires it reads
-use Rattle.local_run.proofs.Imports.{IsSignalWireBelow, JobView, NamesOwnWires, Signal, State, Valuation, ap, ap₂}
+use Rattle.local_run.proofs.Imports.{IsSignalWireBelow, JobView, NamesOnlyOwnWires, Signal, State, Valuation, ap, ap₂}
 use Rattle.local_run.proofs.Imports.{arith, common_steps, cond-false, cond-true, eq-eqb, in_box, in_halo, inl, inr}
 use Rattle.local_run.proofs.Imports.{is_live, local_run, ne_eqb, signal_at, step, suc, sym, wires, with_halo, zero, ℕ}
 use Rattle.local_run.proofs.Imports.{ℤ, ◌%◌, ◌&&◌, ◌<◌, ◌||◌, ◌∙◌, ◌≡◌, ◌⊎◌}
@@ -52,7 +52,8 @@ with_halo_same : (j : JobView) (n : ℕ) (u u' : Valuation) (t : ℕ) (s s' : St
 unfolding with_halo
 with_halo_same j n u u' t s s' x y same b e = ap₂ (λ p q. p || (in_halo j.area x y && q)) e (live_same n u u' _ same b)
 
-pub run_same : (j : JobView) (u u' : Valuation) (t : ℕ) → NamesOwnWires j → AgreeBelow (wires j.locals.netlist) u u' →
+pub run_same : (j : JobView) (u u' : Valuation) (t : ℕ) → NamesOnlyOwnWires j →
+    AgreeBelow (wires j.locals.netlist) u u' →
     (x y : ℤ) → local_run j u t x y ≡ local_run j u' t x y
 unfolding local_run
 run_same j u u' zero own same x y = live_same (wires j.locals.netlist) u u' _ same (start_below j x y own)

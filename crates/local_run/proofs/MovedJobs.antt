@@ -1,5 +1,6 @@
 -- Jobs of the same shape have the same faults but for where they lie
-use Rattle.local_run.proofs.Imports.{Box2, Contains, Edge, End, Fault, HasFault, IsFault, IsFaultUnder, IsJob}
+use Rattle.local_run.proofs.Imports.{Box2, Contains, Edge, End, Fault, HasFaultWitness, IsFault, IsFaultUnderValues}
+use Rattle.local_run.proofs.Imports.{IsJob}
 use Rattle.local_run.proofs.Imports.{IsKeepFault, JobView, KeepFault, Kind, List, Netlist, None, ShapeView, Signals}
 use Rattle.local_run.proofs.Imports.{Some, State, Stop, Valuation, [], and_parts, ap, ap₂, arith, cases_Bool}
 use Rattle.local_run.proofs.Imports.{common_steps, fault_cmp, if◌then◌else◌, in_box, in_ring, ints, is_live, job_demand}
@@ -8,11 +9,11 @@ use Rattle.local_run.proofs.Imports.{shift_to_origin, signal_at, signals_moved, 
 use Rattle.local_run.proofs.Imports.{unwrap_or, with_halo, zero, ℕ, ℤ, ∥∥₁_elim, ∥∥₁_map, ◌%◌, ◌&&◌, ◌+ℤ◌, ◌+◌, ◌-ℤ◌}
 use Rattle.local_run.proofs.Imports.{◌-◌, ◌<◌, ◌^◌, ◌||◌, ◌∙◌, ◌∷◌, ◌≡◌, ◌≤◌}
 use Rattle.lemmas.proofs.Common.{map}
-use Rattle.bbm_rule.specs.Moves.{IsMoved}
+use Rattle.bbm_rule.specs.Moves.{IsStateMovedBy}
 use Rattle.bbm_rule.specs.Plane.{parity}
 use Rattle.bbm_rule.proofs.Moving.{parity_moved, step_moved}
 use Rattle.bbm_rule.specs.Boxes.{IsEvenBox}
-use Rattle.module_box.specs.Moves.{BoxMovesAlong, IsMovedBox, IsInShiftRange, moved_cell}
+use Rattle.module_box.specs.Moves.{RingAndHaloMoveAlong, IsMovedBox, IsCellInShiftRange, moved_cell}
 use Rattle.module_box.proofs.BoxCells.{in_box_nats, small_number}
 use Rattle.module_box.proofs.MovedBoxes.{boxes_moved, cell_back, cell_cmp_moved}
 use Rattle.module_job.specs.Shapes.{moved_stop}
@@ -26,7 +27,7 @@ use Rattle.module_job.specs.declared.job.Stop as listed
 record AreAlike (dx dy : ℤ) (j k : JobView) : Type 0 where
   even_x : parity dx ≡ 0
   even_y : parity dy ≡ 0
-  area : BoxMovesAlong dx dy j.area k.area
+  area : RingAndHaloMoveAlong dx dy j.area k.area
   steps : j.steps ≡ k.steps
   netlist : j.locals.netlist ≡ k.locals.netlist
   start : (x y : ℤ) → job_start k (x +ℤ dx) (y +ℤ dy) ≡ job_start j x y
@@ -36,23 +37,23 @@ record AreAlike (dx dy : ℤ) (j k : JobView) : Type 0 where
   stops : k.stops ≡ map (moved_stop dx dy) j.stops
 
 halo_alike : (dx dy : ℤ) (j k : JobView) → AreAlike dx dy j k → (u : Valuation) (t : ℕ) (s s' : State) →
-    IsMoved dx dy s s' → IsMoved dx dy (with_halo j u t s) (with_halo k u t s')
+    IsStateMovedBy dx dy s s' → IsStateMovedBy dx dy (with_halo j u t s) (with_halo k u t s')
 unfolding with_halo
 halo_alike dx dy j k a u t s s' m x y = λ i. m x y i || (a.area.halo x y i && is_live u (a.halos t x y i))
 
 run_alike : (dx dy : ℤ) (j k : JobView) → AreAlike dx dy j k → (u : Valuation) (t : ℕ) →
-    IsMoved dx dy (local_run j u t) (local_run k u t)
+    IsStateMovedBy dx dy (local_run j u t) (local_run k u t)
 unfolding local_run
 run_alike dx dy j k a u zero x y = ap (is_live u) (a.start x y)
 run_alike dx dy j k a u (suc t) x y =
-    let before : IsMoved dx dy (local_run j u t) (local_run k u t) = run_alike dx dy j k a u t in
+    let before : IsStateMovedBy dx dy (local_run j u t) (local_run k u t) = run_alike dx dy j k a u t in
     grind (arith, common_steps, even_or_odd, local_even, step_moved, local_odd, halo_alike)
 
 contains_mapped : {X Y : Type 0} (f : X → Y) (xs : List X) (x : X) → Contains xs x → Contains (map f xs) (f x)
 contains_mapped f xs x h = grind (arith, common_steps)
 
 under_alike : (dx dy : ℤ) (j k : JobView) → AreAlike dx dy j k → (u : Valuation) (t : ℕ) (kind : Kind) (x y : ℤ) →
-    IsFaultUnder j u t kind x y → IsFaultUnder k u t kind (x +ℤ dx) (y +ℤ dy)
+    IsFaultUnderValues j u t kind x y → IsFaultUnderValues k u t kind (x +ℤ dx) (y +ℤ dy)
 under_alike dx dy j k a u t Edge x y f = grind (arith, common_steps, run_alike)
 under_alike dx dy j k a u t Stop x y f = record {
   stop = moved_stop dx dy f.stop;
@@ -76,7 +77,7 @@ fault_alike dx dy j k a f is = record {
   shown = ∥∥₁_map is.shown moved;
 }
   where
-    moved : HasFault j f → HasFault k (moved_fault dx dy f)
+    moved : HasFaultWitness j f → HasFaultWitness k (moved_fault dx dy f)
     moved h = grind (arith, common_steps, under_alike)
 
 -- ---- jobs of the same shape are alike
@@ -105,7 +106,7 @@ place_moved dx dy b b' x y m h h' = grind (arith, common_steps, in_box_nats, pla
 
 -- what a list has for the cells of a box
 looked_up : {A : Type 0} (dx dy : ℤ) (b b' : Box2) (other : A) (xs xs' : List A) → IsMovedBox dx dy b b' →
-    BoxMovesAlong dx dy b b' → xs' ≡ xs → (x y : ℤ) →
+    RingAndHaloMoveAlong dx dy b b' → xs' ≡ xs → (x y : ℤ) →
     (if in_box b' (x +ℤ dx) (y +ℤ dy) then unwrap_or (slice_get xs' (place_in b' (x +ℤ dx) (y +ℤ dy))) other else other)
     ≡ (if in_box b x y then unwrap_or (slice_get xs (place_in b x y)) other else other)
 looked_up dx dy b b' other xs xs' m along same x y = grind (arith, common_steps, cases_Bool, place_moved)
@@ -139,7 +140,7 @@ alike j k ej ek same =
       w = ap (λ (s : ShapeView). s.width) (sym same);
       h = ap (λ (s : ShapeView). s.height) (sym same);
     } in
-    let along : BoxMovesAlong dx dy j.area k.area = boxes_moved dx dy j.area k.area box in
+    let along : RingAndHaloMoveAlong dx dy j.area k.area = boxes_moved dx dy j.area k.area box in
     grind (arith, common_steps, apart_even, looked_up, carried_on, stops_back, back_forth, stops_twice)
 
 pub faults_moved : FaultsMoveWithJob
@@ -176,7 +177,8 @@ least_keep_stays j k None same least = λ f is. least f (keep_stays k j f (sym s
 least_keep_stays j k (Some f) same least = grind (arith, common_steps, keep_stays)
 
 -- ---- the cell of a fault is in the box, and so near
-under_inside : (j : JobView) (u : Valuation) (t : ℕ) (kind : Kind) (x y : ℤ) → IsJob j → IsFaultUnder j u t kind x y →
+under_inside : (j : JobView) (u : Valuation) (t : ℕ) (kind : Kind) (x y : ℤ) → IsJob j →
+    IsFaultUnderValues j u t kind x y →
     in_box j.area x y ≡ true
 unfolding in_ring
 under_inside j u t Edge x y is f = (and_parts _ _ f.ring).0
@@ -187,7 +189,7 @@ fault_inside : (j : JobView) (f : Fault) → IsJob j → IsFault j f → in_box 
 fault_inside j f is fault = ∥∥₁_elim fault.shown (Prim.hlevel props)
     (λ h. under_inside j h.values f.time f.kind f.cell.x f.cell.y is h.differs)
 
-pub fault_near : (j : JobView) (f : Fault) → IsJob j → IsFault j f → IsInShiftRange f.cell
+pub fault_near : (j : JobView) (f : Fault) → IsJob j → IsFault j f → IsCellInShiftRange f.cell
 fault_near j f is fault =
     let p = in_box_nats j.area f.cell.x f.cell.y (fault_inside j f is fault) in
     let px = p.0 in let py = p.1 in grind (arith, common_steps, small_number)

@@ -1,6 +1,7 @@
 -- Cells of a row that are known to be dead
-use Rattle.local_run.proofs.Imports.{Bool, Box2, End, IsKindScannedAt, IsReady, IsScanStride, JobView, Kind, Planes}
-use Rattle.local_run.proofs.Imports.{Shows, Valuation, Values, Zero, ap, arith, assignments, box_coord, by_eq_or_not}
+use Rattle.local_run.proofs.Imports.{Bool, Box2, End, IsKindScannedAt, IsRunReady, IsScanStride, JobView, Kind, Planes}
+use Rattle.local_run.proofs.Imports.{ShowsRunAt, Valuation, Values, Zero, ap, arith, assignments, box_coord}
+use Rattle.local_run.proofs.Imports.{by_eq_or_not}
 use Rattle.local_run.proofs.Imports.{by_lt_or_le, common_steps, false, if◌then◌else◌, is_live, job_demand, job_start}
 use Rattle.local_run.proofs.Imports.{lane, local_run, place_in, slice_get, sym, unwrap_or, ℕ, ℤ, ◌*◌, ◌+◌, ◌<◌, ◌∙◌}
 use Rattle.local_run.proofs.Imports.{◌≡◌, ◌≤◌}
@@ -34,16 +35,16 @@ dead_start j u x y none = sym (ap (is_live u) none) ∙ run_start j u x y
 -- ---- rows at the last time
 
 -- a dead cell that must be dead has no fault
-end_free : (j : JobView) (vs : Values) (t : ℕ) (kind : Kind) (x y : ℕ) (p : Planes) → IsReady j vs →
-    IsKindScannedAt j t kind → Shows j vs t p → x < j.area.w → y < j.area.h → kind ≡ End →
+end_free : (j : JobView) (vs : Values) (t : ℕ) (kind : Kind) (x y : ℕ) (p : Planes) → IsRunReady j vs →
+    IsKindScannedAt j t kind → ShowsRunAt j vs t p → x < j.area.w → y < j.area.h → kind ≡ End →
     job_demand j (box_coord j.area.x x) (box_coord j.area.y y) ≡ Demanded.Dead →
     ((a : ℕ) → a < 64 * p.words → lane p a (1 + x) (1 + y) ≡ false) →
     (a : ℕ) → a < assignments j → FreeAt j vs t kind x y a
 end_free j vs t kind x y p ready sought shows lx ly end must dead = grind (arith, common_steps, end_least, inner_in_box)
 
 -- nor do cells that are passed over
-pub free_to : (j : JobView) (vs : Values) (t : ℕ) (kind : Kind) (x next y : ℕ) (p : Planes) → IsReady j vs →
-    IsKindScannedAt j t kind → Shows j vs t p → y < j.area.h →
+pub free_to : (j : JobView) (vs : Values) (t : ℕ) (kind : Kind) (x next y : ℕ) (p : Planes) → IsRunReady j vs →
+    IsKindScannedAt j t kind → ShowsRunAt j vs t p → y < j.area.h →
     ((k a : ℕ) → k < x → k < j.area.w → a < assignments j → FreeAt j vs t kind k y a) → (x < next → kind ≡ End) →
     ((k : ℕ) → x ≤ k → k < next → job_demand j (box_coord j.area.x k) (box_coord j.area.y y) ≡ Demanded.Dead) →
     ((a k : ℕ) → a < 64 * p.words → x ≤ k → k < next → lane p a (1 + k) (1 + y) ≡ false) →

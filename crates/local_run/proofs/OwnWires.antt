@@ -1,5 +1,5 @@
 -- Each wire that a job names is one of its own, at each cell and time
-use Rattle.local_run.proofs.Imports.{All, Bool, IsDemandWireBelow, IsSignalWireBelow, JobView, List, NamesOwnWires}
+use Rattle.local_run.proofs.Imports.{All, Bool, IsDemandWireBelow, IsSignalWireBelow, JobView, List, NamesOnlyOwnWires}
 use Rattle.local_run.proofs.Imports.{Zero, [], arith, common_steps, cond-false, false, if◌then◌else◌, in_box}
 use Rattle.local_run.proofs.Imports.{job_demand, job_start, place_in, slice_get, suc, unwrap_or, wires, zero, ℕ, ℤ, ◌∷◌}
 use Rattle.local_run.proofs.Imports.{◌≡◌}
@@ -16,13 +16,13 @@ item P (x ∷ xs) (suc i) d all h = item P xs i d (All-tail P x xs all) h
 chosen : {A : Type 0} (P : A → Type 0) (b : Bool) (x y : A) → P x → P y → P (if b then x else y)
 chosen P b x y h1 h2 = grind (arith, common_steps)
 
-pub start_below : (j : JobView) (x y : ℤ) → NamesOwnWires j →
+pub start_below : (j : JobView) (x y : ℤ) → NamesOnlyOwnWires j →
     IsSignalWireBelow (wires j.locals.netlist) (job_start j x y)
 unfolding job_start
 start_below j x y own = chosen (IsSignalWireBelow (wires j.locals.netlist)) (in_box j.area x y) _ Zero
     (item (IsSignalWireBelow (wires j.locals.netlist)) j.starts (place_in j.area x y) Zero own.starts tt) tt
 
-pub demand_below : (j : JobView) (x y : ℤ) → NamesOwnWires j →
+pub demand_below : (j : JobView) (x y : ℤ) → NamesOnlyOwnWires j →
     IsDemandWireBelow (wires j.locals.netlist) (job_demand j x y)
 unfolding job_demand
 demand_below j x y own = chosen (IsDemandWireBelow (wires j.locals.netlist)) (in_box j.area x y) _ Demanded.Dead

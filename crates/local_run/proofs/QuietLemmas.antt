@@ -1,12 +1,15 @@
 -- Cells of which no line of a module says anything
-use Rattle.local_run.proofs.Imports.{AllTimesSignal, Box2, Cell, IsCellMarked, IsTimePlaceBetween, KeepsMarks, List}
+use Rattle.local_run.proofs.Imports.{AllTimesSignal, AreEventPlacesAroundTime, Box2, Cell, HasBothCellMarks, List}
+use Rattle.local_run.proofs.Imports.{TakesNoMarkOff}
 use Rattle.local_run.proofs.Imports.{Signals, Some, TimedSignal, Zero, all_times_none, ap, ap₂, arith, box_coord}
-use Rattle.local_run.proofs.Imports.{by_lt_or_le, common_steps, event_none, halo_coord, ints, moved_signals, number_at}
+use Rattle.local_run.proofs.Imports.{by_lt_or_le, cell_number_at, common_steps, event_none, halo_coord, ints}
+use Rattle.local_run.proofs.Imports.{moved_signals}
 use Rattle.local_run.proofs.Imports.{pos, shift_to_origin, signal_at, signals_moved, slice_get, sym, ℕ, ℤ, ◌%◌, ◌*◌}
 use Rattle.local_run.proofs.Imports.{◌+ℤ◌, ◌+◌, ◌-ℤ◌, ◌/◌, ◌<◌, ◌∙◌, ◌≡◌, ◌≤◌}
-use Rattle.bbm_rule.specs.Marks.{MarksOne}
-use Rattle.local_run.specs.Leaps.{AreLaterFrom}
-use Rattle.local_run.specs.Quiet.{AreStarredCellsMarked, IsZeroAtUnmarked, LacksCellMark, cell_line_mark_number_at}
+use Rattle.bbm_rule.specs.Marks.{MarksOneNumber}
+use Rattle.local_run.specs.Leaps.{AreEventsLaterFrom}
+use Rattle.local_run.specs.Quiet.{AreStarredCellsMarked, AreUnmarkedSignalsZero, LacksOneOfCellMarks}
+use Rattle.local_run.specs.Quiet.{cell_line_mark_number_at}
 use Rattle.lanes.proofs.LaneLemmas.{place_below}
 use Rattle.std.proofs.Math.Nat.{mul-le-mul_left}
 
@@ -15,7 +18,7 @@ unfolding halo_coord
 outer_same c a b e = omega (arith, ints, e)
 
 pub number_below : (b : Box2) (x y : ℕ) → b.w % 2 ≡ 0 → b.h % 2 ≡ 0 → x < b.w + 2 → y < b.h + 2 →
-    number_at b x y < (b.w / 2 + 1) * (b.h / 2 + 1)
+    cell_number_at b x y < (b.w / 2 + 1) * (b.h / 2 + 1)
 number_below b x y ew eh lx ly = grind (arith, common_steps, place_below)
 
 -- the number of a cell's own mark is below that of the last part's end
@@ -24,15 +27,16 @@ part_within n c x y l = grind (arith, common_steps, mul-le-mul_left)
 
 pub cell_marked : (b : Box2) (c : Cell) (x y : ℕ) (old middle new : List ℕ) → c.x ≡ halo_coord b.x x →
     c.y ≡ halo_coord b.y y →
-    MarksOne (number_at b x y) old middle → MarksOne (cell_line_mark_number_at b x y) middle new → IsCellMarked b c new
+    MarksOneNumber (cell_number_at b x y) old middle → MarksOneNumber (cell_line_mark_number_at b x y) middle new →
+    HasBothCellMarks b c new
 cell_marked b c x y old middle new ex ey one own x' y' lx ly ex' ey' free = grind (arith, common_steps, outer_same)
 
-lacks_line : (b : Box2) (x y : ℕ) (old new : List ℕ) → KeepsMarks old new → LacksCellMark b x y new →
-    LacksCellMark b x y old
+lacks_line : (b : Box2) (x y : ℕ) (old new : List ℕ) → TakesNoMarkOff old new → LacksOneOfCellMarks b x y new →
+    LacksOneOfCellMarks b x y old
 lacks_line b x y old new h1 h2 = grind (arith, common_steps)
 
-pub still_marked : (b : Box2) (c : Cell) (old new : List ℕ) → KeepsMarks old new → IsCellMarked b c old →
-    IsCellMarked b c new
+pub still_marked : (b : Box2) (c : Cell) (old new : List ℕ) → TakesNoMarkOff old new → HasBothCellMarks b c old →
+    HasBothCellMarks b c new
 still_marked b c old new keeps marked x y lx ly ex ey free = grind (arith, common_steps, lacks_line)
 
 -- where no line names the cell at the time, its signal is `Zero`
@@ -52,31 +56,33 @@ zero_signal s t x y all_times events =
     refl' : Zero ≡ Zero
     refl' = cc
 
-pub still_all_times : (s : Signals) (b : Box2) (old new : List ℕ) → KeepsMarks old new →
+pub still_all_times : (s : Signals) (b : Box2) (old new : List ℕ) → TakesNoMarkOff old new →
     AreStarredCellsMarked s b old →
     AreStarredCellsMarked s b new
 still_all_times s b old new keeps all_times i h at = still_marked b h.cell old new keeps (all_times i h at)
 
 pub quiet_in : (s : Signals) (b : Box2) (t : ℕ) (marks : List ℕ) → AreStarredCellsMarked s b marks →
-    ((i : ℕ) (e : TimedSignal) → slice_get s.events i ≡ Some e → e.at.time ≡ t → IsCellMarked b e.at.cell marks) →
-    IsZeroAtUnmarked s b t marks
+    ((i : ℕ) (e : TimedSignal) → slice_get s.events i ≡ Some e → e.at.time ≡ t → HasBothCellMarks b e.at.cell marks) →
+    AreUnmarkedSignalsZero s b t marks
 quiet_in s b t marks all_times events x y lx ly free = grind (arith, common_steps, zero_signal)
 
-pub still_quiet : (s : Signals) (b : Box2) (t : ℕ) (old new : List ℕ) → KeepsMarks old new →
-    IsZeroAtUnmarked s b t old →
-    IsZeroAtUnmarked s b t new
+pub still_quiet : (s : Signals) (b : Box2) (t : ℕ) (old new : List ℕ) → TakesNoMarkOff old new →
+    AreUnmarkedSignalsZero s b t old →
+    AreUnmarkedSignalsZero s b t new
 still_quiet s b t old new keeps quiet x y lx ly free = quiet x y lx ly (lacks_line b x y old new keeps free)
 
 -- the events from the first one of a time up to the first one of the next
-pub events_between : (es : List TimedSignal) (t m n : ℕ) (P : TimedSignal → Type 0) → IsTimePlaceBetween es t m m →
-    IsTimePlaceBetween es (t + 1) n n →
+pub events_between : (es : List TimedSignal) (t m n : ℕ) (P : TimedSignal → Type 0) →
+    AreEventPlacesAroundTime es t m m →
+    AreEventPlacesAroundTime es (t + 1) n n →
     ((i : ℕ) (e : TimedSignal) → m ≤ i → i < n → slice_get es i ≡ Some e → P e) → (i : ℕ) (e : TimedSignal) →
     slice_get es i ≡ Some e → e.at.time ≡ t → P e
 events_between es t m n P from to have i e at same = grind (arith, common_steps, by_lt_or_le)
 
 -- no event is at a time, if those before a place are earlier and the others later
-pub events_nowhere : (es : List TimedSignal) (t m n : ℕ) (P : TimedSignal → Type 0) → IsTimePlaceBetween es t m n →
-    AreLaterFrom es m t → (i : ℕ) (e : TimedSignal) → slice_get es i ≡ Some e → e.at.time ≡ t → P e
+pub events_nowhere : (es : List TimedSignal) (t m n : ℕ) (P : TimedSignal → Type 0) →
+    AreEventPlacesAroundTime es t m n →
+    AreEventsLaterFrom es m t → (i : ℕ) (e : TimedSignal) → slice_get es i ≡ Some e → e.at.time ≡ t → P e
 events_nowhere es t m n P from later i e at same = grind (arith, common_steps)
 
 -- ---- signals counted from the corner of the box
@@ -85,9 +91,9 @@ unfolding halo_coord
 outer_back c k = omega (arith, ints)
 
 pub quiet_moved : (s : Signals) (b : Box2) (t : ℕ) (marks : List ℕ) →
-    IsZeroAtUnmarked (moved_signals (shift_to_origin b.x) (shift_to_origin b.y) s)
+    AreUnmarkedSignalsZero (moved_signals (shift_to_origin b.x) (shift_to_origin b.y) s)
     (record { x = 0; y = 0; w = b.w; h = b.h }) t marks →
-    IsZeroAtUnmarked s b t marks
+    AreUnmarkedSignalsZero s b t marks
 quiet_moved s b t marks quiet x y lx ly free =
     sym (signals_moved (shift_to_origin b.x) (shift_to_origin b.y) s t (halo_coord b.x x) (halo_coord b.y y))
     ∙ ap₂ (signal_at (moved_signals (shift_to_origin b.x) (shift_to_origin b.y) s) t) (outer_back b.x x)

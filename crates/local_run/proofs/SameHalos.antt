@@ -1,8 +1,9 @@
 -- Jobs whose halos say the same at each odd time have the same faults
-use Rattle.local_run.proofs.Imports.{All, Contains, Edge, End, HasFault, IsFaultUnder, JobView, Kind, List, Signals}
+use Rattle.local_run.proofs.Imports.{All, Contains, Edge, End, HasFaultWitness, IsFaultUnderValues, JobView, Kind, List}
+use Rattle.local_run.proofs.Imports.{Signals}
 use Rattle.local_run.proofs.Imports.{State, Stop, Valuation, arith, cases_Bool, common_steps, job_demand, job_start}
 use Rattle.local_run.proofs.Imports.{local_run, refl, subst, suc, with_halo, zero, ℕ, ℤ, ∥∥₁_map, ◌%◌, ◌<◌, ◌≡◌, ◌≤◌}
-use Rattle.local_run.specs.Laws.{JobsWithSameHalosAgree, HasSameHaloSignals}
+use Rattle.local_run.specs.Laws.{SameHalosMeanSameFaults, HasSameHaloSignals}
 use Rattle.local_run.proofs.LocalRuns.{even_or_odd, local_even, local_odd, step_all_same}
 use Rattle.module_job.specs.declared.job.Stop as listed
 
@@ -34,16 +35,16 @@ module _ (j : JobView) (halos : Signals) (same : HasSameHaloSignals j halos) whe
   last_is t n e = omega (arith, e)
 
   under_same : (u : Valuation) (t : ℕ) (kind : Kind) (x y : ℤ) → All (λ s. s.at.time ≤ j.steps) j.stops →
-      IsFaultUnder j u t kind x y → IsFaultUnder k u t kind x y
+      IsFaultUnderValues j u t kind x y → IsFaultUnderValues k u t kind x y
   unfolding job_demand
   under_same u t Edge x y early f = grind (arith, common_steps, run_same, early_is)
   under_same u t Stop x y early f = grind (arith, common_steps, run_same, stop_time)
   under_same u t End x y early f = grind (arith, common_steps, run_same, last_is)
 
-pub same_halos_agree : JobsWithSameHalosAgree
+pub same_halos_agree : SameHalosMeanSameFaults
 same_halos_agree j halos f early same is = record { in_range = is.in_range; shown = ∥∥₁_map is.shown moved }
   where
-    moved : HasFault j f → HasFault (record j { halos = halos }) f
+    moved : HasFaultWitness j f → HasFaultWitness (record j { halos = halos }) f
     moved h = record {
       values = h.values;
       local = h.local;

@@ -1,15 +1,18 @@
 -- Cells that are known to be dead and have no line
-use Rattle.local_run.proofs.Imports.{AreSkippableBetween, Edge, IsEdgeCorrectAt, IsFaultWhereDefined, IsHaloCellSet}
-use Rattle.local_run.proofs.Imports.{IsLeastBelow, IsOutsideBoxFromHalo, IsReady, JobView, List, None, Planes, Shows}
+use Rattle.local_run.proofs.Imports.{AreNumbersSkippableBetween, Edge, IsDefinedAndHasFault, IsEdgeCorrectAt}
+use Rattle.local_run.proofs.Imports.{IsHaloCellAsSignal}
+use Rattle.local_run.proofs.Imports.{IsLeastBelow, IsOutsideBoxFromHalo, IsRunReady, JobView, List, None, Planes}
+use Rattle.local_run.proofs.Imports.{ShowsRunAt}
 use Rattle.local_run.proofs.Imports.{Signal, Values, and_parts, ap, ap₂, arith, assignments, box_coord, by_eq_or_not}
 use Rattle.local_run.proofs.Imports.{by_lt_or_le, common_steps, dead_lane, false, false≢true, halo_coord, in_box}
 use Rattle.local_run.proofs.Imports.{in_span, inl, inr, is_defined_under, is_live, lane, local_run, mul-le-mul_left}
-use Rattle.local_run.proofs.Imports.{number_at, refl, signal_at, sym, true, valuation, ℕ, ◌%◌, ◌*◌, ◌+◌, ◌-◌, ◌/◌, ◌<◌}
+use Rattle.local_run.proofs.Imports.{cell_number_at, refl, signal_at, sym, true, valuation, ℕ, ◌%◌, ◌*◌, ◌+◌, ◌-◌, ◌/◌}
+use Rattle.local_run.proofs.Imports.{◌<◌}
 use Rattle.local_run.proofs.Imports.{◌∙◌, ◌≡◌, ◌≢◌, ◌≤◌}
-use Rattle.lanes.specs.Calm.{AreFourCellsDead}
-use Rattle.bbm_rule.specs.Marks.{IsUnmarked}
+use Rattle.lanes.specs.Calm.{AreNumberedCellsDead}
+use Rattle.bbm_rule.specs.Marks.{IsNumberUnmarked}
 use Rattle.local_run.specs.Quiet.{AreLineMarks}
-use Rattle.local_run.specs.Scans.{AreEdgesCorrectAtPlace, AreHaloCellsSetAtPlace, IsSilent}
+use Rattle.local_run.specs.Scans.{AreEdgesCorrectAtPlace, AreHaloCellsAsSignalsAtPlace, AreNumberedCellsSilent}
 use Rattle.lanes.proofs.InsideLemmas.{in_row}
 use Rattle.local_run.proofs.Firsts.{not_in_ring, span_at}
 use Rattle.local_run.proofs.QuietLemmas.{outer_same}
@@ -17,7 +20,7 @@ use Rattle.local_run.proofs.Stepping.{box_out, outer_inner}
 use Rattle.bbm_rule.proofs.RingTests.{ring_in_box}
 
 -- a cell of the box is in the planes as in the run
-pub shown_at : (j : JobView) (vs : Values) (p : Planes) (t x y a : ℕ) → Shows j vs t p → a < assignments j →
+pub shown_at : (j : JobView) (vs : Values) (p : Planes) (t x y a : ℕ) → ShowsRunAt j vs t p → a < assignments j →
     in_box j.area (halo_coord j.area.x x) (halo_coord j.area.y y) ≡ true →
     lane p a x y ≡ local_run j (valuation vs a) t (halo_coord j.area.x x) (halo_coord j.area.y y)
 unfolding in_box
@@ -31,26 +34,27 @@ shown_at j vs p t x y a shows la inside =
     grind (arith, common_steps, outer_inner)
 
 -- silent cells have no edge fault
-pub silent_edges : (j : JobView) (vs : Values) (p : Planes) (t column row : ℕ) → IsReady j vs → Shows j vs t p →
-    column < p.stride → IsSilent j t p (p.stride * row + column) → AreEdgesCorrectAtPlace j vs t column row
+pub silent_edges : (j : JobView) (vs : Values) (p : Planes) (t column row : ℕ) → IsRunReady j vs → ShowsRunAt j vs t p →
+    column < p.stride → AreNumberedCellsSilent j t p (p.stride * row + column) →
+    AreEdgesCorrectAtPlace j vs t column row
 silent_edges j vs p t column row ready shows lc silent x y lx ly ex ey a l f =
     let room = ready.room in
     let count = ready.count in
     let s0 = shows.size.0 in
-    let number : number_at j.area x y ≡ p.stride * row + column =
+    let number : cell_number_at j.area x y ≡ p.stride * row + column =
     ap₂ (λ r c. (j.area.w / 2 + 1) * r + c) ey ex ∙ ap (λ s. s * row + column) (sym shows.size.1) in
     let inside = ring_in_box j.area _ _ f.1.ring in
     f.1.differs (sym (shown_at j vs p t x y a shows l inside) ∙ silent.dead a x y (omega arith) lx ly number
     ∙ sym (ap (is_live (valuation vs a)) (silent.edge x y lx ly number)))
 
 -- and what their signals say comes to those of them in the halo
-pub silent_halo : (j : JobView) (vs : Values) (p : Planes) (t column row : ℕ) → IsReady j vs → Shows j vs t p →
-    IsSilent j t p (p.stride * row + column) → AreHaloCellsSetAtPlace j vs t p column row
+pub silent_halo : (j : JobView) (vs : Values) (p : Planes) (t column row : ℕ) → IsRunReady j vs → ShowsRunAt j vs t p →
+    AreNumberedCellsSilent j t p (p.stride * row + column) → AreHaloCellsAsSignalsAtPlace j vs t p column row
 silent_halo j vs p t column row ready shows silent x y lx ly ex ey a l outside = grind (arith, common_steps)
 
 pub silent_from : (j : JobView) (p : Planes) (t u : ℕ) (marks : List ℕ) → p.stride ≡ j.area.w / 2 + 1 →
-    AreFourCellsDead u p →
-    AreLineMarks j t marks → IsUnmarked marks u → IsSilent j t p u
+    AreNumberedCellsDead u p →
+    AreLineMarks j t marks → IsNumberUnmarked marks u → AreNumberedCellsSilent j t p u
 silent_from j p t u marks es dead lines free = grind (arith, common_steps, dead_lane)
 
 -- a place in the box, counted from the halo
@@ -66,12 +70,12 @@ outer_edge j vs t x y out a l f = false≢true (sym (box_out j.area x y out) ∙
 
 pub inner_edge : (j : JobView) (vs : Values) (t x y : ℕ) → 1 ≤ x → 1 ≤ y →
     IsLeastBelow (assignments j) (λ a.
-    IsFaultWhereDefined j vs a t Edge (box_coord j.area.x (x - 1)) (box_coord j.area.y (y - 1))) None →
+    IsDefinedAndHasFault j vs a t Edge (box_coord j.area.x (x - 1)) (box_coord j.area.y (y - 1))) None →
     IsEdgeCorrectAt j vs t x y
 inner_edge j vs t x y lx ly none a l = grind (arith, common_steps, inner_is_outer)
 
 -- nor does a cell that is as its signal says
-pub right_edge : (j : JobView) (vs : Values) (p : Planes) (t x y : ℕ) (s : Signal) → Shows j vs t p →
+pub right_edge : (j : JobView) (vs : Values) (p : Planes) (t x y : ℕ) (s : Signal) → ShowsRunAt j vs t p →
     s ≡ signal_at j.edges t (halo_coord j.area.x x) (halo_coord j.area.y y) →
     IsLeastBelow (assignments j) (λ a. (is_defined_under vs a ≡ true) × (lane p a x y ≢ is_live (valuation vs a) s))
     None →
@@ -79,9 +83,9 @@ pub right_edge : (j : JobView) (vs : Values) (p : Planes) (t x y : ℕ) (s : Sig
 right_edge j vs p t x y s shows es none a l f = grind (arith, common_steps, ring_in_box, shown_at)
 
 -- nor does a dead cell of which no line says something
-pub unsaid_edge : (j : JobView) (vs : Values) (p : Planes) (t x y : ℕ) (marks : List ℕ) → IsReady j vs →
-    Shows j vs t p → AreLineMarks j t marks → x < j.area.w + 2 → y < j.area.h + 2 →
-    IsUnmarked marks (p.stride * (y / 2) + x / 2 + p.stride * p.rows * (1 + 2 * (y % 2) + x % 2)) →
+pub unsaid_edge : (j : JobView) (vs : Values) (p : Planes) (t x y : ℕ) (marks : List ℕ) → IsRunReady j vs →
+    ShowsRunAt j vs t p → AreLineMarks j t marks → x < j.area.w + 2 → y < j.area.h + 2 →
+    IsNumberUnmarked marks (p.stride * (y / 2) + x / 2 + p.stride * p.rows * (1 + 2 * (y % 2) + x % 2)) →
     ((a : ℕ) → a < 64 * p.words → lane p a x y ≡ false) → IsEdgeCorrectAt j vs t x y
 unsaid_edge j vs p t x y marks ready shows lines lx ly free dead a l f =
     let room = ready.room in
@@ -93,10 +97,10 @@ unsaid_edge j vs p t x y marks ready shows lines lx ly free dead a l f =
     ∙ sym (ap (is_live (valuation vs a)) (lines.edges x y lx ly (inr free))))
 
 -- and it is as a halo signal says
-pub unsaid_halo : (j : JobView) (vs : Values) (p : Planes) (t x y : ℕ) (marks : List ℕ) → IsReady j vs →
-    Shows j vs t p → AreLineMarks j t marks → x < j.area.w + 2 → y < j.area.h + 2 →
-    IsUnmarked marks (p.stride * (y / 2) + x / 2 + p.stride * p.rows * (1 + 2 * (y % 2) + x % 2)) →
-    ((a : ℕ) → a < 64 * p.words → lane p a x y ≡ false) → IsHaloCellSet j vs t p x y
+pub unsaid_halo : (j : JobView) (vs : Values) (p : Planes) (t x y : ℕ) (marks : List ℕ) → IsRunReady j vs →
+    ShowsRunAt j vs t p → AreLineMarks j t marks → x < j.area.w + 2 → y < j.area.h + 2 →
+    IsNumberUnmarked marks (p.stride * (y / 2) + x / 2 + p.stride * p.rows * (1 + 2 * (y % 2) + x % 2)) →
+    ((a : ℕ) → a < 64 * p.words → lane p a x y ≡ false) → IsHaloCellAsSignal j vs t p x y
 unsaid_halo j vs p t x y marks ready shows lines lx ly free dead a l out = grind (arith, common_steps)
 
 -- the four cells in a column and row of the planes
@@ -113,13 +117,13 @@ between_edges j vs t x y lx hx ly hy a l f =
     false≢true (sym out ∙ f.1.ring)
 
 -- ---- the numbers that a look at ring and halo passes
-number_in : (j : JobView) (vs : Values) (t : ℕ) (p : Planes) (x y : ℕ) → Shows j vs t p →
-    number_at j.area x y ≡ p.stride * (y / 2) + x / 2
+number_in : (j : JobView) (vs : Values) (t : ℕ) (p : Planes) (x y : ℕ) → ShowsRunAt j vs t p →
+    cell_number_at j.area x y ≡ p.stride * (y / 2) + x / 2
 number_in j vs t p x y shows = ap (λ s. s * (y / 2) + x / 2) (sym shows.size.1)
 
-pub passed_edges : (j : JobView) (vs : Values) (p : Planes) (t x y : ℕ) (marks : List ℕ) → IsReady j vs →
-    Shows j vs t p → AreLineMarks j t marks →
-    AreSkippableBetween (number_at j.area x y) (number_at j.area x y + 1) marks p →
+pub passed_edges : (j : JobView) (vs : Values) (p : Planes) (t x y : ℕ) (marks : List ℕ) → IsRunReady j vs →
+    ShowsRunAt j vs t p → AreLineMarks j t marks →
+    AreNumbersSkippableBetween (cell_number_at j.area x y) (cell_number_at j.area x y + 1) marks p →
     x < j.area.w + 2 → y < j.area.h + 2 → IsEdgeCorrectAt j vs t x y
 passed_edges j vs p t x y marks ready shows lines passed lx ly =
     let s1 = shows.size.1 in
@@ -134,10 +138,10 @@ passed_edges j vs p t x y marks ready shows lines passed lx ly =
           (silent_from j p t (p.stride * (y / 2) + x / 2) marks s1 silent.0 lines silent.1) x y lx ly refl refl
     ]
 
-pub passed_halo : (j : JobView) (vs : Values) (p : Planes) (t x y : ℕ) (marks : List ℕ) → IsReady j vs →
-    Shows j vs t p → AreLineMarks j t marks →
-    AreSkippableBetween (number_at j.area x y) (number_at j.area x y + 1) marks p →
-    x < j.area.w + 2 → y < j.area.h + 2 → IsHaloCellSet j vs t p x y
+pub passed_halo : (j : JobView) (vs : Values) (p : Planes) (t x y : ℕ) (marks : List ℕ) → IsRunReady j vs →
+    ShowsRunAt j vs t p → AreLineMarks j t marks →
+    AreNumbersSkippableBetween (cell_number_at j.area x y) (cell_number_at j.area x y + 1) marks p →
+    x < j.area.w + 2 → y < j.area.h + 2 → IsHaloCellAsSignal j vs t p x y
 passed_halo j vs p t x y marks ready shows lines passed lx ly =
     grind (arith, common_steps, common_steps, number_in, silent_halo, silent_from)
 

@@ -1,6 +1,7 @@
 -- The steps of the planes are those of the definition
-use Rattle.local_run.proofs.Imports.{Bool, Box2, HasWordsStrideRows, IsOutsideBoxFromHalo, IsReady, JobView, Planes}
-use Rattle.local_run.proofs.Imports.{Shows, State, Valuation, Values, and_from, and_parts, ap, ap₂, arith, assignments}
+use Rattle.local_run.proofs.Imports.{Bool, Box2, HasWordsStrideRows, IsOutsideBoxFromHalo, IsRunReady, JobView, Planes}
+use Rattle.local_run.proofs.Imports.{ShowsRunAt, State, Valuation, Values, and_from, and_parts, ap, ap₂, arith}
+use Rattle.local_run.proofs.Imports.{assignments}
 use Rattle.local_run.proofs.Imports.{box_coord, by_eq_or_not, by_lt_or_le, cases_Bool, common_steps, cond-false}
 use Rattle.local_run.proofs.Imports.{cond-true, eq-eqb, false, false≢true, halo_coord, in_box, in_halo, in_span}
 use Rattle.local_run.proofs.Imports.{in_span-negsuc, ints, is_live, job_start, lane, local_run, ne_eqb, negsuc, partner}
@@ -8,13 +9,13 @@ use Rattle.local_run.proofs.Imports.{pos, refl, signal_at, span_from, span_parts
 use Rattle.local_run.proofs.Imports.{valuation, with_halo, zero, ℕ, ℤ, ◌%◌, ◌&&◌, ◌*◌, ◌+ℤ◌, ◌+◌, ◌-ℤ◌, ◌-◌, ◌/◌, ◌<◌}
 use Rattle.local_run.proofs.Imports.{◌||◌, ◌∙◌, ◌≡◌, ◌≢◌, ◌≤◌}
 use Rattle.lemmas.proofs.Common.{add-one, not_from_false, or-false, pred_pos}
-use Rattle.bbm_rule.specs.Rows.{mate}
+use Rattle.bbm_rule.specs.Rows.{paired_place}
 use Rattle.bbm_rule.proofs.BlockRuns.{mate_lt}
 use Rattle.bbm_rule.proofs.PairLemmas.{mate_even, mate_odd}
 use Rattle.bbm_rule.specs.Plane.{turned}
 use Rattle.bbm_rule.proofs.RingTests.{halo_read}
 use Rattle.lanes.specs.Lanes.{AreSameInBox}
-use Rattle.local_run.specs.Scans.{IsHaloSet}
+use Rattle.local_run.specs.Scans.{IsHaloAsSignals}
 use Rattle.local_run.proofs.LocalRuns.{local_even, local_odd, stays}
 use Rattle.local_run.proofs.Firsts.{inner_in_box}
 
@@ -43,14 +44,14 @@ less_plus n = omega (arith, ints)
 less_none : pos 0 -ℤ pos 1 ≡ negsuc 0
 less_none = omega (arith, ints)
 
-partner_inner : (c t x : ℕ) → c % 2 ≡ 0 → t % 2 ≡ 0 → partner t (box_coord c x) ≡ box_coord c (mate x)
+partner_inner : (c t x : ℕ) → c % 2 ≡ 0 → t % 2 ≡ 0 → partner t (box_coord c x) ≡ box_coord c (paired_place x)
 unfolding box_coord
 partner_inner c t x ec et = by_eq_or_not (x % 2) 0
     (λ e. grind (arith, common_steps, mate_even, up_pos))
     (λ o. let p : 1 + (x - 1) ≡ x = omega arith in
-    let m : mate x ≡ x - 1 = ap mate (sym p) ∙ mate_odd (x - 1) (omega arith) in
-    let q : c + x ≡ 1 + (c + mate x) = omega arith in
-    down_pos t (c + x) (omega arith) ∙ ap (λ n. pos n -ℤ pos 1) q ∙ less_plus (c + mate x))
+    let m : paired_place x ≡ x - 1 = ap paired_place (sym p) ∙ mate_odd (x - 1) (omega arith) in
+    let q : c + x ≡ 1 + (c + paired_place x) = omega arith in
+    down_pos t (c + x) (omega arith) ∙ ap (λ n. pos n -ℤ pos 1) q ∙ less_plus (c + paired_place x))
 
 outer_up : (t n : ℕ) → t % 2 ≡ 1 → n % 2 ≡ 0 → partner t (pos n -ℤ pos 1) ≡ pos (1 + n) -ℤ pos 1
 outer_up t zero et en = ap (partner t) less_none ∙ up_last t et ∙ sym (less_plus 0)
@@ -59,14 +60,14 @@ outer_up t (suc m) et en = grind (arith, common_steps, pred_pos, up_pos, less_pl
 outer_down : (t n : ℕ) → t % 2 ≡ 1 → n % 2 ≡ 0 → partner t (pos (1 + n) -ℤ pos 1) ≡ pos n -ℤ pos 1
 outer_down t n et en = ap (partner t) (less_plus n) ∙ down_pos t n (omega arith)
 
-partner_outer : (c t x : ℕ) → c % 2 ≡ 0 → t % 2 ≡ 1 → partner t (halo_coord c x) ≡ halo_coord c (mate x)
+partner_outer : (c t x : ℕ) → c % 2 ≡ 0 → t % 2 ≡ 1 → partner t (halo_coord c x) ≡ halo_coord c (paired_place x)
 unfolding halo_coord
 partner_outer c t x ec et = by_eq_or_not (x % 2) 0
     (λ e. grind (arith, common_steps, mate_even, outer_up))
     (λ o. let p : 1 + (x - 1) ≡ x = omega arith in
-    let m : mate x ≡ x - 1 = ap mate (sym p) ∙ mate_odd (x - 1) (omega arith) in
-    let q : c + x ≡ 1 + (c + mate x) = omega arith in
-    ap (λ n. partner t (pos n -ℤ pos 1)) q ∙ outer_down t (c + mate x) et (omega arith))
+    let m : paired_place x ≡ x - 1 = ap paired_place (sym p) ∙ mate_odd (x - 1) (omega arith) in
+    let q : c + x ≡ 1 + (c + paired_place x) = omega arith in
+    ap (λ n. partner t (pos n -ℤ pos 1)) q ∙ outer_down t (c + paired_place x) et (omega arith))
 
 pub outer_inner : (c x : ℕ) → halo_coord c (1 + x) ≡ box_coord c x
 unfolding halo_coord box_coord
@@ -85,12 +86,13 @@ run_odd j u t x y e h = ap (λ n. local_run j u n x y) (add-one t) ∙ local_odd
     ∙ ap (λ p. p && step t (with_halo j u t (local_run j u t)) x y) h
 
 -- ---- an even step
-pub even_shows : (j : JobView) (vs : Values) (t : ℕ) (p q : Planes) → IsReady j vs → t % 2 ≡ 0 → Shows j vs t p →
+pub even_shows : (j : JobView) (vs : Values) (t : ℕ) (p q : Planes) → IsRunReady j vs → t % 2 ≡ 0 →
+    ShowsRunAt j vs t p →
     HasWordsStrideRows p.words p.stride p.rows q →
     ((a x y : ℕ) → a < 64 * p.words → x + 2 < 2 * p.stride → y + 2 < 2 * p.rows →
-    lane q a (1 + x) (1 + y) ≡ turned (lane p a (1 + x) (1 + y)) (lane p a (1 + mate x) (1 + mate y))
-    (lane p a (1 + mate x) (1 + y)) (lane p a (1 + x) (1 + mate y))) →
-    Shows j vs (t + 1) q
+    lane q a (1 + x) (1 + y) ≡ turned (lane p a (1 + x) (1 + y)) (lane p a (1 + paired_place x) (1 + paired_place y))
+    (lane p a (1 + paired_place x) (1 + y)) (lane p a (1 + x) (1 + paired_place y))) →
+    ShowsRunAt j vs (t + 1) q
 even_shows j vs t p q ready even shows size turns = record {
   size = (size.0 ∙ shows.size.0, size.1 ∙ shows.size.1, size.2 ∙ shows.size.2);
   cells = λ a x y la lx ly.
@@ -102,32 +104,34 @@ even_shows j vs t p q ready even shows size turns = record {
       let s0 = shows.size.0 in
       let s1 = shows.size.1 in
       let s2 = shows.size.2 in
-      let mx : mate x < j.area.w = mate_lt x j.area.w ew lx in
-      let my : mate y < j.area.h = mate_lt y j.area.h eh ly in
+      let mx : paired_place x < j.area.w = mate_lt x j.area.w ew lx in
+      let my : paired_place y < j.area.h = mate_lt y j.area.h eh ly in
       turns a x y (omega arith) (omega arith) (omega arith)
-      ∙ block t (local_run j u t) (box_coord j.area.x x) (box_coord j.area.y y) (box_coord j.area.x (mate x))
-      (box_coord j.area.y (mate y)) _ _ _ _
+      ∙ block t (local_run j u t) (box_coord j.area.x x) (box_coord j.area.y y) (box_coord j.area.x (paired_place x))
+      (box_coord j.area.y (paired_place y)) _ _ _ _
       (partner_inner j.area.x t x ready.job.even.x even) (partner_inner j.area.y t y ready.job.even.y even)
-      (shows.cells a x y la lx ly) (shows.cells a (mate x) (mate y) la mx my) (shows.cells a (mate x) y la mx ly)
-      (shows.cells a x (mate y) la lx my)
+      (shows.cells a x y la lx ly) (shows.cells a (paired_place x) (paired_place y) la mx my)
+      (shows.cells a (paired_place x) y la mx ly)
+      (shows.cells a x (paired_place y) la lx my)
       ∙ sym (run_even j u t _ _ even);
 }
 
 -- the cells of the box stayed
-pub inside_shows : (j : JobView) (vs : Values) (t : ℕ) (p q : Planes) → IsReady j vs → Shows j vs t p →
-    HasWordsStrideRows p.words p.stride p.rows q → AreSameInBox p q → Shows j vs t q
+pub inside_shows : (j : JobView) (vs : Values) (t : ℕ) (p q : Planes) → IsRunReady j vs → ShowsRunAt j vs t p →
+    HasWordsStrideRows p.words p.stride p.rows q → AreSameInBox p q → ShowsRunAt j vs t q
 inside_shows j vs t p q ready shows size same = grind (arith, common_steps)
 
 -- ---- an odd step
-pub odd_shows : (j : JobView) (vs : Values) (t : ℕ) (p q : Planes) → IsReady j vs → t % 2 ≡ 1 →
+pub odd_shows : (j : JobView) (vs : Values) (t : ℕ) (p q : Planes) → IsRunReady j vs → t % 2 ≡ 1 →
     HasWordsStrideRows vs.words (j.area.w / 2 + 1) (j.area.h / 2 + 1) p →
     ((a x y : ℕ) → a < assignments j → x < j.area.w + 2 → y < j.area.h + 2 →
     lane p a x y ≡ with_halo j (valuation vs a) t (local_run j (valuation vs a) t) (halo_coord j.area.x x)
     (halo_coord j.area.y y)) →
     HasWordsStrideRows p.words p.stride p.rows q →
     ((a x y : ℕ) → a < 64 * p.words → x < 2 * p.stride → y < 2 * p.rows →
-    lane q a x y ≡ turned (lane p a x y) (lane p a (mate x) (mate y)) (lane p a (mate x) y) (lane p a x (mate y))) →
-    Shows j vs (t + 1) q
+    lane q a x y ≡ turned (lane p a x y) (lane p a (paired_place x) (paired_place y)) (lane p a (paired_place x) y)
+    (lane p a x (paired_place y))) →
+    ShowsRunAt j vs (t + 1) q
 odd_shows j vs t p q ready odd sized halo size turns = record {
   size = (size.0 ∙ sized.0, size.1 ∙ sized.1, size.2 ∙ sized.2);
   cells = λ a x y la lx ly.
@@ -142,14 +146,15 @@ odd_shows j vs t p q ready odd sized halo size turns = record {
       let s2 = sized.2 in
       let bx : 1 + x < j.area.w + 2 = omega arith in
       let by : 1 + y < j.area.h + 2 = omega arith in
-      let mx : mate (1 + x) < j.area.w + 2 = mate_lt (1 + x) (j.area.w + 2) (omega arith) bx in
-      let my : mate (1 + y) < j.area.h + 2 = mate_lt (1 + y) (j.area.h + 2) (omega arith) by in
+      let mx : paired_place (1 + x) < j.area.w + 2 = mate_lt (1 + x) (j.area.w + 2) (omega arith) bx in
+      let my : paired_place (1 + y) < j.area.h + 2 = mate_lt (1 + y) (j.area.h + 2) (omega arith) by in
       turns a (1 + x) (1 + y) (omega arith) (omega arith) (omega arith)
-      ∙ block t s (halo_coord j.area.x (1 + x)) (halo_coord j.area.y (1 + y)) (halo_coord j.area.x (mate (1 + x)))
-      (halo_coord j.area.y (mate (1 + y))) _ _ _ _
+      ∙ block t s (halo_coord j.area.x (1 + x)) (halo_coord j.area.y (1 + y))
+      (halo_coord j.area.x (paired_place (1 + x)))
+      (halo_coord j.area.y (paired_place (1 + y))) _ _ _ _
       (partner_outer j.area.x t (1 + x) ready.job.even.x odd) (partner_outer j.area.y t (1 + y) ready.job.even.y odd)
-      (halo a (1 + x) (1 + y) la bx by) (halo a (mate (1 + x)) (mate (1 + y)) la mx my)
-      (halo a (mate (1 + x)) (1 + y) la mx by) (halo a (1 + x) (mate (1 + y)) la bx my)
+      (halo a (1 + x) (1 + y) la bx by) (halo a (paired_place (1 + x)) (paired_place (1 + y)) la mx my)
+      (halo a (paired_place (1 + x)) (1 + y) la mx by) (halo a (1 + x) (paired_place (1 + y)) la bx my)
       ∙ ap₂ (step t s) (outer_inner j.area.x x) (outer_inner j.area.y y)
       ∙ sym (run_odd j u t _ _ odd (inner_in_box j.area x y lx ly));
 }
@@ -214,7 +219,8 @@ pub with_halo_outside : (j : JobView) (u : Valuation) (t : ℕ) (s : State) (x y
 unfolding with_halo
 with_halo_outside j u t s x y dead h = grind (arith, common_steps)
 
-pub halo_cells : (j : JobView) (vs : Values) (t : ℕ) (p : Planes) → IsReady j vs → Shows j vs t p → IsHaloSet j vs t p →
+pub halo_cells : (j : JobView) (vs : Values) (t : ℕ) (p : Planes) → IsRunReady j vs → ShowsRunAt j vs t p →
+    IsHaloAsSignals j vs t p →
     (a x y : ℕ) → a < assignments j → x < j.area.w + 2 → y < j.area.h + 2 →
     lane p a x y ≡ with_halo j (valuation vs a) t (local_run j (valuation vs a) t) (halo_coord j.area.x x)
     (halo_coord j.area.y y)

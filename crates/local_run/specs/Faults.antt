@@ -10,7 +10,7 @@ use Rattle.module_box.specs.Schedules.{signal_at}
 use Rattle.module_job.specs.Jobs.{JobView, job_demand}
 use Rattle.module_job.specs.Signals.{is_live, MeetsDemand}
 use Rattle.module_job.specs.declared.job.Stop as listed
-use Rattle.local_run.specs.Order.{fault_cmp, keep_cmp}
+use Rattle.local_run.specs.Order.{fault_cmp, keep_fault_cmp}
 use Rattle.local_run.specs.Runs.{local_run}
 use Rattle.local_run.specs.declared.fault.Fault.{Fault}
 use Rattle.local_run.specs.declared.fault.KeepFault.{KeepFault}
@@ -40,25 +40,25 @@ pub record IsEndFault (j : JobView) (u : Valuation) (t : ℕ) (x y : ℤ) : Type
   pub differs : ¬ MeetsDemand u (job_demand j x y) (local_run j u t x y)
 
 -- the cell (x, y) has a fault of the kind at time t, if the wires have these values
-abbrev pub IsFaultUnder : JobView → Valuation → ℕ → Kind → ℤ → ℤ → Type 0
-IsFaultUnder j u t Edge x y = IsEdgeFault j u t x y
-IsFaultUnder j u t Stop x y = IsStopFault j u t x y
-IsFaultUnder j u t End x y = IsEndFault j u t x y
+abbrev pub IsFaultUnderValues : JobView → Valuation → ℕ → Kind → ℤ → ℤ → Type 0
+IsFaultUnderValues j u t Edge x y = IsEdgeFault j u t x y
+IsFaultUnderValues j u t Stop x y = IsStopFault j u t x y
+IsFaultUnderValues j u t End x y = IsEndFault j u t x y
 
 -- how many assignments there are: one for each choice of the values of the cuts
 abbrev pub assignments : JobView → ℕ
 assignments j = 2 ^ j.locals.netlist.given
 
 -- a local valuation under the fault's assignment that has it
-pub record HasFault (j : JobView) (f : Fault) : Type 0 where
+pub record HasFaultWitness (j : JobView) (f : Fault) : Type 0 where
   pub values : Valuation
   pub local : IsLocalValuation j.locals f.assignment values
-  pub differs : IsFaultUnder j values f.time f.kind f.cell.x f.cell.y
+  pub differs : IsFaultUnderValues j values f.time f.kind f.cell.x f.cell.y
 
 -- a fault of the job: some local valuation under its assignment has it
 pub record IsFault (j : JobView) (f : Fault) : Type 0 where
   pub in_range : f.assignment < assignments j
-  pub shown : ∥ HasFault j f ∥₁
+  pub shown : ∥ HasFaultWitness j f ∥₁
 
 -- the job's least fault, or `None` if it has no fault
 abbrev pub IsLeastFault : JobView → Option Fault → Type 0
@@ -82,7 +82,7 @@ pub record IsKeepFault (j : JobView) (f : KeepFault) : Type 0 where
 -- the job's least keep fault, or `None` if it has none
 abbrev pub IsLeastKeepFault : JobView → Option KeepFault → Type 0
 IsLeastKeepFault j None = (f : KeepFault) → ¬ IsKeepFault j f
-IsLeastKeepFault j (Some f) = IsKeepFault j f × ((g : KeepFault) → IsKeepFault j g → keep_cmp f g ≢ Greater)
+IsLeastKeepFault j (Some f) = IsKeepFault j f × ((g : KeepFault) → IsKeepFault j g → keep_fault_cmp f g ≢ Greater)
 
 -- any two proofs of it are equal
 pub IsLeastKeepFault-prop : (j : JobView) (o : Option KeepFault) → IsProp (IsLeastKeepFault j o)

@@ -1,17 +1,18 @@
 -- The statements of this crate's laws
 use Rattle.std.specs.Prelude.{◌≡◌, ℕ, ℤ, ◌+◌, ◌<◌, ◌≤◌, ◌%◌, ◌↔◌, Option, None, IsTrue}
 use Rattle.std.specs.List.{All}
-use Rattle.circuit.specs.Meaning.{Valuation, AreOrdered}
+use Rattle.circuit.specs.Meaning.{Valuation, AreGatesOrdered}
 use Rattle.module_box.specs.LocalValues.{IsLocalValuation, IsFirstLocalGateWithoutRow}
-use Rattle.module_box.specs.Laws.{LiesInBox}
+use Rattle.module_box.specs.Laws.{IsDeadOutsideBox}
 use Rattle.bbm_rule.specs.Boxes.{in_halo}
 use Rattle.module_box.specs.Schedules.{Signals, signal_at}
 use Rattle.module_job.specs.Jobs.{JobView, IsJob}
-use Rattle.local_run.specs.Faults.{IsEdgeFault, IsFault, IsFaultUnder, IsKeepFault, IsLeastFault, IsLeastKeepFault}
+use Rattle.local_run.specs.Faults.{IsEdgeFault, IsFault, IsFaultUnderValues, IsKeepFault, IsLeastFault}
+use Rattle.local_run.specs.Faults.{IsLeastKeepFault}
 use Rattle.local_run.specs.Faults.{assignments}
 use Rattle.local_run.specs.Leaps.{IsOddOfTimePair, HasSameSignalsAtOddTimes, IsRunUnchangedUntil}
 use Rattle.local_run.specs.Runs.{local_run}
-use Rattle.local_run.specs.Shown.{job_of, fault_of, keep_of}
+use Rattle.local_run.specs.Shown.{job_of, fault_of, keep_fault_of}
 use Rattle.local_run.specs.declared.fault.Fault.{Fault}
 use Rattle.local_run.specs.declared.fault.KeepFault.{KeepFault}
 use Rattle.local_run.specs.declared.finding.Finding.{Finding}
@@ -26,19 +27,20 @@ NoneMeansNoFault = (f : Finding) (x : Fault) → fault_of f ≡ None → ¬ IsFa
 
 -- and one keep fault
 abbrev pub FindingsAgreeOnKeepFaults : Type 0
-FindingsAgreeOnKeepFaults = (f g : Finding) → job_of f ≡ job_of g → keep_of f ≡ keep_of g
+FindingsAgreeOnKeepFaults = (f g : Finding) → job_of f ≡ job_of g → keep_fault_of f ≡ keep_fault_of g
 
 -- a finding without a keep fault says that its job has none
 abbrev pub NoneMeansNoKeepFault : Type 0
-NoneMeansNoKeepFault = (f : Finding) (x : KeepFault) → keep_of f ≡ None → ¬ IsKeepFault (job_of f) x
+NoneMeansNoKeepFault = (f : Finding) (x : KeepFault) → keep_fault_of f ≡ None → ¬ IsKeepFault (job_of f) x
 
 -- a job has one least keep fault, or none
 abbrev pub LeastKeepFaultIsUnique : Type 0
 LeastKeepFaultIsUnique = (j : JobView) (f g : Option KeepFault) → IsLeastKeepFault j f → IsLeastKeepFault j g → f ≡ g
 
 -- if some used gate has no row under an assignment, the job has no fault under it
-abbrev pub NoFaultWhereUndefined : Type 0
-NoFaultWhereUndefined = (j : JobView) (f : Fault) (k : ℕ) → AreOrdered j.locals.netlist.given j.locals.netlist.gates →
+abbrev pub NoFaultIfGateUndefined : Type 0
+NoFaultIfGateUndefined = (j : JobView) (f : Fault) (k : ℕ) →
+    AreGatesOrdered j.locals.netlist.given j.locals.netlist.gates →
     IsFirstLocalGateWithoutRow j.locals f.assignment k → ¬ IsFault j f
 
 -- a job has one least fault, or none
@@ -49,9 +51,9 @@ LeastFaultIsUnique = (j : JobView) (f g : Option Fault) → IsLeastFault j f →
 -- a fault under it.
 abbrev pub OneValuationDecidesFault : Type 0
 OneValuationDecidesFault = (j : JobView) (f : Fault) (u : Valuation) → IsJob j →
-    AreOrdered j.locals.netlist.given j.locals.netlist.gates →
+    AreGatesOrdered j.locals.netlist.given j.locals.netlist.gates →
     f.assignment < assignments j → IsLocalValuation j.locals f.assignment u →
-    IsFault j f ↔ IsFaultUnder j u f.time f.kind f.cell.x f.cell.y
+    IsFault j f ↔ IsFaultUnderValues j u f.time f.kind f.cell.x f.cell.y
 
 -- at each odd time below the steps, these signals and the job's halos agree at each cell of the halo
 abbrev pub HasSameHaloSignals : JobView → Signals → Type 0
@@ -59,13 +61,13 @@ HasSameHaloSignals j halos = (t : ℕ) (x y : ℤ) → t % 2 ≡ 1 → t < j.ste
     signal_at j.halos t x y ≡ signal_at halos t x y
 
 -- the job keeps its faults if its halos are replaced by these, if its stops are at times up to the last one
-abbrev pub JobsWithSameHalosAgree : Type 0
-JobsWithSameHalosAgree = (j : JobView) (halos : Signals) (f : Fault) → All (λ s. s.at.time ≤ j.steps) j.stops →
+abbrev pub SameHalosMeanSameFaults : Type 0
+SameHalosMeanSameFaults = (j : JobView) (halos : Signals) (f : Fault) → All (λ s. s.at.time ≤ j.steps) j.stops →
     HasSameHaloSignals j halos → IsFault j f → IsFault (record j { halos = halos }) f
 
 -- no cell outside the box is ever live
 abbrev pub LocalRunStaysInBox : Type 0
-LocalRunStaysInBox = (j : JobView) (u : Valuation) (t : ℕ) → IsJob j → LiesInBox j.area (local_run j u t)
+LocalRunStaysInBox = (j : JobView) (u : Valuation) (t : ℕ) → IsJob j → IsDeadOutsideBox j.area (local_run j u t)
 
 -- A run that does not change in two steps does not change until time n, if the signals of the halo do not either
 abbrev pub QuietRunStaysUnchanged : Type 0

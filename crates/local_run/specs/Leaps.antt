@@ -21,13 +21,13 @@ pub record IsOddOfTimePair (t o : ℕ) : Type 0 where
   pub next : o ≤ t + 1
 
 -- the times of the events before place `low` are less than t, and those from place `high` on are not
-pub record IsTimePlaceBetween (es : List TimedSignal) (t low high : ℕ) : Type 0 where
+pub record AreEventPlacesAroundTime (es : List TimedSignal) (t low high : ℕ) : Type 0 where
   pub below : (i : ℕ) (e : TimedSignal) → i < low → slice_get es i ≡ Some e → e.at.time < t
   pub above : (i : ℕ) (e : TimedSignal) → high ≤ i → slice_get es i ≡ Some e → t ≤ e.at.time
 
 -- the events from this place on are later than time t
-abbrev pub AreLaterFrom : List TimedSignal → ℕ → ℕ → Type 0
-AreLaterFrom es place t = (i : ℕ) (e : TimedSignal) → place ≤ i → slice_get es i ≡ Some e → t < e.at.time
+abbrev pub AreEventsLaterFrom : List TimedSignal → ℕ → ℕ → Type 0
+AreEventsLaterFrom es place t = (i : ℕ) (e : TimedSignal) → place ≤ i → slice_get es i ≡ Some e → t < e.at.time
 
 -- none of the events is at a time from t on, before n
 abbrev pub HasNoEventsBetween : List TimedSignal → ℕ → ℕ → Type 0

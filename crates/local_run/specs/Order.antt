@@ -21,5 +21,5 @@ fault_cmp a b =
     (ordering_then (cell_cmp a.cell b.cell) (nat_cmp a.assignment b.assignment)))
 
 -- the order of keep faults: by gate and assignment
-unfoldable pub keep_cmp : KeepFault → KeepFault → Ordering
-keep_cmp a b = ordering_then (nat_cmp a.gate b.gate) (nat_cmp a.assignment b.assignment)
+unfoldable pub keep_fault_cmp : KeepFault → KeepFault → Ordering
+keep_fault_cmp a b = ordering_then (nat_cmp a.gate b.gate) (nat_cmp a.assignment b.assignment)

@@ -1,7 +1,7 @@
 -- The run of a job under all assignments, and the first of its faults
 use Rattle.std.specs.Prelude.{◌≡◌, ◌≢◌, Bool, true, false, ℕ, ℤ, ◌+◌, ◌*◌, ◌/◌, ◌%◌, ◌<◌, ◌≤◌, ◌<ℤ◌, List, length}
 use Rattle.std.specs.Prelude.{slice_get, Option, Some, None, ◌⊎◌}
-use Rattle.circuit.specs.Meaning.{Valuation, AreOrdered, wires}
+use Rattle.circuit.specs.Meaning.{Valuation, AreGatesOrdered, wires}
 use Rattle.module_box.specs.LocalValues.{AreValueRows, bit_of_row, value_of}
 use Rattle.module_box.specs.Schedules.{signal_at}
 use Rattle.bbm_rule.specs.declared.block.Box2.{Box2}
@@ -10,10 +10,10 @@ use Rattle.module_box.specs.declared.schedules.Signal.TheVariants.{Zero, One, Wi
 use Rattle.module_job.specs.Jobs.{JobView, IsJob}
 use Rattle.module_job.specs.Signals.{is_live}
 use Rattle.module_job.specs.declared.job.Stop as listed
-use Rattle.local_run.specs.Faults.{IsFaultUnder, assignments}
+use Rattle.local_run.specs.Faults.{IsFaultUnderValues, assignments}
 use Rattle.lanes.specs.Lanes.{HasWordsStrideRows, lane}
 use Rattle.local_run.specs.Places.{box_coord, halo_coord}
-use Rattle.local_run.specs.Quiet.{number_at}
+use Rattle.local_run.specs.Quiet.{cell_number_at}
 use Rattle.local_run.specs.Runs.{local_run}
 use Rattle.local_run.specs.declared.fault.Fault.{Fault}
 use Rattle.local_run.specs.declared.fault.Kind.{Kind}
@@ -36,14 +36,15 @@ is_defined_under vs a = bit_of_row vs.rows.defined.items a
 
 -- if each used gate has a row, the values of the wires stay: in rows of words, with the row of the assignments that
 -- are so
-abbrev pub KeepsValuesWhereDefined : List ℕ → List ℕ → List ℕ → Type 0
-KeepsValuesWhereDefined defined old new =
+abbrev pub KeepsDefinedValues : List ℕ → List ℕ → List ℕ → Type 0
+KeepsDefinedValues defined old new =
     (a w : ℕ) → a < 64 * length defined → bit_of_row defined a ≡ true →
     value_of (length defined) new a w ≡ value_of (length defined) old a w
 
 -- each used gate has a row under assignment a, and the job has the fault
-abbrev pub IsFaultWhereDefined : JobView → Values → ℕ → ℕ → Kind → ℤ → ℤ → Type 0
-IsFaultWhereDefined j vs a t kind x y = (is_defined_under vs a ≡ true) × IsFaultUnder j (valuation vs a) t kind x y
+abbrev pub IsDefinedAndHasFault : JobView → Values → ℕ → ℕ → Kind → ℤ → ℤ → Type 0
+IsDefinedAndHasFault j vs a t kind x y =
+    (is_defined_under vs a ≡ true) × IsFaultUnderValues j (valuation vs a) t kind x y
 
 -- each used gate has a row under assignment a, and at the stop's time its cell is not as its wire
 abbrev pub IsStopMissed : JobView → Values → ℕ → listed.Stop → Type 0
@@ -57,9 +58,9 @@ HasValueRow vs One = Unit {0}
 HasValueRow vs (Wire w) = vs.words * w + vs.words ≤ length vs.rows.values.items
 
 -- what a run needs of a job and of the values of its wires
-pub record IsReady (j : JobView) (vs : Values) : Type 0 where
+pub record IsRunReady (j : JobView) (vs : Values) : Type 0 where
   pub job : IsJob j
-  pub ordered : AreOrdered j.locals.netlist.given j.locals.netlist.gates
+  pub ordered : AreGatesOrdered j.locals.netlist.given j.locals.netlist.gates
   pub wide : (0 < vs.words) × (vs.words ≤ 64)
   pub count : vs.count ≡ assignments j
   pub room : vs.count ≤ 64 * vs.words
@@ -67,7 +68,7 @@ pub record IsReady (j : JobView) (vs : Values) : Type 0 where
   pub rows : AreValueRows j.locals.netlist vs.words vs.rows
 
 -- the cells of the box are those of the run at time t, under each assignment
-pub record Shows (j : JobView) (vs : Values) (t : ℕ) (p : Planes) : Type 0 where
+pub record ShowsRunAt (j : JobView) (vs : Values) (t : ℕ) (p : Planes) : Type 0 where
   pub size : HasWordsStrideRows vs.words (j.area.w / 2 + 1) (j.area.h / 2 + 1) p
   pub cells : (a x y : ℕ) → a < assignments j → x < j.area.w → y < j.area.h →
       lane p a (1 + x) (1 + y) ≡ local_run j (valuation vs a) t (box_coord j.area.x x) (box_coord j.area.y y)
@@ -94,14 +95,14 @@ pub record IsFirstFaultOfKind (j : JobView) (vs : Values) (t : ℕ) (kind : Kind
   pub at_time : f.time ≡ t
   pub same_kind : f.kind ≡ kind
   pub small : f.assignment < assignments j
-  pub fault : IsFaultWhereDefined j vs f.assignment t kind f.cell.x f.cell.y
-  pub row : (x y : ℤ) (a : ℕ) → a < assignments j → y <ℤ f.cell.y → ¬ IsFaultWhereDefined j vs a t kind x y
-  pub column : (x : ℤ) (a : ℕ) → a < assignments j → x <ℤ f.cell.x → ¬ IsFaultWhereDefined j vs a t kind x f.cell.y
-  pub assignment : (a : ℕ) → a < f.assignment → ¬ IsFaultWhereDefined j vs a t kind f.cell.x f.cell.y
+  pub fault : IsDefinedAndHasFault j vs f.assignment t kind f.cell.x f.cell.y
+  pub row : (x y : ℤ) (a : ℕ) → a < assignments j → y <ℤ f.cell.y → ¬ IsDefinedAndHasFault j vs a t kind x y
+  pub column : (x : ℤ) (a : ℕ) → a < assignments j → x <ℤ f.cell.x → ¬ IsDefinedAndHasFault j vs a t kind x f.cell.y
+  pub assignment : (a : ℕ) → a < f.assignment → ¬ IsDefinedAndHasFault j vs a t kind f.cell.x f.cell.y
 
 -- there is no fault of the kind at the time
 abbrev pub HasNoFaultOfKind : JobView → Values → ℕ → Kind → Type 0
-HasNoFaultOfKind j vs t kind = (x y : ℤ) (a : ℕ) → a < assignments j → ¬ IsFaultWhereDefined j vs a t kind x y
+HasNoFaultOfKind j vs t kind = (x y : ℤ) (a : ℕ) → a < assignments j → ¬ IsDefinedAndHasFault j vs a t kind x y
 
 -- a cell, counted from the halo, is what the signal says under the assignments of this many words
 abbrev pub IsCellAsSignalUnderWords : Values → Planes → ℕ → ℕ → Signal → ℕ → Type 0
@@ -109,7 +110,7 @@ IsCellAsSignalUnderWords vs p x y signal words =
     (a : ℕ) → a < 64 * words → lane p a x y ≡ is_live (valuation vs a) signal
 
 -- a cell, counted from the halo, becomes what the signal says, and no other changes
-pub record PutsCell (vs : Values) (x y : ℕ) (signal : Signal) (p q : Planes) : Type 0 where
+pub record PutsSignalInCell (vs : Values) (x y : ℕ) (signal : Signal) (p q : Planes) : Type 0 where
   pub size : HasWordsStrideRows p.words p.stride p.rows q
   pub there : (a : ℕ) → a < 64 * vs.words → lane q a x y ≡ is_live (valuation vs a) signal
   pub rest : (a x' y' : ℕ) → a < 64 * vs.words → x' / 2 < p.stride → ((x' ≡ x) × (y' ≡ y) → ⊥) →
@@ -120,13 +121,13 @@ abbrev pub IsOutsideBoxFromHalo : Box2 → ℕ → ℕ → Type 0
 IsOutsideBoxFromHalo b x y = (1 ≤ x) × (x ≤ b.w) × (1 ≤ y) × (y ≤ b.h) → ⊥
 
 -- the cell of the halo is what its signal says, under each assignment
-abbrev pub IsHaloCellSet : JobView → Values → ℕ → Planes → ℕ → ℕ → Type 0
-IsHaloCellSet j vs t p x y = (a : ℕ) → a < assignments j → IsOutsideBoxFromHalo j.area x y →
+abbrev pub IsHaloCellAsSignal : JobView → Values → ℕ → Planes → ℕ → ℕ → Type 0
+IsHaloCellAsSignal j vs t p x y = (a : ℕ) → a < assignments j → IsOutsideBoxFromHalo j.area x y →
     lane p a x y ≡ is_live (valuation vs a) (signal_at j.halos t (halo_coord j.area.x x) (halo_coord j.area.y y))
 
 -- all cells of the halo are
-abbrev pub IsHaloSet : JobView → Values → ℕ → Planes → Type 0
-IsHaloSet j vs t p = (x y : ℕ) → x < j.area.w + 2 → y < j.area.h + 2 → IsHaloCellSet j vs t p x y
+abbrev pub IsHaloAsSignals : JobView → Values → ℕ → Planes → Type 0
+IsHaloAsSignals j vs t p = (x y : ℕ) → x < j.area.w + 2 → y < j.area.h + 2 → IsHaloCellAsSignal j vs t p x y
 
 -- no cell changes but the one at (x, y), counted from the halo
 abbrev pub IsSameButAtCell : JobView → Planes → Planes → ℕ → ℕ → Type 0
@@ -149,25 +150,25 @@ IsFirstFaultAt j vs t f = ((t % 2 ≡ 1) × IsFirstFaultOfKind j vs t Edge f)
     ⊎ (HasNoEdgeFaultAtOddTime j vs t × IsFirstFaultOfKind j vs t Stop f)
 
 -- a time before the last without a fault: the place is that of the next stop after it
-pub record IsTimePassed (j : JobView) (vs : Values) (t place : ℕ) : Type 0 where
+pub record IsTimeWithoutFault (j : JobView) (vs : Values) (t place : ℕ) : Type 0 where
   pub next : IsNextStop j (t + 1) place
   pub edges : HasNoEdgeFaultAtOddTime j vs t
   pub stops : HasNoFaultOfKind j vs t Stop
 
 -- The cells of box and halo with this number, one in each plane, are dead under each assignment, and their signals at
 -- time t are `Zero`
-pub record IsSilent (j : JobView) (t : ℕ) (p : Planes) (u : ℕ) : Type 0 where
-  pub dead : (a x y : ℕ) → a < 64 * p.words → x < j.area.w + 2 → y < j.area.h + 2 → number_at j.area x y ≡ u →
+pub record AreNumberedCellsSilent (j : JobView) (t : ℕ) (p : Planes) (u : ℕ) : Type 0 where
+  pub dead : (a x y : ℕ) → a < 64 * p.words → x < j.area.w + 2 → y < j.area.h + 2 → cell_number_at j.area x y ≡ u →
       lane p a x y ≡ false
-  pub edge : (x y : ℕ) → x < j.area.w + 2 → y < j.area.h + 2 → number_at j.area x y ≡ u →
+  pub edge : (x y : ℕ) → x < j.area.w + 2 → y < j.area.h + 2 → cell_number_at j.area x y ≡ u →
       signal_at j.edges t (halo_coord j.area.x x) (halo_coord j.area.y y) ≡ Zero
-  pub halo : (x y : ℕ) → x < j.area.w + 2 → y < j.area.h + 2 → number_at j.area x y ≡ u →
+  pub halo : (x y : ℕ) → x < j.area.w + 2 → y < j.area.h + 2 → cell_number_at j.area x y ≡ u →
       signal_at j.halos t (halo_coord j.area.x x) (halo_coord j.area.y y) ≡ Zero
 
 -- the cells of the halo in this column and row of the planes are what their signals say
-abbrev pub AreHaloCellsSetAtPlace : JobView → Values → ℕ → Planes → ℕ → ℕ → Type 0
-AreHaloCellsSetAtPlace j vs t p column row =
-    (x y : ℕ) → x < j.area.w + 2 → y < j.area.h + 2 → x / 2 ≡ column → y / 2 ≡ row → IsHaloCellSet j vs t p x y
+abbrev pub AreHaloCellsAsSignalsAtPlace : JobView → Values → ℕ → Planes → ℕ → ℕ → Type 0
+AreHaloCellsAsSignalsAtPlace j vs t p column row =
+    (x y : ℕ) → x < j.area.w + 2 → y < j.area.h + 2 → x / 2 ≡ column → y / 2 ≡ row → IsHaloCellAsSignal j vs t p x y
 
 -- no cell changes but those in this column and row of the planes
 abbrev pub IsSameButAtPlace : JobView → Planes → Planes → ℕ → ℕ → Type 0
@@ -175,26 +176,26 @@ IsSameButAtPlace j p q column row = (a x y : ℕ) → a < assignments j → x < 
     ((x / 2 ≡ column) × (y / 2 ≡ row) → ⊥) → lane q a x y ≡ lane p a x y
 
 -- the cells of the halo with the numbers from one to another are what their signals say
-abbrev pub AreHaloCellsSetBetween : JobView → Values → ℕ → ℕ → ℕ → Planes → Type 0
-AreHaloCellsSetBetween j vs t from end p =
-    (x y : ℕ) → x < j.area.w + 2 → y < j.area.h + 2 → from ≤ number_at j.area x y →
-    number_at j.area x y < end → IsHaloCellSet j vs t p x y
+abbrev pub AreNumberedHaloCellsAsSignals : JobView → Values → ℕ → ℕ → ℕ → Planes → Type 0
+AreNumberedHaloCellsAsSignals j vs t from end p =
+    (x y : ℕ) → x < j.area.w + 2 → y < j.area.h + 2 → from ≤ cell_number_at j.area x y →
+    cell_number_at j.area x y < end → IsHaloCellAsSignal j vs t p x y
 
 -- no cell changes whose number is before this one
 abbrev pub IsSameBeforeNumber : JobView → Planes → Planes → ℕ → Type 0
-IsSameBeforeNumber j p q end = (a x y : ℕ) → a < assignments j → x < j.area.w + 2 → number_at j.area x y < end →
+IsSameBeforeNumber j p q end = (a x y : ℕ) → a < assignments j → x < j.area.w + 2 → cell_number_at j.area x y < end →
     lane q a x y ≡ lane p a x y
 
 -- a cell, counted from the halo, is outside the ring or carries what its signal says, wherever each used gate has a row
 abbrev pub IsEdgeCorrectAt : JobView → Values → ℕ → ℕ → ℕ → Type 0
 IsEdgeCorrectAt j vs t x y = (a : ℕ) → a < assignments j →
-    ¬ IsFaultWhereDefined j vs a t Edge (halo_coord j.area.x x) (halo_coord j.area.y y)
+    ¬ IsDefinedAndHasFault j vs a t Edge (halo_coord j.area.x x) (halo_coord j.area.y y)
 
 -- each cell of the ring with a number from one to another carries what its signal says
 abbrev pub AreEdgesCorrectBetweenNumbers : JobView → Values → ℕ → ℕ → ℕ → Type 0
 AreEdgesCorrectBetweenNumbers j vs t from end =
-    (x y : ℕ) → x < j.area.w + 2 → y < j.area.h + 2 → from ≤ number_at j.area x y →
-    number_at j.area x y < end → IsEdgeCorrectAt j vs t x y
+    (x y : ℕ) → x < j.area.w + 2 → y < j.area.h + 2 → from ≤ cell_number_at j.area x y →
+    cell_number_at j.area x y < end → IsEdgeCorrectAt j vs t x y
 
 -- each cell of the ring in this column and row of the planes carries what its signal says
 abbrev pub AreEdgesCorrectAtPlace : JobView → Values → ℕ → ℕ → ℕ → Type 0

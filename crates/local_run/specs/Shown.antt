@@ -23,5 +23,5 @@ abbrev pub fault_of : Finding → Option Fault
 fault_of f = f.fault
 
 -- the keep fault of a finding, if it has one
-abbrev pub keep_of : Finding → Option KeepFault
-keep_of f = f.keep
+abbrev pub keep_fault_of : Finding → Option KeepFault
+keep_fault_of f = f.keep

@@ -1,15 +1,15 @@
 //! The cells of ring and halo at an odd time.
 ghost use Rattle.std.specs.Prelude.{ℕ, ◌≡◌, ◌+◌, ◌*◌, ◌/◌, ◌%◌, ◌<◌, ◌≤◌, true, false};
 ghost use Rattle.bbm_rule.specs.Bits.{bit};
-ghost use Rattle.lanes.specs.Settled.{KeepsSettled};
+ghost use Rattle.lanes.specs.Settled.{AreSettledBlocksUnchanged};
 ghost use Rattle.circuit.specs.Meaning.{wires};
 ghost use Rattle.module_box.specs.Schedules.{signal_at};
 ghost use Rattle.module_job.specs.Jobs.{IsJob};
 ghost use Rattle.module_job.specs.Signals.{IsSignalWireBelow};
 ghost use Rattle.local_run.specs.Places.{halo_coord};
 ghost use Rattle.local_run.specs.Quiet.{AreLineMarks};
-ghost use Rattle.local_run.specs.Steady.{AreEventMarks, IsNumberCorrect, IsSteadyWhereSettled};
-ghost use Rattle.local_run.specs.Scans.{IsEdgeCorrectAt, AreEdgesCorrectBetweenNumbers, AreEdgesCorrectAtPlace, IsHaloSet, IsHaloCellSet, AreHaloCellsSetBetween, AreHaloCellsSetAtPlace, HasNoFaultOfKind, IsOutsideBoxFromHalo, IsReady, IsKindScannedAt, IsSameBeforeNumber, IsSameButAtPlace, IsSameButAtCell, Shows};
+ghost use Rattle.local_run.specs.Steady.{AreEventMarks, AreSignalsCorrectAtNumber, MatchesStarsWhereSettled};
+ghost use Rattle.local_run.specs.Scans.{IsEdgeCorrectAt, AreEdgesCorrectBetweenNumbers, AreEdgesCorrectAtPlace, IsHaloAsSignals, IsHaloCellAsSignal, AreNumberedHaloCellsAsSignals, AreHaloCellsAsSignalsAtPlace, HasNoFaultOfKind, IsOutsideBoxFromHalo, IsRunReady, IsKindScannedAt, IsSameBeforeNumber, IsSameButAtPlace, IsSameButAtCell, ShowsRunAt};
 
 use crate::fault::Kind;
 use crate::line_marks::LineMarks;
@@ -84,8 +84,8 @@ fn is_edge_correct(
     x: usize,
     y: usize,
 ) -> bool
-    requires job_ready { IsReady job.now values.now }
-    requires shows { Shows job.now values.now lines.now.time marked_planes.now.planes }
+    requires job_ready { IsRunReady job.now values.now }
+    requires shows { ShowsRunAt job.now values.now lines.now.time marked_planes.now.planes }
     requires lines { AreLineMarks job.now lines.now.time lines.now.marks.items }
     requires column { (1 ≤ x) × (x ≤ job.now.area.w) }
     requires row { (1 ≤ y) × (y ≤ job.now.area.h) }
@@ -111,15 +111,16 @@ fn set_halo_cell(
     x: usize,
     y: usize,
 )
-    requires job_ready { IsReady job.now values.now }
-    requires shows { Shows job.now values.now lines.now.time marked_planes.old.planes }
+    requires job_ready { IsRunReady job.now values.now }
+    requires shows { ShowsRunAt job.now values.now lines.now.time marked_planes.old.planes }
     requires lines { AreLineMarks job.now lines.now.time lines.now.marks.items }
     requires place { (x < job.now.area.w + 2) × (y < job.now.area.h + 2) }
     requires halo_coord { IsOutsideBoxFromHalo job.now.area x y }
-    ensures shows { Shows job.now values.now lines.now.time marked_planes.new.planes }
-    ensures is_set { IsHaloCellSet job.now values.now lines.now.time marked_planes.new.planes x y }
+    ensures shows { ShowsRunAt job.now values.now lines.now.time marked_planes.new.planes }
+    ensures is_set { IsHaloCellAsSignal job.now values.now lines.now.time marked_planes.new.planes x
+        y }
     ensures rest { IsSameButAtCell job.now marked_planes.old.planes marked_planes.new.planes x y }
-    ensures settled { KeepsSettled marked_planes.old marked_planes.new }
+    ensures settled { AreSettledBlocksUnchanged marked_planes.old marked_planes.new }
 {
     let signal = halo_signal(marked_planes, job, lines, x, y);
     if values.differs_from_signal(marked_planes.planes(), x, y, signal) {
@@ -139,16 +140,17 @@ fn set_halo_or_is_edge_correct(
     x: usize,
     y: usize,
 ) -> bool
-    requires job_ready { IsReady job.now values.now }
-    requires shows { Shows job.now values.now lines.now.time marked_planes.old.planes }
+    requires job_ready { IsRunReady job.now values.now }
+    requires shows { ShowsRunAt job.now values.now lines.now.time marked_planes.old.planes }
     requires lines { AreLineMarks job.now lines.now.time lines.now.marks.items }
     requires sought { IsKindScannedAt job.now lines.now.time Kind.Edge }
     requires place { (x < job.now.area.w + 2) × (y < job.now.area.h + 2) }
-    ensures shows { Shows job.now values.now lines.now.time marked_planes.new.planes }
+    ensures shows { ShowsRunAt job.now values.now lines.now.time marked_planes.new.planes }
     ensures edge { result ≡ true → IsEdgeCorrectAt job.now values.now lines.now.time x y }
-    ensures halo { IsHaloCellSet job.now values.now lines.now.time marked_planes.new.planes x y }
+    ensures halo { IsHaloCellAsSignal job.now values.now lines.now.time marked_planes.new.planes x
+        y }
     ensures rest { IsSameButAtCell job.now marked_planes.old.planes marked_planes.new.planes x y }
-    ensures settled { KeepsSettled marked_planes.old marked_planes.new }
+    ensures settled { AreSettledBlocksUnchanged marked_planes.old marked_planes.new }
 {
     let area = job.area();
     // Most cells have no line and are dead.
@@ -171,19 +173,19 @@ fn set_halo_cells_or_are_edges_correct(
     column: usize,
     row: usize,
 ) -> bool
-    requires job_ready { IsReady job.now values.now }
-    requires shows { Shows job.now values.now lines.now.time marked_planes.old.planes }
+    requires job_ready { IsRunReady job.now values.now }
+    requires shows { ShowsRunAt job.now values.now lines.now.time marked_planes.old.planes }
     requires lines { AreLineMarks job.now lines.now.time lines.now.marks.items }
     requires sought { IsKindScannedAt job.now lines.now.time Kind.Edge }
     requires place { (column < job.now.area.w / 2 + 1) × (row < job.now.area.h / 2 + 1) }
-    ensures shows { Shows job.now values.now lines.now.time marked_planes.new.planes }
+    ensures shows { ShowsRunAt job.now values.now lines.now.time marked_planes.new.planes }
     ensures edges { result ≡ true →
         AreEdgesCorrectAtPlace job.now values.now lines.now.time column row }
-    ensures halo { AreHaloCellsSetAtPlace job.now values.now lines.now.time marked_planes.new.planes
-        column row }
+    ensures halo { AreHaloCellsAsSignalsAtPlace job.now values.now lines.now.time
+        marked_planes.new.planes column row }
     ensures rest { IsSameButAtPlace job.now marked_planes.old.planes marked_planes.new.planes column
         row }
-    ensures settled { KeepsSettled marked_planes.old marked_planes.new }
+    ensures settled { AreSettledBlocksUnchanged marked_planes.old marked_planes.new }
 {
     let x = 2 * column;
     let y = 2 * row;
@@ -208,22 +210,22 @@ fn set_halo_and_check_ring_at_marks(
     first: usize,
     word: u64,
 ) -> bool
-    requires job_ready { IsReady job.now values.now }
-    requires shows { Shows job.now values.now lines.now.time marked_planes.old.planes }
+    requires job_ready { IsRunReady job.now values.now }
+    requires shows { ShowsRunAt job.now values.now lines.now.time marked_planes.old.planes }
     requires lines { AreLineMarks job.now lines.now.time lines.now.marks.items }
     requires sought { IsKindScannedAt job.now lines.now.time Kind.Edge }
     requires first { (first % 64 ≡ 0) × (first < marked_planes.old.planes.stride
         * marked_planes.old.planes.rows) }
     requires unset_are_correct { (u : ℕ) → u / 64 ≡ first / 64 → bit word (u % 64) ≡ false →
-        IsNumberCorrect job.now values.now lines.now.time marked_planes.old.planes u }
-    ensures shows { Shows job.now values.now lines.now.time marked_planes.new.planes }
-    ensures halo { AreHaloCellsSetBetween job.now values.now lines.now.time first (first + 64)
-        marked_planes.new.planes }
+        AreSignalsCorrectAtNumber job.now values.now lines.now.time marked_planes.old.planes u }
+    ensures shows { ShowsRunAt job.now values.now lines.now.time marked_planes.new.planes }
+    ensures halo { AreNumberedHaloCellsAsSignals job.now values.now lines.now.time first
+        (first + 64) marked_planes.new.planes }
     ensures edges { result ≡ true →
         AreEdgesCorrectBetweenNumbers job.now values.now lines.now.time first (first + 64) }
     ensures rest { IsSameBeforeNumber job.now marked_planes.old.planes marked_planes.new.planes
         first }
-    ensures settled { KeepsSettled marked_planes.old marked_planes.new }
+    ensures settled { AreSettledBlocksUnchanged marked_planes.old marked_planes.new }
 {
     let cells = marked_planes.planes().cells_per_plane();
     let mut is_right = true;
@@ -259,15 +261,15 @@ pub fn set_halo_and_check_ring(
     job: &Job,
     lines: &LineMarks,
 ) -> bool
-    requires job_ready { IsReady job.now values.now }
-    requires shows { Shows job.now values.now lines.now.time marked_planes.old.planes }
+    requires job_ready { IsRunReady job.now values.now }
+    requires shows { ShowsRunAt job.now values.now lines.now.time marked_planes.old.planes }
     requires lines { AreLineMarks job.now lines.now.time lines.now.marks.items }
     requires sought { IsKindScannedAt job.now lines.now.time Kind.Edge }
     requires events { AreEventMarks job.now lines.now.time lines.now.events.items }
-    requires steady { IsSteadyWhereSettled job.now values.now marked_planes.old
+    requires steady { MatchesStarsWhereSettled job.now values.now marked_planes.old
         lines.now.last_event_marks.items }
-    ensures shows { Shows job.now values.now lines.now.time marked_planes.new.planes }
-    ensures halo { IsHaloSet job.now values.now lines.now.time marked_planes.new.planes }
+    ensures shows { ShowsRunAt job.now values.now lines.now.time marked_planes.new.planes }
+    ensures halo { IsHaloAsSignals job.now values.now lines.now.time marked_planes.new.planes }
     ensures edges { result ≡ true → HasNoFaultOfKind job.now values.now lines.now.time Kind.Edge }
 {
     job.prove_valid();

@@ -60,7 +60,7 @@ fn least_fault_moved(from: &Job, to: &Job, fault: Option<Fault>) -> Option<Fault
 }
 
 impl Finding {
-    ghost use Rattle.local_run.specs.Shown.{digest_of, number_of, job_of, fault_of, keep_of};
+    ghost use Rattle.local_run.specs.Shown.{digest_of, number_of, job_of, fault_of, keep_fault_of};
 
     pub(crate) fn new(
         digest: [u8; 32],
@@ -73,7 +73,7 @@ impl Finding {
         requires keep { IsLeastKeepFault (arc_value job) keep }
         ensures { (digest_of result ≡ digest) × (number_of result ≡ number)
             × (job_of result ≡ arc_value job) × (fault_of result ≡ fault)
-            × (keep_of result ≡ keep) }
+            × (keep_fault_of result ≡ keep) }
     {
         Finding {
             digest,
@@ -115,7 +115,7 @@ impl Finding {
 
     /// Returns the least keep fault of the job, or `None` if it has none.
     pub fn keep(&self) -> Option<KeepFault>
-        ensures value { result ≡ keep_of self.now }
+        ensures value { result ≡ keep_fault_of self.now }
         ensures keep_fault_is_least { IsLeastKeepFault (job_of self.now) result }
     {
         self.keep
@@ -133,7 +133,7 @@ impl Finding {
         ensures digest { IfSome result (λ f. digest_of f ≡ digest_of self.now) }
         ensures number { IfSome result (λ f. number_of f ≡ number) }
         ensures job { IfSome result (λ f. job_of f ≡ arc_value job) }
-        ensures keep { IfSome result (λ f. keep_of f ≡ keep_of self.now) }
+        ensures keep { IfSome result (λ f. keep_fault_of f ≡ keep_fault_of self.now) }
         ensures fault { IfSome result (λ f. fault_of f
             ≡ option_map (fault_moved_to_job (job_of self.now) (arc_value job))
             (fault_of self.now)) }
@@ -153,7 +153,7 @@ impl Finding {
         ensures digest { digest_of result ≡ digest_of self.now }
         ensures number { number_of result ≡ number }
         ensures job { job_of result ≡ arc_value job }
-        ensures keep { keep_of result ≡ keep_of self.now }
+        ensures keep { keep_fault_of result ≡ keep_fault_of self.now }
         ensures fault { fault_of result
             ≡ option_map (fault_moved_to_job (job_of self.now) (arc_value job))
             (fault_of self.now) }

@@ -1,6 +1,6 @@
 //! The gates that a module keeps, and the assignments under which they have no row.
 ghost use Rattle.local_run.specs.Faults.{IsLeastKeepFault};
-ghost use Rattle.local_run.specs.Scans.{IsReady};
+ghost use Rattle.local_run.specs.Scans.{IsRunReady};
 
 use crate::fault::KeepFault;
 use crate::values::Values;
@@ -11,7 +11,7 @@ use module_job::Job;
 /// Each assignment counts, also one under which an earlier gate has no row and the run looks for no faults.
 #[tactic(auto, using(crate::proofs::Leasts::keep_free_more))]
 pub fn find_least_keep_fault(values: &Values, job: &Job) -> Option<KeepFault>
-    requires { IsReady job.now values.now }
+    requires { IsRunReady job.now values.now }
     ensures { IsLeastKeepFault job.now result }
 {
     let gates = job.wiring().gates();

@@ -1,5 +1,5 @@
 //! Laws of findings.
-ghost use Rattle.local_run.specs.Laws.{FindingsAgreeOnFaults, FindingsAgreeOnKeepFaults, NoneMeansNoFault, NoneMeansNoKeepFault, LeastFaultIsUnique, LeastKeepFaultIsUnique, NoFaultWhereUndefined, OneValuationDecidesFault, JobsWithSameHalosAgree, LocalRunStaysInBox, QuietRunStaysUnchanged, QuietRunAddsNoEdgeFault};
+ghost use Rattle.local_run.specs.Laws.{FindingsAgreeOnFaults, FindingsAgreeOnKeepFaults, NoneMeansNoFault, NoneMeansNoKeepFault, LeastFaultIsUnique, LeastKeepFaultIsUnique, NoFaultIfGateUndefined, OneValuationDecidesFault, SameHalosMeanSameFaults, LocalRunStaysInBox, QuietRunStaysUnchanged, QuietRunAddsNoEdgeFault};
 ghost use Rattle.local_run.specs.Moves.{FaultsMoveWithJob, LeastFaultMovesWithJob, SameShapeSameLeastKeepFault};
 
 /// States that two findings of one job have one fault, and one keep fault.
@@ -23,8 +23,8 @@ pub fn least_fault_is_unique()
 {}
 
 /// States that a job has no fault under an assignment at which some used gate has no row.
-pub fn no_fault_where_undefined()
-    ensures { NoFaultWhereUndefined }
+pub fn no_fault_if_gate_undefined()
+    ensures { NoFaultIfGateUndefined }
 {}
 
 /// States that any one local valuation under an assignment decides whether the job has a fault under it.
@@ -36,8 +36,8 @@ pub fn one_valuation_decides_fault()
 /// States that jobs that differ in their halos alone have the same faults, if the halos agree at each odd time below
 /// the steps.
 #[tactic(auto, using(crate::proofs::SameHalos::same_halos_agree))]
-pub fn jobs_with_same_halos_agree()
-    ensures { JobsWithSameHalosAgree }
+pub fn same_halos_mean_same_faults()
+    ensures { SameHalosMeanSameFaults }
 {}
 
 /// States that no cell outside the box is ever live.

@@ -3,7 +3,7 @@
 ghost use Rattle.std.specs.Prelude.{◌≡◌, ◌+◌, ◌<◌, ◌≤◌, ◌⊎◌, length};
 ghost use Rattle.module_box.specs.Moments.{moment_cmp};
 ghost use Rattle.module_box.specs.Schedules.{IsRising, moment_of};
-ghost use Rattle.local_run.specs.Leaps.{HasNoEventsBetween, IsLeap, HasSameSignalsAtOddTimes, IsTimePlaceBetween};
+ghost use Rattle.local_run.specs.Leaps.{HasNoEventsBetween, IsLeap, HasSameSignalsAtOddTimes, AreEventPlacesAroundTime};
 ghost use Rattle.local_run.specs.Scans.{IsNextStop};
 ghost use Rattle.lemmas.specs.Bounds.{max_steps};
 
@@ -15,7 +15,7 @@ use module_job::{Job, Shape};
 pub fn first_event_place(events: &[TimedSignal], time: u32) -> usize
     requires rising_moments { IsRising moment_cmp moment_of events.now }
     ensures range { result ≤ length events.now }
-    ensures first { IsTimePlaceBetween events.now time result result }
+    ensures first { AreEventPlacesAroundTime events.now time result result }
 {
     let mut low = 0;
     let mut high = events.len();
@@ -36,7 +36,7 @@ pub fn first_event_place(events: &[TimedSignal], time: u32) -> usize
 pub fn valid_start_place(events: &[TimedSignal], place: usize, time: u32) -> usize
     requires rising_moments { IsRising moment_cmp moment_of events.now }
     ensures range { result ≤ length events.now }
-    ensures start_is_valid { IsTimePlaceBetween events.now time result (length events.now) }
+    ensures start_is_valid { AreEventPlacesAroundTime events.now time result (length events.now) }
 {
     if place == 0 || events.len() < place {
         return 0;
@@ -53,7 +53,7 @@ pub fn valid_start_place(events: &[TimedSignal], place: usize, time: u32) -> usi
 pub fn first_event_place_from(events: &[TimedSignal], place: usize, time: u32) -> usize
     requires rising_moments { IsRising moment_cmp moment_of events.now }
     ensures range { result ≤ length events.now }
-    ensures first { IsTimePlaceBetween events.now time result result }
+    ensures first { AreEventPlacesAroundTime events.now time result result }
 {
     let mut low = valid_start_place(events, place, time);
     let mut high = events.len();

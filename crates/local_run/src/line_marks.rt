@@ -2,8 +2,8 @@
 
 ghost use Rattle.module_job.specs.Jobs.{IsJob};
 ghost use Rattle.module_job.specs.Shapes.{shape_of};
-ghost use Rattle.bbm_rule.specs.Marks.{IsUnmarked};
-ghost use Rattle.local_run.specs.Quiet.{AreStarredCellMarks, AreLineMarks, KeepsMarks};
+ghost use Rattle.bbm_rule.specs.Marks.{IsNumberUnmarked};
+ghost use Rattle.local_run.specs.Quiet.{AreStarredCellMarks, AreLineMarks, TakesNoMarkOff};
 ghost use Rattle.local_run.specs.Steady.{AreEventMarks};
 ghost use Rattle.std.specs.Prelude.{◌≡◌, ◌+◌, ◌*◌, ◌/◌, ◌%◌, ◌<◌, ◌≤◌, length, vec_len, IfOk, false};
 ghost use Rattle.lemmas.specs.Bounds.{max_steps};
@@ -36,7 +36,7 @@ pub struct LineMarks {
     ghost same_long: { vec_len marks ≡ vec_len all_times },
     ghost five_parts: { vec_len marks ≡ 5 * vec_len events },
     ghost last_same_long: { vec_len last_event_marks ≡ vec_len events },
-    ghost keeps: { KeepsMarks all_times.items marks.items },
+    ghost keeps: { TakesNoMarkOff all_times.items marks.items },
 }
 
 impl LineMarks {
@@ -156,7 +156,7 @@ impl LineMarks {
         requires place { (x / 2 < planes.now.stride) × (y / 2 < planes.now.rows) }
         requires room { 5 * (planes.now.stride * planes.now.rows) ≤ 64 * vec_len self.now.marks }
         ensures { result ≡ false →
-            IsUnmarked self.now.marks.items
+            IsNumberUnmarked self.now.marks.items
             (planes.now.stride * (y / 2) + x / 2
             + planes.now.stride * planes.now.rows * (1 + 2 * (y % 2) + x % 2)) }
     {

@@ -4,10 +4,10 @@ ghost use Rattle.module_job.specs.Jobs.{IsJob};
 ghost use Rattle.module_job.specs.Shapes.{shape_of};
 ghost use Rattle.module_box.specs.Moments.{moment_cmp};
 ghost use Rattle.module_box.specs.Schedules.{IsRising, all_times_at, event_at, moment_of, signal_at};
-ghost use Rattle.local_run.specs.Quiet.{AreStarredCellMarks, AreStarredCellsMarked, AreLineMarks, box_at_origin, HasRoomForCellNumbers, IsCellMarked, IsZeroAtUnmarked, KeepsMarks};
-ghost use Rattle.local_run.specs.Leaps.{AreLaterFrom};
+ghost use Rattle.local_run.specs.Quiet.{AreStarredCellMarks, AreStarredCellsMarked, AreLineMarks, box_at_origin, HasRoomForBoxAndHaloMarks, HasBothCellMarks, AreUnmarkedSignalsZero, TakesNoMarkOff};
+ghost use Rattle.local_run.specs.Leaps.{AreEventsLaterFrom};
 ghost use Rattle.local_run.specs.Places.{halo_coord};
-ghost use Rattle.local_run.specs.Steady.{AreEventMarks, HasRoomForNumbers, IsNumberMarked, IsNumberOfCell, IsOutsideHalo, IsSteadyAtUnmarked};
+ghost use Rattle.local_run.specs.Steady.{AreEventMarks, AreUnmarkedSignalsSteady, HasRoomForNumberMarks, IsCellNumberMarked, IsNumberOfCell, IsOutsideBoxAndHalo};
 ghost use Rattle.std.specs.Prelude.{ℕ, nat_lt, true, ◌||◌, ◌≢◌, MatchOption, ◌≡◌, ◌<◌, ◌+◌, ◌*◌, ◌/◌, ◌%◌, ◌≤◌, length, vec_len, slice_get, Some, IfOk, IfSome};
 ghost use Rattle.std.specs.Int.{div_ceil};
 ghost use Rattle.lemmas.specs.Bounds.{max_side, max_steps};
@@ -49,10 +49,10 @@ pub fn cell_line_mark_number(number: usize, cells: usize, x: usize, y: usize) ->
 // Marks the cell, if it is in the box or its halo: a mark for its number in the planes, and one of its own. Returns
 // this number.
 fn mark_cell(marks: &mut [u64], area: Box2, cell: Cell) -> Option<usize>
-    requires { HasRoomForCellNumbers area marks.old }
-    ensures marks_kept { KeepsMarks marks.old marks.new }
-    ensures marked { IsCellMarked area cell marks.new }
-    ensures number { MatchOption result (IsOutsideHalo area cell)
+    requires { HasRoomForBoxAndHaloMarks area marks.old }
+    ensures marks_kept { TakesNoMarkOff marks.old marks.new }
+    ensures marked { HasBothCellMarks area cell marks.new }
+    ensures number { MatchOption result (IsOutsideBoxAndHalo area cell)
         (λ u. (u < (area.w / 2 + 1) * (area.h / 2 + 1)) × IsNumberOfCell area cell u) }
 {
     let Some(x) = number_from_halo(cell.x, area.x, area.w) else {
@@ -72,12 +72,12 @@ fn mark_cell(marks: &mut [u64], area: Box2, cell: Cell) -> Option<usize>
 // Marks the cell of an event, as `mark_cell` does, and its number among those of events.
 #[tactic(auto, using(crate::proofs::Steady::number_marked, crate::proofs::Steady::outside_marked))]
 fn mark_event_cell(marks: &mut [u64], numbers: &mut [u64], area: Box2, cell: Cell)
-    requires room_for_marks { HasRoomForCellNumbers area marks.old }
-    requires room_for_numbers { HasRoomForNumbers area numbers.old }
-    ensures marks_kept { KeepsMarks marks.old marks.new }
-    ensures marked { IsCellMarked area cell marks.new }
-    ensures numbers_kept { KeepsMarks numbers.old numbers.new }
-    ensures number_marked { IsNumberMarked area cell numbers.new }
+    requires room_for_marks { HasRoomForBoxAndHaloMarks area marks.old }
+    requires room_for_numbers { HasRoomForNumberMarks area numbers.old }
+    ensures marks_kept { TakesNoMarkOff marks.old marks.new }
+    ensures marked { HasBothCellMarks area cell marks.new }
+    ensures numbers_kept { TakesNoMarkOff numbers.old numbers.new }
+    ensures number_marked { IsCellNumberMarked area cell numbers.new }
 {
     if let Some(number) = mark_cell(marks, area, cell) {
         mark(numbers, number);
@@ -86,10 +86,10 @@ fn mark_event_cell(marks: &mut [u64], numbers: &mut [u64], area: Box2, cell: Cel
 
 // Marks the cells of signals at all times.
 fn mark_starred_cells(marks: &mut [u64], area: Box2, list: &[AllTimesSignal])
-    requires { HasRoomForCellNumbers area marks.old }
-    ensures marks_kept { KeepsMarks marks.old marks.new }
+    requires { HasRoomForBoxAndHaloMarks area marks.old }
+    ensures marks_kept { TakesNoMarkOff marks.old marks.new }
     ensures marked { (i : ℕ) (h : AllTimesSignal) → slice_get list.now i ≡ Some h →
-        IsCellMarked area h.cell marks.new }
+        HasBothCellMarks area h.cell marks.new }
 {
     for all_times in list {
         mark_cell(marks, area, all_times.cell);
@@ -105,15 +105,15 @@ fn mark_events(
     first: usize,
     end: usize,
 )
-    requires room_for_marks { HasRoomForCellNumbers area marks.old }
-    requires room_for_numbers { HasRoomForNumbers area numbers.old }
+    requires room_for_marks { HasRoomForBoxAndHaloMarks area marks.old }
+    requires room_for_numbers { HasRoomForNumberMarks area numbers.old }
     requires range { end ≤ length list.now }
-    ensures marks_kept { KeepsMarks marks.old marks.new }
+    ensures marks_kept { TakesNoMarkOff marks.old marks.new }
     ensures marked { (i : ℕ) (e : TimedSignal) → first ≤ i → i < end →
-        slice_get list.now i ≡ Some e → IsCellMarked area e.at.cell marks.new }
-    ensures numbers_kept { KeepsMarks numbers.old numbers.new }
+        slice_get list.now i ≡ Some e → HasBothCellMarks area e.at.cell marks.new }
+    ensures numbers_kept { TakesNoMarkOff numbers.old numbers.new }
     ensures numbers_marked { (i : ℕ) (e : TimedSignal) → first ≤ i → i < end →
-        slice_get list.now i ≡ Some e → IsNumberMarked area e.at.cell numbers.new }
+        slice_get list.now i ≡ Some e → IsCellNumberMarked area e.at.cell numbers.new }
 {
     for k in first..end {
         mark_event_cell(marks, numbers, area, list[k].at.cell);
@@ -122,9 +122,9 @@ fn mark_events(
 
 // Whether all events from a place on are later than a time.
 #[inline(always)]
-fn are_later_from(events: &[TimedSignal], place: usize, time: u32) -> bool
+fn are_events_later_from(events: &[TimedSignal], place: usize, time: u32) -> bool
     requires { IsRising moment_cmp moment_of events.now }
-    ensures { result ≡ true → AreLaterFrom events.now place time }
+    ensures { result ≡ true → AreEventsLaterFrom events.now place time }
 {
     if place < events.len() {
         return time < events[place].at.time;
@@ -145,19 +145,19 @@ fn mark_events_at(
     place: usize,
     time: u32,
 ) -> EventPlaces
-    requires room_for_marks { HasRoomForCellNumbers area marks.old }
-    requires room_for_numbers { HasRoomForNumbers area numbers.old }
+    requires room_for_marks { HasRoomForBoxAndHaloMarks area marks.old }
+    requires room_for_numbers { HasRoomForNumberMarks area numbers.old }
     requires rising_moments { IsRising moment_cmp moment_of list.now }
     requires range { time < max_steps }
-    ensures marks_kept { KeepsMarks marks.old marks.new }
+    ensures marks_kept { TakesNoMarkOff marks.old marks.new }
     ensures marked { (i : ℕ) (e : TimedSignal) → slice_get list.now i ≡ Some e → e.at.time ≡ time →
-        IsCellMarked area e.at.cell marks.new }
-    ensures numbers_kept { KeepsMarks numbers.old numbers.new }
+        HasBothCellMarks area e.at.cell marks.new }
+    ensures numbers_kept { TakesNoMarkOff numbers.old numbers.new }
     ensures numbers_marked { (i : ℕ) (e : TimedSignal) → slice_get list.now i ≡ Some e →
-        e.at.time ≡ time → IsNumberMarked area e.at.cell numbers.new }
+        e.at.time ≡ time → IsCellNumberMarked area e.at.cell numbers.new }
 {
     let start = valid_start_place(list, place, time);
-    if are_later_from(list, start, time) {
+    if are_events_later_from(list, start, time) {
         return EventPlaces {
             first: start,
             end: start,
@@ -180,14 +180,14 @@ fn mark_schedule(
     place: usize,
     time: u32,
 ) -> EventPlaces
-    requires room_for_marks { HasRoomForCellNumbers area marks.old }
-    requires room_for_numbers { HasRoomForNumbers area numbers.old }
+    requires room_for_marks { HasRoomForBoxAndHaloMarks area marks.old }
+    requires room_for_numbers { HasRoomForNumberMarks area numbers.old }
     requires range { time < max_steps }
     requires all_times { AreStarredCellsMarked schedule.now area marks.old }
-    ensures marks_kept { KeepsMarks marks.old marks.new }
-    ensures unmarked_cells_zero { IsZeroAtUnmarked schedule.now area time marks.new }
-    ensures numbers_kept { KeepsMarks numbers.old numbers.new }
-    ensures unmarked_numbers_steady { IsSteadyAtUnmarked schedule.now area time numbers.new }
+    ensures marks_kept { TakesNoMarkOff marks.old marks.new }
+    ensures unmarked_cells_zero { AreUnmarkedSignalsZero schedule.now area time marks.new }
+    ensures numbers_kept { TakesNoMarkOff numbers.old numbers.new }
+    ensures unmarked_numbers_steady { AreUnmarkedSignalsSteady schedule.now area time numbers.new }
 {
     mark_events_at(marks, numbers, area, schedule.events(), place, time)
 }
@@ -303,9 +303,9 @@ pub fn mark_lines(
     time: u32,
 )
     requires all_times { AreStarredCellMarks (shape_of job.now) marks.old }
-    requires room_for_numbers { HasRoomForNumbers job.now.area numbers.old }
+    requires room_for_numbers { HasRoomForNumberMarks job.now.area numbers.old }
     requires range { time < max_steps }
-    ensures marks_kept { KeepsMarks marks.old marks.new }
+    ensures marks_kept { TakesNoMarkOff marks.old marks.new }
     ensures lines { AreLineMarks job.now time marks.new }
     ensures events { AreEventMarks job.now time numbers.new }
 {
@@ -319,8 +319,8 @@ pub fn mark_lines(
 
 // Marks the cells of which an edge or halo line says something at all times.
 fn mark_stars_of_shape(marks: &mut [u64], shape: &Shape)
-    requires { HasRoomForCellNumbers (box_at_origin shape.now) marks.old }
-    ensures marks_kept { KeepsMarks marks.old marks.new }
+    requires { HasRoomForBoxAndHaloMarks (box_at_origin shape.now) marks.old }
+    ensures marks_kept { TakesNoMarkOff marks.old marks.new }
     ensures edges { AreStarredCellsMarked shape.now.edges (box_at_origin shape.now) marks.new }
     ensures halos { AreStarredCellsMarked shape.now.halos (box_at_origin shape.now) marks.new }
 {

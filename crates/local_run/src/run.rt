@@ -2,12 +2,12 @@
 ghost use Rattle.std.specs.Prelude.{ℕ, ◌≡◌, ◌+◌, ◌*◌, ◌%◌, ◌<◌, IfOk, MatchOption, false};
 ghost use Rattle.std.specs.Arc.{arc_value};
 ghost use Rattle.module_job.specs.Shapes.{shape_of};
-ghost use Rattle.lanes.specs.Settled.{IsSameAtNumber, IsSettled, KeepsSettled};
+ghost use Rattle.lanes.specs.Settled.{AreCellsSameAtNumber, AreSettledBlocksUnchanged, IsBlockSettled};
 ghost use Rattle.local_run.specs.Quiet.{AreStarredCellMarks};
-ghost use Rattle.local_run.specs.Steady.{AreEventMarks, IsSteadyWhereSettled};
+ghost use Rattle.local_run.specs.Steady.{AreEventMarks, MatchesStarsWhereSettled};
 ghost use Rattle.local_run.specs.Faults.{IsLeastFault, IsLeastKeepFault};
-ghost use Rattle.local_run.specs.Scans.{IsHaloSet, IsFirstFaultOfKind, IsFirstFaultAt, HasNoFaultOfKind, IsNextStop, IsTimePassed, IsReady, IsKindScannedAt, Shows};
-ghost use Rattle.local_run.specs.Shown.{digest_of, number_of, job_of, fault_of, keep_of};
+ghost use Rattle.local_run.specs.Scans.{IsHaloAsSignals, IsFirstFaultOfKind, IsFirstFaultAt, HasNoFaultOfKind, IsNextStop, IsTimeWithoutFault, IsRunReady, IsKindScannedAt, ShowsRunAt};
+ghost use Rattle.local_run.specs.Shown.{digest_of, number_of, job_of, fault_of, keep_fault_of};
 
 use crate::border::set_halo_and_check_ring;
 use crate::fault::{Fault, KeepFault, Kind};
@@ -16,7 +16,7 @@ use crate::keep::find_least_keep_fault;
 use crate::leaps::next_time;
 use crate::line_marks::LineMarks;
 use crate::lines::EventPlaces;
-use crate::scan::{FaultSearch, first_fault_of_kind, first_stop_fault};
+use crate::scan::{SoughtFaults, first_fault_of_kind, first_stop_fault};
 use crate::steps::{make_even_step, make_odd_step, put_start};
 use crate::values::Values;
 use lanes::{Buffers, MarkedPlanes};
@@ -32,14 +32,14 @@ fn set_halo_and_find_edge_fault(
     job: &Job,
     time: u32,
 ) -> Option<Fault>
-    requires job_ready { IsReady job.now values.now }
+    requires job_ready { IsRunReady job.now values.now }
     requires lines { AreStarredCellMarks (shape_of job.now) lines.old.all_times.items }
     requires sought { IsKindScannedAt job.now time Kind.Edge }
-    requires shows { Shows job.now values.now time marked_planes.old.planes }
-    requires steady { IsSteadyWhereSettled job.now values.now marked_planes.old
+    requires shows { ShowsRunAt job.now values.now time marked_planes.old.planes }
+    requires steady { MatchesStarsWhereSettled job.now values.now marked_planes.old
         lines.old.events.items }
-    ensures shows { Shows job.now values.now time marked_planes.new.planes }
-    ensures halo { IsHaloSet job.now values.now time marked_planes.new.planes }
+    ensures shows { ShowsRunAt job.now values.now time marked_planes.new.planes }
+    ensures halo { IsHaloAsSignals job.now values.now time marked_planes.new.planes }
     ensures lines { lines.new.all_times ≡ lines.old.all_times }
     ensures events { AreEventMarks job.now time lines.new.events.items }
     ensures fault { MatchOption result (HasNoFaultOfKind job.now values.now time Kind.Edge)
@@ -50,7 +50,7 @@ fn set_halo_and_find_edge_fault(
     if set_halo_and_check_ring(marked_planes, values, job, lines) {
         return None;
     }
-    let search = FaultSearch {
+    let search = SoughtFaults {
         kind: Kind::Edge,
         time,
         near: lines.places().edges,
@@ -69,20 +69,20 @@ fn fault_at_time(
     time: u32,
     next: &mut usize,
 ) -> Option<Fault>
-    requires job_ready { IsReady job.now values.now }
+    requires job_ready { IsRunReady job.now values.now }
     requires lines { AreStarredCellMarks (shape_of job.now) lines.old.all_times.items }
     requires time_before_end { time < job.now.steps }
-    requires shows { Shows job.now values.now time marked_planes.old.planes }
+    requires shows { ShowsRunAt job.now values.now time marked_planes.old.planes }
     requires next { IsNextStop job.now time next.old }
-    requires steady { IsSteadyWhereSettled job.now values.now marked_planes.old
+    requires steady { MatchesStarsWhereSettled job.now values.now marked_planes.old
         lines.old.events.items }
-    ensures shows { Shows job.now values.now time marked_planes.new.planes }
-    ensures halo { time % 2 ≡ 1 → IsHaloSet job.now values.now time marked_planes.new.planes }
+    ensures shows { ShowsRunAt job.now values.now time marked_planes.new.planes }
+    ensures halo { time % 2 ≡ 1 → IsHaloAsSignals job.now values.now time marked_planes.new.planes }
     ensures lines { lines.new.all_times ≡ lines.old.all_times }
     ensures events { time % 2 ≡ 1 → AreEventMarks job.now time lines.new.events.items }
     ensures even_unchanged { time % 2 ≡ 0 →
         (marked_planes.new ≡ marked_planes.old) × (lines.new ≡ lines.old) }
-    ensures fault { MatchOption result (IsTimePassed job.now values.now time next.new)
+    ensures fault { MatchOption result (IsTimeWithoutFault job.now values.now time next.new)
         (λ f. IsFirstFaultAt job.now values.now time f) }
 {
     if time % 2 == 1 {
@@ -95,16 +95,18 @@ fn fault_at_time(
 
 // One step. Tells whether a cell of the box may have changed.
 fn one_step(marked_planes: &mut MarkedPlanes, values: &Values, job: &Job, time: u32) -> bool
-    requires job_ready { IsReady job.now values.now }
-    requires shows { Shows job.now values.now time marked_planes.old.planes }
-    requires halo { time % 2 ≡ 1 → IsHaloSet job.now values.now time marked_planes.old.planes }
-    ensures next { Shows job.now values.now (time + 1) marked_planes.new.planes }
-    ensures stays { result ≡ false → Shows job.now values.now time marked_planes.new.planes }
-    ensures settled_if_even { time % 2 ≡ 0 → KeepsSettled marked_planes.old marked_planes.new }
+    requires job_ready { IsRunReady job.now values.now }
+    requires shows { ShowsRunAt job.now values.now time marked_planes.old.planes }
+    requires halo { time % 2 ≡ 1 →
+        IsHaloAsSignals job.now values.now time marked_planes.old.planes }
+    ensures next { ShowsRunAt job.now values.now (time + 1) marked_planes.new.planes }
+    ensures stays { result ≡ false → ShowsRunAt job.now values.now time marked_planes.new.planes }
+    ensures settled_if_even { time % 2 ≡ 0 →
+        AreSettledBlocksUnchanged marked_planes.old marked_planes.new }
     ensures settled_if_odd { time % 2 ≡ 1 → (u : ℕ) →
         u < marked_planes.old.planes.stride * marked_planes.old.planes.rows →
-        IsSettled marked_planes.new u →
-        IsSameAtNumber u marked_planes.old.planes marked_planes.new.planes }
+        IsBlockSettled marked_planes.new u →
+        AreCellsSameAtNumber u marked_planes.old.planes marked_planes.new.planes }
 {
     if time % 2 == 0 {
         make_even_step(marked_planes, values, job, time)
@@ -122,7 +124,7 @@ fn least_fault(
     values: &Values,
     job: &Job,
 ) -> Result<Option<Fault>, AllocError>
-    requires { IsReady job.now values.now }
+    requires { IsRunReady job.now values.now }
     ensures { IfOk result (λ o. IsLeastFault job.now o) }
 {
     let area = job.area();
@@ -156,7 +158,7 @@ fn least_fault(
     if let Some(fault) = first_stop_fault(&marked_planes, values, job, steps, &mut next) {
         return Ok(Some(fault));
     }
-    let search = FaultSearch {
+    let search = SoughtFaults {
         kind: Kind::End,
         time: steps,
         near: EventPlaces::NO_PLACES,
@@ -174,7 +176,7 @@ fn least_fault_if_defined(
     values: &Values,
     job: &Job,
 ) -> Result<Option<Fault>, AllocError>
-    requires { IsReady job.now values.now }
+    requires { IsRunReady job.now values.now }
     ensures { IfOk result (λ o. IsLeastFault job.now o) }
 {
     if values.has_defined_assignment() {
@@ -216,7 +218,8 @@ pub fn run_job(
     ensures number { IfOk result (λ f. number_of f ≡ number) }
     ensures job { IfOk result (λ f. job_of f ≡ arc_value job) }
     ensures least_fault { IfOk result (λ f. IsLeastFault (arc_value job) (fault_of f)) }
-    ensures least_keep_fault { IfOk result (λ f. IsLeastKeepFault (arc_value job) (keep_of f)) }
+    ensures least_keep_fault { IfOk result (λ f. IsLeastKeepFault (arc_value job)
+        (keep_fault_of f)) }
 {
     run_job_with_buffers(&mut Buffers::new(alloc), digest, number, job)
 }
@@ -236,7 +239,8 @@ pub fn run_job_with_buffers(
     ensures number { IfOk result (λ f. number_of f ≡ number) }
     ensures job { IfOk result (λ f. job_of f ≡ arc_value job) }
     ensures least_fault { IfOk result (λ f. IsLeastFault (arc_value job) (fault_of f)) }
-    ensures least_keep_fault { IfOk result (λ f. IsLeastKeepFault (arc_value job) (keep_of f)) }
+    ensures least_keep_fault { IfOk result (λ f. IsLeastKeepFault (arc_value job)
+        (keep_fault_of f)) }
 {
     let (fault, keep) = least_fault_and_keep_fault(buffers, &job)?;
     Ok(Finding::new(digest, number, job, fault, keep))

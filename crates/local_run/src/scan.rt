@@ -7,7 +7,7 @@ ghost use Rattle.local_run.specs.Places.{box_coord};
 ghost use Rattle.lanes.specs.Lanes.{lane};
 ghost use Rattle.module_job.specs.Jobs.{job_demand};
 ghost use Rattle.module_job.specs.Signals.{is_live};
-ghost use Rattle.local_run.specs.Scans.{IsFirstFaultOfKind, IsFaultWhereDefined, HasNoFaultOfKind, IsLeastBelow, IsStopMissed, IsNextStop, IsReady, IsKindScannedAt, IsScanStride, Shows, is_defined_under, valuation};
+ghost use Rattle.local_run.specs.Scans.{IsFirstFaultOfKind, IsDefinedAndHasFault, HasNoFaultOfKind, IsLeastBelow, IsStopMissed, IsNextStop, IsRunReady, IsKindScannedAt, IsScanStride, ShowsRunAt, is_defined_under, valuation};
 
 use crate::fault::{Fault, Kind};
 use crate::lines::EventPlaces;
@@ -44,7 +44,7 @@ fn first_defined_live_assignment(
 
 /// The kind and the time of the faults that are sought.
 #[derive(Clone, Copy)]
-pub struct FaultSearch {
+pub struct SoughtFaults {
     pub kind: Kind,
     pub time: u32,
     /// The places at which edge lines of the time are looked for first.
@@ -57,16 +57,16 @@ pub fn first_cell_fault_assignment(
     marked_planes: &MarkedPlanes,
     values: &Values,
     job: &Job,
-    search: FaultSearch,
+    search: SoughtFaults,
     x: usize,
     y: usize,
 ) -> Option<u32>
-    requires job_ready { IsReady job.now values.now }
-    requires shows { Shows job.now values.now search.time marked_planes.now.planes }
+    requires job_ready { IsRunReady job.now values.now }
+    requires shows { ShowsRunAt job.now values.now search.time marked_planes.now.planes }
     requires sought { IsKindScannedAt job.now search.time search.kind }
     requires place { (x < job.now.area.w) × (y < job.now.area.h) }
     ensures { IsLeastBelow (assignments job.now)
-        (λ a. IsFaultWhereDefined job.now values.now a search.time search.kind
+        (λ a. IsDefinedAndHasFault job.now values.now a search.time search.kind
         (box_coord job.now.area.x x) (box_coord job.now.area.y y)) result }
 {
     let planes = marked_planes.planes();
@@ -141,15 +141,15 @@ pub fn first_fault_of_kind(
     marked_planes: &MarkedPlanes,
     values: &Values,
     job: &Job,
-    search: FaultSearch,
+    search: SoughtFaults,
 ) -> Option<Fault>
-    requires job_ready { IsReady job.now values.now }
-    requires shows { Shows job.now values.now search.time marked_planes.now.planes }
+    requires job_ready { IsRunReady job.now values.now }
+    requires shows { ShowsRunAt job.now values.now search.time marked_planes.now.planes }
     requires sought { IsKindScannedAt job.now search.time search.kind }
     ensures { MatchOption result (HasNoFaultOfKind job.now values.now search.time search.kind)
         (λ f. IsFirstFaultOfKind job.now values.now search.time search.kind f) }
 {
-    let FaultSearch { kind, time, .. } = search;
+    let SoughtFaults { kind, time, .. } = search;
     let area = job.area();
     let width = area.w as usize;
     let height = area.h as usize;
@@ -190,8 +190,8 @@ fn first_stop_fault_assignment(
     job: &Job,
     stop: Stop,
 ) -> Option<u32>
-    requires job_ready { IsReady job.now values.now }
-    requires shows { Shows job.now values.now stop.at.time marked_planes.now.planes }
+    requires job_ready { IsRunReady job.now values.now }
+    requires shows { ShowsRunAt job.now values.now stop.at.time marked_planes.now.planes }
     requires cell_in_box { IsTrue (in_box job.now.area stop.at.cell.x stop.at.cell.y) }
     requires own_wire { stop.wire < wires job.now.locals.netlist }
     ensures { IsLeastBelow (assignments job.now) (λ a. IsStopMissed job.now values.now a stop)
@@ -218,8 +218,8 @@ pub fn first_stop_fault(
     time: u32,
     next: &mut usize,
 ) -> Option<Fault>
-    requires job_ready { IsReady job.now values.now }
-    requires shows { Shows job.now values.now time marked_planes.now.planes }
+    requires job_ready { IsRunReady job.now values.now }
+    requires shows { ShowsRunAt job.now values.now time marked_planes.now.planes }
     requires next { IsNextStop job.now time next.old }
     ensures { MatchOption result
         (HasNoFaultOfKind job.now values.now time Kind.Stop

@@ -3,9 +3,9 @@ ghost use Rattle.std.specs.Prelude.{ℕ, ◌≡◌, ◌+◌, ◌*◌, ◌/◌, �
 ghost use Rattle.module_job.specs.Jobs.{job_start};
 ghost use Rattle.lanes.specs.Calm.{AreAllCellsDead};
 ghost use Rattle.lanes.specs.Lanes.{HasWordsStrideRows, lane};
-ghost use Rattle.lanes.specs.Settled.{IsSameAtNumber, IsSettled, KeepsSettled};
+ghost use Rattle.lanes.specs.Settled.{AreCellsSameAtNumber, AreSettledBlocksUnchanged, IsBlockSettled};
 ghost use Rattle.local_run.specs.Places.{box_coord};
-ghost use Rattle.local_run.specs.Scans.{IsHaloSet, IsReady, PutsCell, Shows};
+ghost use Rattle.local_run.specs.Scans.{IsHaloAsSignals, IsRunReady, PutsSignalInCell, ShowsRunAt};
 
 use crate::places::{skip_dead_starts, start_signal_at};
 use crate::values::Values;
@@ -16,16 +16,16 @@ use module_job::Job;
 // Sets a cell of the box, that is dead, to what it is at time 0.
 #[tactic(auto, using(crate::proofs::Scans::row_from))]
 fn put_start_cell(marked_planes: &mut MarkedPlanes, values: &Values, job: &Job, x: usize, y: usize)
-    requires job_ready { IsReady job.now values.now }
+    requires job_ready { IsRunReady job.now values.now }
     requires size { HasWordsStrideRows values.now.words (job.now.area.w / 2 + 1)
         (job.now.area.h / 2 + 1) marked_planes.old.planes }
     requires place { (x < job.now.area.w) × (y < job.now.area.h) }
     requires cell_dead { (a : ℕ) → a < 64 * values.now.words →
         lane marked_planes.old.planes a (1 + x) (1 + y) ≡ false }
-    ensures puts { PutsCell values.now (1 + x) (1 + y)
+    ensures puts { PutsSignalInCell values.now (1 + x) (1 + y)
         (job_start job.now (box_coord job.now.area.x x) (box_coord job.now.area.y y))
         marked_planes.old.planes marked_planes.new.planes }
-    ensures settled { KeepsSettled marked_planes.old marked_planes.new }
+    ensures settled { AreSettledBlocksUnchanged marked_planes.old marked_planes.new }
 {
     let signal = start_signal_at(job, x, y);
     if let Signal::Zero = signal {
@@ -37,12 +37,12 @@ fn put_start_cell(marked_planes: &mut MarkedPlanes, values: &Values, job: &Job, 
 /// Sets the cells of the box to those of time 0. All cells are dead before.
 #[tactic(auto, using(crate::proofs::NextCells::dead_start, bbm_rule::proofs::BitLemmas::by_lt_or_le, crate::proofs::Stepping::run_start))]
 pub fn put_start(marked_planes: &mut MarkedPlanes, values: &Values, job: &Job)
-    requires job_ready { IsReady job.now values.now }
+    requires job_ready { IsRunReady job.now values.now }
     requires size { HasWordsStrideRows values.now.words (job.now.area.w / 2 + 1)
         (job.now.area.h / 2 + 1) marked_planes.old.planes }
     requires all_cells_dead { AreAllCellsDead marked_planes.old.planes }
-    ensures shows { Shows job.now values.now 0 marked_planes.new.planes }
-    ensures settled { KeepsSettled marked_planes.old marked_planes.new }
+    ensures shows { ShowsRunAt job.now values.now 0 marked_planes.new.planes }
+    ensures settled { AreSettledBlocksUnchanged marked_planes.old marked_planes.new }
 {
     let area = job.area();
     for y in 0..area.h as usize {
@@ -62,16 +62,16 @@ pub fn make_odd_step(
     job: &Job,
     time: u32,
 ) -> bool
-    requires job_ready { IsReady job.now values.now }
+    requires job_ready { IsRunReady job.now values.now }
     requires time_odd { time % 2 ≡ 1 }
-    requires shows { Shows job.now values.now time marked_planes.old.planes }
-    requires halo { IsHaloSet job.now values.now time marked_planes.old.planes }
-    ensures next { Shows job.now values.now (time + 1) marked_planes.new.planes }
-    ensures stays { result ≡ false → Shows job.now values.now time marked_planes.new.planes }
+    requires shows { ShowsRunAt job.now values.now time marked_planes.old.planes }
+    requires halo { IsHaloAsSignals job.now values.now time marked_planes.old.planes }
+    ensures next { ShowsRunAt job.now values.now (time + 1) marked_planes.new.planes }
+    ensures stays { result ≡ false → ShowsRunAt job.now values.now time marked_planes.new.planes }
     ensures settled_are_same { (u : ℕ) →
         u < marked_planes.old.planes.stride * marked_planes.old.planes.rows →
-        IsSettled marked_planes.new u →
-        IsSameAtNumber u marked_planes.old.planes marked_planes.new.planes }
+        IsBlockSettled marked_planes.new u →
+        AreCellsSameAtNumber u marked_planes.old.planes marked_planes.new.planes }
 {
     marked_planes.odd_step()
 }
@@ -84,12 +84,12 @@ pub fn make_even_step(
     job: &Job,
     time: u32,
 ) -> bool
-    requires job_ready { IsReady job.now values.now }
+    requires job_ready { IsRunReady job.now values.now }
     requires time_even { time % 2 ≡ 0 }
-    requires shows { Shows job.now values.now time marked_planes.old.planes }
-    ensures next { Shows job.now values.now (time + 1) marked_planes.new.planes }
-    ensures stays { result ≡ false → Shows job.now values.now time marked_planes.new.planes }
-    ensures settled { KeepsSettled marked_planes.old marked_planes.new }
+    requires shows { ShowsRunAt job.now values.now time marked_planes.old.planes }
+    ensures next { ShowsRunAt job.now values.now (time + 1) marked_planes.new.planes }
+    ensures stays { result ≡ false → ShowsRunAt job.now values.now time marked_planes.new.planes }
+    ensures settled { AreSettledBlocksUnchanged marked_planes.old marked_planes.new }
 {
     marked_planes.even_step()
 }

@@ -3,10 +3,10 @@ ghost use Rattle.std.specs.Prelude.{ℕ, ◌≡◌, ◌≢◌, ◌+◌, ◌*◌,
 ghost use Rattle.bbm_rule.specs.Bits.{bit};
 ghost use Rattle.module_job.specs.Jobs.{IsJob};
 ghost use Rattle.module_job.specs.Signals.{is_live};
-ghost use Rattle.lanes.specs.Lanes.{HasWords, lane, word_of};
-ghost use Rattle.local_run.specs.Scans.{HasValueRow, IsLeastBelow, IsReady, IsCellAsSignalUnderWords, KeepsValuesWhereDefined, PutsCell, is_defined_under, valuation};
+ghost use Rattle.lanes.specs.Lanes.{HasSourceWords, lane, word_of_source};
+ghost use Rattle.local_run.specs.Scans.{HasValueRow, IsLeastBelow, IsRunReady, IsCellAsSignalUnderWords, KeepsDefinedValues, PutsSignalInCell, is_defined_under, valuation};
 ghost use Rattle.module_box.specs.LocalValues.{value_of};
-ghost use Rattle.lanes.specs.Settled.{KeepsSettled};
+ghost use Rattle.lanes.specs.Settled.{AreSettledBlocksUnchanged};
 
 use lanes::{MarkedPlanes, Planes, WordSource};
 use module_box::{Signal, ValueRows};
@@ -19,7 +19,7 @@ fn with_false_where_undefined(rows: ValueRows) -> ValueRows
     ensures defined { result.defined ≡ rows.defined }
     ensures undefined { result.undefined ≡ rows.undefined }
     ensures length_unchanged { length result.values.items ≡ length rows.values.items }
-    ensures keeps { KeepsValuesWhereDefined rows.defined.items rows.values.items
+    ensures keeps { KeepsDefinedValues rows.defined.items rows.values.items
         result.values.items }
 {
     let ValueRows {
@@ -41,7 +41,7 @@ fn with_false_where_undefined(rows: ValueRows) -> ValueRows
 fn clear_values_where_undefined(values: &mut [u64], defined: &[u64])
     requires defined_not_empty { 0 < length defined.now }
     ensures length_unchanged { length values.new ≡ length values.old }
-    ensures keeps { KeepsValuesWhereDefined defined.now values.old values.new }
+    ensures keeps { KeepsDefinedValues defined.now values.old values.new }
 {
     if defined.iter().all(|word| *word == 0xFFFF_FFFF_FFFF_FFFF) {
         return;
@@ -70,7 +70,7 @@ impl Values {
     /// Computes the values of the wires of a job under all assignments of its cuts.
     pub fn of(alloc: Global, job: &Job) -> Result<Values, AllocError>
         requires { IsJob job.now }
-        ensures { IfOk result (λ vs. IsReady job.now vs) }
+        ensures { IfOk result (λ vs. IsRunReady job.now vs) }
     {
         let wiring = job.wiring();
         let count = 1usize << wiring.cuts();
@@ -91,9 +91,9 @@ impl Values {
     #[inline(always)]
     fn source(&self, signal: Signal) -> WordSource
         requires { HasValueRow self.now signal }
-        ensures words { HasWords self.now.words self.now.rows.values.items result }
+        ensures words { HasSourceWords self.now.words self.now.rows.values.items result }
         ensures values { (k b : ℕ) → k < self.now.words → b < 64 →
-            bit (word_of self.now.rows.values.items result k) b
+            bit (word_of_source self.now.rows.values.items result k) b
             ≡ is_live (valuation self.now (64 * k + b)) signal }
     {
         match signal {
@@ -237,9 +237,9 @@ impl Values {
             × (y / 2 < marked_planes.old.planes.rows) }
         requires words { self.now.words ≡ marked_planes.old.planes.words }
         requires row { HasValueRow self.now signal }
-        ensures puts { PutsCell self.now x y signal marked_planes.old.planes
+        ensures puts { PutsSignalInCell self.now x y signal marked_planes.old.planes
             marked_planes.new.planes }
-        ensures settled { KeepsSettled marked_planes.old marked_planes.new }
+        ensures settled { AreSettledBlocksUnchanged marked_planes.old marked_planes.new }
     {
         marked_planes.put(x, y, &self.rows.values, self.source(signal));
     }

@@ -4,7 +4,7 @@ use Rattle.lemmas.proofs.Common.{drop, false, flat_map, flat_map-append, refl, s
 use Rattle.lemmas.proofs.Common.{true, length, ℕ, ◌++◌, ◌<◌, ◌∙◌, ◌∷◌, ◌≡◌, codes, if◌then◌else◌, slice_split_at}
 use Rattle.lemmas.proofs.Common.{None}
 use Rattle.lemmas.proofs.Common.{bytes_eq}
-use Rattle.section_text.specs.Limits.{front_lines, limits_of}
+use Rattle.section_text.specs.Limits.{limits_line_count, limits_of}
 use Rattle.section_text.specs.SaidSection.{IsSection}
 use Rattle.section_text.specs.Section.{with_line_feed}
 use Rattle.section_text.specs.Words.{bytes_after_last_line_feed, lines_of, words_of}
@@ -88,24 +88,24 @@ pub has_front : (l : Limits) (text : List ℕ) → text_limits text ≡ First �
 unfolding front_line
 has_front First text is = record {
   limits = is;
-  lines = ap (λ (l : Limits). drop (front_lines l) (lines_of text)) is;
+  lines = ap (λ (l : Limits). drop (limits_line_count l) (lines_of text)) is;
   rest = refl;
 }
 has_front Second text is = record {
   limits = ap limits_of (front_split text);
-  lines = ap (λ (ls : List (List ℕ)). drop (front_lines (limits_of ls)) ls) (front_split text);
+  lines = ap (λ (ls : List (List ℕ)). drop (limits_line_count (limits_of ls)) ls) (front_split text);
   rest = rest_split text;
 }
 
 -- ---- a text is its front and what is behind it
 
 pub front_spelled : (ls : List (List ℕ)) →
-    flat_map with_line_feed (take (front_lines (limits_of ls)) ls) ≡ front_text (limits_of ls)
+    flat_map with_line_feed (take (limits_line_count (limits_of ls)) ls) ≡ front_text (limits_of ls)
 front_spelled [] = refl
 front_spelled (line ∷ ls) = one (bytes_eq line (codes "limits 2")) refl
   where
     one : (b : Bool) → bytes_eq line (codes "limits 2") ≡ b →
-        flat_map with_line_feed (take (front_lines (if b then Second else First)) (line ∷ ls))
+        flat_map with_line_feed (take (limits_line_count (if b then Second else First)) (line ∷ ls))
         ≡ front_text (if b then Second else First)
     one false e = refl
     one true e = ap (λ (l : List ℕ). with_line_feed l ++ []) (same_bytes line (codes "limits 2") e)
@@ -115,7 +115,7 @@ pub front_and_lines : (text : List ℕ) → text ≡ front_text (text_limits tex
 front_and_lines text =
     let l = text_limits text in
     let ls = lines_of text in
-    let n = front_lines l in
+    let n = limits_line_count l in
     let rest = bytes_after_last_line_feed text in
     sym (whole_text text)
     ∙ ap (λ (ks : List (List ℕ)). flat_map with_line_feed ks ++ rest) (sym (take-append-drop n ls))

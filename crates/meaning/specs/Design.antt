@@ -2,7 +2,7 @@
 -- it may have the line `limits 2`, which chooses the larger limits.
 use Rattle.std.specs.Prelude.{◌≡◌, ℕ, List, [], ◌++◌, codes, drop}
 use Rattle.section_text.specs.Words.{lines_of}
-use Rattle.section_text.specs.Limits.{front_lines, limits_of}
+use Rattle.section_text.specs.Limits.{limits_line_count, limits_of}
 use Rattle.section_text.specs.declared.limits.Limits.{Limits}
 use Rattle.section_text.specs.declared.limits.Limits.TheVariants.{First, Second}
 use Rattle.section_text.specs.SaidSection.{IsSection}
@@ -17,7 +17,7 @@ text_limits text = limits_of (lines_of text)
 
 -- the lines of a text behind the one that chooses its limits
 abbrev pub section_lines : List ℕ → List (List ℕ)
-section_lines text = drop (front_lines (text_limits text)) (lines_of text)
+section_lines text = drop (limits_line_count (text_limits text)) (lines_of text)
 
 -- the line before the sections of a text with these limits
 abbrev pub front_text : Limits → List ℕ

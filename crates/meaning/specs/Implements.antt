@@ -7,7 +7,7 @@
 -- inputs and outputs (Bridge.antt).
 use Rattle.std.specs.Prelude.{◌≡◌, ℕ, ℤ, ◌≤◌, Bool, List, map, slice_get, Some, IsTrue, IsFalse}
 use Rattle.std.specs.List.{list_any}
-use Rattle.bbm_rule.specs.Plane.{State, is_at}
+use Rattle.bbm_rule.specs.Plane.{State, is_cell_at}
 use Rattle.section_text.specs.Words.{has}
 use Rattle.circuit.specs.Bridge.{circuit_of, input_names, output_names}
 use Rattle.circuit.specs.Meaning.{Circuit, Valuation, Satisfies, values_by_name}
@@ -31,7 +31,7 @@ pub record IsNamed (lines : List CircuitLine) (p : Pattern) : Type 0 where
 
 -- the cells of the ports
 abbrev pub in_ports : List Port → State
-in_ports ports x y = list_any (λ q. is_at q.cell x y) ports
+in_ports ports x y = list_any (λ q. is_cell_at q.cell x y) ports
 
 -- The plane after the last step is as asked, if `value` gives each wire its truth value. Mirrors are live, an output
 -- cell is live exactly if its wire is true, and every other cell is dead. A waste cell may be live or dead.

@@ -1,5 +1,6 @@
 -- The cells of a box, and the place of a cell's block in a table of owners
-use Rattle.module_box.proofs.Imports.{Box2, IsOwnersTable, Option, OwnersView, Some, and_parts, arith, common_steps}
+use Rattle.module_box.proofs.Imports.{Box2, HasOwnerTableSizes, Option, OwnersView, Some, and_parts, arith}
+use Rattle.module_box.proofs.Imports.{common_steps}
 use Rattle.module_box.proofs.Imports.{false≢true, get_or, get_or_from_slice_get, in_box, in_span, length}
 use Rattle.module_box.proofs.Imports.{mul-le-mul_right, owner_of, pos, rectangle, refl, slice_get_read, span_parts, sym}
 use Rattle.module_box.proofs.Imports.{true, unsigned_abs, ℕ, ℤ, ◌%◌, ◌*◌, ◌+◌, ◌/◌, ◌<◌, ◌∙◌, ◌≡◌, ◌≤◌}
@@ -38,7 +39,7 @@ same_some o a b e f = cc
 pub halves : (a b : ℕ) → a < b → b % 2 ≡ 0 → a / 2 < b / 2
 halves a b p q = omega arith
 
-pub owner_in_table : (o : OwnersView) (x y : ℤ) → IsOwnersTable o → in_box (rectangle o) x y ≡ true →
+pub owner_in_table : (o : OwnersView) (x y : ℤ) → HasOwnerTableSizes o → in_box (rectangle o) x y ≡ true →
     (unsigned_abs y / 2) * (o.width / 2) + unsigned_abs x / 2 < length o.numbers
 owner_in_table o x y t h =
     let p = abs_within (rectangle o) x y h in
@@ -46,7 +47,7 @@ owner_in_table o x y t h =
     (halves _ _ (let q : unsigned_abs y < o.height = omega (arith, p.1) in q) t.height.2)
     (halves _ _ (let q : unsigned_abs x < o.width = omega (arith, p.0) in q) t.width.2))
 
-pub owner_read : (o : OwnersView) (x y : ℤ) (a b r : ℕ) → IsOwnersTable o → in_box (rectangle o) x y ≡ true →
+pub owner_read : (o : OwnersView) (x y : ℤ) (a b r : ℕ) → HasOwnerTableSizes o → in_box (rectangle o) x y ≡ true →
     a ≡ unsigned_abs y →
     b ≡ unsigned_abs x →
     r ≡ get_or o.numbers ((a / 2) * (o.width / 2) + b / 2) r → r ≡ owner_of o x y

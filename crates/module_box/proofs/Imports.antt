@@ -6,8 +6,8 @@ unfoldable pub use Rattle.bbm_rule.proofs.Imports.{bit, in_span, partner, step}
 pub use Rattle.bbm_rule.proofs.Spans.{span_from, span_parts}
 pub use Rattle.bbm_rule.proofs.Steps.{step_same}
 pub use Rattle.bbm_rule.specs.Boxes.{IsEvenBox}
-unfoldable pub use Rattle.bbm_rule.specs.Boxes.{in_box, in_halo, in_ring, some_neighbour}
-pub use Rattle.bbm_rule.specs.Plane.{is_at}
+unfoldable pub use Rattle.bbm_rule.specs.Boxes.{has_neighbour_in_set, in_box, in_halo, in_ring}
+pub use Rattle.bbm_rule.specs.Plane.{is_cell_at}
 pub use Rattle.bbm_rule.specs.declared.block.Box2.{Box2}
 pub use Rattle.bbm_rule.specs.declared.block.Cell.{Cell}
 pub use Rattle.circuit.proofs.Imports.{All, All-head, All-tail, Bool, FollowsRow, Gate, List, Netlist, None, Option}
@@ -18,7 +18,7 @@ pub use Rattle.circuit.proofs.Imports.{inl, inr, length, length-append, length-m
 pub use Rattle.circuit.proofs.Imports.{range_with_len, refl, rules, same_Some, slice_get, slice_get_read, subst, suc}
 pub use Rattle.circuit.proofs.Imports.{sym, take, take_more, true, true≢false, uses, wires, zero, ℕ, ◌++◌, ◌+◌, ◌-◌}
 pub use Rattle.circuit.proofs.Imports.{◌<◌, ◌∙◌, ◌∷◌, ◌≡◌, ◌≤◌}
-unfoldable pub use Rattle.circuit.proofs.Imports.{AreOrdered, row, wires_after}
+unfoldable pub use Rattle.circuit.proofs.Imports.{AreGatesOrdered, row, wires_after}
 pub use Rattle.circuit.specs.declared.circuit_line.GateKind.{GateKind}
 pub use Rattle.circuit.specs.declared.circuit_line.GateKind.TheVariants.{Cswap, Delay, Fredkin, Interact, Source}
 pub use Rattle.circuit.specs.declared.circuit_line.GateKind.TheVariants.{Switch, Uninteract, Unswitch}
@@ -40,7 +40,7 @@ pub use Rattle.module_box.specs.Numbers.{gate_code_numbers}
 pub use Rattle.module_box.specs.Schedules.{IsRising, cell_of, moment_of}
 unfoldable pub use Rattle.module_box.specs.Schedules.{all_times_at, event_at}
 pub use Rattle.module_box.specs.Taking.{TakesBox, TakesRow}
-pub use Rattle.module_box.specs.Tiling.{AreFirstBoxesInside, HasBlockAtPlace, IsOwnersTable, OwnersView, rectangle}
+pub use Rattle.module_box.specs.Tiling.{AreFirstBoxesInside, HasBlockAtPlace, HasOwnerTableSizes, OwnersView, rectangle}
 unfoldable pub use Rattle.module_box.specs.Tiling.{owner_of}
 pub use Rattle.module_box.specs.declared.locals.LocalGate.{LocalGate}
 pub use Rattle.module_box.specs.declared.schedules.AllTimesSignal.{AllTimesSignal}

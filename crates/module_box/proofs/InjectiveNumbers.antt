@@ -4,7 +4,7 @@ use Rattle.module_box.proofs.Imports.{Unswitch, [], ap, append_assoc, ap₂, ari
 use Rattle.module_box.proofs.Imports.{gate_code_numbers, gate_kind_number, get_or, length, nat_eq, range_with_len, refl}
 use Rattle.module_box.proofs.Imports.{suc, sym, zero, ℕ, ◌++◌, ◌+◌, ◌∙◌, ◌∷◌, ◌≡◌}
 use Rattle.lemmas.proofs.Common.{same_head, same_tail}
-use Rattle.module_box.specs.Numbers.{IsPrefixFree, NumbersDetermineGates, length_prefixed, netlist_numbers}
+use Rattle.module_box.specs.Numbers.{IsPrefixFree, NumbersDetermineNetlists, length_prefixed, netlist_numbers}
 use Rattle.module_box.specs.Numbers.{gate_kind_parameter}
 
 range_suc : (a n : ℕ) → range_with_len a (suc n) ≡ range_with_len a n ++ (a + n) ∷ []
@@ -60,6 +60,6 @@ gate_kinds_tell a b r s e = grind (arith, common_steps, same_head, same_tail, ga
 gates_tell : IsPrefixFree gate_code_numbers
 gates_tell g h r s e = grind (arith, common_steps, gate_kinds_tell, listed, lists_tell, append_assoc)
 
-pub netlists_tell : NumbersDetermineGates
+pub netlists_tell : NumbersDetermineNetlists
 unfolding netlist_numbers
 netlists_tell n m r s e = grind (arith, common_steps, same_head, counted_tell, gates_tell, same_tail)

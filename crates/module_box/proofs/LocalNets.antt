@@ -1,5 +1,5 @@
 -- The wires and gates of a module, gate after gate
-use Rattle.module_box.proofs.Imports.{All, All-head, All-tail, AreDistinct, AreLocalsOf, AreOrdered}
+use Rattle.module_box.proofs.Imports.{All, All-head, All-tail, AreDistinct, AreGatesOrdered, AreLocalsOf}
 use Rattle.module_box.proofs.Imports.{Gate, GateKind, IsTrue, List, Netlist, Some, Source}
 use Rattle.module_box.proofs.Imports.{[], ap, append_assoc, ap₂, arith, common_steps, defines}
 use Rattle.module_box.proofs.Imports.{drop, flat_map, get_or, get_or_append_left, get_or_default, inl, inr, is_among}
@@ -13,9 +13,9 @@ use Rattle.module_box.proofs.WireLists.{different_front}
 
 -- ---- gates in order
 -- a gate uses and defines as many wires as its kind says
-pub ordered_fits : (n : ℕ) (gs : List Gate) (k : ℕ) (g : Gate) → AreOrdered n gs → slice_get gs k ≡ Some g →
+pub ordered_fits : (n : ℕ) (gs : List Gate) (k : ℕ) (g : Gate) → AreGatesOrdered n gs → slice_get gs k ≡ Some g →
     (length g.ins ≡ uses g.kind) × (length g.outs ≡ defines g.kind)
-unfolding AreOrdered
+unfolding AreGatesOrdered
 ordered_fits n [] k g ordered at = absurd cc
 ordered_fits n (h ∷ gs) zero g ordered at = grind (arith, common_steps, same_Some, length-range_with_len)
 ordered_fits n (h ∷ gs) (suc k) g ordered at = ordered_fits (n + defines h.kind) gs k g ordered.3 at
@@ -31,10 +31,10 @@ unfolding wires_after
 wires_push n [] g = refl
 wires_push n (h ∷ gs) g = wires_push (n + defines h.kind) gs g
 
-ordered_push : (n : ℕ) (gs : List Gate) (g : Gate) → AreOrdered n gs → All (λ w. w < wires_after n gs) g.ins →
+ordered_push : (n : ℕ) (gs : List Gate) (g : Gate) → AreGatesOrdered n gs → All (λ w. w < wires_after n gs) g.ins →
     length g.ins ≡ uses g.kind → g.outs ≡ range_with_len (wires_after n gs) (defines g.kind) →
-    AreOrdered n (gs ++ g ∷ [])
-unfolding AreOrdered wires_after
+    AreGatesOrdered n (gs ++ g ∷ [])
+unfolding AreGatesOrdered wires_after
 ordered_push n [] g ordered ins many outs = (ins, many, outs, tt)
 ordered_push n (h ∷ gs) g ordered ins many outs =
     (ordered.0, ordered.1, ordered.2, ordered_push (n + defines h.kind) gs g ordered.3 ins many outs)
@@ -104,14 +104,14 @@ pub record IsPart (n : Netlist) (cuts gates : List ℕ) (i : ℕ) (keys : List �
   pub count : length done ≡ i
   pub used : (k : ℕ) (g : Gate) → slice_get done k ≡ Some g →
       slice_get n.gates (slice_index gates k) ≡ Some (renumber_gate (slice_index (local_wires n cuts gates)) g)
-  pub ordered : AreOrdered (length cuts) done
+  pub ordered : AreGatesOrdered (length cuts) done
   pub sized : wires_after (length cuts) done ≡ length keys
   pub few : length keys ≤ 12 + 4 * i
 
 -- no gate is done: only the cuts are known
 pub part_none : (n : Netlist) (cuts gates keys : List ℕ) → AreLocalLines n cuts gates → keys ≡ cuts →
     IsPart n cuts gates 0 keys []
-unfolding AreOrdered wires_after
+unfolding AreGatesOrdered wires_after
 part_none n cuts gates keys lines is = grind (arith, common_steps, append-nil)
 
 -- ---- the next gate
@@ -141,7 +141,7 @@ next_new n cuts gates i k keys done g lines part within is at =
 
 -- it is done
 pub part_more : (n : Netlist) (cuts gates : List ℕ) (i k : ℕ) (keys new : List ℕ) (done : List Gate) (g h : Gate) →
-    AreOrdered n.given n.gates →
+    AreGatesOrdered n.given n.gates →
     IsPart n cuts gates i keys done → i < length gates → k ≡ get_or gates i k → slice_get n.gates k ≡ Some g →
     IsOver keys g h → new ≡ keys ++ g.outs →
     IsPart n cuts gates (i + 1) new (done ++ h ∷ [])

@@ -1,5 +1,6 @@
 -- The values of all wires of a module, and its gates without a row: one assignment, and rows of assignments
-use Rattle.module_box.proofs.Imports.{All, All-head, All-tail, AreModuleValuesAtBit, AreOrdered, Bool, FollowsRow, Gate}
+use Rattle.module_box.proofs.Imports.{All, All-head, All-tail, AreGatesOrdered, AreModuleValuesAtBit, Bool, FollowsRow}
+use Rattle.module_box.proofs.Imports.{Gate}
 use Rattle.module_box.proofs.Imports.{List}
 use Rattle.module_box.proofs.Imports.{AreGateValuesAtBit, Netlist, None, Option, Satisfies, Some, Valuation, [], ap}
 use Rattle.module_box.proofs.Imports.{arith}
@@ -23,9 +24,9 @@ range_below n k m h = grind (arith, common_steps, length-range_with_len, get_or-
 pub all_below : (n m : ℕ) (ws : List ℕ) → n ≤ m → All (λ w. w < n) ws → All (λ w. w < m) ws
 all_below n m ws h all = λ i d l. let small = all i d l in omega (arith, small)
 
-rows_same : (n : ℕ) (gs : List Gate) (u v : Valuation) → AreOrdered n gs →
+rows_same : (n : ℕ) (gs : List Gate) (u v : Valuation) → AreGatesOrdered n gs →
     ((w : ℕ) → w < wires_after n gs → u w ≡ v w) → All (FollowsRow u) gs → All (FollowsRow v) gs
-unfolding AreOrdered wires_after
+unfolding AreGatesOrdered wires_after
 rows_same n [] u v ordered same rows = All-nil (FollowsRow v)
 rows_same n (g ∷ gs) u v ordered same rows =
     let all : ℕ = wires_after (n + defines g.kind) gs in
@@ -38,7 +39,7 @@ rows_same n (g ∷ gs) u v ordered same rows =
     All-cons (FollowsRow v) g gs (ap (row g.kind) (sym ins) ∙ All-head (FollowsRow u) g gs rows ∙ ap Some outs)
     (rows_same (n + defines g.kind) gs u v ordered.3 same (All-tail (FollowsRow u) g gs rows))
 
-pub satisfies_same : (n : Netlist) (a u v : Valuation) → AreOrdered n.given n.gates →
+pub satisfies_same : (n : Netlist) (a u v : Valuation) → AreGatesOrdered n.given n.gates →
     ((w : ℕ) → w < wires n → u w ≡ v w) → Satisfies n a u → Satisfies n a v
 satisfies_same n a u v ordered same s =
     let grow : n.given ≤ wires n = wires_grow n.given n.gates in
@@ -114,7 +115,7 @@ pub record AreRowsBelow (l : Netlist) (words chunk : ℕ) (values undefined defi
   pub each : (a : ℕ) → a < 64 * chunk → AreValueRowsAt l words a values undefined defined
 
 pub rows_more : (l : Netlist) (words chunk word : ℕ)
-    (column gaps values values' undefined undefined' defined defined' : List ℕ) → AreOrdered l.given l.gates →
+    (column gaps values values' undefined undefined' defined defined' : List ℕ) → AreGatesOrdered l.given l.gates →
     chunk < words →
     IsWritten words chunk (wires l) column values values' →
     IsWritten words chunk (length l.gates) gaps undefined undefined' → length values' ≡ length values →
@@ -189,7 +190,7 @@ gate_is o k h1 = grind (arith, common_steps, eqb-true)
 is_gate_at : (o : Option ℕ) (k : ℕ) → o ≡ Some k → is_this_gate o k ≡ true
 is_gate_at o k e = ap (λ (o : Option ℕ). is_this_gate o k) e ∙ eq-eqb k k refl
 
-pub column_at : (l : Netlist) (given words undefined : List ℕ) (defined a b : ℕ) → AreOrdered l.given l.gates →
+pub column_at : (l : Netlist) (given words undefined : List ℕ) (defined a b : ℕ) → AreGatesOrdered l.given l.gates →
     length given ≡ l.given →
     ((i : ℕ) → i < l.given → bit (slice_index_or given i 0) b ≡ bit a i) →
     AreGateValuesAtBit given l.gates words undefined defined b → AreModuleValuesAtBit l a words undefined defined b

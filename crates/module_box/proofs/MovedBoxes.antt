@@ -1,12 +1,12 @@
 -- Boxes and signals that are moved
 use Rattle.module_box.proofs.Imports.{AllTimesSignal, Box2, Cell, Equal, Greater, IsRising, Less, List, Ordering, Some}
 use Rattle.module_box.proofs.Imports.{State, TimedSignal, [], all_times_at, ap, ap₂, arith, cell_cmp, cell_of}
-use Rattle.module_box.proofs.Imports.{common_steps, event_at, in_box, in_halo, in_ring, in_span, ints, is_at, map}
+use Rattle.module_box.proofs.Imports.{common_steps, event_at, in_box, in_halo, in_ring, in_span, ints, is_cell_at, map}
 use Rattle.module_box.proofs.Imports.{moment_cmp, moment_of, moved_all_times, moved_event, nat_eq, pos, refl}
-use Rattle.module_box.proofs.Imports.{some_neighbour, ℕ, ℤ, ◌&&◌, ◌+ℤ◌, ◌+◌, ◌∷◌, ◌≡◌}
+use Rattle.module_box.proofs.Imports.{has_neighbour_in_set, ℕ, ℤ, ◌&&◌, ◌+ℤ◌, ◌+◌, ◌∷◌, ◌≡◌}
 use Rattle.lemmas.proofs.Common.{if◌then◌else◌, int_le, int_lt, ordering_then, down_moved, mapped_from, up_moved}
 use Rattle.std.specs.Ordering.{int_eq, int_cmp, nat_cmp}
-use Rattle.bbm_rule.specs.Moves.{IsMoved}
+use Rattle.bbm_rule.specs.Moves.{IsStateMovedBy}
 use Rattle.module_box.specs.Moves.{moved_cell, moved_signals, IsMovedBox, RingsAndHalosMoveAlong, SignalsMoveAlong}
 use Rattle.module_box.specs.Schedules.{Signals, signal_at}
 
@@ -31,13 +31,14 @@ pub span_moved : (f f' n n' : ℕ) (d x : ℤ) → pos f' ≡ pos f +ℤ d → n
 unfolding in_span
 span_moved f f' n n' d x e same = grind (arith, common_steps, end_moved, le_moved, lt_moved)
 
-pub box_moved : (dx dy : ℤ) (b b' : Box2) → IsMovedBox dx dy b b' → IsMoved dx dy (in_box b) (in_box b')
+pub box_moved : (dx dy : ℤ) (b b' : Box2) → IsMovedBox dx dy b b' → IsStateMovedBy dx dy (in_box b) (in_box b')
 unfolding in_box
 box_moved dx dy b b' m x y = grind (arith, common_steps, span_moved)
 
 -- the neighbours of a cell move along
-some_moved : (dx dy : ℤ) (s s' : State) → IsMoved dx dy s s' → IsMoved dx dy (some_neighbour s) (some_neighbour s')
-unfolding some_neighbour
+some_moved : (dx dy : ℤ) (s s' : State) → IsStateMovedBy dx dy s s' →
+    IsStateMovedBy dx dy (has_neighbour_in_set s) (has_neighbour_in_set s')
+unfolding has_neighbour_in_set
 some_moved dx dy s s' m x y = grind (arith, common_steps, down_moved, up_moved)
 
 pub boxes_moved : RingsAndHalosMoveAlong
@@ -45,7 +46,7 @@ unfolding in_ring in_halo
 boxes_moved dx dy b b' m = grind (arith, common_steps, box_moved, some_moved)
 
 -- ---- signals
-at_moved : (dx dy : ℤ) (c : Cell) (x y : ℤ) → is_at (moved_cell dx dy c) (x +ℤ dx) (y +ℤ dy) ≡ is_at c x y
+at_moved : (dx dy : ℤ) (c : Cell) (x y : ℤ) → is_cell_at (moved_cell dx dy c) (x +ℤ dx) (y +ℤ dy) ≡ is_cell_at c x y
 at_moved dx dy c x y = ap₂ (λ p q. p && q) (eq_moved c.x x dx) (eq_moved c.y y dy)
 
 all_times_moved : (dx dy : ℤ) (hs : List AllTimesSignal) (x y : ℤ) →

@@ -1,7 +1,8 @@
 -- The eight neighbours of a cell, rings and halos
 use Rattle.module_box.proofs.Imports.{Bool, Box2, List, SameInBox, Some, State, and_from, and_parts, ap, ap₂, arith}
 use Rattle.module_box.proofs.Imports.{cases_Bool, common_steps, false, false≢true, in_box, in_halo, in_ring, inl, inr}
-use Rattle.module_box.proofs.Imports.{ints, not, or_cases, partner, pos, slice_get, some_neighbour, step, step_same}
+use Rattle.module_box.proofs.Imports.{has_neighbour_in_set, ints, not, or_cases, partner, pos, slice_get, step}
+use Rattle.module_box.proofs.Imports.{step_same}
 use Rattle.module_box.proofs.Imports.{sym, true, ℕ, ℤ, ◌+ℤ◌, ◌-ℤ◌, ◌||◌, ◌∙◌, ◌≡◌, ◌⊎◌}
 use Rattle.lemmas.proofs.Common.{not-true, not_from_false, or_left, or_right}
 use Rattle.module_box.specs.Laws.{SameInHalo, HaloCellIsRingCellOfOwner}
@@ -11,41 +12,41 @@ or_more : (a b c d : Bool) → (a ≡ true → c ≡ true) → (b ≡ true → d
 or_more a b c d f g h = elim (or_cases a b h) [ inl p ↦ or_left c d (f p) | inr q ↦ or_right c d (g q) ]
 
 pub some_neighbour_more : (p q : State) (x y : ℤ) → ((x' y' : ℤ) → p x' y' ≡ true → q x' y' ≡ true) →
-    some_neighbour p x y ≡ true → some_neighbour q x y ≡ true
-unfolding some_neighbour
+    has_neighbour_in_set p x y ≡ true → has_neighbour_in_set q x y ≡ true
+unfolding has_neighbour_in_set
 some_neighbour_more p q x y f = grind (arith, common_steps, or_more)
 
 -- the cell x y is one of the neighbours of a b
-at_0 : (p : State) (a b x y : ℤ) → p x y ≡ true → a -ℤ pos 1 ≡ x → b -ℤ pos 1 ≡ y → some_neighbour p a b ≡ true
-unfolding some_neighbour
+at_0 : (p : State) (a b x y : ℤ) → p x y ≡ true → a -ℤ pos 1 ≡ x → b -ℤ pos 1 ≡ y → has_neighbour_in_set p a b ≡ true
+unfolding has_neighbour_in_set
 at_0 p a b x y h e f = grind (arith, common_steps, or_left)
 
-at_1 : (p : State) (a b x y : ℤ) → p x y ≡ true → a ≡ x → b -ℤ pos 1 ≡ y → some_neighbour p a b ≡ true
-unfolding some_neighbour
+at_1 : (p : State) (a b x y : ℤ) → p x y ≡ true → a ≡ x → b -ℤ pos 1 ≡ y → has_neighbour_in_set p a b ≡ true
+unfolding has_neighbour_in_set
 at_1 p a b x y h e f = grind (arith, common_steps, or_left, or_right)
 
-at_2 : (p : State) (a b x y : ℤ) → p x y ≡ true → a +ℤ pos 1 ≡ x → b -ℤ pos 1 ≡ y → some_neighbour p a b ≡ true
-unfolding some_neighbour
+at_2 : (p : State) (a b x y : ℤ) → p x y ≡ true → a +ℤ pos 1 ≡ x → b -ℤ pos 1 ≡ y → has_neighbour_in_set p a b ≡ true
+unfolding has_neighbour_in_set
 at_2 p a b x y h e f = grind (arith, common_steps, or_left, or_right)
 
-at_3 : (p : State) (a b x y : ℤ) → p x y ≡ true → a -ℤ pos 1 ≡ x → b ≡ y → some_neighbour p a b ≡ true
-unfolding some_neighbour
+at_3 : (p : State) (a b x y : ℤ) → p x y ≡ true → a -ℤ pos 1 ≡ x → b ≡ y → has_neighbour_in_set p a b ≡ true
+unfolding has_neighbour_in_set
 at_3 p a b x y h e f = or_left _ _ (or_left _ _ (or_left _ _ (or_left _ _ (or_right _ _ (ap₂ p e f ∙ h)))))
 
-at_4 : (p : State) (a b x y : ℤ) → p x y ≡ true → a +ℤ pos 1 ≡ x → b ≡ y → some_neighbour p a b ≡ true
-unfolding some_neighbour
+at_4 : (p : State) (a b x y : ℤ) → p x y ≡ true → a +ℤ pos 1 ≡ x → b ≡ y → has_neighbour_in_set p a b ≡ true
+unfolding has_neighbour_in_set
 at_4 p a b x y h e f = or_left _ _ (or_left _ _ (or_left _ _ (or_right _ _ (ap₂ p e f ∙ h))))
 
-at_5 : (p : State) (a b x y : ℤ) → p x y ≡ true → a -ℤ pos 1 ≡ x → b +ℤ pos 1 ≡ y → some_neighbour p a b ≡ true
-unfolding some_neighbour
+at_5 : (p : State) (a b x y : ℤ) → p x y ≡ true → a -ℤ pos 1 ≡ x → b +ℤ pos 1 ≡ y → has_neighbour_in_set p a b ≡ true
+unfolding has_neighbour_in_set
 at_5 p a b x y h e f = or_left _ _ (or_left _ _ (or_right _ _ (ap₂ p e f ∙ h)))
 
-at_6 : (p : State) (a b x y : ℤ) → p x y ≡ true → a ≡ x → b +ℤ pos 1 ≡ y → some_neighbour p a b ≡ true
-unfolding some_neighbour
+at_6 : (p : State) (a b x y : ℤ) → p x y ≡ true → a ≡ x → b +ℤ pos 1 ≡ y → has_neighbour_in_set p a b ≡ true
+unfolding has_neighbour_in_set
 at_6 p a b x y h e f = or_left _ _ (or_right _ _ (ap₂ p e f ∙ h))
 
-at_7 : (p : State) (a b x y : ℤ) → p x y ≡ true → a +ℤ pos 1 ≡ x → b +ℤ pos 1 ≡ y → some_neighbour p a b ≡ true
-unfolding some_neighbour
+at_7 : (p : State) (a b x y : ℤ) → p x y ≡ true → a +ℤ pos 1 ≡ x → b +ℤ pos 1 ≡ y → has_neighbour_in_set p a b ≡ true
+unfolding has_neighbour_in_set
 at_7 p a b x y h e f = or_right _ _ (ap₂ p e f ∙ h)
 
 back_down : (z z' : ℤ) → z' ≡ z +ℤ pos 1 → z' -ℤ pos 1 ≡ z
@@ -63,36 +64,39 @@ unfolding Beside
 partner_beside t z = grind (arith, common_steps, partner_near, back_down, back_up)
 
 -- each cell of a block is a neighbour of the three others
-pub block_x : (p : State) (t : ℕ) (x y : ℤ) → p x y ≡ true → some_neighbour p (partner t x) y ≡ true
+pub block_x : (p : State) (t : ℕ) (x y : ℤ) → p x y ≡ true → has_neighbour_in_set p (partner t x) y ≡ true
 unfolding Beside
 block_x p t x y h = grind (arith, common_steps, partner_beside, at_3, at_4)
 
-pub block_y : (p : State) (t : ℕ) (x y : ℤ) → p x y ≡ true → some_neighbour p x (partner t y) ≡ true
+pub block_y : (p : State) (t : ℕ) (x y : ℤ) → p x y ≡ true → has_neighbour_in_set p x (partner t y) ≡ true
 unfolding Beside
 block_y p t x y h = grind (arith, common_steps, partner_beside, at_1, at_6)
 
-pub block_both : (p : State) (t : ℕ) (x y : ℤ) → p x y ≡ true → some_neighbour p (partner t x) (partner t y) ≡ true
+pub block_both : (p : State) (t : ℕ) (x y : ℤ) → p x y ≡ true →
+    has_neighbour_in_set p (partner t x) (partner t y) ≡ true
 unfolding Beside
 block_both p t x y h = grind (arith, common_steps, partner_beside, at_0, at_5, at_2, at_7)
 
-pub halo_from : (b : Box2) (x y : ℤ) → in_box b x y ≡ false → some_neighbour (in_box b) x y ≡ true →
+pub halo_from : (b : Box2) (x y : ℤ) → in_box b x y ≡ false → has_neighbour_in_set (in_box b) x y ≡ true →
     in_halo b x y ≡ true
 unfolding in_halo
 halo_from b x y out near = and_from _ _ (not_from_false _ out) near
 
 pub halo_parts : (b : Box2) (x y : ℤ) → in_halo b x y ≡ true →
-    (in_box b x y ≡ false) × (some_neighbour (in_box b) x y ≡ true)
+    (in_box b x y ≡ false) × (has_neighbour_in_set (in_box b) x y ≡ true)
 unfolding in_halo
-halo_parts b x y h = let p = and_parts (not (in_box b x y)) (some_neighbour (in_box b) x y) h in (not-true _ p.0, p.1)
+halo_parts b x y h = let p = and_parts (not (in_box b x y)) (has_neighbour_in_set (in_box b) x y) h in
+    (not-true _ p.0, p.1)
 
-pub ring_from : (b : Box2) (x y : ℤ) → in_box b x y ≡ true → some_neighbour (λ x' y'. not (in_box b x' y')) x y ≡ true →
+pub ring_from : (b : Box2) (x y : ℤ) → in_box b x y ≡ true →
+    has_neighbour_in_set (λ x' y'. not (in_box b x' y')) x y ≡ true →
     in_ring b x y ≡ true
 unfolding in_ring
 ring_from b x y h near = and_from _ _ h near
 
 -- a cell of the box, or one of the halo
 same_near : (b : Box2) (s s' : State) (x y : ℤ) → SameInBox b s s' → SameInHalo b s s' →
-    some_neighbour (in_box b) x y ≡ true → s x y ≡ s' x y
+    has_neighbour_in_set (in_box b) x y ≡ true → s x y ≡ s' x y
 same_near b s s' x y box halo near = grind (arith, common_steps, cases_Bool, halo_from)
 
 pub near_step : (b : Box2) (t : ℕ) (s s' : State) → SameInBox b s s' → SameInHalo b s s' →

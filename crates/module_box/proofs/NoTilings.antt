@@ -2,7 +2,7 @@
 use Rattle.module_box.proofs.Imports.{Box2, and_from, and_parts, ap₂, arith, common_steps, in_box, pos, refl, span_from}
 use Rattle.module_box.proofs.Imports.{span_parts, true, ℕ, ◌%◌, ◌*◌, ◌+◌, ◌-◌, ◌/◌, ◌<◌, ◌∙◌, ◌≡◌, ◌≤◌}
 use Rattle.module_box.specs.Tiling.{rectangle_of}
-use Rattle.module_box.specs.Laws.{FaultMeansNoTiling}
+use Rattle.module_box.specs.Laws.{TileFaultMeansNoTiling}
 use Rattle.module_box.specs.declared.tile.TileFault.TheVariants.{Outside, Overlap, Gap, Memory}
 use Rattle.module_box.proofs.Tilings.{div_small}
 
@@ -25,7 +25,7 @@ corner_column w n a e = grind (arith, common_steps)
 pub corner_row : (w h n : ℕ) → n < (h / 2) * (w / 2) → 2 * (n / (w / 2)) < h
 corner_row w h n b = let d = div_small (h / 2) (w / 2) n b in omega (arith, d)
 
-pub no_tiling : FaultMeansNoTiling
+pub no_tiling : TileFaultMeansNoTiling
 no_tiling w h boxes (Outside n) task f m tile =
     let b = f.1.0 in
     let s = task.sides n b f.1.1 in

@@ -1,5 +1,6 @@
 -- Tables of owners that boxes take one after the other, from blocks to cells
-use Rattle.module_box.proofs.Imports.{Box2, HasBlockAtPlace, IsEvenBox, IsOwnersTable, List, OwnersView, TakesBox, []}
+use Rattle.module_box.proofs.Imports.{Box2, HasBlockAtPlace, HasOwnerTableSizes, IsEvenBox, List, OwnersView, TakesBox}
+use Rattle.module_box.proofs.Imports.{[]}
 use Rattle.module_box.proofs.Imports.{ap}
 use Rattle.module_box.proofs.Imports.{arith, below_or_from, common_steps, div-mul-add, in_box, inl}
 use Rattle.module_box.proofs.Imports.{inr, length, mod-mul-add, mul-le-mul_right, owner_of, rectangle, refl, slice_get}
@@ -7,7 +8,8 @@ use Rattle.module_box.proofs.Imports.{slice_get_within, slice_index, subst, sym,
 use Rattle.module_box.proofs.Imports.{◌≡◌}
 use Rattle.lemmas.proofs.Common.{div-add-mod', mod-lt, replicate}
 use Rattle.bbm_rule.specs.Boxes.{Tile}
-use Rattle.module_box.specs.Tiling.{AreEvenInside, AreOwners, ArePartOwners, AreTakenBy, Holds, MayAddBox}
+use Rattle.module_box.specs.Tiling.{AreBoxesEvenInside, BoxHoldsCell, IsOwnerTableOf, IsPartialOwnerTable}
+use Rattle.module_box.specs.Tiling.{IsTilingOwnerTable, MayAddBox}
 use Rattle.module_box.specs.Tiling.{IsInside, PutsBox, block_corner_x, block_corner_y, block_index, no_owner}
 use Rattle.module_box.proofs.BoxCells.{halves, in_box_nats, in_rectangle, owner_in_table}
 use Rattle.module_box.proofs.NoTilings.{corner_column, corner_row, from_sides}
@@ -19,13 +21,13 @@ use Rattle.module_box.proofs.Tilings.{box_down, box_up, none_taken, taken_by_nex
 abbrev pub place_of : OwnersView → ℤ → ℤ → ℕ
 place_of o x y = block_index y * (o.width / 2) + block_index x
 
-held_at : (boxes : List Box2) (i : ℕ) {x y x' y' : ℤ} (h : Holds boxes x y i) → in_box h.area x' y' ≡ true →
-    Holds boxes x' y' i
+held_at : (boxes : List Box2) (i : ℕ) {x y x' y' : ℤ} (h : BoxHoldsCell boxes x y i) → in_box h.area x' y' ≡ true →
+    BoxHoldsCell boxes x' y' i
 held_at boxes i h has = record { area = h.area; numbered = h.numbered; has = has }
 
 -- ---- a cell and its block
 
-module _ (o : OwnersView) (t : IsOwnersTable o) where
+module _ (o : OwnersView) (t : HasOwnerTableSizes o) where
   -- a box has the cell exactly if it has the block
   pub has_block : (b : Box2) (x y : ℤ) → IsEvenBox b → in_box (rectangle o) x y ≡ true → in_box b x y ≡ true →
       HasBlockAtPlace b (o.width / 2) (place_of o x y)
@@ -49,12 +51,12 @@ module _ (o : OwnersView) (t : IsOwnersTable o) where
 
   -- ---- the cells of the boxes
 
-  module _ (boxes : List Box2) (each : AreEvenInside o boxes) (free : ℕ)
-      (by : AreTakenBy (o.width / 2) free boxes o.numbers) where
-    pub stays : (x y : ℤ) (i : ℕ) → Holds boxes x y i → in_box (rectangle o) x y ≡ true
+  module _ (boxes : List Box2) (each : AreBoxesEvenInside o boxes) (free : ℕ)
+      (by : IsOwnerTableOf (o.width / 2) free boxes o.numbers) where
+    pub stays : (x y : ℤ) (i : ℕ) → BoxHoldsCell boxes x y i → in_box (rectangle o) x y ≡ true
     stays x y i h = in_rectangle o.width o.height h.area x y (each i h.area h.numbered).1 h.has
 
-    pub owned_cell : (x y : ℤ) (i : ℕ) → Holds boxes x y i → owner_of o x y ≡ i
+    pub owned_cell : (x y : ℤ) (i : ℕ) → BoxHoldsCell boxes x y i → owner_of o x y ≡ i
     unfolding owner_of
     owned_cell x y i h =
         let w = stays x y i h in
@@ -62,19 +64,19 @@ module _ (o : OwnersView) (t : IsOwnersTable o) where
         (held_at boxes i h (has_block h.area x y (each i h.area h.numbered).0 w h.has))
 
     pub named_cell : (x y : ℤ) → in_box (rectangle o) x y ≡ true → ¬ (owner_of o x y ≡ free) →
-        Holds boxes x y (owner_of o x y)
+        BoxHoldsCell boxes x y (owner_of o x y)
     unfolding owner_of
     named_cell x y w taken =
         let h = by.named (place_of o x y) (owner_in_table o x y t w) taken in
         held_at boxes _ h (has_cell h.area x y (each _ h.area h.numbered).0 w h.has)
 
-    pub none_by_number : (x y : ℤ) → owner_of o x y ≡ free → (i : ℕ) → ¬ Holds boxes x y i
+    pub none_by_number : (x y : ℤ) → owner_of o x y ≡ free → (i : ℕ) → ¬ BoxHoldsCell boxes x y i
     none_by_number x y e i h =
         let lt = slice_get_within boxes i h.area h.numbered in
         let is = owned_cell x y i h in let few = by.few in
         omega (arith, lt, is, few, e)
 
-    pub owners_by_tile : Tile (rectangle o) boxes → AreOwners o boxes
+    pub owners_by_tile : Tile (rectangle o) boxes → IsTilingOwnerTable o boxes
     owners_by_tile tile = record {
       tile = tile;
       named = λ x y w.
@@ -83,7 +85,7 @@ module _ (o : OwnersView) (t : IsOwnersTable o) where
           (c.1, ap (slice_get boxes) is ∙ c.2, c.3);
     }
 
-    pub owners_full : ((k : ℕ) → k < length o.numbers → ¬ (slice_index o.numbers k ≡ free)) → AreOwners o boxes
+    pub owners_full : ((k : ℕ) → k < length o.numbers → ¬ (slice_index o.numbers k ≡ free)) → IsTilingOwnerTable o boxes
     unfolding owner_of
     owners_full all = owners_by_tile (record {
       covered = λ x y w.
@@ -128,6 +130,6 @@ puts_box o b may number stop new takes =
           };
     }
 
-pub no_box : (o : OwnersView) → IsOwnersTable o → o.numbers ≡ replicate ((o.height / 2) * (o.width / 2)) no_owner →
-    ArePartOwners o []
+pub no_box : (o : OwnersView) → HasOwnerTableSizes o → o.numbers ≡ replicate ((o.height / 2) * (o.width / 2)) no_owner →
+    IsPartialOwnerTable o []
 no_box o t are = grind (arith, common_steps, none_taken)

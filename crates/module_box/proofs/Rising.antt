@@ -2,7 +2,8 @@
 use Rattle.module_box.proofs.Imports.{AllTimesSignal, Cell, Equal, Greater, IsRising, Less, List, None}
 use Rattle.module_box.proofs.Imports.{Ordering, Some, TimedSignal, [], all_times_at, and_parts, ap, arith}
 use Rattle.module_box.proofs.Imports.{below_or_from, below_or_same, cases_Bool, cell_cmp, common_steps, eqb, eqb-true}
-use Rattle.module_box.proofs.Imports.{event_at, inl, inr, is_at, length, moment_cmp, refl, rules, slice_get, suc, sym}
+use Rattle.module_box.proofs.Imports.{event_at, inl, inr, is_cell_at, length, moment_cmp, refl, rules, slice_get, suc}
+use Rattle.module_box.proofs.Imports.{sym}
 use Rattle.module_box.proofs.Imports.{true, zero, ℕ, ℤ, ◌++◌, ◌+◌, ◌<◌, ◌∙◌, ◌∷◌, ◌≡◌, ◌≢◌, ◌≤◌, ◌⊎◌}
 use Rattle.lemmas.proofs.Common.{CmpEqualImpliesEq, IsTotalOrder, cond-false, cond-true, exact_pairs, exact_signed}
 use Rattle.lemmas.proofs.Common.{exact_unsigned, nat_cmp_total, on_total, then_total, tied_itself}
@@ -77,7 +78,7 @@ pub all_times_none : (hs : List AllTimesSignal) (c : Cell) →
     all_times_at hs c.x c.y ≡ None
 unfolding all_times_at
 all_times_none [] c f = refl
-all_times_none (h ∷ hs) c f = elim (cases_Bool (is_at h.cell c.x c.y)) [
+all_times_none (h ∷ hs) c f = elim (cases_Bool (is_cell_at h.cell c.x c.y)) [
   | inl e ↦ absurd (f 0 h refl (cell_same h.cell c e))
   | inr e ↦ cond-false _ _ _ e ∙ all_times_none hs c (λ i h'. f (suc i) h')
 ]
@@ -88,7 +89,7 @@ pub all_times_some : (hs : List AllTimesSignal) (i : ℕ) (h : AllTimesSignal) �
 unfolding all_times_at
 all_times_some [] i h e f = grind (arith, common_steps)
 all_times_some (g ∷ hs) zero h e f = grind (arith, common_steps, same_some, cond-true, cell_itself)
-all_times_some (g ∷ hs) (suc i) h e f = elim (cases_Bool (is_at g.cell h.cell.x h.cell.y)) [
+all_times_some (g ∷ hs) (suc i) h e f = elim (cases_Bool (is_cell_at g.cell h.cell.x h.cell.y)) [
   | inl t ↦ absurd (f 0 g (omega arith) refl (cell_same g.cell h.cell t))
   | inr n ↦ cond-false _ _ _ n ∙ all_times_some hs i h e (λ j h' lt. f (suc j) h' (omega arith))
 ]

@@ -8,8 +8,8 @@ use Rattle.module_box.proofs.Imports.{ℕ, ℤ, ◌%◌, ◌*◌, ◌++◌, ◌+
 use Rattle.lemmas.proofs.Common.{div-add-mod, get_or-replicate, get_or-take, length-replicate, length-take-le}
 use Rattle.lemmas.proofs.Common.{replicate}
 use Rattle.lemmas.proofs.Common.{take_all}
-use Rattle.module_box.specs.Tiling.{AreTakenBy, Holds, HoldsBlock, block_corner_x, block_corner_y}
-use Rattle.module_box.specs.Tiling.{HeldTwice, IsFirstBadBlock}
+use Rattle.module_box.specs.Tiling.{BoxHoldsBlock, BoxHoldsCell, IsOwnerTableOf, block_corner_x, block_corner_y}
+use Rattle.module_box.specs.Tiling.{IsCellHeldTwice, IsFirstBadBlock}
 use Rattle.module_box.proofs.Rising.{at_end, kept, pushed}
 
 span_down : (f n k : ℕ) → f % 2 ≡ 0 → n % 2 ≡ 0 → in_span f n (pos k) ≡ true → in_span f n (pos (2 * (k / 2))) ≡ true
@@ -31,18 +31,18 @@ box_up b i k e h = grind (arith, common_steps, and_parts, and_from, span_up)
 
 -- The first boxes took the blocks of the table. It ends before the last block only at one that lies in two boxes.
 pub record IsTakenBy (columns blocks free : ℕ) (boxes : List Box2) (table : List ℕ) : Type 0 where
-  pub taken : AreTakenBy columns free boxes table
+  pub taken : IsOwnerTableOf columns free boxes table
   pub bound : length table ≤ blocks
   pub twice : length table < blocks →
-      HeldTwice boxes (block_corner_x columns (length table)) (block_corner_y columns (length table))
+      IsCellHeldTwice boxes (block_corner_x columns (length table)) (block_corner_y columns (length table))
 
 pub decide_block : (columns : ℕ) (b : Box2) (k : ℕ) → HasBlockAtPlace b columns k ⊎ ¬ HasBlockAtPlace b columns k
 decide_block columns b k = grind (arith, common_steps, cases_Bool, false≢true)
 
-held_on : (boxes more : List Box2) (x y : ℤ) (i : ℕ) → Holds boxes x y i → Holds (boxes ++ more) x y i
+held_on : (boxes more : List Box2) (x y : ℤ) (i : ℕ) → BoxHoldsCell boxes x y i → BoxHoldsCell (boxes ++ more) x y i
 held_on boxes more x y i h = grind (arith, common_steps, kept)
 
-twice_on : (boxes more : List Box2) (x y : ℤ) → HeldTwice boxes x y → HeldTwice (boxes ++ more) x y
+twice_on : (boxes more : List Box2) (x y : ℤ) → IsCellHeldTwice boxes x y → IsCellHeldTwice (boxes ++ more) x y
 twice_on boxes more x y t = grind (arith, common_steps, held_on)
 
 -- the next box takes its blocks, up to the first that an earlier one has
@@ -52,7 +52,7 @@ module _ (columns blocks free number stop : ℕ) (boxes : List Box2) (b : Box2) 
   within : (k : ℕ) → k < stop → k < length table
   within k lt = let w = takes.within in omega (arith, w, lt)
 
-  owned_next : (k i : ℕ) → k < stop → HoldsBlock (boxes ++ b ∷ []) columns k i → slice_index new k ≡ i
+  owned_next : (k i : ℕ) → k < stop → BoxHoldsBlock (boxes ++ b ∷ []) columns k i → slice_index new k ≡ i
   owned_next k i lt h = elim (pushed boxes b i h.area h.numbered) [
     | inl old ↦ (
         let was = t.taken.owned k i (within k lt) (record { area = h.area; numbered = old; has = h.has }) in
@@ -61,7 +61,7 @@ module _ (columns blocks free number stop : ℕ) (boxes : List Box2) (b : Box2) 
   ]
 
   named_next : (k : ℕ) → k < stop → ¬ (slice_index new k ≡ free) →
-      HoldsBlock (boxes ++ b ∷ []) columns k (slice_index new k)
+      BoxHoldsBlock (boxes ++ b ∷ []) columns k (slice_index new k)
   named_next k lt taken = elim (decide_block columns b k) [
     | inl here ↦ rw ((takes.taken k lt here).1, is) (record { area = b; numbered = at_end boxes b; has = here })
     | inr out ↦ (
@@ -69,7 +69,8 @@ module _ (columns blocks free number stop : ℕ) (boxes : List Box2) (b : Box2) 
         rw same (held_on boxes (b ∷ []) _ _ _ (t.taken.named k (within k lt) (λ e. taken (same ∙ e)))))
   ]
 
-  twice_next : stop < blocks → HeldTwice (boxes ++ b ∷ []) (block_corner_x columns stop) (block_corner_y columns stop)
+  twice_next : stop < blocks → IsCellHeldTwice (boxes ++ b ∷ []) (block_corner_x columns stop)
+      (block_corner_y columns stop)
   twice_next lt = elim (below_or_from stop (length table)) [
     | inl early ↦ (
         let e = takes.ends early in
@@ -83,7 +84,8 @@ module _ (columns blocks free number stop : ℕ) (boxes : List Box2) (b : Box2) 
         })
     | inr whole ↦ (
         let same : length table ≡ stop = let w = takes.within in omega (arith, w, whole) in
-        twice_on boxes (b ∷ []) _ _ (subst (λ k. HeldTwice boxes (block_corner_x columns k) (block_corner_y columns k))
+        twice_on boxes (b ∷ []) _ _ (subst
+        (λ k. IsCellHeldTwice boxes (block_corner_x columns k) (block_corner_y columns k))
         same (t.twice (omega (arith, same, lt)))))
   ]
 
@@ -124,7 +126,7 @@ taken_by_all columns blocks free n boxes table t e = grind (arith, common_steps,
 pub taken_gap : (columns blocks free place : ℕ) (boxes : List Box2) (table : List ℕ) (c : Cell) →
     IsTakenBy columns blocks free boxes table → place < length table → slice_index table place ≡ free →
     (c.x ≡ block_corner_x columns place) × (c.y ≡ block_corner_y columns place) → (i : ℕ) →
-    ¬ Holds boxes c.x c.y i
+    ¬ BoxHoldsCell boxes c.x c.y i
 taken_gap columns blocks free place boxes table c t lt e is i h =
     let before = slice_get_within boxes i h.area h.numbered in
     let own = t.taken.owned place i lt (rw (is.0, is.1) at h) in
@@ -133,7 +135,7 @@ taken_gap columns blocks free place boxes table c t lt e is i h =
 
 pub taken_twice : (columns blocks free place : ℕ) (boxes : List Box2) (table : List ℕ) (c : Cell) →
     IsTakenBy columns blocks free boxes table → place ≡ length table → place < blocks →
-    (c.x ≡ block_corner_x columns place) × (c.y ≡ block_corner_y columns place) → HeldTwice boxes c.x c.y
+    (c.x ≡ block_corner_x columns place) × (c.y ≡ block_corner_y columns place) → IsCellHeldTwice boxes c.x c.y
 taken_twice columns blocks free place boxes table c t e lt is = grind (arith, common_steps)
 
 pub div_small : (a c n : ℕ) → n < a * c → n / c < a

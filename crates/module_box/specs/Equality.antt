@@ -71,8 +71,8 @@ event_equivalence = and_equiv (on_equiv (λ e. e.at.time) nat_eq_equiv)
     (and_equiv (on_equiv (λ e. e.at.cell) cell_equivalence) (on_equiv (λ e. e.signal) signal_equivalence))
 
 -- the test on schedules is an equivalence
-pub signals_equivalence : IsEquivalence same_signals
-signals_equivalence = and_equiv (on_equiv (λ s. s.all_times) (lists_equiv all_times_equivalence))
+pub schedule_equivalence : IsEquivalence same_signals
+schedule_equivalence = and_equiv (on_equiv (λ s. s.all_times) (lists_equiv all_times_equivalence))
     (on_equiv (λ s. s.events) (lists_equiv event_equivalence))
 
 -- ---- the wires and gates of modules

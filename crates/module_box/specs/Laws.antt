@@ -19,17 +19,17 @@ abbrev pub SameInBox : Box2 → State → State → Type 0
 SameInBox b s s' = (x y : ℤ) → IsTrue (in_box b x y) → s x y ≡ s' x y
 
 -- no cell outside the box is live
-abbrev pub LiesInBox : Box2 → State → Type 0
-LiesInBox b s = (x y : ℤ) → IsFalse (in_box b x y) → IsFalse (s x y)
+abbrev pub IsDeadOutsideBox : Box2 → State → Type 0
+IsDeadOutsideBox b s = (x y : ℤ) → IsFalse (in_box b x y) → IsFalse (s x y)
 
 -- An even step keeps what lies in an even box there, and what it makes in the box depends on the box alone
-pub record EvenStep (b : Box2) (t : ℕ) : Type 0 where
-  pub stays : (s : State) → LiesInBox b s → LiesInBox b (step t s)
+pub record IsEvenStepLocalToBox (b : Box2) (t : ℕ) : Type 0 where
+  pub stays : (s : State) → IsDeadOutsideBox b s → IsDeadOutsideBox b (step t s)
   pub local : (s s' : State) → SameInBox b s s' → SameInBox b (step t s) (step t s')
 
 -- An even step maps the cells of an even box into the box, and the cells after it depend on the box alone.
 abbrev pub EvenStepStaysInBox : Type 0
-EvenStepStaysInBox = (b : Box2) (t : ℕ) → IsEvenBox b → t % 2 ≡ 0 → EvenStep b t
+EvenStepStaysInBox = (b : Box2) (t : ℕ) → IsEvenBox b → t % 2 ≡ 0 → IsEvenStepLocalToBox b t
 
 -- the same cells of the halo are live
 abbrev pub SameInHalo : Box2 → State → State → Type 0
@@ -47,8 +47,8 @@ HaloCellIsRingCellOfOwner = (rectangle : Box2) (boxes : List Box2) → Tile rect
     IsTrue (in_halo b x y) → IsTrue (in_box b' x y) → IsTrue (in_ring b' x y)
 
 -- If `owner_table` names a fault other than out of memory, the boxes do not tile the rectangle.
-abbrev pub FaultMeansNoTiling : Type 0
-FaultMeansNoTiling = (w h : ℕ) (boxes : List Box2) (fault : TileFault) → MayHaveOwnerTable w h boxes →
+abbrev pub TileFaultMeansNoTiling : Type 0
+TileFaultMeansNoTiling = (w h : ℕ) (boxes : List Box2) (fault : TileFault) → MayHaveOwnerTable w h boxes →
     IsTileFault w h boxes fault → fault ≢ Memory →
     ¬ Tile (rectangle_of w h) boxes
 
@@ -66,7 +66,7 @@ ChoicesAreAssignments = (cuts : ℕ) (values : Valuation) →
     (a : ℕ) × (a < 2 ^ cuts) × ((i : ℕ) → i < cuts → bit a i ≡ values i)
 
 -- under the assignment the values of the circuit's wires are the module's one local valuation
-pub record SeesCircuit (l : LocalNet) (v : Valuation) (a : ℕ) : Type 0 where
+pub record AgreesWithCircuit (l : LocalNet) (v : Valuation) (a : ℕ) : Type 0 where
   pub is_local : IsLocalValuation l a (values_by_local_number l v)
   pub only : (u : Valuation) → IsLocalValuation l a u → (i : ℕ) → i < wires l.netlist →
       u i ≡ values_by_local_number l v i
@@ -76,7 +76,7 @@ pub record SeesCircuit (l : LocalNet) (v : Valuation) (a : ℕ) : Type 0 where
 abbrev pub LocalValuesAgreeWithCircuit : Type 0
 LocalValuesAgreeWithCircuit = (n : Netlist) (l : LocalNet) (inputs v : Valuation) (a : ℕ) → AreLocalsOf n l →
     Satisfies n inputs v →
-    ((i : ℕ) → i < l.netlist.given → bit a i ≡ values_by_local_number l v i) → SeesCircuit l v a
+    ((i : ℕ) → i < l.netlist.given → bit a i ≡ values_by_local_number l v i) → AgreesWithCircuit l v a
 
 -- If a gate of the circuit is the first that has no row, it is so in a module that uses it. The assignment gives each
 -- cut the value that it has up to there.

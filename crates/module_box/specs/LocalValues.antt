@@ -8,7 +8,7 @@ use Rattle.circuit.specs.declared.circuit_line.GateKind.TheVariants.{Unswitch}
 use Rattle.circuit.specs.declared.circuit_line.GateKind.TheVariants.{Uninteract}
 use Rattle.circuit.specs.Gates.{row, defines}
 use Rattle.circuit.specs.Meaning.{Gate, Netlist, Valuation, Satisfies, IsFirstGateWithoutRow, wires}
-use Rattle.circuit.specs.Bridge.{AreValues, as_values}
+use Rattle.circuit.specs.Bridge.{AreWireValues, as_values}
 use Rattle.circuit.specs.Evaluate.{evaluate, first_undefined_gate}
 use Rattle.module_box.specs.declared.values.LocalValuesError.{LocalValuesError}
 use Rattle.module_box.specs.declared.values.LocalValuesError.TheVariants.{NoRow, Memory}
@@ -118,7 +118,7 @@ pub record AreGateValuesAtBit (given : List ℕ) (gs : List Gate) (words lacking
 
 -- the meaning of words for the gates of a module under an assignment, at bit b
 pub record AreModuleValuesAtBit (n : Netlist) (a : ℕ) (words lacking : List ℕ) (whole b : ℕ) : Type 0 where
-  pub values : bit whole b ≡ true → AreValues n (bit a) (lane b words)
+  pub values : bit whole b ≡ true → AreWireValues n (bit a) (lane b words)
   pub undefined : (k : ℕ) → k < length n.gates →
       (bit (slice_index lacking k) b ≡ true) ↔ IsFirstGateWithoutRow n (bit a) k
   pub none : bit whole b ≡ false → (k : ℕ) × IsFirstGateWithoutRow n (bit a) k

@@ -3,7 +3,7 @@ use Rattle.std.specs.Prelude.{◌≡◌, ℕ, ◌<◌, ◌≤◌, ◌==◌, Bool
 use Rattle.std.specs.Prelude.{slice_index, IsTrue}
 use Rattle.std.specs.List.{All, flat_map, list_any}
 use Rattle.std.specs.Option.{option_map_or}
-use Rattle.circuit.specs.Meaning.{Gate, Netlist, AreOrdered, wires}
+use Rattle.circuit.specs.Meaning.{Gate, Netlist, AreGatesOrdered, wires}
 
 -- ---- what the lines of a module say: the wires of the circuit that it cuts, and the gates of the circuit that it uses
 
@@ -73,5 +73,5 @@ pub record AreLocalsOf (n : Netlist) (l : LocalNet) : Type 0 where
   pub used : (k : ℕ) (g : Gate) → slice_get l.netlist.gates k ≡ Some g →
       slice_get n.gates (circuit_gate l k) ≡ Some (renumber_gate (circuit_wire l) g)
   pub rising : (k m : ℕ) → k < m → m < length l.netlist.gates → circuit_gate l k < circuit_gate l m
-  pub ordered : AreOrdered l.netlist.given l.netlist.gates
+  pub ordered : AreGatesOrdered l.netlist.given l.netlist.gates
   pub sized : length l.circuit_wires ≡ wires l.netlist

@@ -1,6 +1,6 @@
 -- The view of a module's wires and gates, from the fields
 use Rattle.std.specs.Prelude.{◌≡◌, ◌≤◌, map, length}
-use Rattle.circuit.specs.Meaning.{AreOrdered, wires}
+use Rattle.circuit.specs.Meaning.{AreGatesOrdered, wires}
 use Rattle.module_box.specs.declared.locals.Locals.TheInside.{Inside}
 use Rattle.module_box.specs.LocalGates.{gate_of_local_gate}
 use Rattle.module_box.specs.Locals.{LocalNet, cut_limit, use_limit}
@@ -15,7 +15,7 @@ local_net l = record {
 
 -- the gates are ordered over the cuts, and each wire has its number in the circuit
 pub record IsLocalNet (l : Inside) : Type 0 where
-  pub ordered : AreOrdered l.given (map gate_of_local_gate l.gates.items)
+  pub ordered : AreGatesOrdered l.given (map gate_of_local_gate l.gates.items)
   pub sized : length l.circuit_wires ≡ wires (local_net l).netlist
   pub few_cuts : l.given ≤ cut_limit
   pub few_gates : length l.gates.items ≤ use_limit

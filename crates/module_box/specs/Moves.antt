@@ -1,6 +1,6 @@
 -- Boxes, cells and signals that are moved
 use Rattle.std.specs.Prelude.{◌≡◌, ℕ, ℤ, pos, negsuc, ◌+ℤ◌, ◌≤ℤ◌, map}
-use Rattle.bbm_rule.specs.Moves.{IsMoved}
+use Rattle.bbm_rule.specs.Moves.{IsStateMovedBy}
 use Rattle.bbm_rule.specs.declared.block.Cell.{Cell}
 use Rattle.bbm_rule.specs.Boxes.{in_box, in_ring, in_halo}
 use Rattle.module_box.specs.Schedules.{Signals, signal_at}
@@ -38,20 +38,20 @@ abbrev pub IsSmallShift : ℤ → Type 0
 IsSmallShift z = (negsuc max_shift ≤ℤ z) × (z ≤ℤ pos max_shift)
 
 -- a cell near the corner of the plane
-abbrev pub IsInShiftRange : Cell → Type 0
-IsInShiftRange c = IsSmallShift c.x × IsSmallShift c.y
+abbrev pub IsCellInShiftRange : Cell → Type 0
+IsCellInShiftRange c = IsSmallShift c.x × IsSmallShift c.y
 
 -- ---- laws
 
 -- the cells of a box, its ring and its halo move along with it
-pub record BoxMovesAlong (dx dy : ℤ) (b b' : Box2) : Type 0 where
-  pub box : IsMoved dx dy (in_box b) (in_box b')
-  pub ring : IsMoved dx dy (in_ring b) (in_ring b')
-  pub halo : IsMoved dx dy (in_halo b) (in_halo b')
+pub record RingAndHaloMoveAlong (dx dy : ℤ) (b b' : Box2) : Type 0 where
+  pub box : IsStateMovedBy dx dy (in_box b) (in_box b')
+  pub ring : IsStateMovedBy dx dy (in_ring b) (in_ring b')
+  pub halo : IsStateMovedBy dx dy (in_halo b) (in_halo b')
 
 -- The ring and the halo of a box move along with it.
 abbrev pub RingsAndHalosMoveAlong : Type 0
-RingsAndHalosMoveAlong = (dx dy : ℤ) (b b' : Box2) → IsMovedBox dx dy b b' → BoxMovesAlong dx dy b b'
+RingsAndHalosMoveAlong = (dx dy : ℤ) (b b' : Box2) → IsMovedBox dx dy b b' → RingAndHaloMoveAlong dx dy b b'
 
 -- a cell that is moved carries in moved signals what it carried before
 abbrev pub SignalsMoveAlong : Type 0

@@ -8,6 +8,6 @@ abbrev pub wires_in_order : Inside → List ℕ
 wires_in_order a = a.wires.items
 
 -- no wire is there twice, and each new number has 16 bits
-pub record AreNumbered (a : Inside) : Type 0 where
+pub record AreWiresNumbered (a : Inside) : Type 0 where
   pub different : AreDistinct a.wires.items
   pub few : length a.wires.items ≤ 2 ^ 16

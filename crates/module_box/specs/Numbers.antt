@@ -32,5 +32,5 @@ netlist_numbers n = n.given ∷ length_prefixed gate_code_numbers n.gates
 
 -- ---- law
 -- Two netlists with the same numbers are the same, also if more numbers follow.
-abbrev pub NumbersDetermineGates : Type 0
-NumbersDetermineGates = IsPrefixFree netlist_numbers
+abbrev pub NumbersDetermineNetlists : Type 0
+NumbersDetermineNetlists = IsPrefixFree netlist_numbers

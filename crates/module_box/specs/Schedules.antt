@@ -3,7 +3,7 @@ use Rattle.std.specs.Prelude.{◌≡◌, ℕ, ℤ, ◌<◌, ◌&&◌, ◌==◌, 
 use Rattle.std.specs.Prelude.{unwrap_or, slice_get}
 use Rattle.std.specs.declared.cmp.Ordering.{Ordering}
 use Rattle.std.specs.declared.cmp.Ordering.TheVariants.{Less}
-use Rattle.bbm_rule.specs.Plane.{is_at}
+use Rattle.bbm_rule.specs.Plane.{is_cell_at}
 use Rattle.bbm_rule.specs.declared.block.Cell.{Cell}
 use Rattle.module_box.specs.declared.schedules.Moment.{Moment}
 use Rattle.module_box.specs.declared.schedules.AllTimesSignal.{AllTimesSignal}
@@ -18,12 +18,12 @@ pub record Signals : Type 0 where
 
 -- whether the moment is time t at the cell (x, y)
 abbrev pub is_moment_at : Moment → ℕ → ℤ → ℤ → Bool
-is_moment_at m t x y = (m.time == t) && is_at m.cell x y
+is_moment_at m t x y = (m.time == t) && is_cell_at m.cell x y
 
 -- the signal of the first element with the cell (x, y)
 unfoldable pub all_times_at : List AllTimesSignal → ℤ → ℤ → Option Signal
 all_times_at [] x y = None
-all_times_at (h ∷ hs) x y = if is_at h.cell x y then Some h.signal else all_times_at hs x y
+all_times_at (h ∷ hs) x y = if is_cell_at h.cell x y then Some h.signal else all_times_at hs x y
 
 -- the signal of the first element with the time t and the cell (x, y)
 unfoldable pub event_at : List TimedSignal → ℕ → ℤ → ℤ → Option Signal

@@ -2,7 +2,7 @@
 use Rattle.std.specs.Prelude.{◌≡◌, ℕ, ◌+◌, ◌*◌, ◌<◌, ◌≤◌, List, length, slice_index}
 use Rattle.module_box.specs.Tiling.{HasBlockAtPlace}
 use Rattle.bbm_rule.specs.declared.block.Box2.{Box2}
-use Rattle.lemmas.specs.Bounds.{max_blocks, max_side}
+use Rattle.lemmas.specs.Bounds.{max_blocks_in_row, max_side}
 
 -- the places from `from` to before `stop` were free and have the number now, the others are as before; a `stop` before
 -- the end is not free
@@ -28,6 +28,6 @@ pub record TakesBox (columns : ℕ) (b : Box2) (free number stop : ℕ) (old new
 -- the box lies in a rectangle that is `columns` blocks wide, and at most 2048 blocks wide and high
 pub record FitsBlockTable (columns : ℕ) (b : Box2) : Type 0 where
   pub some : 0 < columns
-  pub most : columns ≤ max_blocks
+  pub most : columns ≤ max_blocks_in_row
   pub right : b.x + b.w ≤ 2 * columns
   pub bottom : b.y + b.h ≤ max_side

@@ -3,7 +3,7 @@
 ghost use Rattle.std.specs.Prelude.{◌≡◌};
 ghost use Rattle.std.specs.Cmp.{on_equiv, partial_equiv_from_equiv};
 ghost use Rattle.std.specs.Ordering.{on};
-ghost use Rattle.module_box.specs.Equality.{same_gate, gate_equivalence, same_locals, locals_equivalence, same_netlist, netlist_equivalence, same_signals, signals_equivalence};
+ghost use Rattle.module_box.specs.Equality.{same_gate, gate_equivalence, same_locals, locals_equivalence, same_netlist, netlist_equivalence, same_signals, schedule_equivalence};
 ghost use Rattle.module_box.specs.LocalGates.{gate_of_local_gate};
 
 use crate::locals::{LocalGate, Locals};
@@ -13,7 +13,7 @@ use crate::wiring::Wiring;
 impl PartialEq for Schedule {
     ghost eq = { same_signals };
 
-    ghost laws = { partial_equiv_from_equiv signals_equivalence };
+    ghost laws = { partial_equiv_from_equiv schedule_equivalence };
 
     fn eq(&self, other: &Schedule) -> bool {
         let all_times = self.all_times() == other.all_times();
@@ -23,7 +23,7 @@ impl PartialEq for Schedule {
 }
 
 impl Eq for Schedule {
-    ghost laws = { signals_equivalence };
+    ghost laws = { schedule_equivalence };
 }
 
 impl LocalGate {

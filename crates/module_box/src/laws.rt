@@ -1,8 +1,8 @@
 //! Laws on the definitions alone.
 
-ghost use Rattle.module_box.specs.Laws.{ChoicesAreAssignments, EvenStepStaysInBox, FaultMeansNoTiling, StepDependsOnBoxAndHalo, HaloCellIsRingCellOfOwner, LocalsEqualityDecides, LocalValuesAgreeWithCircuit, ScheduleEqualityDecides, UndefinedGateIsSeenLocally};
+ghost use Rattle.module_box.specs.Laws.{ChoicesAreAssignments, EvenStepStaysInBox, TileFaultMeansNoTiling, StepDependsOnBoxAndHalo, HaloCellIsRingCellOfOwner, LocalsEqualityDecides, LocalValuesAgreeWithCircuit, ScheduleEqualityDecides, UndefinedGateIsSeenLocally};
 ghost use Rattle.module_box.specs.Moves.{RingsAndHalosMoveAlong, SignalsMoveAlong};
-ghost use Rattle.module_box.specs.Numbers.{NumbersDetermineGates};
+ghost use Rattle.module_box.specs.Numbers.{NumbersDetermineNetlists};
 
 /// States that an even step maps the cells of an even box into the box.
 ///
@@ -27,8 +27,8 @@ pub fn halo_cell_is_ring_cell_of_owner()
 /// States that every fault of [`owner_table`](crate::owner_table) but out of memory means that the boxes do not tile
 /// the rectangle.
 #[tactic(auto, using(crate::proofs::NoTilings::no_tiling))]
-pub fn fault_means_no_tiling()
-    ensures { FaultMeansNoTiling }
+pub fn tile_fault_means_no_tiling()
+    ensures { TileFaultMeansNoTiling }
 {}
 
 /// States that two [`Locals`](crate::Locals) are equal exactly if contracts see the same of both, and so two
@@ -58,6 +58,6 @@ pub fn boxes_and_signals_move_along()
 
 /// States that two wirings with the same numbers are the same, also if more numbers follow.
 #[tactic(auto, using(crate::proofs::InjectiveNumbers::netlists_tell))]
-pub fn numbers_determine_gates()
-    ensures { NumbersDetermineGates }
+pub fn numbers_determine_netlists()
+    ensures { NumbersDetermineNetlists }
 {}

@@ -2,14 +2,14 @@
 
 ghost use Rattle.std.specs.Prelude.{◌≡◌, map};
 ghost use Rattle.std.specs.List.{All};
-ghost use Rattle.module_box.specs.Moves.{IsInShiftRange, IsSmallShift, moved_cell, moved_event, moved_all_times, moved_signals};
+ghost use Rattle.module_box.specs.Moves.{IsCellInShiftRange, IsSmallShift, moved_cell, moved_event, moved_all_times, moved_signals};
 
 use crate::schedules::{AllTimesSignal, Moment, Schedule, TimedSignal};
 use bbm_rule::Cell;
 
 /// Returns the cell that lies `dx` columns and `dy` rows further. All these numbers are from -8192 to 8191.
 pub fn moved_cell(cell: Cell, dx: i32, dy: i32) -> Cell
-    requires cell { IsInShiftRange cell }
+    requires cell { IsCellInShiftRange cell }
     requires small_shift { IsSmallShift dx × IsSmallShift dy }
     ensures { result ≡ moved_cell dx dy cell }
 {
@@ -22,7 +22,7 @@ pub fn moved_cell(cell: Cell, dx: i32, dy: i32) -> Cell
 /// Returns the event at the cell that lies `dx` columns and `dy` rows further. All these numbers are from -8192 to
 /// 8191.
 pub fn moved_event(event: TimedSignal, dx: i32, dy: i32) -> TimedSignal
-    requires cell { IsInShiftRange event.at.cell }
+    requires cell { IsCellInShiftRange event.at.cell }
     requires small_shift { IsSmallShift dx × IsSmallShift dy }
     ensures { result ≡ moved_event dx dy event }
 {
@@ -37,7 +37,7 @@ pub fn moved_event(event: TimedSignal, dx: i32, dy: i32) -> TimedSignal
 
 // Moves each signal at all times.
 fn move_all_times(all_times: &mut Vec<AllTimesSignal>, dx: i32, dy: i32)
-    requires cells { All (λ h. IsInShiftRange h.cell) all_times.old.items }
+    requires cells { All (λ h. IsCellInShiftRange h.cell) all_times.old.items }
     requires small_shift { IsSmallShift dx × IsSmallShift dy }
     ensures { all_times.new.items ≡ map (moved_all_times dx dy) all_times.old.items }
 {
@@ -48,7 +48,7 @@ fn move_all_times(all_times: &mut Vec<AllTimesSignal>, dx: i32, dy: i32)
 
 // Moves each event.
 fn move_events(events: &mut Vec<TimedSignal>, dx: i32, dy: i32)
-    requires cells { All (λ e. IsInShiftRange e.at.cell) events.old.items }
+    requires cells { All (λ e. IsCellInShiftRange e.at.cell) events.old.items }
     requires small_shift { IsSmallShift dx × IsSmallShift dy }
     ensures { events.new.items ≡ map (moved_event dx dy) events.old.items }
 {
@@ -61,8 +61,8 @@ impl Schedule {
     /// Returns the same signals at the cells that lie `dx` columns and `dy` rows further. All these numbers are from
     /// -8192 to 8191. It takes no memory.
     pub fn moved(self, dx: i32, dy: i32) -> Schedule
-        requires all_times { All (λ h. IsInShiftRange h.cell) self.all_times }
-        requires events { All (λ e. IsInShiftRange e.at.cell) self.events }
+        requires all_times { All (λ h. IsCellInShiftRange h.cell) self.all_times }
+        requires events { All (λ e. IsCellInShiftRange e.at.cell) self.events }
         requires small_shift { IsSmallShift dx × IsSmallShift dy }
         ensures { result ≡ moved_signals dx dy self }
     {

@@ -26,11 +26,11 @@ impl Model for NumberedWires {
 
     ghost Value = { List ℕ };
 
-    ghost use Rattle.module_box.specs.NumberedWiresView.{wires_in_order, AreNumbered};
+    ghost use Rattle.module_box.specs.NumberedWiresView.{wires_in_order, AreWiresNumbered};
 
     ghost view = { wires_in_order };
 
-    ghost invariant = { AreNumbered };
+    ghost invariant = { AreWiresNumbered };
 }
 
 // The first place of a wire in a list.
@@ -41,7 +41,7 @@ fn place_in(wires: &[u16], wire: u16) -> Option<usize>
 }
 
 // Whether the wire stands at this place of a list.
-fn is_wire_at(wires: &[u16], place: u16, wire: u16) -> bool
+fn is_this_wire_at(wires: &[u16], place: u16, wire: u16) -> bool
     ensures { result ≡ true → slice_get wires.now place ≡ Some wire }
 {
     match wires.get(place as usize) {
@@ -81,7 +81,7 @@ impl NumberedWires {
         ensures { result ≡ position (λ w. w == wire) self.now }
     {
         let number = self.numbers[wire as usize % ENTRY_COUNT];
-        if is_wire_at(&self.wires, number, wire) {
+        if is_this_wire_at(&self.wires, number, wire) {
             return Some(number);
         }
         match place_in(&self.wires, wire) {

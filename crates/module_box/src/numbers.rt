@@ -60,7 +60,7 @@ fn push_wires_from(numbers: &mut Vec<u64>, first: u16, count: usize) -> Result<(
     Ok(())
 }
 
-fn push_gate(numbers: &mut Vec<u64>, gate: &LocalGate) -> Result<(), AllocError>
+fn push_gate_as_numbers(numbers: &mut Vec<u64>, gate: &LocalGate) -> Result<(), AllocError>
     ensures { OnOk result (numbers.new.items
         ≡ numbers.old.items ++ gate_code_numbers (gate_of_local_gate gate.now)) }
 {
@@ -70,12 +70,12 @@ fn push_gate(numbers: &mut Vec<u64>, gate: &LocalGate) -> Result<(), AllocError>
     push_wires_from(numbers, gate.first, gate.kind.outs())
 }
 
-fn push_gates(numbers: &mut Vec<u64>, gates: &[LocalGate]) -> Result<(), AllocError>
+fn push_gates_as_numbers(numbers: &mut Vec<u64>, gates: &[LocalGate]) -> Result<(), AllocError>
     ensures { OnOk result (numbers.new.items
         ≡ numbers.old.items ++ flat_map gate_code_numbers (map gate_of_local_gate gates.now)) }
 {
     for gate in gates {
-        push_gate(numbers, gate)?;
+        push_gate_as_numbers(numbers, gate)?;
     }
     Ok(())
 }
@@ -92,7 +92,7 @@ impl Wiring {
         let mut numbers = Vec::new(alloc);
         numbers.push(self.given as u64)?;
         numbers.push(self.gates.len() as u64)?;
-        push_gates(&mut numbers, &self.gates)?;
+        push_gates_as_numbers(&mut numbers, &self.gates)?;
         Ok(numbers)
     }
 }

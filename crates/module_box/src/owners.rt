@@ -3,7 +3,7 @@
 ghost use Rattle.std.specs.Prelude.{◌≡◌, ◌≤◌, ◌%◌, ◌↔◌, [], List, IfOk, IsTrue};
 ghost use Rattle.bbm_rule.specs.Boxes.{in_box, IsEvenBox};
 ghost use Rattle.bbm_rule.specs.declared.block.Box2.{Box2};
-ghost use Rattle.module_box.specs.Tiling.{ArePartOwners, AreAllBlocksTaken, IsFreeBox, IsInside, IsOwnerOrNone, MayAddBox, PutsBox, owner_of, rectangle};
+ghost use Rattle.module_box.specs.Tiling.{IsPartialOwnerTable, AreAllBlocksTaken, IsFreeBox, IsInside, IsOwnerOrNone, MayAddBox, PutsBox, owner_of, rectangle};
 ghost use Rattle.lemmas.specs.Bounds.{max_side};
 
 use crate::taking::{fill_box_until_taken, first_free_place, is_box_free};
@@ -45,7 +45,7 @@ impl Owners {
         requires height { (2 ≤ height) × (height ≤ max_side) × (height % 2 ≡ 0) }
         ensures width { IfOk result (λ owners. owners.width ≡ width) }
         ensures height { IfOk result (λ owners. owners.height ≡ height) }
-        ensures no_box { IfOk result (λ owners. ArePartOwners owners []) }
+        ensures no_box { IfOk result (λ owners. IsPartialOwnerTable owners []) }
     {
         let numbers = vec![in alloc; NO_OWNER; height as usize / 2 * (width as usize / 2)]?;
         Ok(Owners {
@@ -83,7 +83,7 @@ impl Owners {
 
     /// Returns the number of the box that has the cell, if one has it so far.
     pub fn owner_if_any(&self, cell: Cell) -> Option<usize>
-        ensures { (boxes : List Box2) → ArePartOwners self.now boxes →
+        ensures { (boxes : List Box2) → IsPartialOwnerTable self.now boxes →
             IsOwnerOrNone boxes cell.x cell.y result }
     {
         let whole = Box2 {

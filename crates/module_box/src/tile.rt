@@ -3,8 +3,8 @@
 ghost use Rattle.std.specs.Prelude.{◌≡◌, ◌<◌, ◌≤◌, ◌+◌, ◌↔◌, ◌*◌, IsTrue, MatchResult, Some, slice_get, length};
 ghost use Rattle.bbm_rule.specs.declared.block.Box2.{Box2};
 ghost use Rattle.module_box.specs.declared.tile.TileFault.TheVariants.{Memory};
-ghost use Rattle.module_box.specs.Tiling.{AreOwners, AreFirstBoxesInside, MayHaveOwnerTable, IsTileFault, IsInside, block_corner_x, block_corner_y};
-ghost use Rattle.lemmas.specs.Bounds.{max_blocks};
+ghost use Rattle.module_box.specs.Tiling.{IsTilingOwnerTable, AreFirstBoxesInside, MayHaveOwnerTable, IsTileFault, IsInside, block_corner_x, block_corner_y};
+ghost use Rattle.lemmas.specs.Bounds.{max_blocks_in_row};
 
 use crate::owners::Owners;
 use crate::taking::{fill_box_until_taken, first_free_place};
@@ -61,8 +61,8 @@ fn first_box_outside(width: u32, height: u32, boxes: &[Box2]) -> usize
 
 // the upper left cell of the block at a place.
 fn block_corner(columns: usize, place: usize) -> Cell
-    requires columns { (0 < columns) × (columns ≤ max_blocks) }
-    requires place { place < max_blocks * columns }
+    requires columns { (0 < columns) × (columns ≤ max_blocks_in_row) }
+    requires place { place < max_blocks_in_row * columns }
     ensures { (result.x ≡ block_corner_x columns place)
         × (result.y ≡ block_corner_y columns place) }
 {
@@ -76,7 +76,7 @@ fn block_corner(columns: usize, place: usize) -> Cell
 ///
 /// Width and height are even, from 2 to 4096 cells. Corners and sides of the boxes are even, and the sides are at least
 /// 2. Boxes are numbered from 0 in the order given. It takes some steps for each block and for each box, whether there
-/// is a fault or not.
+///    is a fault or not.
 ///
 /// # Errors
 ///
@@ -87,8 +87,8 @@ fn block_corner(columns: usize, place: usize) -> Cell
 /// - a block of two by two cells that lies in two boxes or in none, by y, then x;
 /// - out of memory, which may also come before a block's fault is seen.
 ///
-/// By the law [`fault_means_no_tiling`](crate::laws::fault_means_no_tiling) every fault but out of memory means that
-/// the boxes do not tile.
+/// By the law [`tile_fault_means_no_tiling`](crate::laws::tile_fault_means_no_tiling) every fault but out of memory
+/// means that the boxes do not tile.
 pub fn owner_table(
     alloc: Global,
     width: u32,
@@ -97,8 +97,8 @@ pub fn owner_table(
 ) -> Result<Owners, TileFault>
     requires { MayHaveOwnerTable width height boxes.now }
     ensures { MatchResult result
-        (λ owners. (owners.width ≡ width) × (owners.height ≡ height) × AreOwners owners boxes.now)
-        (λ fault. IsTileFault width height boxes.now fault) }
+        (λ owners. (owners.width ≡ width) × (owners.height ≡ height)
+        × IsTilingOwnerTable owners boxes.now) (λ fault. IsTileFault width height boxes.now fault) }
 {
     let outside = first_box_outside(width, height, boxes);
     if outside < boxes.len() {

@@ -2,8 +2,8 @@
 
 ghost use Rattle.std.specs.Prelude.{◌≡◌, ◌≢◌, ◌<◌, ◌≤◌, ◌+◌, ◌*◌, ◌++◌, ℕ, Some, None, true, false, map, length, slice_index, slice_index_or, OnOk, IfErr, IfOk, IfSome};
 ghost use Rattle.bbm_rule.specs.Bits.{bit};
-ghost use Rattle.circuit.specs.Bridge.{AreValues};
-ghost use Rattle.circuit.specs.Meaning.{AreOrdered, wires, wires_after};
+ghost use Rattle.circuit.specs.Bridge.{AreWireValues};
+ghost use Rattle.circuit.specs.Meaning.{AreGatesOrdered, wires, wires_after};
 ghost use Rattle.module_box.specs.LocalGates.{gate_of_local_gate};
 ghost use Rattle.module_box.specs.LocalValues.{AddsOutWords, AreValueRows, AreModuleValuesAtBit, IsLocalValuesError, AreGateValuesAtBit, lane, undefined_bits, gate_out_words};
 
@@ -233,7 +233,7 @@ impl Wiring {
     pub fn cuts(&self) -> usize
         ensures count { result ≡ self.now.given }
         ensures at_most_12 { result ≤ 12 }
-        ensures gates_ordered { AreOrdered self.now.given self.now.gates }
+        ensures gates_ordered { AreGatesOrdered self.now.given self.now.gates }
     {
         self.given
     }
@@ -256,7 +256,7 @@ impl Wiring {
 
     // The word of each wire: at bit b its value under assignment 64 * chunk + b.
     fn words_of_chunk(&self, alloc: Global, chunk: u32) -> Result<ValueWords, AllocError>
-        ensures gates_ordered { AreOrdered self.now.given self.now.gates }
+        ensures gates_ordered { AreGatesOrdered self.now.given self.now.gates }
         ensures count { IfOk result (λ c. length c.words.items ≡ wires self.now) }
         ensures gates { IfOk result (λ c. length c.undefined.items ≡ length self.now.gates) }
         ensures values { IfOk result (λ c. (b : ℕ) → b < 64 →
@@ -272,7 +272,7 @@ impl Wiring {
     ///
     /// It ignores the bits from `cuts()` on. There are no values if a used gate has no row.
     pub fn local_values(&self, alloc: Global, cut_bits: u32) -> Result<Vec<bool>, LocalValuesError>
-        ensures values { IfOk result (λ vs. AreValues self.now (bit cut_bits) vs.items) }
+        ensures values { IfOk result (λ vs. AreWireValues self.now (bit cut_bits) vs.items) }
         ensures fault { IfErr result (λ e. IsLocalValuesError self.now cut_bits e) }
     {
         let column = self.words_of_chunk(alloc, cut_bits / 64)?;

@@ -1,5 +1,6 @@
 -- The first keys that are the same, as a map has them
-use Rattle.module_job.proofs.Imports.{IsFirstLike, List, None, Option, Some, arith, cases_Bool, cases_lt, common_steps}
+use Rattle.module_job.proofs.Imports.{IsFirstEqualElement, List, None, Option, Some, arith, cases_Bool, cases_lt}
+use Rattle.module_job.proofs.Imports.{common_steps}
 use Rattle.module_job.proofs.Imports.{false≢true, if◌then◌else◌, lists, same_key, slice_get, unwrap_or, ℕ, ◌+◌, ◌<◌}
 use Rattle.module_job.proofs.Imports.{◌≡◌, ◌≢◌}
 
@@ -10,7 +11,7 @@ IsFirstOf keys n key (Some f) =
     (f < n) × (slice_get keys f ≡ Some key) × ((i : ℕ) → i < f → slice_get keys i ≢ Some key)
 
 pub first_found : (keys : List (List ℕ)) (n : ℕ) (key : List ℕ) (o : Option ℕ) → slice_get keys n ≡ Some key →
-    IsFirstOf keys n key o → IsFirstLike keys n (unwrap_or o n)
+    IsFirstOf keys n key o → IsFirstEqualElement keys n (unwrap_or o n)
 first_found keys n key o h1 h2 = grind (arith, common_steps)
 
 pub found_within : (keys : List (List ℕ)) (n : ℕ) (key : List ℕ) (o : Option ℕ) → IsFirstOf keys n key o →

@@ -1,5 +1,6 @@
 -- Shapes at their places in a list of references.
-use Rattle.module_job.proofs.Imports.{IsFirstLike, List, Option, ShapeView, Some, [], ap, arith, cases_lt, common_steps}
+use Rattle.module_job.proofs.Imports.{IsFirstEqualElement, List, Option, ShapeView, Some, [], ap, arith, cases_lt}
+use Rattle.module_job.proofs.Imports.{common_steps}
 use Rattle.module_job.proofs.Imports.{get_or, length, length-map, map, refl, slice_get, slice_get-get_or, slice_get-map}
 use Rattle.module_job.proofs.Imports.{slice_index, suc, sym, unwrap_or, zero, ℕ, ◌++◌, ◌+◌, ◌<◌, ◌∙◌, ◌∷◌, ◌≡◌}
 use Rattle.module_job.specs.Groups.{AreGroups, AreKeys}
@@ -13,12 +14,12 @@ one_value o p a b e f g = cc
 
 -- one more group
 pub group_more : {A : Type 0} (shapes : List A) (groups : List ℕ) (n g : ℕ) → length groups ≡ n →
-    ((k : ℕ) → k < n → IsFirstLike shapes k (slice_index groups k)) → IsFirstLike shapes n g →
-    (k : ℕ) → k < n + 1 → IsFirstLike shapes k (slice_index (groups ++ g ∷ []) k)
+    ((k : ℕ) → k < n → IsFirstEqualElement shapes k (slice_index groups k)) → IsFirstEqualElement shapes n g →
+    (k : ℕ) → k < n + 1 → IsFirstEqualElement shapes k (slice_index (groups ++ g ∷ []) k)
 group_more shapes groups n g count each here k lt = grind (arith, common_steps, cases_lt, common_steps)
 
 pub all_groups : {A : Type 0} (shapes : List A) (groups : List ℕ) (n : ℕ) → n ≡ length shapes → length groups ≡ n →
-    ((k : ℕ) → k < n → IsFirstLike shapes k (slice_index groups k)) → AreGroups shapes groups
+    ((k : ℕ) → k < n → IsFirstEqualElement shapes k (slice_index groups k)) → AreGroups shapes groups
 all_groups shapes groups n all count each = grind (arith, common_steps)
 
 -- keys that are made of the shapes

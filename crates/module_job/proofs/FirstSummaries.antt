@@ -1,5 +1,6 @@
 -- The first of a list with each summary, and the first with each key of those that differ from it: for `job_groups`.
-use Rattle.module_job.proofs.Imports.{IsFirstLike, List, Option, Some, ap, arith, cases_Bool, cases_lt, common_steps}
+use Rattle.module_job.proofs.Imports.{IsFirstEqualElement, List, Option, Some, ap, arith, cases_Bool, cases_lt}
+use Rattle.module_job.proofs.Imports.{common_steps}
 use Rattle.module_job.proofs.Imports.{cond-false, cond-true, false≢true, if◌then◌else◌, lists, map, mapped_at, same_key}
 use Rattle.module_job.proofs.Imports.{slice_get, slice_get-map, sym, unwrap_or, ℕ, ◌+◌, ◌<◌, ◌∙◌, ◌≡◌, ◌≢◌, ◌⊎◌}
 use Rattle.lemmas.proofs.Common.{option_map}
@@ -20,13 +21,13 @@ AreHeadsBefore {A} summary key xs n firsts =
 -- the number that the map has for the summary is that of the first one with this summary
 pub head_like : {A : Type 0} (summary : A → List ℕ) (xs : List A) (n : ℕ) (x : A) (k : List ℕ) (o : Option ℕ) (h : ℕ) →
     slice_get xs n ≡ Some x → k ≡ summary x → h ≡ unwrap_or o n → IsFirstOf (map summary xs) n k o →
-    IsFirstLike (map summary xs) n h
+    IsFirstEqualElement (map summary xs) n h
 head_like summary xs n x k o h there its is known = grind (arith, common_steps, first_found, mapped_at)
 
 -- ---- the first one with the summary is the same
 pub first_equal_shape_number : {A : Type 0} (summary : A → List ℕ) (xs : List A) (n h : ℕ) →
-    IsFirstLike (map summary xs) n h →
-    slice_get xs h ≡ slice_get xs n → IsFirstLike xs n h
+    IsFirstEqualElement (map summary xs) n h →
+    slice_get xs h ≡ slice_get xs n → IsFirstEqualElement xs n h
 first_equal_shape_number summary xs n h like same = record {
   same = same;
   first = λ i lt e. like.first i lt
@@ -34,12 +35,12 @@ first_equal_shape_number summary xs n h like same = record {
 }
 
 pub is_head : {A : Type 0} (summary : A → List ℕ) (xs : List A) (n h : ℕ) (x : A) → slice_get xs n ≡ Some x →
-    IsFirstLike (map summary xs) n h → slice_get xs h ≡ slice_get xs n → IsHead summary xs x
+    IsFirstEqualElement (map summary xs) n h → slice_get xs h ≡ slice_get xs n → IsHead summary xs x
 is_head summary xs n h x there like same = grind (arith, common_steps, mapped_at)
 
 -- ---- the first one with the summary differs
 pub head_same : {A : Type 0} (summary : A → List ℕ) (xs : List A) (n h : ℕ) (x : A) → slice_get xs n ≡ Some x →
-    IsFirstLike (map summary xs) n h → IsHead summary xs x → slice_get xs h ≡ slice_get xs n
+    IsFirstEqualElement (map summary xs) n h → IsHead summary xs x → slice_get xs h ≡ slice_get xs n
 head_same summary xs n h x there like head = grind (arith, common_steps, mapped_at, cases_lt)
 
 -- ---- one more

@@ -17,7 +17,7 @@ pub use Rattle.module_box.specs.declared.schedules.Signal.{Signal}
 pub use Rattle.module_box.specs.declared.schedules.Signal.TheVariants.{Zero}
 pub use Rattle.module_job.specs.CellLists.{demand_from_number, signal_from_number}
 pub use Rattle.module_job.specs.Equality.{same_demand, same_job, same_shape}
-pub use Rattle.module_job.specs.Groups.{IsFirstLike, same_key}
+pub use Rattle.module_job.specs.Groups.{IsFirstEqualElement, same_key}
 pub use Rattle.module_job.specs.Keys.{all_times_numbers, compact_number_bytes, demand_number, event_numbers}
 pub use Rattle.module_job.specs.Keys.{shape_digest}
 pub use Rattle.module_job.specs.Keys.{signal_number, sparse_entry, sparse_list_numbers, stop_numbers}

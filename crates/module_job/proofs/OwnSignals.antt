@@ -1,13 +1,13 @@
 -- A wire that the signals of a job name is one of its own, at each cell and time
 use Rattle.lemmas.proofs.Common.{All, All-head, All-tail, List, [], cases_Bool, inl, inr, unwrap_or, ℕ, ℤ, ◌∷◌}
-use Rattle.bbm_rule.specs.Plane.{is_at}
+use Rattle.bbm_rule.specs.Plane.{is_cell_at}
 use Rattle.module_box.specs.Schedules.{Signals, all_times_at, event_at, is_moment_at, signal_at}
 use Rattle.module_box.specs.declared.schedules.AllTimesSignal.{AllTimesSignal}
 use Rattle.module_box.specs.declared.schedules.Signal.{Signal}
 use Rattle.module_box.specs.declared.schedules.Signal.TheVariants.{Zero}
 use Rattle.module_box.specs.declared.schedules.TimedSignal.{TimedSignal}
 use Rattle.circuit.specs.Meaning.{wires}
-use Rattle.module_job.specs.Jobs.{JobView, NamesOwnWires}
+use Rattle.module_job.specs.Jobs.{JobView, NamesOnlyOwnWires}
 use Rattle.module_job.specs.Signals.{IsSignalWireBelow}
 
 all_times_below : (n : ℕ) (hs : List AllTimesSignal) (x y : ℤ) (d : Signal) →
@@ -16,7 +16,7 @@ all_times_below : (n : ℕ) (hs : List AllTimesSignal) (x y : ℤ) (d : Signal) 
     IsSignalWireBelow n (unwrap_or (all_times_at hs x y) d)
 unfolding all_times_at
 all_times_below n [] x y d all b = b
-all_times_below n (h ∷ hs) x y d all b = elim (cases_Bool (is_at h.cell x y)) [
+all_times_below n (h ∷ hs) x y d all b = elim (cases_Bool (is_cell_at h.cell x y)) [
   | inl e ↦ rw e (All-head (λ (g : AllTimesSignal). IsSignalWireBelow n g.signal) h hs all)
   | inr e ↦ rw e (all_times_below n hs x y d
       (All-tail (λ (g : AllTimesSignal). IsSignalWireBelow n g.signal) h hs all) b)
@@ -39,10 +39,10 @@ signal_below n s t x y hs es =
     all_times_below n s.all_times x y (unwrap_or (event_at s.events t x y) Zero) hs
     (event_below n s.events t x y Zero es tt)
 
-pub edge_below : (j : JobView) (t : ℕ) (x y : ℤ) → NamesOwnWires j →
+pub edge_below : (j : JobView) (t : ℕ) (x y : ℤ) → NamesOnlyOwnWires j →
     IsSignalWireBelow (wires j.locals.netlist) (signal_at j.edges t x y)
 edge_below j t x y own = signal_below (wires j.locals.netlist) j.edges t x y own.edge_all_times own.edge_events
 
-pub halo_below : (j : JobView) (t : ℕ) (x y : ℤ) → NamesOwnWires j →
+pub halo_below : (j : JobView) (t : ℕ) (x y : ℤ) → NamesOnlyOwnWires j →
     IsSignalWireBelow (wires j.locals.netlist) (signal_at j.halos t x y)
 halo_below j t x y own = signal_below (wires j.locals.netlist) j.halos t x y own.halo_all_times own.halo_events

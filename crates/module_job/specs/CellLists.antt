@@ -30,9 +30,9 @@ abbrev pub demands_view : OfDemands.Inside → List Demand
 demands_view a = map demand_from_number a.numbers
 
 -- the wire of each signal has 16 bits
-abbrev pub HaveSignalsShortWires : OfStarts.Inside → Type 0
-HaveSignalsShortWires a = All (λ n. n < 65538) a.numbers
+abbrev pub AreSignalWires16Bit : OfStarts.Inside → Type 0
+AreSignalWires16Bit a = All (λ n. n < 65538) a.numbers
 
 -- the wire of each demand has 16 bits
-abbrev pub HaveDemandsShortWires : OfDemands.Inside → Type 0
-HaveDemandsShortWires a = All (λ n. n < 65539) a.numbers
+abbrev pub AreDemandWires16Bit : OfDemands.Inside → Type 0
+AreDemandWires16Bit a = All (λ n. n < 65539) a.numbers

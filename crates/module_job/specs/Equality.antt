@@ -5,7 +5,7 @@ use Rattle.std.specs.Cmp.{IsEquivalence, and_equiv, on_equiv, nat_eq_equiv}
 use Rattle.std.specs.Cmp.Lexicographic.{pointwise, lists_equiv, options_equiv}
 use Rattle.std.specs.Option.{option_eq}
 use Rattle.module_box.specs.Equality.{same_signal, signal_equivalence, same_cell, cell_equivalence, same_signals}
-use Rattle.module_box.specs.Equality.{signals_equivalence, same_locals, locals_equivalence, same_netlist}
+use Rattle.module_box.specs.Equality.{schedule_equivalence, same_locals, locals_equivalence, same_netlist}
 use Rattle.module_box.specs.Equality.{netlist_equivalence}
 use Rattle.bbm_rule.specs.declared.block.Box2.{Box2}
 use Rattle.module_job.specs.Jobs.{JobView}
@@ -84,7 +84,7 @@ job_equivalence =
     (on_equiv (λ j. j.locals) locals_equivalence))
     (and_equiv (on_equiv (λ j. j.starts) (lists_equiv signal_equivalence))
     (on_equiv (λ j. j.demands) (lists_equiv demand_equivalence))))
-    (and_equiv (on_equiv (λ j. j.edges) signals_equivalence) (on_equiv (λ j. j.halos) signals_equivalence)))
+    (and_equiv (on_equiv (λ j. j.edges) schedule_equivalence) (on_equiv (λ j. j.halos) schedule_equivalence)))
     (and_equiv (on_equiv (λ j. j.stops) (lists_equiv stop_equivalence))
     (on_equiv (λ j. j.kept) (lists_equiv nat_eq_equiv)))
 
@@ -97,6 +97,6 @@ shape_equivalence =
     (on_equiv (λ s. s.netlist) netlist_equivalence))
     (and_equiv (on_equiv (λ s. s.starts) (lists_equiv signal_equivalence))
     (on_equiv (λ s. s.demands) (lists_equiv demand_equivalence))))
-    (and_equiv (on_equiv (λ s. s.edges) signals_equivalence) (on_equiv (λ s. s.halos) signals_equivalence)))
+    (and_equiv (on_equiv (λ s. s.edges) schedule_equivalence) (on_equiv (λ s. s.halos) schedule_equivalence)))
     (and_equiv (on_equiv (λ s. s.stops) (lists_equiv stop_equivalence))
     (on_equiv (λ s. s.kept) (lists_equiv nat_eq_equiv)))

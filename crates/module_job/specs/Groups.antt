@@ -4,14 +4,14 @@ use Rattle.std.specs.Cmp.Lexicographic.{pointwise}
 use Rattle.module_job.specs.Shapes.{ShapeView}
 
 -- number g is the first of those that are as number k is
-pub record IsFirstLike {A : Type 0} (xs : List A) (k g : ℕ) : Type 0 where
+pub record IsFirstEqualElement {A : Type 0} (xs : List A) (k g : ℕ) : Type 0 where
   pub same : slice_get xs g ≡ slice_get xs k
   pub first : (i : ℕ) → i < g → slice_get xs i ≢ slice_get xs k
 
 -- for each the number of the first that is the same
 pub record AreGroups {A : Type 0} (xs : List A) (groups : List ℕ) : Type 0 where
   pub count : length groups ≡ length xs
-  pub each : (k : ℕ) → k < length xs → IsFirstLike xs k (slice_index groups k)
+  pub each : (k : ℕ) → k < length xs → IsFirstEqualElement xs k (slice_index groups k)
 
 -- whether two keys are the same
 abbrev pub same_key : List ℕ → List ℕ → Bool

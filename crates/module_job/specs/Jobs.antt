@@ -41,7 +41,7 @@ job_demand j x y = if in_box j.area x y then unwrap_or
     (slice_get j.demands (place_in j.area x y)) Demanded.Dead else Demanded.Dead
 
 -- each wire that the job names is one of its own
-pub record NamesOwnWires (j : JobView) : Type 0 where
+pub record NamesOnlyOwnWires (j : JobView) : Type 0 where
   pub starts : All (IsSignalWireBelow (wires j.locals.netlist)) j.starts
   pub demands : All (IsDemandWireBelow (wires j.locals.netlist)) j.demands
   pub edge_all_times : All (λ h. IsSignalWireBelow (wires j.locals.netlist) h.signal) j.edges.all_times
@@ -51,7 +51,7 @@ pub record NamesOwnWires (j : JobView) : Type 0 where
   pub stops : All (λ s. s.wire < wires j.locals.netlist) j.stops
 
 -- a stop is at a time up to the last one, and at a cell of the box
-pub record IsStopOf (j : JobView) (s : Stop) : Type 0 where
+pub record IsStopWithinJob (j : JobView) (s : Stop) : Type 0 where
   pub time : s.at.time ≤ j.steps
   pub inside : IsTrue (in_box j.area s.at.cell.x s.at.cell.y)
 
@@ -66,6 +66,6 @@ pub record IsJob (j : JobView) : Type 0 where
   pub width : (2 ≤ j.area.w) × (j.area.w ≤ 64) × (j.area.x + j.area.w ≤ max_side)
   pub height : (2 ≤ j.area.h) × (j.area.h ≤ 64) × (j.area.y + j.area.h ≤ max_side)
   pub steps : j.steps ≤ max_steps
-  pub own : NamesOwnWires j
-  pub stops : All (IsStopOf j) j.stops
+  pub own : NamesOnlyOwnWires j
+  pub stops : All (IsStopWithinJob j) j.stops
   pub stops_rise : IsRising moment_cmp stop_moment j.stops

@@ -1,6 +1,6 @@
 -- Lists of numbers of which most are 0, by the entries of the others
 use Rattle.std.specs.Prelude.{◌≡◌, ℕ, zero, suc, ◌+◌, ◌/◌, ◌<◌, nat_eq, if◌then◌else◌, List, [], ◌∷◌, get_or, length}
-use Rattle.bbm_rule.specs.Marks.{IsUnmarked}
+use Rattle.bbm_rule.specs.Marks.{IsNumberUnmarked}
 use Rattle.module_job.specs.Keys.{sparse_entries_from}
 use Rattle.module_job.specs.declared.sparse_numbers.SparseNumbers.TheInside.{Inside}
 
@@ -18,7 +18,7 @@ abbrev pub sparse_view : Inside → List ℕ
 sparse_view a = numbers_from_entries a.count 0 a.entries.items
 
 -- the entries are those of the list, and a place that could have a mark and has none has the number 0
-pub record AreSparse (a : Inside) : Type 0 where
+pub record AreSparseEntries (a : Inside) : Type 0 where
   pub entries : a.entries.items ≡ sparse_entries_from 0 (sparse_view a)
-  pub unmarked : (u : ℕ) → u / 64 < length a.marks.items → IsUnmarked a.marks.items u →
+  pub unmarked : (u : ℕ) → u / 64 < length a.marks.items → IsNumberUnmarked a.marks.items u →
       get_or (sparse_view a) u 0 ≡ 0

@@ -27,11 +27,11 @@ impl Model for StartSignals {
 
     ghost Value = { List Signal };
 
-    ghost use Rattle.module_job.specs.CellLists.{HaveSignalsShortWires, starts_view};
+    ghost use Rattle.module_job.specs.CellLists.{AreSignalWires16Bit, starts_view};
 
     ghost view = { starts_view };
 
-    ghost invariant = { HaveSignalsShortWires };
+    ghost invariant = { AreSignalWires16Bit };
 }
 
 /// A list of what the cells of a box must be at the last time, row by row. Contracts see the demands.
@@ -48,11 +48,11 @@ impl Model for EndDemands {
 
     ghost Value = { List Demand };
 
-    ghost use Rattle.module_job.specs.CellLists.{HaveDemandsShortWires, demands_view};
+    ghost use Rattle.module_job.specs.CellLists.{AreDemandWires16Bit, demands_view};
 
     ghost view = { demands_view };
 
-    ghost invariant = { HaveDemandsShortWires };
+    ghost invariant = { AreDemandWires16Bit };
 }
 
 impl StartSignals {

@@ -2,7 +2,7 @@
 ghost use Rattle.std.specs.Prelude.{◌≡◌, ◌≢◌, ◌<◌, ◌↔◌, ℕ, length, map, if◌then◌else◌, slice_get, unwrap_or, Some, IfOk, IsTrue};
 ghost use Rattle.std.specs.Arc.{arc_value};
 ghost use Rattle.indexmap.specs.IndexMap.{get};
-ghost use Rattle.module_job.specs.Groups.{AreGroups, AreKeys, IsFirstLike};
+ghost use Rattle.module_job.specs.Groups.{AreGroups, AreKeys, IsFirstEqualElement};
 ghost use Rattle.module_job.specs.Shapes.{shape_of};
 
 use crate::job::Job;
@@ -55,8 +55,8 @@ fn first_equal_shape_number(
 ) -> usize
     requires keys { AreKeys (map arc_value shapes.now) keys.now }
     requires number { number < length shapes.now }
-    requires first { IsFirstLike keys.now number first }
-    ensures { IsFirstLike (map arc_value shapes.now) number result }
+    requires first { IsFirstEqualElement keys.now number first }
+    ensures { IsFirstEqualElement (map arc_value shapes.now) number result }
 {
     let own: &Shape = &shapes[number];
     for earlier in first..number {
@@ -115,7 +115,7 @@ fn first_job_of_same_shape(jobs: &[Arc<Job>], first: usize, number: usize) -> us
     requires none_before { (i : ℕ) → i < first →
         slice_get (map shape_of (map arc_value jobs.now)) i
         ≢ slice_get (map shape_of (map arc_value jobs.now)) number }
-    ensures { IsFirstLike (map shape_of (map arc_value jobs.now)) number result }
+    ensures { IsFirstEqualElement (map shape_of (map arc_value jobs.now)) number result }
 {
     for earlier in first..number {
         if have_same_shape(jobs, earlier, number) {

@@ -3,7 +3,7 @@ ghost use Rattle.std.specs.Prelude.{◌≡◌, ◌<◌, ◌≤◌, pos, length, 
 ghost use Rattle.std.specs.Arc.{arc_value};
 ghost use Rattle.circuit.specs.Meaning.{wires};
 ghost use Rattle.module_box.specs.Locals.{circuit_gate, circuit_wire, is_among};
-ghost use Rattle.module_box.specs.Moves.{IsInShiftRange, IsSmallShift};
+ghost use Rattle.module_box.specs.Moves.{IsCellInShiftRange, IsSmallShift};
 ghost use Rattle.module_box.specs.Schedules.{signal_at};
 ghost use Rattle.module_job.specs.Jobs.{IsJob, job_demand, job_start};
 ghost use Rattle.module_job.specs.Shapes.{shift_to_origin, shape_of};
@@ -67,11 +67,11 @@ impl Model for Job {
 
     ghost Value = { JobView };
 
-    ghost use Rattle.module_job.specs.JobView.{job_view, IsStoredJob};
+    ghost use Rattle.module_job.specs.JobView.{job_view, AreJobFields};
 
     ghost view = { job_view };
 
-    ghost invariant = { IsStoredJob };
+    ghost invariant = { AreJobFields };
 }
 
 /// Returns how far to move the cells of a box with this corner so that its corner comes to (0, 0).
@@ -184,7 +184,7 @@ impl Job {
     /// Returns what a cell of the ring carries at an odd time. Coordinates are from -8192 to 8191.
     #[tactic(auto, using(crate::proofs::ShapeParts::carried))]
     pub fn edge(&self, time: u32, cell: Cell) -> Signal
-        requires { IsInShiftRange cell }
+        requires { IsCellInShiftRange cell }
         ensures { result ≡ signal_at self.now.edges time cell.x cell.y }
     {
         let own = moved_cell(cell, shift_to_origin(self.x), shift_to_origin(self.y));
@@ -194,7 +194,7 @@ impl Job {
     /// Returns what a cell of the halo carries at an odd time. Coordinates are from -8192 to 8191.
     #[tactic(auto, using(crate::proofs::ShapeParts::carried))]
     pub fn halo(&self, time: u32, cell: Cell) -> Signal
-        requires { IsInShiftRange cell }
+        requires { IsCellInShiftRange cell }
         ensures { result ≡ signal_at self.now.halos time cell.x cell.y }
     {
         let own = moved_cell(cell, shift_to_origin(self.x), shift_to_origin(self.y));

@@ -165,7 +165,7 @@ fn push_compact_number_bytes(bytes: &mut Vec<u8>, number: u64) -> Result<(), All
 }
 
 // The bytes of the numbers.
-fn bytes_of(alloc: Global, numbers: &[u64]) -> Result<Vec<u8>, AllocError>
+fn bytes_of_numbers(alloc: Global, numbers: &[u64]) -> Result<Vec<u8>, AllocError>
     ensures bytes { IfOk result (λ bytes. bytes.items ≡ flat_map compact_number_bytes numbers.now) }
     ensures all_fit_u64 { All (λ n. n < 2 ^ 64) numbers.now }
 {
@@ -201,7 +201,7 @@ impl Shape {
         ensures all_fit_u64 { IfOk result (λ _. All (λ n. n < 2 ^ 64) (shape_numbers self.now)) }
     {
         let numbers = self.numbers(alloc)?;
-        let bytes = bytes_of(alloc, &numbers)?;
+        let bytes = bytes_of_numbers(alloc, &numbers)?;
         Ok(Sha256::digest(bytes.as_slice()))
     }
 }

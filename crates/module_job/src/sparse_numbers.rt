@@ -2,7 +2,7 @@
 ghost use Rattle.std.specs.Prelude.{◌≡◌, ◌≢◌, ◌*◌, ◌/◌, ◌^◌, ◌<◌, ◌≤◌, ◌++◌, [], ◌∷◌, ℕ, List, IfOk, OnErr, OnOk, length, replicate, slice_get, take, unwrap_or};
 ghost use Rattle.std.specs.Cmp.{nat_eq_equiv, partial_equiv_from_equiv};
 ghost use Rattle.std.specs.Cmp.Lexicographic.{lists_equiv, pointwise};
-ghost use Rattle.bbm_rule.specs.Marks.{IsUnmarked};
+ghost use Rattle.bbm_rule.specs.Marks.{IsNumberUnmarked};
 ghost use Rattle.bbm_rule.specs.Rows.{cell_at};
 ghost use Rattle.module_job.specs.Keys.{sparse_entries_from};
 
@@ -26,11 +26,11 @@ impl Model for SparseNumbers {
 
     ghost Value = { List ℕ };
 
-    ghost use Rattle.module_job.specs.SparseNumbers.{AreSparse, sparse_view};
+    ghost use Rattle.module_job.specs.SparseNumbers.{AreSparseEntries, sparse_view};
 
     ghost view = { sparse_view };
 
-    ghost invariant = { AreSparse };
+    ghost invariant = { AreSparseEntries };
 }
 
 // For how many words the first allocation of entries has room. Most lists are short, and are not moved then.
@@ -59,8 +59,8 @@ fn is_marked(marks: &[u64], at: usize) -> bool
 
 // Marks a place, if the marks have room for it.
 fn mark_if_room(marks: &mut [u64], at: usize)
-    ensures { (u : ℕ) → u / 64 < length marks.new → IsUnmarked marks.new u →
-        IsUnmarked marks.old u × (u ≢ at) }
+    ensures { (u : ℕ) → u / 64 < length marks.new → IsNumberUnmarked marks.new u →
+        IsNumberUnmarked marks.old u × (u ≢ at) }
 {
     if at / 64 < marks.len() {
         mark(marks, at);

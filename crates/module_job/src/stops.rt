@@ -1,7 +1,7 @@
 //! Stops at cells that lie further.
 ghost use Rattle.std.specs.Prelude.{◌≡◌, IfOk, map};
 ghost use Rattle.std.specs.List.{All};
-ghost use Rattle.module_box.specs.Moves.{IsInShiftRange, IsSmallShift};
+ghost use Rattle.module_box.specs.Moves.{IsCellInShiftRange, IsSmallShift};
 ghost use Rattle.module_job.specs.Shapes.{moved_stop};
 
 use crate::job::Stop;
@@ -10,7 +10,7 @@ use std::alloc::{AllocError, Global};
 
 /// Returns the stop at the cell that lies `dx` columns and `dy` rows further. All these numbers are from -8192 to 8191.
 pub(crate) fn moved_stop(stop: Stop, dx: i32, dy: i32) -> Stop
-    requires cell { IsInShiftRange stop.at.cell }
+    requires cell { IsCellInShiftRange stop.at.cell }
     requires small_shift { IsSmallShift dx × IsSmallShift dy }
     ensures { result ≡ moved_stop dx dy stop }
 {
@@ -25,7 +25,7 @@ pub(crate) fn moved_stop(stop: Stop, dx: i32, dy: i32) -> Stop
 
 /// Returns the same stops at the cells that lie `dx` columns and `dy` rows further.
 pub fn moved_stops(alloc: Global, stops: &[Stop], dx: i32, dy: i32) -> Result<Vec<Stop>, AllocError>
-    requires cells { All (λ s. IsInShiftRange s.at.cell) stops.now }
+    requires cells { All (λ s. IsCellInShiftRange s.at.cell) stops.now }
     requires small_shift { IsSmallShift dx × IsSmallShift dy }
     ensures { IfOk result (λ v. v.items ≡ map (moved_stop dx dy) stops.now) }
 {

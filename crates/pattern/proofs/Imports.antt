@@ -3,7 +3,7 @@ pub use Rattle.bbm_rule.proofs.Boards.{inside_is_span}
 pub use Rattle.bbm_rule.proofs.Imports.{State, live, nat_lt, negsuc, not, pos, ℤ, ◌%◌, ◌||◌}
 unfoldable pub use Rattle.bbm_rule.proofs.Imports.{in_span}
 pub use Rattle.bbm_rule.specs.Board.{HasSameSize}
-pub use Rattle.bbm_rule.specs.Plane.{is_at}
+pub use Rattle.bbm_rule.specs.Plane.{is_cell_at}
 unfoldable pub use Rattle.bbm_rule.specs.Plane.{run}
 pub use Rattle.bbm_rule.specs.CellLists.{in_cells, row_cells}
 unfoldable pub use Rattle.bbm_rule.specs.CellLists.{rectangle_cells}
@@ -18,13 +18,14 @@ pub use Rattle.pattern.specs.Layout.{HaveDistinctCells, IsDeadOutside, Pattern, 
 pub use Rattle.pattern.specs.Layout.{in_rectangles, parts_of}
 unfoldable pub use Rattle.pattern.specs.Layout.{start}
 pub use Rattle.pattern.specs.LayoutView.{pattern_of}
-pub use Rattle.pattern.specs.Lines.{AreGoodAfter, AreNamed, is_layout_side}
+pub use Rattle.pattern.specs.Lines.{AreGoodAfter, ArePortsNamed, is_layout_side}
 unfoldable pub use Rattle.pattern.specs.Lines.{cell_fault, cells_of, cells_taken_at_end, cells_taken_at_start}
-unfoldable pub use Rattle.pattern.specs.Lines.{has_later_kind_before, is_inside, is_taken, largest_limit_code}
+unfoldable pub use Rattle.pattern.specs.Lines.{has_later_kind_before, has_taken_cell, is_inside, largest_limit_code}
 unfoldable pub use Rattle.pattern.specs.Lines.{line_fault}
-unfoldable pub use Rattle.pattern.specs.Lines.{missing_fault, name_fault, order_fault, size_fault, takes_cells_at_end}
+unfoldable pub use Rattle.pattern.specs.Lines.{missing_port_fault, name_fault, order_fault, size_fault}
+unfoldable pub use Rattle.pattern.specs.Lines.{takes_cells_at_end}
 unfoldable pub use Rattle.pattern.specs.Lines.{takes_cells_at_start}
-pub use Rattle.pattern.specs.Run.{EndsWith, LeavesAt}
+pub use Rattle.pattern.specs.Run.{EndsWithCells, LeavesLayoutAt}
 unfoldable pub use Rattle.pattern.specs.Run.{live_cells, start_cells_by_kind}
 pub use Rattle.pattern.specs.Text.{cell_words, form_text, port_words, box_words, size_words}
 unfoldable pub use Rattle.pattern.specs.Text.{layout_text}

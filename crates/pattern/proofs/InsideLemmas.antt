@@ -1,7 +1,8 @@
 -- The cells that are live at the start of a good layout lie inside it.
 use Rattle.pattern.proofs.Imports.{AreGoodAfter, Ball, Bool, Box2, Cell, In, LayoutHeader, LayoutLine, List, Mirror}
 use Rattle.pattern.proofs.Imports.{None, Pattern, Port, TakenCell, [], arith, code_if, common_steps, get_or, in_cells}
-use Rattle.pattern.proofs.Imports.{in_layout, in_ports_on, in_rectangles, in_span, is_at, is_inside, is_layout_side}
+use Rattle.pattern.proofs.Imports.{in_layout, in_ports_on, in_rectangles, in_span, is_cell_at, is_inside}
+use Rattle.pattern.proofs.Imports.{is_layout_side}
 use Rattle.pattern.proofs.Imports.{length, list_all, list_any, nat_tests, negsuc, not, parts_of, pos, refl, size_fault}
 use Rattle.pattern.proofs.Imports.{start, suc, true, zero, ℕ, ℤ, ◌%◌, ◌&&◌, ◌++◌, ◌+◌, ◌<◌, ◌||◌, ◌∷◌, ◌≡◌, ◌≤◌}
 use Rattle.lemmas.proofs.Common.{list_all-append, list_all-map, left_is_true, right_is_true}
@@ -74,17 +75,17 @@ rectangle_inside : (s : LayoutHeader) (r : Box2) (x y : ℤ) → is_inside s (Mi
 unfolding in_box
 rectangle_inside s r x y e h = grind (arith, common_steps, mirror_fits, span_within, left_is_true, right_is_true)
 
-at_inside : (s : LayoutHeader) (c : Cell) (x y : ℤ) → in_layout s c.x c.y ≡ true → is_at c x y ≡ true →
+at_inside : (s : LayoutHeader) (c : Cell) (x y : ℤ) → in_layout s c.x c.y ≡ true → is_cell_at c x y ≡ true →
     in_layout s x y ≡ true
 at_inside s c x y e h = grind (arith, common_steps, left_is_true, right_is_true)
 
-ball_inside : (s : LayoutHeader) (c : Cell) (x y : ℤ) → is_inside s (Ball c) ≡ true → is_at c x y ≡ true →
+ball_inside : (s : LayoutHeader) (c : Cell) (x y : ℤ) → is_inside s (Ball c) ≡ true → is_cell_at c x y ≡ true →
     in_layout s x y ≡ true
 unfolding is_inside
 ball_inside s c x y e h = at_inside s c x y e h
 
 port_inside : (s : LayoutHeader) (b : Bool) (q : Port) (x y : ℤ) → is_inside s (In q) ≡ true →
-    (b && is_at q.cell x y) ≡ true → in_layout s x y ≡ true
+    (b && is_cell_at q.cell x y) ≡ true → in_layout s x y ≡ true
 unfolding is_inside
 port_inside s b q x y e h = at_inside s q.cell x y e (right_is_true _ _ h)
 

@@ -5,7 +5,8 @@ use Rattle.lemmas.proofs.Common.{nat_le, nat_lt, ◌||◌}
 use Rattle.section_text.specs.Codes.{or_else}
 use Rattle.section_text.specs.declared.code.RefusalCode.TheVariants.{PastLimit}
 use Rattle.section_text.specs.declared.limits.Limits.TheVariants.{First, Second}
-use Rattle.pattern.specs.Laws.{FirstLinesAreKept, FirstSizesAreKept, SecondLimitsAreWider, first_limits_mirror_fault}
+use Rattle.pattern.specs.Laws.{FirstLineLimitsAreUnchanged, FirstSizeLimitsAreUnchanged, SecondLimitsAreWider}
+use Rattle.pattern.specs.Laws.{first_limits_mirror_fault}
 use Rattle.pattern.specs.Laws.{is_mirror_side_in_first_limits, is_side_in_first_limits}
 use Rattle.pattern.specs.Lines.{is_layout_side, is_mirror_side, layout_line_fault, size_fault, text_limit_fault}
 use Rattle.pattern.specs.Lines.{text_size_fault}
@@ -42,7 +43,7 @@ three_sizes : (p q r a b e c d f : Bool) → (p || not a) ≡ not c → (q || no
     ((p || (q || r)) || not (a && b && e)) ≡ not (c && d && f)
 three_sizes p q r a b e c d f first second third = grind (arith, common_steps)
 
-pub first_sizes_are_kept : FirstSizesAreKept
+pub first_sizes_are_kept : FirstSizeLimitsAreUnchanged
 unfolding size_fault text_size_fault
 first_sizes_are_kept ports s =
     one_code _ _ ∙ ap (λ b. code_if b PastLimit)
@@ -62,7 +63,7 @@ in_order : (order text limit name cell : Option RefusalCode) →
     ≡ or_else order (or_else text (or_else limit (or_else name cell)))
 in_order order text limit name cell = grind (arith, common_steps)
 
-pub first_lines_are_kept : FirstLinesAreKept
+pub first_lines_are_kept : FirstLineLimitsAreUnchanged
 unfolding layout_line_fault line_fault
 first_lines_are_kept ports s before part = grind (arith, common_steps, in_order, mirror_kept)
 

@@ -1,5 +1,5 @@
 -- The names of the ports of a layout that was read.
-use Rattle.pattern.proofs.Imports.{AllByRecursion, AreNamed, LayoutHeader, LayoutLine, List, None, Option}
+use Rattle.pattern.proofs.Imports.{AllByRecursion, ArePortsNamed, LayoutHeader, LayoutLine, List, None, Option}
 use Rattle.pattern.proofs.Imports.{PortNameLists, [], arith, common_steps, layout_grammar, line_fault, name_fault, ◌++◌}
 use Rattle.pattern.proofs.Imports.{◌∷◌, ◌≡◌}
 use Rattle.section_text.specs.declared.limits.Limits.{Limits}
@@ -20,5 +20,5 @@ named_parts l ports s before (part ∷ parts) good =
 
 -- where they have no fault
 pub faultless_named : (l : Limits) (ports : Option PortNameLists) (s : LayoutHeader) (parts : List LayoutLine) →
-    IsFaultless (layout_grammar l ports) s parts → AreNamed ports parts
+    IsFaultless (layout_grammar l ports) s parts → ArePortsNamed ports parts
 faultless_named l ports s parts good = grind (arith, common_steps, named_parts)

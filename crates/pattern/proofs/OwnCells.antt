@@ -2,7 +2,8 @@
 use Rattle.pattern.proofs.Imports.{AreGoodAfter, Ball, Bool, Cell, HaveDistinctCells, In, LayoutHeader, LayoutLine}
 use Rattle.pattern.proofs.Imports.{List, Mirror, None, Out, Pattern, Port, Some, State, TakenCell, Waste, [], ap}
 use Rattle.pattern.proofs.Imports.{append-nil, arith, cell_fault, cells_of, cells_taken_at_end, cells_taken_at_start}
-use Rattle.pattern.proofs.Imports.{code_if, common_steps, false, is_at, is_inside, is_taken, map, not, parts_of, refl}
+use Rattle.pattern.proofs.Imports.{code_if, common_steps, false, has_taken_cell, is_cell_at, is_inside, map, not}
+use Rattle.pattern.proofs.Imports.{parts_of, refl}
 use Rattle.pattern.proofs.Imports.{same_Some, slice_get, subst, suc, sym, takes_cells_at_end, takes_cells_at_start}
 use Rattle.pattern.proofs.Imports.{true, zero, ℕ}
 use Rattle.pattern.proofs.Imports.{ℤ, ◌++◌, ◌||◌, ◌∙◌, ◌∷◌, ◌≡◌}
@@ -32,7 +33,7 @@ module _ (make : Port → LayoutLine) (taken : List LayoutLine → State)
     (is_free : (s : LayoutHeader) (before : List LayoutLine) (p : Port) → cell_fault s before (make p) ≡ None →
     taken before p.cell.x p.cell.y ≡ false)
     (one_more : (before : List LayoutLine) (p : Port) (x y : ℤ) →
-    taken (before ++ make p ∷ []) x y ≡ (taken before x y || (is_at p.cell x y || false)))
+    taken (before ++ make p ∷ []) x y ≡ (taken before x y || (is_cell_at p.cell x y || false)))
     (s : LayoutHeader) (rest : List LayoutLine) where
   free : (before : List LayoutLine) (ports : List Port) → AreGoodAfter s before (map make ports ++ rest) →
       (i : ℕ) (q : Port) → slice_get ports i ≡ Some q → taken before q.cell.x q.cell.y ≡ false
@@ -46,10 +47,10 @@ module _ (make : Port → LayoutLine) (taken : List LayoutLine → State)
       AreGoodAfter s before (map make (p ∷ ports) ++ rest) →
       (i : ℕ) (q : Port) → slice_get ports i ≡ Some q → p.cell ≡ q.cell → ⊥
   not_one before p ports good i q e same =
-      let none = or_right (taken before q.cell.x q.cell.y) (is_at p.cell q.cell.x q.cell.y)
+      let none = or_right (taken before q.cell.x q.cell.y) (is_cell_at p.cell q.cell.x q.cell.y)
       (sym (one_more before p q.cell.x q.cell.y) ∙ free (before ++ make p ∷ []) ports good.2 i q e) in
-      let all : is_at p.cell q.cell.x q.cell.y ≡ true =
-      subst (λ (c : Cell). is_at p.cell c.x c.y ≡ true) same (cell_itself p.cell) in
+      let all : is_cell_at p.cell q.cell.x q.cell.y ≡ true =
+      subst (λ (c : Cell). is_cell_at p.cell c.x c.y ≡ true) same (cell_itself p.cell) in
       true≢false (sym all ∙ none)
 
   own : (before : List LayoutLine) (ports : List Port) → AreGoodAfter s before (map make ports ++ rest) →
@@ -65,21 +66,22 @@ module _ (make : Port → LayoutLine) (taken : List LayoutLine → State)
 
 in_free : (s : LayoutHeader) (before : List LayoutLine) (p : Port) → cell_fault s before (In p) ≡ None →
     cells_taken_at_start before p.cell.x p.cell.y ≡ false
-unfolding cell_fault is_taken cells_of takes_cells_at_start
+unfolding cell_fault has_taken_cell cells_of takes_cells_at_start
 in_free s before p e = one_of (cells_taken_at_start before p.cell.x p.cell.y) (not_taken (is_inside s (In p)) _ e)
 
 out_free : (s : LayoutHeader) (before : List LayoutLine) (p : Port) → cell_fault s before (Out p) ≡ None →
     cells_taken_at_end before p.cell.x p.cell.y ≡ false
-unfolding cell_fault is_taken cells_of takes_cells_at_start
+unfolding cell_fault has_taken_cell cells_of takes_cells_at_start
 out_free s before p e = one_of (cells_taken_at_end before p.cell.x p.cell.y) (not_taken (is_inside s (Out p)) _ e)
 
 in_more : (before : List LayoutLine) (p : Port) (x y : ℤ) →
-    cells_taken_at_start (before ++ In p ∷ []) x y ≡ (cells_taken_at_start before x y || (is_at p.cell x y || false))
+    cells_taken_at_start (before ++ In p ∷ []) x y
+    ≡ (cells_taken_at_start before x y || (is_cell_at p.cell x y || false))
 unfolding cells_of takes_cells_at_start
 in_more before p x y = begun_push before (In p) x y
 
 out_more : (before : List LayoutLine) (p : Port) (x y : ℤ) →
-    cells_taken_at_end (before ++ Out p ∷ []) x y ≡ (cells_taken_at_end before x y || (is_at p.cell x y || false))
+    cells_taken_at_end (before ++ Out p ∷ []) x y ≡ (cells_taken_at_end before x y || (is_cell_at p.cell x y || false))
 unfolding cells_of takes_cells_at_end
 out_more before p x y = ended_push before (Out p) x y
 

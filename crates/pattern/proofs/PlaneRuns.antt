@@ -1,12 +1,13 @@
 -- Boards that run on the plane.
-use Rattle.pattern.proofs.Imports.{Bool, Cell, EndsWith, IsDeadOutside, LayoutHeader, LeavesAt, List, Pattern, State}
+use Rattle.pattern.proofs.Imports.{Bool, Cell, EndsWithCells, IsDeadOutside, LayoutHeader, LeavesLayoutAt, List}
+use Rattle.pattern.proofs.Imports.{Pattern, State}
 use Rattle.pattern.proofs.Imports.{ap, arith, common_steps, false, get_or, in_cells, in_layout, inside_is_span, length}
 use Rattle.pattern.proofs.Imports.{live, live_cells, refl, run, start, subst, sym, true, ℕ, ℤ, ◌+◌, ◌<◌, ◌∙◌, ◌≡◌, ◌≤◌}
 use Rattle.lemmas.proofs.Common.{OnErr, OnOk, Result, add-one, cases_lt, is_err, list_any_at}
 use Rattle.bbm_rule.specs.Plane.{step}
 use Rattle.bbm_rule.specs.Board.{Board, is_inside, IsStep, LeavesBoard}
 use Rattle.bbm_rule.proofs.Boards.{live_is_inside}
-use Rattle.pattern.specs.Run.{RunsInside, RunLeaves}
+use Rattle.pattern.specs.Run.{RunsInside, RunFirstLeavesAt}
 
 pub same_state : {s s' : State} → ((x y : ℤ) → s x y ≡ s' x y) → s ≡ s'
 same_state e = λ i x y. e x y i
@@ -47,7 +48,7 @@ stays_more first t new s w h same stays k le = grind (arith, common_steps, cases
 
 pub run_leaves : (first : State) (t : ℕ) (old : Board) (s : LayoutHeader) → old.width ≡ s.w → old.height ≡ s.h →
     t + 1 ≤ s.steps → ((x y : ℤ) → live old x y ≡ run first t x y) → ((k : ℕ) → k ≤ t → IsDeadOutside s (run first k)) →
-    LeavesBoard t old → RunLeaves s first (t + 1)
+    LeavesBoard t old → RunFirstLeavesAt s first (t + 1)
 run_leaves first t old s w h within same stays leaves =
     grind (arith, common_steps, run_more, same_state, inside_is_layout)
 
@@ -65,12 +66,12 @@ among cells i d lt = grind (arith, common_steps, list_any_at)
 -- ---- the end of the run
 
 pub leaves_at : (p : Pattern) (on : List ℕ → Bool) (g : Board) (k : ℕ) → ((x y : ℤ) → live g x y ≡ start p on x y) →
-    RunLeaves p.size (live g) k → LeavesAt p on k
-leaves_at p on g k same leaves = subst (λ (s : State). RunLeaves p.size s k) (same_state same) leaves
+    RunFirstLeavesAt p.size (live g) k → LeavesLayoutAt p on k
+leaves_at p on g k same leaves = subst (λ (s : State). RunFirstLeavesAt p.size s k) (same_state same) leaves
 
 pub ends_with : (p : Pattern) (on : List ℕ → Bool) (g g' : Board) (cells : List Cell) →
     ((x y : ℤ) → live g x y ≡ start p on x y) → RunsInside p.size (live g) (live g') →
-    cells ≡ live_cells p.size (live g') → EndsWith p on cells
+    cells ≡ live_cells p.size (live g') → EndsWithCells p on cells
 ends_with p on g g' cells same runs e = grind (arith, common_steps, same_state)
 
 -- ---- results

@@ -2,7 +2,8 @@
 use Rattle.pattern.proofs.Imports.{Bool, LayoutLine, List, None, Option, PortNameLists}
 use Rattle.pattern.proofs.Imports.{SomethingMissing, [], ap, arith, code_if, common_steps, has, largest_limit_code}
 use Rattle.pattern.proofs.Imports.{line_fault}
-use Rattle.pattern.proofs.Imports.{list_all, list_any, missing_fault, name_fault, not, order_fault, port_name_lists}
+use Rattle.pattern.proofs.Imports.{list_all, list_any, missing_port_fault, name_fault, not, order_fault}
+use Rattle.pattern.proofs.Imports.{port_name_lists}
 use Rattle.pattern.proofs.Imports.{refl}
 use Rattle.pattern.proofs.Imports.{sym, ℕ, ◌&&◌, ◌∙◌, ◌∷◌, ◌≡◌}
 use Rattle.lemmas.proofs.Common.{Global, Vec}
@@ -30,8 +31,8 @@ all_same p q same (n ∷ names) = ap (λ b. b && list_all p names) (same n) ∙ 
 
 -- what is missing at the end
 module _ (ports : PortNames) (parts : List LayoutLine) where
-  pub none_missing : ports ≡ Any → None ≡ missing_fault (port_name_lists ports) parts
-  unfolding missing_fault
+  pub none_missing : ports ≡ Any → None ≡ missing_port_fault (port_name_lists ports) parts
+  unfolding missing_port_fault
   none_missing any = rw any refl
 
   module _ (ins outs : Vec (List ℕ) Global) (seen_ins seen_outs : List (List ℕ)) (only : ports ≡ Only ins outs)
@@ -44,6 +45,6 @@ module _ (ports : PortNames) (parts : List LayoutLine) where
 
     pub missing_by : (b : Bool) →
         (list_all (λ n. has seen_ins n) ins.items && list_all (λ n. has seen_outs n) outs.items) ≡ b →
-        code_if (not b) SomethingMissing ≡ missing_fault (port_name_lists ports) parts
-    unfolding missing_fault
+        code_if (not b) SomethingMissing ≡ missing_port_fault (port_name_lists ports) parts
+    unfolding missing_port_fault
     missing_by b e = rw only (ap (λ k. code_if (not k) SomethingMissing) (sym e ∙ all_seen))

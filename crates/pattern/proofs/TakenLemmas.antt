@@ -2,13 +2,14 @@
 use Rattle.pattern.proofs.Imports.{All, AllByRecursion, Bool, Box2, Cell, LayoutHeader, LayoutLine, List, Mirror, None}
 use Rattle.pattern.proofs.Imports.{Some, TakenCell, [], arith, cell_fault, cells_of, cells_taken_at_end}
 use Rattle.pattern.proofs.Imports.{cells_taken_at_start, common_steps, false, flat_map, in_cells, in_layout, in_span}
-use Rattle.pattern.proofs.Imports.{inside_is_span, is_inside, is_layout_side, is_taken, list_any, nat_tests, not, pos}
+use Rattle.pattern.proofs.Imports.{has_taken_cell, inside_is_span, is_inside, is_layout_side, list_any, nat_tests, not}
+use Rattle.pattern.proofs.Imports.{pos}
 use Rattle.pattern.proofs.Imports.{range_with_len, rectangle_cells, refl, row_cells, size_fault, subst, suc, sym}
 use Rattle.pattern.proofs.Imports.{takes_cells_at_end, takes_cells_at_start, true, zero, ℕ, ℤ, ◌%◌, ◌&&◌, ◌++◌, ◌+◌}
 use Rattle.pattern.proofs.Imports.{◌<◌, ◌||◌, ◌∙◌}
 use Rattle.pattern.proofs.Imports.{◌∷◌, ◌≡◌, ◌≤◌}
 use Rattle.lemmas.proofs.Common.{if◌then◌else◌, All-from_recursion, and_parts, at_most_by_test}
-use Rattle.pattern.specs.DraftBoards.{LiesOn}
+use Rattle.pattern.specs.DraftBoards.{LiesOnBoard}
 use Rattle.pattern.proofs.Added.{no_code, begun_push, ended_push}
 use Rattle.bbm_rule.specs.Board.{Board, live, is_inside as is_on_board}
 use Rattle.lemmas.specs.Bounds.{max_side, max_steps}
@@ -94,22 +95,22 @@ same_sides w h s h1 h2 part = grind (arith, common_steps)
 
 -- the cells of a line that lies inside are on a board of the layout's size
 pub lies_on : (b : Board) (s : LayoutHeader) → size_fault s ≡ None → b.width ≡ s.w → b.height ≡ s.h →
-    (part : LayoutLine) → is_inside s part ≡ true → LiesOn b part
+    (part : LayoutLine) → is_inside s part ≡ true → LiesOnBoard b part
 lies_on b s good w h part inside =
     let sized = is_sized s good in
     grind (arith, common_steps, same_sides)
 
-pub cells_lie_on : (b : Board) (part : LayoutLine) → LiesOn b part →
+pub cells_lie_on : (b : Board) (part : LayoutLine) → LiesOnBoard b part →
     All (λ c. is_on_board b c.x c.y ≡ true) (cells_of part)
 cells_lie_on b part on = grind (arith, common_steps, cells_on_board)
 
-pub one_lies_on : (b : Board) (part : LayoutLine) (c : Cell) → cells_of part ≡ c ∷ [] → LiesOn b part →
+pub one_lies_on : (b : Board) (part : LayoutLine) (c : Cell) → cells_of part ≡ c ∷ [] → LiesOnBoard b part →
     All (λ k. is_on_board b k.x k.y ≡ true) (c ∷ [])
 one_lies_on b part c are on =
     subst (λ (cells : List Cell). All (λ k. is_on_board b k.x k.y ≡ true) cells) are (cells_lie_on b part on)
 
 -- where the corner of a mirror on a board is
-pub mirror_lies_on : (b : Board) (part : LayoutLine) (r : Box2) → part ≡ Mirror r → LiesOn b part →
+pub mirror_lies_on : (b : Board) (part : LayoutLine) (r : Box2) → part ≡ Mirror r → LiesOnBoard b part →
     ((r.x + r.w ≤ b.width) × (r.x + r.w ≤ max_side)) × ((r.y + r.h ≤ b.height) × (r.y + r.h ≤ max_side))
 mirror_lies_on b part r is on = grind (arith, common_steps, mirror_fits)
 
@@ -131,8 +132,8 @@ pub taken_by : (one other : Board) (parts : List LayoutLine) (part : LayoutLine)
     cells ≡ cells_of part
     → (if takes_cells_at_start part then list_any (λ c. live one c.x c.y) cells else list_any
     (λ c. live other c.x c.y) cells)
-    ≡ is_taken parts part
-unfolding is_taken
+    ≡ has_taken_cell parts part
+unfolding has_taken_cell
 taken_by one other parts part cells same_begun same_ended are =
     rw (
       are,
@@ -160,12 +161,12 @@ module _ (old new : Board) (parts more : List LayoutLine) (part : LayoutLine) (c
 -- ---- the code for the cells of a line
 
 pub cells_free : (s : LayoutHeader) (parts : List LayoutLine) (part : LayoutLine) → is_inside s part ≡ true →
-    is_taken parts part ≡ false → cell_fault s parts part ≡ None
+    has_taken_cell parts part ≡ false → cell_fault s parts part ≡ None
 unfolding cell_fault
 cells_free s parts part inside free = rw (inside, free) refl
 
 pub cells_taken : (s : LayoutHeader) (parts : List LayoutLine) (part : LayoutLine) → is_inside s part ≡ true →
-    is_taken parts part ≡ true → cell_fault s parts part ≡ Some TakenCell
+    has_taken_cell parts part ≡ true → cell_fault s parts part ≡ Some TakenCell
 unfolding cell_fault
 cells_taken s parts part inside taken = rw (inside, taken) refl
 

@@ -10,7 +10,7 @@ abbrev pub pattern_of : Inside → Pattern
 pattern_of a = a.layout
 
 -- the grids have the size of the layout, and their live cells are those that are taken
-pub record IsDraft (a : Inside) : Type 0 where
+pub record AreDraftFields (a : Inside) : Type 0 where
   pub begun_width : a.cells_taken_at_start.width ≡ a.layout.size.w
   pub begun_height : a.cells_taken_at_start.height ≡ a.layout.size.h
   pub ended_width : a.cells_taken_at_end.width ≡ a.layout.size.w

@@ -6,7 +6,7 @@ use Rattle.pattern.specs.declared.layout_line.LayoutHeader.{LayoutHeader}
 use Rattle.pattern.specs.declared.layout_line.LayoutLine.{LayoutLine}
 use Rattle.pattern.specs.Layout.{Pattern, parts_of}
 use Rattle.pattern.specs.Forms.{form_of}
-use Rattle.pattern.specs.Lines.{size_fault, layout_line_fault, missing_fault, order_fault, text_limit_fault}
+use Rattle.pattern.specs.Lines.{size_fault, layout_line_fault, missing_port_fault, order_fault, text_limit_fault}
 use Rattle.pattern.specs.Lines.{text_size_fault}
 use Rattle.section_text.specs.Codes.{or_else}
 use Rattle.section_text.specs.declared.limits.Limits.{Limits}
@@ -18,7 +18,7 @@ layout_grammar l ports = record {
   header_fault = λ s. or_else (text_size_fault l s) (size_fault s);
   item_fault = λ s before part. or_else (order_fault before part)
       (or_else (text_limit_fault l part) (layout_line_fault ports s before part));
-  end_fault = λ size parts. missing_fault ports parts;
+  end_fault = λ size parts. missing_port_fault ports parts;
 }
 
 -- what the section of a layout gives: its first line and the others

@@ -52,13 +52,14 @@ first_limits_mirror_fault (Mirror r) =
 first_limits_mirror_fault _ = None
 
 -- with the first limits a size is tested as in a text without the line `limits 2`
-abbrev pub FirstSizesAreKept : Type 0
-FirstSizesAreKept = (ports : Option PortNameLists) (s : LayoutHeader) →
+abbrev pub FirstSizeLimitsAreUnchanged : Type 0
+FirstSizeLimitsAreUnchanged = (ports : Option PortNameLists) (s : LayoutHeader) →
     (layout_grammar First ports).header_fault s ≡ first_limits_size_fault s
 
 -- and so is a line: by its order, the sides of a mirror, its name, and its cells
-abbrev pub FirstLinesAreKept : Type 0
-FirstLinesAreKept = (ports : Option PortNameLists) (s : LayoutHeader) (before : List LayoutLine) (part : LayoutLine) →
+abbrev pub FirstLineLimitsAreUnchanged : Type 0
+FirstLineLimitsAreUnchanged =
+    (ports : Option PortNameLists) (s : LayoutHeader) (before : List LayoutLine) (part : LayoutLine) →
     (layout_grammar First ports).item_fault s before part
     ≡ or_else (order_fault before part)
     (or_else (first_limits_mirror_fault part) (or_else (name_fault ports part) (cell_fault s before part)))

@@ -1,7 +1,7 @@
 -- A layout: the size of its rectangle, its steps, and the contents of its cells.
 use Rattle.std.specs.Prelude.{◌≡◌, ◌++◌, ℕ, ℤ, ◌&&◌, ◌||◌, Bool, true, List, map, slice_get, Some}
 use Rattle.std.specs.List.{list_any}
-use Rattle.bbm_rule.specs.Plane.{State, is_at, run}
+use Rattle.bbm_rule.specs.Plane.{State, is_cell_at, run}
 use Rattle.bbm_rule.specs.Boxes.{in_box}
 use Rattle.bbm_rule.specs.CellLists.{in_cells}
 use Rattle.bbm_rule.specs.Spans.{in_area}
@@ -37,7 +37,7 @@ in_rectangles rectangles x y = list_any (λ r. in_box r x y) rectangles
 
 -- the cells of the ports whose name is on
 abbrev pub in_ports_on : (List ℕ → Bool) → List Port → State
-in_ports_on on ports x y = list_any (λ p. on p.name && is_at p.cell x y) ports
+in_ports_on on ports x y = list_any (λ p. on p.name && is_cell_at p.cell x y) ports
 
 -- no two ports are at one cell
 abbrev pub HaveDistinctCells : List Port → Type 0

@@ -16,6 +16,6 @@ pattern_of a = record {
 }
 
 -- its first line and its others are good
-pub record IsLayout (a : Inside) : Type 0 where
+pub record AreLayoutFields (a : Inside) : Type 0 where
   pub size : size_fault a.size ≡ None
   pub parts : AreGoodAfter a.size [] (parts_of (pattern_of a))

@@ -4,7 +4,7 @@ use Rattle.std.specs.Prelude.{◌≡◌, ℕ, ◌+◌, ◌%◌, ◌==◌, ◌&&�
 use Rattle.std.specs.Prelude.{nat_le, Option, Some, None, if◌then◌else◌}
 use Rattle.std.specs.List.{All, list_any, list_all}
 use Rattle.std.specs.Str.{bytes_eq}
-use Rattle.bbm_rule.specs.Plane.{State, is_at}
+use Rattle.bbm_rule.specs.Plane.{State, is_cell_at}
 use Rattle.bbm_rule.specs.declared.block.Cell.{Cell}
 use Rattle.section_text.specs.Words.{has}
 use Rattle.section_text.specs.Codes.{code_if, or_else}
@@ -123,7 +123,7 @@ takes_cells_at_end _ = true
 
 -- whether the line has the cell (x, y)
 abbrev pub holds : LayoutLine → State
-holds part x y = list_any (λ c. is_at c x y) (cells_of part)
+holds part x y = list_any (λ c. is_cell_at c x y) (cells_of part)
 
 -- the cells that are taken at the start, and at the end
 unfoldable pub cells_taken_at_start : List LayoutLine → State
@@ -134,14 +134,14 @@ unfoldable pub cells_taken_at_end : List LayoutLine → State
 cells_taken_at_end parts x y = list_any (λ b. takes_cells_at_end b && holds b x y) parts
 
 -- one of its cells is taken at the start, if it takes them then, or at the end
-unfoldable pub is_taken : List LayoutLine → LayoutLine → Bool
-is_taken before part =
+unfoldable pub has_taken_cell : List LayoutLine → LayoutLine → Bool
+has_taken_cell before part =
     if takes_cells_at_start part then list_any (λ c. cells_taken_at_start before c.x c.y) (cells_of part)
     else list_any (λ c. cells_taken_at_end before c.x c.y) (cells_of part)
 
 -- the code of a line with a cell outside the layout, or a cell that is taken
 unfoldable pub cell_fault : LayoutHeader → List LayoutLine → LayoutLine → Option RefusalCode
-cell_fault s before part = code_if (not (is_inside s part) || is_taken before part) TakenCell
+cell_fault s before part = code_if (not (is_inside s part) || has_taken_cell before part) TakenCell
 
 -- ---- a line after the lines before it
 
@@ -166,16 +166,16 @@ is_output_cell_named n (Out p) = bytes_eq n p.name
 is_output_cell_named n _ = false
 
 -- the code of a layout in which an input or an output has no cell
-unfoldable pub missing_fault : Option PortNameLists → List LayoutLine → Option RefusalCode
-missing_fault None parts = None
-missing_fault (Some names) parts =
+unfoldable pub missing_port_fault : Option PortNameLists → List LayoutLine → Option RefusalCode
+missing_port_fault None parts = None
+missing_port_fault (Some names) parts =
     code_if (not (list_all (λ n. list_any (is_input_cell_named n) parts) names.ins
     && list_all (λ n. list_any (is_output_cell_named n) parts) names.outs)) SomethingMissing
 
 -- the names of the ports are good, and each input and each output that is asked for has a cell
-pub record AreNamed (ports : Option PortNameLists) (parts : List LayoutLine) : Type 0 where
+pub record ArePortsNamed (ports : Option PortNameLists) (parts : List LayoutLine) : Type 0 where
   pub good : All (λ part. name_fault ports part ≡ None) parts
-  pub whole : missing_fault ports parts ≡ None
+  pub whole : missing_port_fault ports parts ≡ None
 
 -- each line keeps the limits, and its cells are inside and free after the lines before it
 abbrev pub AreGoodAfter : LayoutHeader → List LayoutLine → List LayoutLine → Type 0

@@ -14,7 +14,7 @@ abbrev pub reading_view : Inside → ReadingView
 reading_view a = record { limits = a.limits; ports = port_name_lists a.ports.now; layout = a.draft }
 
 -- the fields of every reader: its sets of names are those of its ports and of its lines
-pub record IsReading (a : Inside) : Type 0 where
+pub record AreReadingFields (a : Inside) : Type 0 where
   pub known_ins : (n : List ℕ) →
       may_name_input (port_name_lists a.ports.now) n
       ≡ (allows_any_name (port_name_lists a.ports.now) || has a.known_ins.keys n)

@@ -22,7 +22,7 @@ pub record RunsInside (s : LayoutHeader) (first final : State) : Type 0 where
   pub last : (x y : ℤ) → final x y ≡ run first s.steps x y
 
 -- in the run that begins with `first`, the step to time k is the first that leaves the layout
-pub record RunLeaves (s : LayoutHeader) (first : State) (k : ℕ) : Type 0 where
+pub record RunFirstLeavesAt (s : LayoutHeader) (first : State) (k : ℕ) : Type 0 where
   pub within : k ≤ s.steps
   pub stays : (j : ℕ) → j < k → IsDeadOutside s (run first j)
   pub leaves : IsLiveOutside s (run first k)
@@ -37,15 +37,15 @@ unfoldable pub live_cells : LayoutHeader → State → List Cell
 live_cells s state = filter (λ c. state c.x c.y) (rectangle_cells (record { x = 0; y = 0; w = s.w; h = s.h }))
 
 -- the plane stays inside up to the last step, and these are its live cells then
-pub record EndsWith (p : Pattern) (on : List ℕ → Bool) (answer : List Cell) : Type 0 where
+pub record EndsWithCells (p : Pattern) (on : List ℕ → Bool) (answer : List Cell) : Type 0 where
   pub stays : (k : ℕ) → k ≤ p.size.steps → IsDeadOutside p.size (plane_at p on k)
   pub cells : answer ≡ live_cells p.size (plane_at p on p.size.steps)
 
 -- the step to time k is the first that leaves the layout
-abbrev pub LeavesAt : Pattern → (List ℕ → Bool) → ℕ → Type 0
-LeavesAt p on k = RunLeaves p.size (start p on) k
+abbrev pub LeavesLayoutAt : Pattern → (List ℕ → Bool) → ℕ → Type 0
+LeavesLayoutAt p on k = RunFirstLeavesAt p.size (start p on) k
 
 -- how the whole run ends
 abbrev pub IsRunEnd : Pattern → (List ℕ → Bool) → RunEnd → Type 0
-IsRunEnd p on (Cells cells) = EndsWith p on cells.items
-IsRunEnd p on (LeftAt k) = LeavesAt p on k
+IsRunEnd p on (Cells cells) = EndsWithCells p on cells.items
+IsRunEnd p on (LeftAt k) = LeavesLayoutAt p on k

@@ -25,11 +25,11 @@ impl Model for Draft {
 
     ghost Value = { Pattern };
 
-    ghost use Rattle.pattern.specs.DraftView.{pattern_of, IsDraft};
+    ghost use Rattle.pattern.specs.DraftView.{pattern_of, AreDraftFields};
 
     ghost view = { pattern_of };
 
-    ghost invariant = { IsDraft };
+    ghost invariant = { AreDraftFields };
 }
 
 impl Draft {

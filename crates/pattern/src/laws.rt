@@ -1,5 +1,5 @@
 //! Laws of the definitions, each the contract of a function without a body.
-ghost use Rattle.pattern.specs.Laws.{FirstLinesAreKept, FirstSizesAreKept, PrintsWhatIsRead, ReadsWhatIsPrinted, SecondLimitsAreWider};
+ghost use Rattle.pattern.specs.Laws.{FirstLineLimitsAreUnchanged, FirstSizeLimitsAreUnchanged, PrintsWhatIsRead, ReadsWhatIsPrinted, SecondLimitsAreWider};
 
 /// States that a layout has one text.
 ///
@@ -12,8 +12,8 @@ pub fn text_round_trips()
 {}
 
 /// States that the first limits are those of a text without the line `limits 2`, and that the second ones let in more.
-pub fn first_limits_are_kept()
-    ensures sizes_kept { FirstSizesAreKept }
-    ensures lines_kept { FirstLinesAreKept }
+pub fn first_limits_are_unchanged()
+    ensures sizes_kept { FirstSizeLimitsAreUnchanged }
+    ensures lines_kept { FirstLineLimitsAreUnchanged }
     ensures wider { SecondLimitsAreWider }
 {}

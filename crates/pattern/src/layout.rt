@@ -28,11 +28,11 @@ impl Model for Layout {
 
     ghost Value = { Pattern };
 
-    ghost use Rattle.pattern.specs.LayoutView.{pattern_of, IsLayout};
+    ghost use Rattle.pattern.specs.LayoutView.{pattern_of, AreLayoutFields};
 
     ghost view = { pattern_of };
 
-    ghost invariant = { IsLayout };
+    ghost invariant = { AreLayoutFields };
 }
 
 impl Layout {
@@ -54,7 +54,7 @@ impl Layout {
 
     // Whether a line of a later kind stands already.
     #[tactic(auto, using(crate::proofs::Orders::late_mirror, crate::proofs::Orders::late_ball, crate::proofs::Orders::late_in, crate::proofs::Orders::late_out, crate::proofs::Orders::late_waste))]
-    fn has_later_kind(&self, part: &LayoutLine) -> bool
+    fn has_line_of_later_kind(&self, part: &LayoutLine) -> bool
         ensures { result ≡ has_later_kind_before (parts_of self.now) part.now }
     {
         let waste = !self.wastes.is_empty();
@@ -75,7 +75,7 @@ impl Layout {
     pub(crate) fn order_code(&self, part: &LayoutLine) -> Option<RefusalCode>
         ensures { result ≡ order_fault (parts_of self.now) part.now }
     {
-        if self.has_later_kind(part) {
+        if self.has_line_of_later_kind(part) {
             Some(RefusalCode::OutOfOrder)
         } else {
             None

@@ -18,7 +18,7 @@ pub use assign::read_assign;
 pub use form::{box_from_words, cell_from_words};
 pub use layout::Layout;
 pub use layout_line::{LayoutHeader, LayoutLine, Port};
-pub use names_on::which_are_on;
+pub use names_on::which_names_are_on;
 pub use printing::{print_box, print_cell, print_layout};
 pub use reading::{read_layout, read_layout_within};
 pub use run::{RunEnd, run_plain, start_cells};

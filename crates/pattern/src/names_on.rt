@@ -7,7 +7,7 @@ use indexmap::IndexSet;
 use section_text::{Name, Seed};
 use std::alloc::{AllocError, Global};
 
-fn push_whether_on(
+fn push_whether_name_is_on(
     bits: &mut Vec<bool>,
     names: &[Name],
     on: &IndexSet<Name, Seed>,
@@ -22,11 +22,15 @@ fn push_whether_on(
 }
 
 /// Returns for each of the names whether it is on, that is, one of the names `on`.
-pub fn which_are_on(alloc: Global, names: &[Name], on: &[Name]) -> Result<Vec<bool>, AllocError>
+pub fn which_names_are_on(
+    alloc: Global,
+    names: &[Name],
+    on: &[Name],
+) -> Result<Vec<bool>, AllocError>
     ensures { IfOk result (λ bits. bits.items ≡ map (λ n. has on.now n) names.now) }
 {
     let on = name_set(alloc, Seed::of_names(on), on)?;
     let mut bits = Vec::new(alloc);
-    push_whether_on(&mut bits, names, &on)?;
+    push_whether_name_is_on(&mut bits, names, &on)?;
     Ok(bits)
 }

@@ -7,7 +7,7 @@ ghost use Rattle.section_text.specs.Section.{Reads};
 ghost use Rattle.section_text.specs.Ports.{port_name_lists};
 ghost use Rattle.section_text.specs.Words.{has};
 ghost use Rattle.section_text.specs.declared.limits.Limits.TheVariants.{First};
-ghost use Rattle.pattern.specs.Lines.{AreNamed, allows_any_name, is_input_cell_named, is_output_cell_named, may_name_input, may_name_output, line_fault, name_fault};
+ghost use Rattle.pattern.specs.Lines.{ArePortsNamed, allows_any_name, is_input_cell_named, is_output_cell_named, may_name_input, may_name_output, line_fault, name_fault};
 ghost use Rattle.pattern.specs.Grammars.{layout_grammar, layout_section};
 
 use crate::draft::Draft;
@@ -45,11 +45,11 @@ impl<'a> Model for Reading<'a> {
 
     ghost Value = { ReadingView };
 
-    ghost use Rattle.pattern.specs.ReadingView.{reading_view, IsReading};
+    ghost use Rattle.pattern.specs.ReadingView.{reading_view, AreReadingFields};
 
     ghost view = { reading_view };
 
-    ghost invariant = { IsReading };
+    ghost invariant = { AreReadingFields };
 }
 
 fn allows_any_name(ports: &PortNames) -> bool
@@ -73,7 +73,7 @@ fn has_name(set: &IndexSet<Name, Seed>, hints: &NameHints, name: &Name) -> bool
 }
 
 // Whether the set has all these names.
-fn has_all(set: &IndexSet<Name, Seed>, hints: &NameHints, names: &[Name]) -> bool
+fn has_all_names(set: &IndexSet<Name, Seed>, hints: &NameHints, names: &[Name]) -> bool
     ensures { result ≡ list_all (λ n. has set.now.keys n) names.now }
 {
     for name in names {
@@ -299,8 +299,8 @@ impl<'a> Section for Reading<'a> {
         match self.ports {
             PortNames::Any => None,
             PortNames::Only { ins, outs } => {
-                let has_ins = has_all(&self.seen_ins, &self.seen_hints, ins);
-                let has_outs = has_all(&self.seen_outs, &self.seen_hints, outs);
+                let has_ins = has_all_names(&self.seen_ins, &self.seen_hints, ins);
+                let has_outs = has_all_names(&self.seen_outs, &self.seen_hints, outs);
                 if has_ins & has_outs {
                     None
                 } else {
@@ -316,7 +316,7 @@ pub fn read_layout(alloc: Global, feed: &mut Feed, ports: &PortNames) -> Result<
     requires { feed.old.closed ≡ true }
     ensures reads { Reads (layout_grammar First (port_name_lists ports.now)) layout_section
         feed.old feed.new result }
-    ensures names { IfOk result (λ l. AreNamed (port_name_lists ports.now) (parts_of l)) }
+    ensures names { IfOk result (λ l. ArePortsNamed (port_name_lists ports.now) (parts_of l)) }
 {
     read_layout_within(alloc, feed, Limits::First, ports)
 }
@@ -348,7 +348,7 @@ pub fn read_layout_within(
     requires { feed.old.closed ≡ true }
     ensures reads { Reads (layout_grammar limits (port_name_lists ports.now)) layout_section
         feed.old feed.new result }
-    ensures names { IfOk result (λ l. AreNamed (port_name_lists ports.now) (parts_of l)) }
+    ensures names { IfOk result (λ l. ArePortsNamed (port_name_lists ports.now) (parts_of l)) }
 {
     let Ok(mut reading) = Reading::new(alloc, limits, feed.seed(), ports) else {
         return Err(feed.starve());

@@ -5,7 +5,7 @@ ghost use Rattle.bbm_rule.specs.Board.{HasSameSize, live};
 ghost use Rattle.bbm_rule.specs.CellLists.{in_cells, rectangle_cells, row_cells};
 ghost use Rattle.pattern.specs.Layout.{start};
 ghost use Rattle.section_text.specs.Words.{has};
-ghost use Rattle.pattern.specs.Run.{IsRunEnd, RunLeaves, RunsInside, live_cells, start_cells_by_kind};
+ghost use Rattle.pattern.specs.Run.{IsRunEnd, RunFirstLeavesAt, RunsInside, live_cells, start_cells_by_kind};
 ghost use Rattle.lemmas.specs.Bounds.{max_side};
 
 use crate::layout::Layout;
@@ -97,7 +97,7 @@ fn start_grid(alloc: Global, layout: &Layout, on: &[Name]) -> Result<Grid, Alloc
 fn run_until_leaving(grid: &mut Grid, size: LayoutHeader) -> Option<u32>
     requires { (grid.old.width ≡ size.w) × (grid.old.height ≡ size.h) }
     ensures run { MatchOption result (RunsInside size (live grid.old) (live grid.new))
-        (λ k. RunLeaves size (live grid.old) k) }
+        (λ k. RunFirstLeavesAt size (live grid.old) k) }
     ensures size { HasSameSize grid.old grid.new }
 {
     for t in 0..size.steps {

@@ -4,7 +4,7 @@ ghost use Rattle.std.specs.List.{list_any};
 ghost use Rattle.bbm_rule.specs.Board.{live, HasSameSize};
 ghost use Rattle.bbm_rule.specs.CellLists.{in_cells};
 ghost use Rattle.pattern.specs.Lines.{takes_cells_at_start, cells_of};
-ghost use Rattle.pattern.specs.DraftBoards.{LiesOn};
+ghost use Rattle.pattern.specs.DraftBoards.{LiesOnBoard};
 
 use crate::layout_line::LayoutLine;
 use bbm_rule::{Grid, fill_rectangle, is_any_live, is_any_live_in, make_live};
@@ -12,8 +12,8 @@ use bbm_rule::{Grid, fill_rectangle, is_any_live, is_any_live_in, make_live};
 /// Returns whether a cell of the line is taken: in the first grid if the line takes its cells at the start, else in the
 /// second.
 pub(crate) fn is_any_cell_taken(at_start: &Grid, at_end: &Grid, part: &LayoutLine) -> bool
-    requires start_on_part { LiesOn at_start.now part.now }
-    requires end_on_part { LiesOn at_end.now part.now }
+    requires start_on_part { LiesOnBoard at_start.now part.now }
+    requires end_on_part { LiesOnBoard at_end.now part.now }
     ensures { result
         ≡ (if takes_cells_at_start part.now then list_any (λ c. live at_start.now c.x c.y)
         (cells_of part.now) else list_any (λ c. live at_end.now c.x c.y) (cells_of part.now)) }
@@ -29,7 +29,7 @@ pub(crate) fn is_any_cell_taken(at_start: &Grid, at_end: &Grid, part: &LayoutLin
 
 // Makes the cells of the line live, and leaves the others as they are.
 fn take_cells(grid: &mut Grid, part: &LayoutLine)
-    requires { LiesOn grid.old part.now }
+    requires { LiesOnBoard grid.old part.now }
     ensures cells_taken { (x y : ℤ) →
         live grid.new x y ≡ (live grid.old x y || in_cells (cells_of part.now) x y) }
     ensures size { HasSameSize grid.old grid.new }
@@ -45,7 +45,7 @@ fn take_cells(grid: &mut Grid, part: &LayoutLine)
 
 /// Takes the cells of the line if `takes` is true.
 pub(crate) fn take_cells_if(takes: bool, grid: &mut Grid, part: &LayoutLine)
-    requires { LiesOn grid.old part.now }
+    requires { LiesOnBoard grid.old part.now }
     ensures cells_taken { (x y : ℤ) →
         live grid.new x y ≡ (live grid.old x y || (takes && in_cells (cells_of part.now) x y)) }
     ensures size { HasSameSize grid.old grid.new }

@@ -41,8 +41,8 @@ fault_words f = fault_kind_word f.kind ∷ decimal f.time ∷ signed_decimal f.c
     ∷ decimal f.assignment ∷ []
 
 -- a border fault: its time and its cell
-abbrev pub border_words : BorderFault → List (List ℕ)
-border_words f = decimal f.time ∷ signed_decimal f.cell.x ∷ signed_decimal f.cell.y ∷ []
+abbrev pub border_fault_words : BorderFault → List (List ℕ)
+border_fault_words f = decimal f.time ∷ signed_decimal f.cell.x ∷ signed_decimal f.cell.y ∷ []
 
 -- how many steps a delay takes, if that can be said
 abbrev pub gap_steps_word : StopGap → List ℕ
@@ -56,14 +56,14 @@ meeting_time_word (Some t) = decimal t
 meeting_time_word None = codes "differ"
 
 -- a keep fault: its gate and its assignment
-abbrev pub keep_words : KeepFault → List (List ℕ)
-keep_words f = decimal f.gate ∷ decimal f.assignment ∷ []
+abbrev pub keep_fault_words : KeepFault → List (List ℕ)
+keep_fault_words f = decimal f.gate ∷ decimal f.assignment ∷ []
 
 -- the line for a fault of a module, for a gate that no module keeps, or for what stops say of a gate
 abbrev pub report_line_text : ReportLine → List ℕ
 report_line_text (Local m f) = line_text (codes "local") (decimal m ∷ fault_words f)
-report_line_text (Keep m f) = line_text (codes "keep") (decimal m ∷ keep_words f)
-report_line_text (Border m f) = line_text (codes "border") (decimal m ∷ border_words f)
+report_line_text (Keep m f) = line_text (codes "keep") (decimal m ∷ keep_fault_words f)
+report_line_text (Border m f) = line_text (codes "border") (decimal m ∷ border_fault_words f)
 report_line_text (Unkept gate) = line_text (codes "unkept") (decimal gate ∷ [])
 report_line_text (Delay k n gap) = line_text (codes "delay") (decimal k ∷ decimal n ∷ gap_steps_word gap ∷ [])
 report_line_text (Meet k at) = line_text (codes "meet") (decimal k ∷ meeting_time_word at ∷ [])

@@ -2,7 +2,7 @@
 use Rattle.section_text.proofs.Imports.{Bool, List, Option, Some, [], ap, arith, bytes_eq, common_steps, false, refl}
 use Rattle.section_text.proofs.Imports.{slice_get, subst, suc, sym, take, true, zero, ℕ, ◌+◌, ◌<◌, ◌∙◌, ◌∷◌, ◌≡◌}
 use Rattle.lemmas.proofs.Common.{same_bytes, ◌≢◌}
-use Rattle.section_text.specs.Limits.{front_bytes}
+use Rattle.section_text.specs.Limits.{limits_line_bytes}
 
 same_first : (xs ys : List ℕ) (k b : ℕ) → take k xs ≡ take k ys → slice_get xs k ≡ Some b → slice_get ys k ≡ Some b →
     take (suc k) xs ≡ take (suc k) ys
@@ -33,9 +33,9 @@ differs : (a b : List ℕ) (t : Bool) → bytes_eq a b ≡ t → (a ≡ b → �
 differs a b t h1 h2 = grind (arith, common_steps, same_bytes)
 
 -- another byte, or none
-pub other_byte : (xs : List ℕ) (k : ℕ) (o : Option ℕ) → k < 9 → slice_get xs k ≡ o → o ≢ slice_get front_bytes k →
-    false ≡ bytes_eq (take 9 xs) front_bytes
+pub other_byte : (xs : List ℕ) (k : ℕ) (o : Option ℕ) → k < 9 → slice_get xs k ≡ o → o ≢ slice_get limits_line_bytes k →
+    false ≡ bytes_eq (take 9 xs) limits_line_bytes
 other_byte xs k o lt at other = grind (arith, common_steps, differs, taken_at, slice_get)
 
-pub all_bytes : (xs : List ℕ) → take 9 xs ≡ take 9 front_bytes → true ≡ bytes_eq (take 9 xs) front_bytes
-all_bytes xs same = sym (ap (λ l. bytes_eq l front_bytes) same)
+pub all_bytes : (xs : List ℕ) → take 9 xs ≡ take 9 limits_line_bytes → true ≡ bytes_eq (take 9 xs) limits_line_bytes
+all_bytes xs same = sym (ap (λ l. bytes_eq l limits_line_bytes) same)

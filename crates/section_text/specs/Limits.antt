@@ -38,25 +38,25 @@ most_bytes Second = max_text
 -- ---- the first line
 
 -- whether the first of these lines is this one
-abbrev pub is_first_line : List ℕ → List (List ℕ) → Bool
-is_first_line line [] = false
-is_first_line line (first ∷ rest) = bytes_eq first line
+abbrev pub begins_with_line : List ℕ → List (List ℕ) → Bool
+begins_with_line line [] = false
+begins_with_line line (first ∷ rest) = bytes_eq first line
 
 -- the limits of a text of these lines
 abbrev pub limits_of : List (List ℕ) → Limits
-limits_of lines = if is_first_line (codes "limits 2") lines then Second else First
+limits_of lines = if begins_with_line (codes "limits 2") lines then Second else First
 
 -- how many lines before the first section say so
-abbrev pub front_lines : Limits → ℕ
-front_lines First = 0
-front_lines Second = 1
+abbrev pub limits_line_count : Limits → ℕ
+limits_line_count First = 0
+limits_line_count Second = 1
 
 -- ---- the first bytes
 
 -- the line that chooses the second limits, with its line feed
-abbrev pub front_bytes : List ℕ
-front_bytes = codes "limits 2\n"
+abbrev pub limits_line_bytes : List ℕ
+limits_line_bytes = codes "limits 2\n"
 
 -- the most bytes of this text, by its first nine
 abbrev pub own_text_limit : List ℕ → ℕ
-own_text_limit text = most_bytes (if bytes_eq (take 9 text) front_bytes then Second else First)
+own_text_limit text = most_bytes (if bytes_eq (take 9 text) limits_line_bytes then Second else First)

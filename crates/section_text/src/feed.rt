@@ -8,7 +8,7 @@ ghost use Rattle.section_text.specs.declared.fault.ReadFault.TheVariants.{Memory
 ghost use Rattle.section_text.specs.Listed.{list_of_three_words, list_of_four_words, list_of_five_words};
 ghost use Rattle.section_text.specs.Faults.{refusal};
 ghost use Rattle.section_text.specs.Section.{with_line_feed};
-ghost use Rattle.section_text.specs.Limits.{front_bytes, front_lines, is_first_line, limits_of, own_text_limit};
+ghost use Rattle.section_text.specs.Limits.{begins_with_line, limits_line_bytes, limits_line_count, limits_of, own_text_limit};
 ghost use Rattle.section_text.specs.Feeds.{FeedView, ahead, feed_after_lines, IsLine, line_bytes, TakesLine, FindsNoNextLine};
 ghost use Rattle.std.specs.Str.{bytes_eq};
 ghost use Rattle.lemmas.specs.Bounds.{max_text};
@@ -52,11 +52,11 @@ impl Model for Feed {
 
     ghost Value = { FeedView };
 
-    ghost use Rattle.section_text.specs.FeedView.{feed_view, IsFeed};
+    ghost use Rattle.section_text.specs.FeedView.{AreFeedFields, feed_view};
 
     ghost view = { feed_view };
 
-    ghost invariant = { IsFeed };
+    ghost invariant = { AreFeedFields };
 }
 
 /// A line that a feed gave: its number in the stream, counted from 1, and its place in the text, in bytes.
@@ -97,7 +97,7 @@ fn joined_byte(first: &[u8], second: &[u8], place: usize) -> Option<u8>
 // Whether two joined pieces begin with the line that chooses the second limits.
 #[tactic(auto, using(crate::proofs::FrontBytes::all_bytes, crate::proofs::FrontBytes::other_byte, crate::proofs::FrontBytes::same_more))]
 fn begins_with_front(first: &[u8], second: &[u8]) -> bool
-    ensures { result ≡ bytes_eq (take 9 (first.now ++ second.now)) front_bytes }
+    ensures { result ≡ bytes_eq (take 9 (first.now ++ second.now)) limits_line_bytes }
 {
     let front = b"limits 2\n";
     for place in 0..9 {
@@ -236,7 +236,7 @@ impl Feed {
     // Whether the next line is this one.
     #[tactic(auto, using(crate::proofs::Lines::first_line, crate::proofs::Lines::no_line, crate::proofs::Lines::next_ahead))]
     fn is_next_line(&self, line: &[u8]) -> bool
-        ensures { result ≡ is_first_line line.now (ahead self.now) }
+        ensures { result ≡ begins_with_line line.now (ahead self.now) }
     {
         match line_length(&self.bytes, self.at) {
             Some(len) => &self.bytes[self.at..self.at + len] == line,
@@ -249,7 +249,7 @@ impl Feed {
         requires closed { self.old.closed ≡ true }
         requires works { self.old.stop ≡ None }
         ensures limits { result ≡ limits_of (ahead self.old) }
-        ensures feed { self.new ≡ feed_after_lines (front_lines result) self.old }
+        ensures feed { self.new ≡ feed_after_lines (limits_line_count result) self.old }
     {
         if !self.is_next_line(b"limits 2") {
             return Limits::First;

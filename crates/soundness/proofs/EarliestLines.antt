@@ -2,7 +2,7 @@
 use Rattle.soundness.proofs.Imports.{AreLeastFaultsOfJob, AreReportLines, BorderFault, Contains, Contains-append_left}
 use Rattle.soundness.proofs.Imports.{Fault, Greater, IsAssignmentOf, IsBorderFault, IsFault, IsLeastBorderFault}
 use Rattle.soundness.proofs.Imports.{IsLeastFault, IsVerdict, JobView, LeastFaults, List, ModuleLines, None, Option}
-use Rattle.soundness.proofs.Imports.{ReportLine, Setting, Some, TimeLine, Unkept, [], ap, arith, border_cmp}
+use Rattle.soundness.proofs.Imports.{ReportLine, Setting, Some, TimeLine, Unkept, [], ap, arith, border_fault_cmp}
 use Rattle.soundness.proofs.Imports.{border_line, common_steps, delay_and_meet_lines, fault_cmp, inl, inr, keep_line}
 use Rattle.soundness.proofs.Imports.{length, local_line, map, option_map, option_to_list, ordering_then, refl}
 use Rattle.soundness.proofs.Imports.{report_lines_from, same_Some, setting_of, slice_get, slice_get_within, some_at}
@@ -130,11 +130,11 @@ not_timing i f l = grind (arith, common_steps)
 no_later : (f g : Fault) → fault_cmp f g ≢ Greater → f.time ≤ g.time
 no_later f g least = grind (arith, common_steps, greater)
 
-border_greater : (f g : BorderFault) → g.time < f.time → border_cmp f g ≡ Greater
-unfolding border_cmp
+border_greater : (f g : BorderFault) → g.time < f.time → border_fault_cmp f g ≡ Greater
+unfolding border_fault_cmp
 border_greater f g lt = ap (λ o. ordering_then o (cell_cmp f.cell g.cell)) (nat_greater f.time g.time lt)
 
-no_later_border : (f g : BorderFault) → border_cmp f g ≢ Greater → f.time ≤ g.time
+no_later_border : (f g : BorderFault) → border_fault_cmp f g ≢ Greater → f.time ≤ g.time
 no_later_border f g least = grind (arith, common_steps, border_greater)
 
 -- ---- the report

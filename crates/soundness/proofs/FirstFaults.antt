@@ -1,13 +1,13 @@
 -- The first fault is one of the whole plane
 use Rattle.soundness.proofs.Imports.{All, All-cons, All-contains, All-nil, BelongTogether, Bool, Cell, Circuit}
 use Rattle.soundness.proofs.Imports.{CircuitLine, Contains, Demand, Fault, IsModuleAssignmentOf, HasGoodBorders}
-use Rattle.soundness.proofs.Imports.{HasInputNames, IsAsCertified, IsAssignmentOf, IsCorrect, IsFaultUnder}
+use Rattle.soundness.proofs.Imports.{HasInputNames, IsAssignmentOf, IsCellAsCertified, IsCorrect, IsFaultUnderValues}
 use Rattle.soundness.proofs.Imports.{IsAllowedStop, IsFirstFault, IsJobOf, IsModule, IsRunOfJobs, JobView, Kind, List}
 use Rattle.soundness.proofs.Imports.{LocalNet, LooksAsAsked, MeetsDemand, ModuleLines, None, Option, Pattern, Port}
 use Rattle.soundness.proofs.Imports.{Satisfies, Some, State, StopLine, Valuation, [], ap, ap₂, arith, bit}
 use Rattle.soundness.proofs.Imports.{cases_Bool, cell_same, circuit_of, circuit_wire, common_steps, cut_wires, cuts}
 use Rattle.soundness.proofs.Imports.{demand_outside_mirrors, end_demand, false, flat_map, get_or_from_slice_get, in_box}
-use Rattle.soundness.proofs.Imports.{in_cells, in_ports, in_rectangles, inl, inr, is_at, job_demand, kept}
+use Rattle.soundness.proofs.Imports.{in_cells, in_ports, in_rectangles, inl, inr, is_cell_at, job_demand, kept}
 use Rattle.soundness.proofs.Imports.{known, length, local_run, local_values_agree_with_circuit, netlist_of, none_stands}
 use Rattle.soundness.proofs.Imports.{nothing_prop, option_map_or, option_to_list, passed, port_at, port_stands, refl}
 use Rattle.soundness.proofs.Imports.{renumber_demand, renumber_stop, run_under, same_Some, setting_of, slice_get}
@@ -15,7 +15,7 @@ use Rattle.soundness.proofs.Imports.{slice_get_within, slice_index, some_at, sto
 use Rattle.soundness.proofs.Imports.{stops_of_lines, subst, suc, sym, true, values_by_local_number, values_by_name}
 use Rattle.soundness.proofs.Imports.{wire_of, wire_or_dead, zero, ℕ, ℤ, ∥∥₁_elim, ◌++◌, ◌<◌, ◌∙◌, ◌∷◌, ◌≡◌, ◌≤◌}
 use Rattle.lemmas.proofs.Common.{all_unmapped}
-use Rattle.local_run.specs.Faults.{HasFault}
+use Rattle.local_run.specs.Faults.{HasFaultWitness}
 use Rattle.local_run.proofs.Decided.{fault_same}
 use Rattle.soundness.specs.FirstFaults.{EndFaultMeansIncorrect, FirstFaultIsReal, IsRealFault}
 use Rattle.soundness.proofs.InputRuns.{at_place, inputs_decide}
@@ -75,8 +75,8 @@ pub real : (lines : List CircuitLine) (p : Pattern) (ms : List ModuleLines) (job
     BelongTogether lines p ms jobs → slice_get ms i ≡ Some m → slice_get jobs i ≡ Some j →
     Satisfies (netlist_of lines) inputs v →
     ((s : ℕ) → s < t → HasGoodBorders lines p ms jobs v s) →
-    IsFaultUnder j (values_by_local_number j.locals v) t kind x y →
-    ¬ IsAsCertified (circuit_of lines) p m v t kind x y
+    IsFaultUnderValues j (values_by_local_number j.locals v) t kind x y →
+    ¬ IsCellAsCertified (circuit_of lines) p m v t kind x y
 real lines p ms jobs inputs v i m j t Edge x y b atm atj s good f said =
     let is : IsJobOf (circuit_of lines) p m j = b.are_jobs.each i m j atm atj in
     let k : Known lines p ms i j = record { of = m; numbered = atm; is_job = is; good = b.are_modules.each i m atm } in
@@ -117,8 +117,8 @@ real lines p ms jobs inputs v i m j t End x y b atm atj s good f said =
 
 pub seen_fault : (lines : List CircuitLine) (p : Pattern) (m : ModuleLines) (inputs v : Valuation) (j : JobView)
     (f : Fault) → IsJobOf (circuit_of lines) p m j →
-    Satisfies (netlist_of lines) inputs v → IsAssignmentOf j v f.assignment → HasFault j f →
-    IsFaultUnder j (values_by_local_number j.locals v) f.time f.kind f.cell.x f.cell.y
+    Satisfies (netlist_of lines) inputs v → IsAssignmentOf j v f.assignment → HasFaultWitness j f →
+    IsFaultUnderValues j (values_by_local_number j.locals v) f.time f.kind f.cell.x f.cell.y
 seen_fault lines p m inputs v j f is s under h =
     let agree = local_values_agree_with_circuit
     (netlist_of lines) j.locals inputs v f.assignment is.locals s under.bits in
@@ -142,7 +142,7 @@ meets_wire v o live h1 = grind (arith, common_steps)
 
 no_port_there : (ports : List Port) (x y : ℤ) → port_at ports x y ≡ None → in_ports ports x y ≡ false
 no_port_there ports x y none = elim (cases_Bool (in_ports ports x y)) [
-  | inl h ↦ let s = passed (λ (q : Port). is_at q.cell x y) ports h in
+  | inl h ↦ let s = passed (λ (q : Port). is_cell_at q.cell x y) ports h in
       absurd (none_stands ports x y none s.place s.element s.stands s.passes)
   | inr h ↦ h
 ]
@@ -164,12 +164,13 @@ pub asked_meets : (c : Circuit) (p : Pattern) (v : Valuation) (state : State) (x
 unfolding end_demand
 asked_meets c p v state x y looks = grind (arith, common_steps, cases_Bool, off_mirrors)
 
-end_last : (j : JobView) (u : Valuation) (t : ℕ) (kind : Kind) (x y : ℤ) → kind ≡ End → IsFaultUnder j u t kind x y →
+end_last : (j : JobView) (u : Valuation) (t : ℕ) (kind : Kind) (x y : ℤ) → kind ≡ End →
+    IsFaultUnderValues j u t kind x y →
     t ≡ j.steps
 end_last j u t kind x y h1 h2 = grind (arith, common_steps)
 
 end_said : (c : Circuit) (p : Pattern) (m : ModuleLines) (v : Valuation) (t : ℕ) (kind : Kind) (x y : ℤ) → kind ≡ End →
-    MeetsDemand v (end_demand c p x y) (run_under c p v t x y) → IsAsCertified c p m v t kind x y
+    MeetsDemand v (end_demand c p x y) (run_under c p v t x y) → IsCellAsCertified c p m v t kind x y
 end_said c p m v t kind x y h1 h2 = grind (arith, common_steps)
 
 -- what looks as asked has no fault at its end

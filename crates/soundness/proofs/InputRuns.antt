@@ -3,7 +3,7 @@ use Rattle.soundness.proofs.Imports.{All, Ball, Bool, In, IsInputName, LayoutLin
 use Rattle.soundness.proofs.Imports.{Pattern, Port, PortNameLists, Some, UnknownName, Valuation, Waste, [], ap, ap₂}
 use Rattle.soundness.proofs.Imports.{arith, bytes_eq, cases_Bool, circuit_of, code_if, common_steps, cond, defined}
 use Rattle.soundness.proofs.Imports.{false, false≢true, get_or_from_slice_get, has, in_cells, in_ports_on}
-use Rattle.soundness.proofs.Imports.{in_rectangles, inl, input_names, inr, is_at, kept, length, map, name_fault}
+use Rattle.soundness.proofs.Imports.{in_rectangles, inl, input_names, inr, is_cell_at, kept, length, map, name_fault}
 use Rattle.soundness.proofs.Imports.{netlist_of, not, number, option_map, option_map_or, output_names, parts_of}
 use Rattle.soundness.proofs.Imports.{place_of, refl, run, skipped, slice_get, slice_get-map, slice_get_within, start}
 use Rattle.soundness.proofs.Imports.{subst, suc, sym, take, true, wire_of, zero, ℕ, ℤ, ◌&&◌, ◌++◌, ◌+◌, ◌<◌, ◌||◌, ◌∙◌}
@@ -89,7 +89,8 @@ same_ports : (f g : List ℕ → Bool) (ports : List Port) (x y : ℤ) →
     in_ports_on f ports x y ≡ in_ports_on g ports x y
 same_ports f g [] x y same = refl
 same_ports f g (q ∷ ports) x y same =
-    ap₂ (λ a b. (a && is_at q.cell x y) || b) (same 0 q refl) (same_ports f g ports x y (λ i r e. same (suc i) r e))
+    ap₂ (λ a b. (a && is_cell_at q.cell x y) || b) (same 0 q refl)
+    (same_ports f g ports x y (λ i r e. same (suc i) r e))
 
 pub inputs_decide : InputsDecideTheRun
 unfolding run start

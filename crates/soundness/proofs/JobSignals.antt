@@ -5,7 +5,7 @@ use Rattle.soundness.proofs.Imports.{MeetsDemand, ModuleLines, None, Option, Pat
 use Rattle.soundness.proofs.Imports.{Valuation, Zero, [], all_times_at, ap, arith, cases_Bool, signal_if_starred}
 use Rattle.soundness.proofs.Imports.{cell_same, circuit_of, circuit_wire, common_steps, edge_signal, edges, event_at}
 use Rattle.soundness.proofs.Imports.{event_if_timed, false, flat_map, halo_same, halo_signal, halos, in_box, in_ring}
-use Rattle.soundness.proofs.Imports.{is_at, is_live, line_signals, mapped_from, one_or_named_wire, refl}
+use Rattle.soundness.proofs.Imports.{is_cell_at, is_live, line_signals, mapped_from, one_or_named_wire, refl}
 use Rattle.soundness.proofs.Imports.{renumber_demand, renumber_signal, setting_of, signal_at, slice_get}
 use Rattle.soundness.proofs.Imports.{slice_get_within, some_at, sym, true, true≢false, values_by_local_number, whole, ℕ}
 use Rattle.soundness.proofs.Imports.{ℤ, ◌++◌, ◌∙◌, ◌∷◌, ◌≡◌}
@@ -72,20 +72,20 @@ owner_of lines p ms jobs x y b h =
 -- ---- cells that no line names
 
 one_all_times : (e : BorderLine) (time : Option ℕ) (s : Signal) (rest : List AllTimesSignal) (x y : ℤ) →
-    is_at e.cell x y ≡ false →
+    is_cell_at e.cell x y ≡ false →
     all_times_at rest x y ≡ None →
     all_times_at (signal_if_starred e time s ++ rest) x y ≡ None
 unfolding all_times_at
 one_all_times e time s rest x y h1 h2 = grind (arith, common_steps, cond-false)
 
 one_event : (e : BorderLine) (time : Option ℕ) (s : Signal) (rest : List TimedSignal) (t : ℕ) (x y : ℤ) →
-    is_at e.cell x y ≡ false → event_at rest t x y ≡ None →
+    is_cell_at e.cell x y ≡ false → event_at rest t x y ≡ None →
     event_at (event_if_timed e time s ++ rest) t x y ≡ None
 unfolding event_at
 one_event e time s rest t x y h1 h2 = grind (arith, common_steps, cond-false, and-false)
 
 abbrev NamesNot : ℤ → ℤ → BorderLine → Type 0
-NamesNot x y e = is_at e.cell x y ≡ false
+NamesNot x y e = is_cell_at e.cell x y ≡ false
 
 no_all_times : (c : Circuit) (es : List BorderLine) (x y : ℤ) → All (NamesNot x y) es →
     all_times_at (flat_map (λ e. signal_if_starred e e.time (one_or_named_wire c e.signal)) es) x y ≡ None
@@ -108,7 +108,7 @@ pub no_signal : (c : Circuit) (es : List BorderLine) (t : ℕ) (x y : ℤ) → A
 unfolding signal_at
 no_signal c es t x y all = grind (arith, common_steps, no_all_times, no_event)
 
-pub other_cell : (c : Cell) (x y : ℤ) → (c ≡ record { x = x; y = y } → ⊥) → is_at c x y ≡ false
+pub other_cell : (c : Cell) (x y : ℤ) → (c ≡ record { x = x; y = y } → ⊥) → is_cell_at c x y ≡ false
 other_cell c x y f = grind (arith, common_steps, cases_Bool, cell_same)
 
 module _ (lines : List CircuitLine) (p : Pattern) (ms : List ModuleLines) (i : ℕ) (j : JobView) (v : Valuation)

@@ -3,8 +3,9 @@ use Rattle.soundness.proofs.Imports.{AreGoodAfter, Ball, Bool, Box2, Cell, Circu
 use Rattle.soundness.proofs.Imports.{LayoutLine, List, MeetsDemand, Mirror, None, Option, Out, Pattern, Port, Some}
 use Rattle.soundness.proofs.Imports.{Valuation, Waste, [], and_from, and_parts, any_at, ap, arith, cell_fault}
 use Rattle.soundness.proofs.Imports.{cell_same, cells_of, cells_taken_at_end, common_steps, end_demand, false}
-use Rattle.soundness.proofs.Imports.{false≢true, in_box, in_cells, in_ports, in_ports_on, in_rectangles, is_at}
-use Rattle.soundness.proofs.Imports.{is_inside, is_live, is_taken, kept, map, none_stands, option_map, option_map_or}
+use Rattle.soundness.proofs.Imports.{false≢true, in_box, in_cells, in_ports, in_ports_on, in_rectangles, is_cell_at}
+use Rattle.soundness.proofs.Imports.{has_taken_cell, is_inside, is_live, kept, map, none_stands, option_map}
+use Rattle.soundness.proofs.Imports.{option_map_or}
 use Rattle.soundness.proofs.Imports.{parts_of, passed, port_at, port_stands, refl, same_Some, same_truth, size_fault}
 use Rattle.soundness.proofs.Imports.{slice_get, slice_get-map, start, start_signal, suc, sym, takes_cells_at_end}
 use Rattle.soundness.proofs.Imports.{takes_cells_at_start, true, true≢false, values_by_name, whole, wire_or_dead, zero}
@@ -24,11 +25,11 @@ use Rattle.bbm_rule.proofs.SameCells.{cell_itself}
 
 -- ---- the ports at a cell
 
-same_cells : (c d : Cell) (x y : ℤ) → is_at c x y ≡ true → is_at d x y ≡ true → c ≡ d
+same_cells : (c d : Cell) (x y : ℤ) → is_cell_at c x y ≡ true → is_cell_at d x y ≡ true → c ≡ d
 same_cells c d x y h k = grind (arith, common_steps, cell_same)
 
 only_port : (ports : List Port) (x y : ℤ) (name : List ℕ) → HaveDistinctCells ports → port_at ports x y ≡ Some name →
-    (i : ℕ) (q : Port) → slice_get ports i ≡ Some q → is_at q.cell x y ≡ true → q.name ≡ name
+    (i : ℕ) (q : Port) → slice_get ports i ≡ Some q → is_cell_at q.cell x y ≡ true → q.name ≡ name
 only_port ports x y name own e i q at h =
     let s = port_stands ports x y name e in
     let same : i ≡ s.number = own i s.number q s.port at s.numbered (same_cells q.cell s.port.cell x y h s.stands) in
@@ -43,24 +44,24 @@ is_on on (Some n) = on n
 on_by : (on : List ℕ → Bool) (ports : List Port) (x y : ℤ) (o : Option (List ℕ)) → HaveDistinctCells ports →
     port_at ports x y ≡ o → in_ports_on on ports x y ≡ is_on on o
 on_by on ports x y None own e =
-    let test : Port → Bool = λ q. on q.name && is_at q.cell x y in
+    let test : Port → Bool = λ q. on q.name && is_cell_at q.cell x y in
     same_truth _ _
     (λ h.
     let s = passed test ports h in
     absurd (none_stands ports x y e s.place s.element s.stands
-    (and_parts (on s.element.name) (is_at s.element.cell x y) s.passes).1))
+    (and_parts (on s.element.name) (is_cell_at s.element.cell x y) s.passes).1))
     (λ h. absurd (false≢true h))
 on_by on ports x y (Some n) own e =
-    let test : Port → Bool = λ q. on q.name && is_at q.cell x y in
+    let test : Port → Bool = λ q. on q.name && is_cell_at q.cell x y in
     same_truth _ _
     (λ h.
     let s = passed test ports h in
-    let both = and_parts (on s.element.name) (is_at s.element.cell x y) s.passes in
+    let both = and_parts (on s.element.name) (is_cell_at s.element.cell x y) s.passes in
     ap on (sym (only_port ports x y n own e s.place s.element s.stands both.1)) ∙ both.0)
     (λ h.
     let s = port_stands ports x y n e in
     any_at test ports s.number s.port s.numbered
-    (and_from (on s.port.name) (is_at s.port.cell x y) (ap on s.named ∙ h) s.stands))
+    (and_from (on s.port.name) (is_cell_at s.port.cell x y) (ap on s.named ∙ h) s.stands))
 
 port_is : (ports : List Port) (q : Port) (i : ℕ) (o : Option (List ℕ)) → HaveDistinctCells ports →
     slice_get ports i ≡ Some q →
@@ -74,7 +75,8 @@ no_port : (ports : List Port) (x y : ℤ) (o : Option (List ℕ)) → in_ports p
 no_port ports x y None none e = refl
 no_port ports x y (Some n) none e =
     let s = port_stands ports x y n e in
-    absurd (true≢false (sym (any_at (λ (q : Port). is_at q.cell x y) ports s.number s.port s.numbered s.stands) ∙ none))
+    absurd (true≢false (sym (any_at (λ (q : Port). is_cell_at q.cell x y) ports s.number s.port s.numbered s.stands)
+    ∙ none))
 
 -- ---- the start
 
@@ -115,7 +117,7 @@ record IsFree (s : LayoutHeader) (before : List LayoutLine) (q : Port) : Type 0 
 
 free_here : (s : LayoutHeader) (before : List LayoutLine) (q : Port) → cell_fault s before (Out q) ≡ None →
     IsFree s before q
-unfolding cell_fault is_taken cells_of takes_cells_at_start is_inside
+unfolding cell_fault has_taken_cell cells_of takes_cells_at_start is_inside
 free_here s before q e = grind (arith, common_steps)
 
 all_free : (s : LayoutHeader) (before : List LayoutLine) (ports : List Port) (rest : List LayoutLine) →

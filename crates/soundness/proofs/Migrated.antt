@@ -16,7 +16,7 @@ use Rattle.lemmas.proofs.Common.{slice_index_or, mapped_at}
 use Rattle.std.specs.List.{All}
 use Rattle.certificate_lines.specs.Entries.{modules_of}
 use Rattle.certificate_lines.specs.Versions.{edge_lines_beside, is_haloless_version, is_nonlocal_signal}
-use Rattle.certificate_lines.specs.Versions.{lacks_edge_wire_beside, with_halos}
+use Rattle.certificate_lines.specs.Versions.{has_nonlocal_edge_wire_beside, with_halo_lines}
 use Rattle.certificate.proofs.FullModules.{edge_cell, edge_of, edges_rising, full_cuts, full_gates, full_keeps}
 use Rattle.certificate.proofs.FullModules.{full_edges, full_stops, full_known, full_modules, in_beside, meant_old}
 use Rattle.certificate_lines.proofs.InList.{placed}
@@ -29,7 +29,7 @@ use Rattle.local_run.specs.Laws.{HasSameHaloSignals}
 use Rattle.local_run.proofs.SameHalos.{same_halos_agree}
 use Rattle.border_match.proofs.Haloless.{haloless_match}
 use Rattle.border_match.proofs.SameSignals.{not_different}
-use Rattle.soundness.specs.MigrationLaws.{AcceptedWithoutHalos, IsAcceptedWithoutHalos, MigrationKeepsAcceptance}
+use Rattle.soundness.specs.MigrationLaws.{AcceptedStaysWithoutHalos, IsAcceptedWithoutHalos, MigrationKeepsAcceptance}
 use Rattle.soundness.proofs.ModuleJobs.{one_job, signal_back}
 use Rattle.soundness.proofs.JobSignals.{no_signal, other_cell}
 use Rattle.module_job.proofs.OwnSignals.{halo_below}
@@ -119,8 +119,8 @@ module _ (lines : List CircuitLine) (p : Pattern) (ms : List ModuleLines) (jobs 
       halo_is_edge i k.0 m n.0 t.0 e.cell.x e.cell.y at k.1 t.2 t.3 b.1 (edge_cell g ms good n.0 e n.1 n.2) ∙ said in
       ap not (ap (is_local_wire (known c m)) wire.1 ∙ halo_names i m t.0 e.cell.x e.cell.y wire.0 at halo)
 
-  no_strange : lacks_edge_wire_beside g ms ≡ false
-  unfolding lacks_edge_wire_beside
+  no_strange : has_nonlocal_edge_wire_beside g ms ≡ false
+  unfolding has_nonlocal_edge_wire_beside
   no_strange = none_any (λ m. list_any (λ e. is_nonlocal_signal c (known c m) e.signal) (edge_lines_beside g ms m.area))
       ms
       (λ m i.
@@ -129,7 +129,7 @@ module _ (lines : List CircuitLine) (p : Pattern) (ms : List ModuleLines) (jobs 
 
   -- ---- the job of a module, and that of the module with the edge lines beside it
 
-  full_is : AreModules g (map (with_halos g ms) ms)
+  full_is : AreModules g (map (with_halo_lines g ms) ms)
   full_is = full_modules g ms good no_strange
 
   none_outside : (m : ModuleLines) → IsModule g m → (t : ℕ) (x y : ℤ) → in_box (whole p.size) x y ≡ false →
@@ -138,9 +138,9 @@ module _ (lines : List CircuitLine) (p : Pattern) (ms : List ModuleLines) (jobs 
       no_signal c (halos m) t x y (grind (arith, common_steps, other_cell))
 
   module _ (i : ℕ) (m : ModuleLines) (j k : JobView) (at : slice_get ms i ≡ Some m) (of_j : IsJobOf c p m j)
-      (of_k : IsJobOf c p (with_halos g ms m) k) where
+      (of_k : IsJobOf c p (with_halo_lines g ms m) k) where
     abbrev full : ModuleLines
-    full = with_halos g ms m
+    full = with_halo_lines g ms m
 
     same_wires : k.locals.circuit_wires ≡ j.locals.circuit_wires
     same_wires = of_k.wires ∙ full_known g ms good m ∙ sym of_j.wires
@@ -153,7 +153,7 @@ module _ (lines : List CircuitLine) (p : Pattern) (ms : List ModuleLines) (jobs 
     between = record k { halos = j.halos }
 
     of_between : IsJobOf c p m between
-    unfolding with_halos job_start job_demand
+    unfolding with_halo_lines job_start job_demand
     of_between = record {
       area = of_k.area;
       steps = of_k.steps;
@@ -178,7 +178,7 @@ module _ (lines : List CircuitLine) (p : Pattern) (ms : List ModuleLines) (jobs 
     early_stops = stops_stand (λ q. q.time ≤ k.steps) c k.locals (stops full) k.stops
         (record { same = of_k.stops; own = of_k.own.stops })
         (λ n d lt. subst (λ steps. (slice_index_or (stops full) n d).time ≤ steps) (sym of_k.steps)
-        ((full_is.each i full (mapped_at (with_halos g ms) ms i m at)).stop_lines n d lt).time)
+        ((full_is.each i full (mapped_at (with_halo_lines g ms) ms i m at)).stop_lines n d lt).time)
 
     same_halo : (t : ℕ) (x y : ℤ) → t % 2 ≡ 1 → t < p.size.steps → in_halo m.area x y ≡ true →
         halo_signal c full t x y ≡ halo_signal c m t x y
@@ -190,12 +190,12 @@ module _ (lines : List CircuitLine) (p : Pattern) (ms : List ModuleLines) (jobs 
           halo_is_edge_beside g ms good i b.0 m n.0 t x y at n.1 odd early halo owned
           ∙ sym (halo_is_edge i b.0 m n.0 t x y at n.1 odd early halo owned)
       | inr outside ↦
-          none_outside full (full_is.each i full (mapped_at (with_halos g ms) ms i m at)) t x y outside
+          none_outside full (full_is.each i full (mapped_at (with_halo_lines g ms) ms i m at)) t x y outside
           ∙ sym (none_outside m (good.each i m at) t x y outside)
     ]
 
     say_the_same : HasSameHaloSignals k j.halos
-    unfolding with_halos
+    unfolding with_halo_lines
     say_the_same t x y odd early halo =
         let ws = k.locals.circuit_wires in
         let different : AreDistinct ws =
@@ -229,18 +229,18 @@ module _ (lines : List CircuitLine) (p : Pattern) (ms : List ModuleLines) (jobs 
     accepted = λ others are. record {
       no_fault = λ number k f at is.
           let m = some_at ms number (let lt = slice_get_within others number k at in let n = are.count in let l =
-          length-map ms (with_halos g ms) in omega (arith, lt, n, l)) in
+          length-map ms (with_halo_lines g ms) in omega (arith, lt, n, l)) in
           let j = the_job number m.0 m.1 in
           ok.no_fault number j.0 f j.1 (fault_kept number m.0 j.0 k m.1 (own.each number m.0 j.0 m.1 j.1)
-          (are.each number (with_halos g ms m.0) k (mapped_at (with_halos g ms) ms number m.0 m.1) at) f is);
+          (are.each number (with_halo_lines g ms m.0) k (mapped_at (with_halo_lines g ms) ms number m.0 m.1) at) f is);
       no_border_fault = λ number f. haloless_match g ms good number f;
       no_keep_fault = λ number k f at is.
           let m = some_at ms number (let lt = slice_get_within others number k at in let n = are.count in let l =
-          length-map ms (with_halos g ms) in omega (arith, lt, n, l)) in
+          length-map ms (with_halo_lines g ms) in omega (arith, lt, n, l)) in
           let j = the_job number m.0 m.1 in
           ok.no_keep_fault number j.0 f j.1
           (keep_fault_kept number m.0 j.0 k m.1 (own.each number m.0 j.0 m.1 j.1)
-          (are.each number (with_halos g ms m.0) k (mapped_at (with_halos g ms) ms number m.0 m.1) at) f is);
+          (are.each number (with_halo_lines g ms m.0) k (mapped_at (with_halo_lines g ms) ms number m.0 m.1) at) f is);
       kept = λ number gate at inverse. kept_of_all g ms ms number ∙ ok.kept number gate at inverse;
       on_time = subst (λ ss. IsTrue
           (are_all_timings_obeyed (time_lines_of_gates (first_seen_time c ss) (last_seen_time c ss) c.netlist.gates)))
@@ -248,7 +248,7 @@ module _ (lines : List CircuitLine) (p : Pattern) (ms : List ModuleLines) (jobs 
     };
   }
 
-pub without_halos_accepted : AcceptedWithoutHalos
+pub without_halos_accepted : AcceptedStaysWithoutHalos
 without_halos_accepted lines p ms jobs good own ok = accepted_without lines p ms jobs good own ok
 
 -- ---- certificates

@@ -1,7 +1,7 @@
 -- A module has one job
 use Rattle.lemmas.proofs.Common.{common_steps}
 use Rattle.lemmas.proofs.Common.{cond-true, same_head, same_tail}
-use Rattle.soundness.proofs.Imports.{All, All-head, All-tail, AllTimesSignal, AreDistinct, AreLocalsOf, AreOrdered}
+use Rattle.soundness.proofs.Imports.{All, All-head, All-tail, AllTimesSignal, AreDistinct, AreGatesOrdered, AreLocalsOf}
 use Rattle.soundness.proofs.Imports.{Box2, Circuit, Demand, Gate, GateKind, IsDemandWireBelow, IsJobOf}
 use Rattle.soundness.proofs.Imports.{IsSignalWireBelow, IsTrue, JobView, List, LocalNet, ModuleLines, Netlist, Pattern}
 use Rattle.soundness.proofs.Imports.{Signal, Signals, Some, Source, TimedSignal, Wire, Zero, [], ap, ap₂, arith}
@@ -107,11 +107,12 @@ module _ (ws : List ℕ) (different : AreDistinct ws) where
       let outs : g.outs ≡ h.outs = go ∙ ap (λ k. range_with_len n (defines k)) kind ∙ sym ho in
       λ i. record { kind = kind i; ins = ins i; outs = outs i }
 
-  gates_back : (n : ℕ) (gs hs : List Gate) → AreOrdered n gs → AreOrdered n hs → wires_after n gs ≡ length ws →
+  gates_back : (n : ℕ) (gs hs : List Gate) → AreGatesOrdered n gs → AreGatesOrdered n hs →
+      wires_after n gs ≡ length ws →
       wires_after n hs ≡ length ws →
       ((k : ℕ) (g h : Gate) → slice_get gs k ≡ Some g → slice_get hs k ≡ Some h → renumber_gate f g ≡ renumber_gate f h)
       → gs ≡ hs
-  unfolding AreOrdered wires_after
+  unfolding AreGatesOrdered wires_after
   gates_back n [] [] go ho gw hw each = refl
   gates_back n [] (h ∷ hs) go ho gw hw each = absurd (too_many n h hs gw hw)
   gates_back n (g ∷ gs) [] go ho gw hw each = absurd (too_many n g gs hw gw)
@@ -122,7 +123,7 @@ module _ (ws : List ℕ) (different : AreDistinct ws) where
       let kind : g.kind ≡ h.kind = ap (λ (x : Gate). x.kind) first in
       let next : n + defines h.kind ≡ n + defines g.kind = ap (λ k. n + defines k) (sym kind) in
       ap₂ (λ x xs. x ∷ xs) first
-      (gates_back (n + defines g.kind) gs hs go.3 (subst (λ m. AreOrdered m hs) next ho.3) gw
+      (gates_back (n + defines g.kind) gs hs go.3 (subst (λ m. AreGatesOrdered m hs) next ho.3) gw
       (subst (λ m. wires_after m hs ≡ length ws) next hw) (λ k. each (suc k)))
 
 -- ---- the wires and gates of a module
@@ -131,8 +132,8 @@ locals_back : (n : Netlist) (l m : LocalNet) → AreLocalsOf n l → AreLocalsOf
     l.circuit_gates ≡ m.circuit_gates → l.netlist.given ≡ m.netlist.given → AreDistinct l.circuit_wires → l ≡ m
 locals_back n l m a b same_wires same_gates same_given different =
     let given : ℕ = l.netlist.given in
-    let ordered : AreOrdered given m.netlist.gates =
-    subst (λ k. AreOrdered k m.netlist.gates) (sym same_given) b.ordered in
+    let ordered : AreGatesOrdered given m.netlist.gates =
+    subst (λ k. AreGatesOrdered k m.netlist.gates) (sym same_given) b.ordered in
     let sized : wires_after given m.netlist.gates ≡ length l.circuit_wires =
     ap (λ k. wires_after k m.netlist.gates) same_given ∙ sym b.sized ∙ ap length (sym same_wires) in
     let each : (k : ℕ) (g h : Gate) → slice_get l.netlist.gates k ≡ Some g → slice_get m.netlist.gates k ≡ Some h →

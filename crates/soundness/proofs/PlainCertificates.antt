@@ -1,10 +1,13 @@
 -- A plain certificate decides whether its layout is correct
 use Rattle.soundness.proofs.Imports.{Accepts, All, All-append, All-cons, All-contains, All-head, All-nil, All-tail}
-use Rattle.soundness.proofs.Imports.{AreDistinct, AreLeastFaultsOfJob, AreOrdered, AreReportLines, BelongTogether, Bool}
+use Rattle.soundness.proofs.Imports.{AreDistinct, AreGatesOrdered, AreLeastFaultsOfJob, AreReportLines, BelongTogether}
+use Rattle.soundness.proofs.Imports.{Bool}
 use Rattle.soundness.proofs.Imports.{BorderFault, Circuit, CircuitLine, Contains, Contains-append_left, Delay, Fault}
 use Rattle.soundness.proofs.Imports.{Gate, IsModuleAssignmentOf, Greater, HasGoodBorders, HasInputNames}
-use Rattle.soundness.proofs.Imports.{IsAcceptedBundle, IsAsCertified, IsAssignmentOf, IsBorderFault, IsCorrect, IsFault}
-use Rattle.soundness.proofs.Imports.{IsFaultUnder, IsFirstFault, IsInputName, IsJobOf, IsKeepFault, IsLeastBorderFault}
+use Rattle.soundness.proofs.Imports.{IsAcceptedBundle, IsAssignmentOf, IsBorderFault, IsCellAsCertified, IsCorrect}
+use Rattle.soundness.proofs.Imports.{IsFault}
+use Rattle.soundness.proofs.Imports.{IsFaultUnderValues, IsFirstFault, IsInputName, IsJobOf, IsKeepFault}
+use Rattle.soundness.proofs.Imports.{IsLeastBorderFault}
 use Rattle.soundness.proofs.Imports.{IsAllowedStop, IsLeastFault, IsLeastKeepFault, IsRunOfJobs, IsVerdict, JobView}
 use Rattle.soundness.proofs.Imports.{KeepFault}
 use Rattle.soundness.proofs.Imports.{Kind, LeastFaults, List, ModuleLines, None, Option, Pattern, ReportLine, Satisfies}
@@ -19,18 +22,19 @@ use Rattle.soundness.proofs.Imports.{nothing_prop}
 use Rattle.soundness.proofs.Imports.{only_inverse, option_map, option_map_or, option_to_list, ordering_then, props}
 use Rattle.soundness.proofs.Imports.{refl, renumber_keep, report_lines_from, same_Some, setting_of, signal_at}
 use Rattle.soundness.proofs.Imports.{slice_get, slice_get_within, some_at, stops, subst, suc, sym, timing_report_line}
-use Rattle.soundness.proofs.Imports.{true, undefined_has_none, undefined_is_seen, unkept, unkept_from, unkept_lines}
+use Rattle.soundness.proofs.Imports.{true, undefined_has_none, undefined_is_seen, unkept, unkept_gates_from}
+use Rattle.soundness.proofs.Imports.{unkept_lines}
 use Rattle.soundness.proofs.Imports.{values_by_local_number, whole, wire_of, zero, ℕ, ℤ, ∥∥₁_elim, ◌&&◌, ◌++◌, ◌+◌, ◌<◌}
 use Rattle.soundness.proofs.Imports.{◌||◌, ◌∙◌, ◌∷◌, ◌≡◌, ◌≢◌, ◌≤◌}
 use Rattle.lemmas.proofs.Common.{nat_cmp}
 use Rattle.circuit.specs.Gates.{uses}
-use Rattle.certificate.specs.Arrivals.{AreOnTime, IsFirstStopTime, IsLastStopTime, TakesStepsBetweenStops}
+use Rattle.certificate.specs.Arrivals.{AreOnTime, IsFirstStopTime, IsLastStopTime, TakesStepsFromLastToFirstStop}
 use Rattle.certificate.specs.Arrivals.{IsTimeLineTrue, IsDelayGapTrue}
-use Rattle.certificate.specs.Times.{is_obeyed}
+use Rattle.certificate.specs.Times.{is_timing_obeyed}
 use Rattle.certificate.specs.declared.times.StopGap.TheVariants.{Steps, Missing, Before}
 use Rattle.certificate.proofs.ArrivalLemmas.{lines_tell}
 use Rattle.local_run.specs.Faults.{IsEdgeFault}
-use Rattle.soundness.specs.PlainCertificates.{IsPlainModule, IsWrongDesign, PlainNoMeansWrong}
+use Rattle.soundness.specs.PlainCertificates.{IsPlainModule, IsWrongDesign, PlainNoMeansWrongOrRimLive}
 use Rattle.soundness.specs.PlainCertificates.{PlainVerdictDecidesDesign}
 use Rattle.soundness.specs.PlainCertificates.{TouchesRim, UntimedIsOnTime, IsLiveOnRim, KeepLineMeans, LineMeans}
 use Rattle.soundness.specs.PlainCertificates.{DelayLineMeans, MeetLineMeans, PlainReportLinesHaveMeaning}
@@ -95,9 +99,9 @@ one_element [] e = absurd (omega (arith, e))
 one_element (w ∷ []) e = (w, refl)
 one_element (w ∷ v ∷ ws) e = absurd (omega (arith, e))
 
-delay_wires : (m n : ℕ) (gs : List Gate) (k : ℕ) (g : Gate) → AreOrdered m gs → slice_get gs k ≡ Some g →
+delay_wires : (m n : ℕ) (gs : List Gate) (k : ℕ) (g : Gate) → AreGatesOrdered m gs → slice_get gs k ≡ Some g →
     g.kind ≡ Delay n → HasOneWire g
-unfolding AreOrdered
+unfolding AreGatesOrdered
 delay_wires m n [] k g ordered at is = absurd cc
 delay_wires m n (f ∷ gs) zero g ordered at is =
     let same : f ≡ g = same_Some f g at in
@@ -106,24 +110,24 @@ delay_wires m n (f ∷ gs) zero g ordered at is =
     subst HasOneWire same (grind (arith, common_steps))
 delay_wires m n (f ∷ gs) (suc k) g ordered at is = delay_wires (m + defines f.kind) n gs k g ordered.3 at is
 
-same_steps : (c : Circuit) (ss : List StopLine) (m n a b : ℕ) → TakesStepsBetweenStops c ss m a b →
-    TakesStepsBetweenStops c ss n a b → m ≡ n
+same_steps : (c : Circuit) (ss : List StopLine) (m n a b : ℕ) → TakesStepsFromLastToFirstStop c ss m a b →
+    TakesStepsFromLastToFirstStop c ss n a b → m ≡ n
 same_steps c ss m n a b s t = grind (arith, common_steps)
 
-not_before : (c : Circuit) (ss : List StopLine) (n a b s t : ℕ) → TakesStepsBetweenStops c ss n a b →
+not_before : (c : Circuit) (ss : List StopLine) (n a b s t : ℕ) → TakesStepsFromLastToFirstStop c ss n a b →
     IsLastStopTime c ss a s →
     IsFirstStopTime c ss b t → t < s → ⊥
 not_before c ss n a b s t takes last first lt = grind (arith, common_steps)
 
-kept_gap : (c : Circuit) (ss : List StopLine) (k n a b : ℕ) (gap : StopGap) → TakesStepsBetweenStops c ss n a b →
-    IsDelayGapTrue c ss gap a b → is_obeyed (times.Delay k n gap) ≡ true
+kept_gap : (c : Circuit) (ss : List StopLine) (k n a b : ℕ) (gap : StopGap) → TakesStepsFromLastToFirstStop c ss n a b →
+    IsDelayGapTrue c ss gap a b → is_timing_obeyed (times.Delay k n gap) ≡ true
 kept_gap c ss k n a b (Steps m) takes tells = eq-eqb m n (same_steps c ss m n a b tells takes)
 kept_gap c ss k n a b Missing takes tells = absurd (tells takes.leaves (takes.leaves + n) takes.last takes.first)
 kept_gap c ss k n a b Before takes tells = absurd (not_before c ss n a b tells.0 tells.1 takes tells.2 tells.3 tells.4)
 
-kept_line : (lines : List CircuitLine) (ss : List StopLine) (l : TimeLine) → AreOrdered (netlist_of lines).given
+kept_line : (lines : List CircuitLine) (ss : List StopLine) (l : TimeLine) → AreGatesOrdered (netlist_of lines).given
     (netlist_of lines).gates → AreOnTime (circuit_of lines) ss →
-    IsTimeLineTrue (circuit_of lines) ss l → is_obeyed l ≡ true
+    IsTimeLineTrue (circuit_of lines) ss l → is_timing_obeyed l ≡ true
 kept_line lines ss (times.Delay k n gap) ordered timed (g, at, is, tells) =
     let w = delay_wires (netlist_of lines).given n (netlist_of lines).gates k g ordered at is in
     let a = w.used in let b = w.made in
@@ -138,11 +142,12 @@ all_true P test [] h all = refl
 all_true P test (l ∷ ls) h all = and_from (test l) (list_all test ls) (h l (All-head P l ls all))
     (all_true P test ls h (All-tail P l ls all))
 
-timed_is_kept : (lines : List CircuitLine) (ms : List ModuleLines) → AreOrdered (netlist_of lines).given
+timed_is_kept : (lines : List CircuitLine) (ms : List ModuleLines) → AreGatesOrdered (netlist_of lines).given
     (netlist_of lines).gates → AreOnTime (circuit_of lines) (all_stops ms) →
     are_all_timings_obeyed (delay_and_meet_lines (circuit_of lines) ms) ≡ true
 timed_is_kept lines ms ordered timed =
-    all_true (IsTimeLineTrue (circuit_of lines) (all_stops ms)) is_obeyed (delay_and_meet_lines (circuit_of lines) ms)
+    all_true (IsTimeLineTrue (circuit_of lines) (all_stops ms)) is_timing_obeyed
+    (delay_and_meet_lines (circuit_of lines) ms)
     (λ l.
     kept_line lines (all_stops ms) l ordered timed) (lines_tell (circuit_of lines) ms)
 
@@ -193,8 +198,8 @@ not_listed n inverse kept h1 = grind (arith, common_steps, false≢true)
 
 none_unkept : (ms : List ModuleLines) (n : ℕ) (gs : List Gate) →
     ((k : ℕ) (g : Gate) → slice_get gs k ≡ Some g → is_inverse g.kind ≡ true → keeping.is_kept ms (n + k) ≡ true) →
-    unkept_from ms n gs ≡ []
-unfolding unkept_from
+    unkept_gates_from ms n gs ≡ []
+unfolding unkept_gates_from
 none_unkept ms n [] h = refl
 none_unkept ms n (g ∷ gs) h =
     ap₂ (λ (a b : List ℕ). a ++ b)
@@ -295,7 +300,8 @@ module _ (lines : List CircuitLine) (p : Pattern) (m : ModuleLines) (jobs : List
   no_border : (n : ℕ) (f : BorderFault) → ¬ IsBorderFault (setting_of lines p) (m ∷ []) n f
   no_border n f fault = grind (arith, common_steps, only_module, halo_parts)
 
-  edge_of : (j : JobView) (u : Valuation) (t : ℕ) (kind : Kind) (x y : ℤ) → kind ≡ Edge → IsFaultUnder j u t kind x y →
+  edge_of : (j : JobView) (u : Valuation) (t : ℕ) (kind : Kind) (x y : ℤ) → kind ≡ Edge →
+      IsFaultUnderValues j u t kind x y →
       IsEdgeFault j u t x y
   edge_of j u t kind x y h1 h2 = grind (arith, common_steps)
 
@@ -332,7 +338,7 @@ module _ (lines : List CircuitLine) (p : Pattern) (m : ModuleLines) (jobs : List
   AreHeld = All (StopHolds c p) (all_stops (m ∷ []))
 
   stops_said : (inputs v : Valuation) (t : ℕ) (x y : ℤ) → AreHeld → Satisfies (netlist_of lines) inputs v →
-      IsAsCertified c p m v t AtStop x y
+      IsCellAsCertified c p m v t AtStop x y
   stops_said inputs v t x y held s line has time column row =
       let holds : StopHolds c p line = All-contains (StopHolds c p) (all_stops (m ∷ [])) line held
       (Contains-append_left (stops m) [] line has) in
@@ -340,7 +346,7 @@ module _ (lines : List CircuitLine) (p : Pattern) (m : ModuleLines) (jobs : List
 
   none_under : (inputs v : Valuation) (t n : ℕ) (kind : Kind) (x y : ℤ) (j : JobView) → IsCorrect lines p → AreHeld →
       ¬ TouchesRim lines p → Satisfies (netlist_of lines) inputs v → IsItsJob n j →
-      ¬ IsFaultUnder j (values_by_local_number j.locals v) t kind x y
+      ¬ IsFaultUnderValues j (values_by_local_number j.locals v) t kind x y
   none_under inputs v t n Edge x y j right held off s it f =
       let early = subst (λ n. t < n) it.is.steps f.early in
       off (touches inputs t x y (edge_touches inputs v t n j x y s (all_runs inputs v t off s (omega (arith, early))) it
@@ -354,7 +360,7 @@ module _ (lines : List CircuitLine) (p : Pattern) (m : ModuleLines) (jobs : List
       let last : t ≡ p.size.steps = f.last ∙ it.is.steps in
       real lines p (m ∷ []) jobs inputs v n m j t End x y b (ap (slice_get (m ∷ [])) it.first) it.at s
       (λ r lt. good inputs v r off s (all_runs inputs v r off s (omega (arith, last, lt)))) f
-      (subst (λ t. IsAsCertified c p m v t End x y) (sym last) (correct_meets lines p inputs v x y named s right))
+      (subst (λ t. IsCellAsCertified c p m v t End x y) (sym last) (correct_meets lines p inputs v x y named s right))
 
   no_fault : IsCorrect lines p → AreHeld → ¬ TouchesRim lines p → (n : ℕ) (j : JobView) (f : Fault) →
       slice_get jobs n ≡ Some j → ¬ IsFault j f
@@ -509,7 +515,7 @@ module _ (lines : List CircuitLine) (p : Pattern) (m : ModuleLines) (jobs : List
   abbrev Means : ReportLine → Type 0
   Means l = LineMeans lines p m l
 
-  gap_is : (k n : ℕ) (gap : StopGap) → is_obeyed (times.Delay k n gap) ≡ true → gap ≡ Steps n
+  gap_is : (k n : ℕ) (gap : StopGap) → is_timing_obeyed (times.Delay k n gap) ≡ true → gap ≡ Steps n
   gap_is k n gap h1 = grind (arith, common_steps, eqb-true, false≢true)
 
   delay_means : (ss : List StopLine) (k n : ℕ) (gap : StopGap) → IsTimeLineTrue c ss (times.Delay k n gap) →
@@ -518,7 +524,7 @@ module _ (lines : List CircuitLine) (p : Pattern) (m : ModuleLines) (jobs : List
       let w = delay_wires (netlist_of lines).given n (netlist_of lines).gates k g b.ordered at is in
       let same : g ≡ record { kind = Delay n; ins = w.used ∷ []; outs = w.made ∷ [] } = grind (arith, common_steps) in
       let takes : IsDelayGapTrue c ss gap w.used w.made = tells w.used w.made w.ins w.outs in
-      let kept : TakesStepsBetweenStops c ss n w.used w.made → gap ≡ Steps n =
+      let kept : TakesStepsFromLastToFirstStop c ss n w.used w.made → gap ≡ Steps n =
       λ steps. gap_is k n gap (kept_gap c ss k n w.used w.made gap steps takes) in
       record {
         used = w.used;
@@ -594,7 +600,7 @@ plain_decides lines p m jobs named ports b plain = (
       (timed_is_kept lines (m ∷ []) b.ordered is.1.times)),
 )
 
-pub plain_no : PlainNoMeansWrong
+pub plain_no : PlainNoMeansWrongOrRimLive
 unfolding IsVerdict
 plain_no lines p m jobs report named b plain judged =
     let count = b.are_jobs.count in

@@ -6,7 +6,7 @@ use Rattle.soundness.proofs.Imports.{kept, length, list_all, list_any, map, name
 use Rattle.soundness.proofs.Imports.{output_names, parts_of, refl, same_truth, skipped, slice_get, slice_get-map, subst}
 use Rattle.soundness.proofs.Imports.{suc, sym, true, ℕ, ◌++◌, ◌+◌, ◌||◌, ◌∙◌, ◌∷◌, ◌≡◌}
 use Rattle.lemmas.proofs.Common.{bytes_eq-Decides, list_any-append}
-use Rattle.pattern.specs.Lines.{is_input_cell_named, is_output_cell_named, missing_fault}
+use Rattle.pattern.specs.Lines.{is_input_cell_named, is_output_cell_named, missing_port_fault}
 use Rattle.soundness.specs.HeadlineLaws.{ReadLayoutHasPortNames}
 use Rattle.soundness.proofs.InputRuns.{at_place, in_known, in_stands}
 use Rattle.section_text.proofs.Codes.{no_code}
@@ -84,10 +84,10 @@ out_stands p i q e =
 
 -- ---- the whole
 
-all_stand : (names : PortNameLists) (parts : List LayoutLine) → missing_fault (Some names) parts ≡ None →
+all_stand : (names : PortNameLists) (parts : List LayoutLine) → missing_port_fault (Some names) parts ≡ None →
     (list_all (λ n. list_any (is_input_cell_named n) parts) names.ins ≡ true)
     × (list_all (λ n. list_any (is_output_cell_named n) parts) names.outs ≡ true)
-unfolding missing_fault
+unfolding missing_port_fault
 all_stand names parts e = grind (arith, common_steps, and_parts, no_code)
 
 pub read_layout-is_named : ReadLayoutHasPortNames

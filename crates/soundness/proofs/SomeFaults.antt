@@ -1,10 +1,12 @@
 -- A job has a least fault or none, and so for keep faults and border faults
 use Rattle.lemmas.proofs.Common.{common_steps}
-use Rattle.soundness.proofs.Imports.{AreOrdered, Bool, BorderFault, Box2, Cell, Demand, Edge, End, Fault, IsBorderFault}
-use Rattle.soundness.proofs.Imports.{IsFault, IsFaultUnder, IsJob, IsKeepFault, IsLeastBorderFault, IsLeastFault}
+use Rattle.soundness.proofs.Imports.{AreGatesOrdered, Bool, BorderFault, Box2, Cell, Demand, Edge, End, Fault}
+use Rattle.soundness.proofs.Imports.{IsBorderFault}
+use Rattle.soundness.proofs.Imports.{IsFault, IsFaultUnderValues, IsJob, IsKeepFault, IsLeastBorderFault, IsLeastFault}
 use Rattle.soundness.proofs.Imports.{IsLeastKeepFault, IsTrue, JobView, KeepFault, Kind, List, MeetsDemand, ModuleLines}
 use Rattle.soundness.proofs.Imports.{None, Option, Setting, Some, Stop, Valuation, [], ap, arith, as_values}
-use Rattle.soundness.proofs.Imports.{assignments, bit, border_cmp, box_place, decided, edge_signal, fault_cmp, flat_map}
+use Rattle.soundness.proofs.Imports.{assignments, bit, border_fault_cmp, box_place, decided, edge_signal, fault_cmp}
+use Rattle.soundness.proofs.Imports.{flat_map}
 use Rattle.soundness.proofs.Imports.{get_or_from_slice_get, halo_signal, in_box, in_halo, in_ring, inl, inr, is_among}
 use Rattle.soundness.proofs.Imports.{is_live, job_demand, local_run, map, range_with_len, rectangle_cells, refl}
 use Rattle.soundness.proofs.Imports.{signal_at, slice_get, slice_get-get_or, slice_get_within, subst, true}
@@ -13,7 +15,7 @@ use Rattle.circuit.proofs.Undefined.{stopped, undefined_is_one}
 use Rattle.module_box.specs.LocalValues.{IsFirstLocalGateWithoutRow}
 use Rattle.certificate_lines.proofs.LineOrder.{In, flat_in}
 use Rattle.certificate.proofs.FullModules.{stands}
-use Rattle.local_run.specs.Order.{keep_cmp}
+use Rattle.local_run.specs.Order.{keep_fault_cmp}
 use Rattle.local_run.proofs.Leasts.{undefined_no_fault}
 use Rattle.border_match.proofs.FaultOrder.{border_total}
 use Rattle.soundness.proofs.SomeLeast.{Decided, HasOne, among_in, below_decided, bools_decided, both_decided}
@@ -39,7 +41,7 @@ module _ (j : JobView) (u : Valuation) (t : ℕ) (x y : ℤ) where
   missed_decided : (s : listed.Stop) → Decided (IsMissed s)
   missed_decided s = grind (arith, common_steps, both_decided, numbers_decided, bools_decided)
 
-  under_decided : (kind : Kind) → Decided (IsFaultUnder j u t kind x y)
+  under_decided : (kind : Kind) → Decided (IsFaultUnderValues j u t kind x y)
   under_decided Edge = decided_by
       (λ h. record { odd = h.0; early = h.1.0; ring = h.1.1.0; differs = h.1.1.1 })
       (λ f. (f.odd, (f.early, (f.ring, f.differs))))
@@ -65,11 +67,11 @@ module _ (j : JobView) (u : Valuation) (t : ℕ) (x y : ℤ) where
 
 -- ---- where and when faults are
 
-module _ (j : JobView) (is : IsJob j) (ordered : AreOrdered j.locals.netlist.given j.locals.netlist.gates) where
+module _ (j : JobView) (is : IsJob j) (ordered : AreGatesOrdered j.locals.netlist.given j.locals.netlist.gates) where
   abbrev Bounded : Fault → Type 0
   Bounded f = (f.time < j.steps + 1) × (in_box j.area f.cell.x f.cell.y ≡ true)
 
-  bounded : (u : Valuation) (f : Fault) (kind : Kind) → IsFaultUnder j u f.time kind f.cell.x f.cell.y → Bounded f
+  bounded : (u : Valuation) (f : Fault) (kind : Kind) → IsFaultUnderValues j u f.time kind f.cell.x f.cell.y → Bounded f
   bounded u f kind h1 = grind (arith, common_steps, ring_in_box)
 
   abbrev kinds : List Kind
@@ -166,7 +168,7 @@ module _ (j : JobView) (is : IsJob j) (ordered : AreOrdered j.locals.netlist.giv
       (in_range (assignments j) f.assignment h.in_range))
 
   pub least_keep_fault : (o : Option KeepFault) × IsLeastKeepFault j o
-  least_keep_fault = least_of_all keep_cmp keep_total (IsKeepFault j) keep_decided keeps_of keep_placed
+  least_keep_fault = least_of_all keep_fault_cmp keep_total (IsKeepFault j) keep_decided keeps_of keep_placed
       (IsLeastKeepFault j) (λ none. none) (λ f is. is)
 
 -- ---- border faults
@@ -219,6 +221,6 @@ module _ (g : Setting) (ms : List ModuleLines) (i : ℕ) where
       (in_cells_of_box (whole g.size) f.cell h.inside))
 
   pub least_border_fault : (o : Option BorderFault) × IsLeastBorderFault g ms i o
-  least_border_fault = least_of_all border_cmp border_total (IsBorderFault g ms i)
+  least_border_fault = least_of_all border_fault_cmp border_total (IsBorderFault g ms i)
       (border_decided (slice_get ms i) refl) borders_of border_placed (IsLeastBorderFault g ms i) (λ none. none)
       (λ f is. is)

@@ -1,6 +1,7 @@
 -- A module has a job, which is computed from its lines
 use Rattle.lemmas.proofs.Common.{common_steps}
-use Rattle.soundness.proofs.Imports.{All, All-cons, All-head, All-nil, All-tail, AreJobsOf, AreLocalsOf, AreOrdered}
+use Rattle.soundness.proofs.Imports.{All, All-cons, All-head, All-nil, All-tail, AreGatesOrdered, AreJobsOf}
+use Rattle.soundness.proofs.Imports.{AreLocalsOf}
 use Rattle.soundness.proofs.Imports.{Bool, Cell, Circuit, CircuitLine, Demand, Each, Gate, IfSome, IsDemandWireBelow}
 use Rattle.soundness.proofs.Imports.{IsJobOf, IsModule, IsSignalWireBelow, IsTrue, JobView, List, LocalNet, ModuleLines}
 use Rattle.soundness.proofs.Imports.{Netlist, None, One, Option, Pattern, Signal, Some, StopLine, Zero, [], ap}
@@ -17,7 +18,7 @@ use Rattle.lemmas.proofs.Common.{get_or_at, length_push, take_all}
 use Rattle.module_box.specs.Locals.{AreLocalLines, local_wires}
 use Rattle.module_box.proofs.LocalNets.{IsOver, IsPart, next_known, part_all, part_more, part_none}
 use Rattle.certificate_lines.specs.Entries.{gates}
-use Rattle.certificate_lines.specs.Modules.{HasLocalPorts}
+use Rattle.certificate_lines.specs.Modules.{HasLocalPortWires}
 use Rattle.certificate_lines.proofs.BoxPlaces.{cells_inside, found_at, same_count}
 use Rattle.certificate_lines.proofs.Pairs.{each_of_all}
 use Rattle.certificate.proofs.FullModules.{all_of_each}
@@ -69,7 +70,7 @@ placed_gates keys (g ∷ gs) = placed_gate keys g ∷ placed_gates (keys ++ g.ou
 abbrev pub gates_at : Netlist → List ℕ → List Gate
 gates_at n ks = flat_map (λ k. option_to_list (slice_get n.gates k)) ks
 
-module _ (n : Netlist) (cuts gates : List ℕ) (ordered : AreOrdered n.given n.gates)
+module _ (n : Netlist) (cuts gates : List ℕ) (ordered : AreGatesOrdered n.given n.gates)
     (lines : AreLocalLines n cuts gates) where
   -- these are all gates of the module, renumbered
   AreDone : List Gate → Type 0
@@ -212,8 +213,8 @@ module _ (c : Circuit) (p : Pattern) (m : ModuleLines) where
   }
 
 module _ (lines : List CircuitLine) (p : Pattern) (m : ModuleLines)
-    (ordered : AreOrdered (netlist_of lines).given (netlist_of lines).gates)
-    (is : IsModule (setting_of lines p) m) (ports : HasLocalPorts (setting_of lines p) m) where
+    (ordered : AreGatesOrdered (netlist_of lines).given (netlist_of lines).gates)
+    (is : IsModule (setting_of lines p) m) (ports : HasLocalPortWires (setting_of lines p) m) where
   abbrev c : Circuit
   c = circuit_of lines
 
@@ -339,9 +340,9 @@ some_job lines p m ordered is ports = (job_of (circuit_of lines) p m, is_job_of 
 
 -- the modules have jobs
 pub are_jobs_of : (lines : List CircuitLine) (p : Pattern) (ms : List ModuleLines) →
-    AreOrdered (netlist_of lines).given (netlist_of lines).gates →
+    AreGatesOrdered (netlist_of lines).given (netlist_of lines).gates →
     ((k : ℕ) (m : ModuleLines) → slice_get ms k ≡ Some m →
-    IsModule (setting_of lines p) m × HasLocalPorts (setting_of lines p) m) →
+    IsModule (setting_of lines p) m × HasLocalPortWires (setting_of lines p) m) →
     AreJobsOf (circuit_of lines) p ms (map (job_of (circuit_of lines) p) ms)
 are_jobs_of lines p ms ordered each = record {
   count = length-map ms (job_of (circuit_of lines) p);

@@ -1,5 +1,6 @@
 -- The modules of a certificate have jobs and a verdict
-use Rattle.soundness.proofs.Imports.{AreJobsOf, AreLeastFaultsOfJob, AreModules, AreOrdered, Bool, BorderFault, Box2}
+use Rattle.soundness.proofs.Imports.{AreGatesOrdered, AreJobsOf, AreLeastFaultsOfJob, AreModules, Bool, BorderFault}
+use Rattle.soundness.proofs.Imports.{Box2}
 use Rattle.soundness.proofs.Imports.{CircuitLine, Gate, IsEvenBox, IsJob, IsJobOf, IsLeastBorderFault, IsModule}
 use Rattle.soundness.proofs.Imports.{IsVerdict}
 use Rattle.soundness.proofs.Imports.{JobView, LeastFaults, List, ModuleLines, None, Option, Pattern, ReportLine}
@@ -10,15 +11,16 @@ use Rattle.soundness.proofs.Imports.{get_or, in_box, inl, inr, is_inverse, is_ke
 use Rattle.soundness.proofs.Imports.{map, nat_lt, nat_tests, netlist_of, not, option_map, option_to_list, refl}
 use Rattle.soundness.proofs.Imports.{renumber_keep, report_lines_from, setting_of, size_fault, slice_get}
 use Rattle.soundness.proofs.Imports.{slice_get_within, stops, stops_stand, subst, suc, sym, time_lines_of_gates}
-use Rattle.soundness.proofs.Imports.{timing_report_line, true, unkept_from, unkept_lines, zero, ℕ, ◌&&◌, ◌*◌, ◌++◌, ◌+◌}
+use Rattle.soundness.proofs.Imports.{timing_report_line, true, unkept_gates_from, unkept_lines, zero, ℕ, ◌&&◌, ◌*◌}
+use Rattle.soundness.proofs.Imports.{◌++◌, ◌+◌}
 use Rattle.soundness.proofs.Imports.{◌<◌, ◌||◌, ◌∙◌, ◌∷◌, ◌≡◌, ◌≤◌}
 use Rattle.lemmas.proofs.Common.{◌^◌, Global, Vec, nat_le}
 use Rattle.circuit.specs.Bridge.{AreGoodCircuitLines, AreGoodAfter}
 use Rattle.circuit.specs.Rules.{limit_or_name_code, gate_count, is_gate, is_wrong_delay, exceeds_largest_limit}
 use Rattle.circuit.proofs.Bridging.{count_append, gates_are_ordered}
 use Rattle.circuit.proofs.Naming.{gates_counted}
-use Rattle.certificate.specs.StopLists.{AreStops}
-use Rattle.certificate.specs.Times.{time_lines_by_number}
+use Rattle.certificate.specs.StopLists.{AreStopsOfLines}
+use Rattle.certificate.specs.Times.{lines_of_numbered_gates}
 use Rattle.certificate.proofs.JobLemmas.{within_512}
 use Rattle.certificate.proofs.StopLemmas.{stops_rise}
 use Rattle.border_match.specs.BorderFaults.{AreBorderFaultsOf}
@@ -49,13 +51,13 @@ three_each n [] bs = omega arith
 three_each n (f ∷ fs) [] = omega arith
 three_each n (f ∷ fs) (b ∷ bs) = grind (arith, common_steps, few_of, length-append, (three_each (n + 1) fs bs))
 
-one_each : (ms : List ModuleLines) (n : ℕ) (gs : List Gate) → length (unkept_from ms n gs) ≤ length gs
-unfolding unkept_from
+one_each : (ms : List ModuleLines) (n : ℕ) (gs : List Gate) → length (unkept_gates_from ms n gs) ≤ length gs
+unfolding unkept_gates_from
 one_each ms n [] = omega arith
 one_each ms n (g ∷ gs) =
     let more = one_each ms (n + 1) gs in
     let here = is_inverse g.kind && not (is_kept ms n) in
-    let sum = length-append (cond here (n ∷ []) []) (unkept_from ms (n + 1) gs) in
+    let sum = length-append (cond here (n ∷ []) []) (unkept_gates_from ms (n + 1) gs) in
     let few = at_most n here in
     omega (arith, more, sum, few)
   where
@@ -63,8 +65,8 @@ one_each ms n (g ∷ gs) =
     at_most n b = grind (arith, common_steps)
 
 line_each : (f : ℕ → Gate → List TimeLine) → ((k : ℕ) (g : Gate) → length (f k g) ≤ 1) → (k : ℕ) (gs : List Gate) →
-    length (time_lines_by_number f k gs) ≤ length gs
-unfolding time_lines_by_number
+    length (lines_of_numbered_gates f k gs) ≤ length gs
+unfolding lines_of_numbered_gates
 line_each f few k [] = omega arith
 line_each f few k (g ∷ gs) = grind (arith, common_steps, length-append, (line_each f few (k + 1) gs))
 
@@ -127,7 +129,7 @@ nothing k a at = cc
 
 all_reasons : (js : List JobView) →
     ((k : ℕ) (j : JobView) → slice_get js k ≡ Some j →
-    IsJob j × AreOrdered j.locals.netlist.given j.locals.netlist.gates) →
+    IsJob j × AreGatesOrdered j.locals.netlist.given j.locals.netlist.gates) →
     (fs : List LeastFaults) × AreLeastFaults js fs
 all_reasons [] each = ([], record { count = refl; each = λ k j f at. absurd (nothing k j at) })
 all_reasons (j ∷ js) each =
@@ -180,7 +182,7 @@ job_good : (lines : List CircuitLine) (p : Pattern) (m : ModuleLines) (j : JobVi
 job_good lines p m j limits own is =
     let c = circuit_of lines in
     let fits = within_512 (setting_of lines p) m p.size refl limits own in
-    let said : AreStops c j.locals (stops m) j.stops = record { same = is.stops; own = is.own.stops } in
+    let said : AreStopsOfLines c j.locals (stops m) j.stops = record { same = is.stops; own = is.own.stops } in
     let area = sym is.area in
     record {
       even = subst IsEvenBox area own.even;
@@ -204,11 +206,11 @@ job_good lines p m j limits own is =
 pub jobs_good : (lines : List CircuitLine) (p : Pattern) (ms : List ModuleLines) (js : List JobView) →
     size_fault p.size ≡ None → AreModules (setting_of lines p) ms → AreJobsOf (circuit_of lines) p ms js →
     (k : ℕ) (j : JobView) → slice_get js k ≡ Some j →
-    IsJob j × AreOrdered j.locals.netlist.given j.locals.netlist.gates
+    IsJob j × AreGatesOrdered j.locals.netlist.given j.locals.netlist.gates
 jobs_good lines p ms js limits are own k j at = by (slice_get ms k) refl
   where
     by : (o : Option ModuleLines) → slice_get ms k ≡ o →
-        IsJob j × AreOrdered j.locals.netlist.given j.locals.netlist.gates
+        IsJob j × AreGatesOrdered j.locals.netlist.given j.locals.netlist.gates
     by None e =
         let past = none-past ms k e in
         let below : k < length js = slice_get_within js k j at in
@@ -230,7 +232,7 @@ module _ (lines : List CircuitLine) (p : Pattern) (ms : List ModuleLines) (good 
   abbrev g : Setting
   g = setting_of lines p
 
-  ordered : AreOrdered (netlist_of lines).given (netlist_of lines).gates
+  ordered : AreGatesOrdered (netlist_of lines).given (netlist_of lines).gates
   ordered = gates_are_ordered lines good
 
   abbrev js : List JobView
@@ -240,7 +242,7 @@ module _ (lines : List CircuitLine) (p : Pattern) (ms : List ModuleLines) (good 
   own_jobs = are_jobs_of lines p ms ordered (λ k m at. (are.each k m at, are.ports k m at))
 
   good_at : (k : ℕ) (j : JobView) → slice_get js k ≡ Some j →
-      IsJob j × AreOrdered j.locals.netlist.given j.locals.netlist.gates
+      IsJob j × AreGatesOrdered j.locals.netlist.given j.locals.netlist.gates
   good_at = jobs_good lines p ms js limits are own_jobs
 
   reasons : (fs : List LeastFaults) × AreLeastFaults js fs

@@ -1,8 +1,9 @@
 -- Modules are accepted if they pass tests, which a proof by computation can run.
 --
 -- Each job is run under each assignment, and the borders are compared at each odd time.
-use Rattle.soundness.proofs.Imports.{Accepts, AreJobsOf, AreModules, AreOrdered, Bool, BorderFault, Box2, Cell}
-use Rattle.soundness.proofs.Imports.{CircuitLine, Demand, Edge, End, Fault, Gate, IsBorderFault, IsFault, IsFaultUnder}
+use Rattle.soundness.proofs.Imports.{Accepts, AreGatesOrdered, AreJobsOf, AreModules, Bool, BorderFault, Box2, Cell}
+use Rattle.soundness.proofs.Imports.{CircuitLine, Demand, Edge, End, Fault, Gate, IsBorderFault, IsFault}
+use Rattle.soundness.proofs.Imports.{IsFaultUnderValues}
 use Rattle.soundness.proofs.Imports.{IsJob, IsKeepFault, IsTrue, JobView, KeepFault, Kind, List, MeetsDemand}
 use Rattle.soundness.proofs.Imports.{ModuleLines, None, Option, Pattern, Setting, Some, Stop, Valuation, [], and_parts}
 use Rattle.soundness.proofs.Imports.{ap, are_all_timings_obeyed, arith, as_values, assignments, bit, box_place}
@@ -116,7 +117,7 @@ record IsTried (j : JobView) (a : ℕ) : Type 0 where
   pub local : IsLocalValuation j.locals a values
   pub passes : Passes j values
 
-tried : (j : JobView) → AreOrdered j.locals.netlist.given j.locals.netlist.gates → job_test j ≡ true → (a : ℕ) →
+tried : (j : JobView) → AreGatesOrdered j.locals.netlist.given j.locals.netlist.gates → job_test j ≡ true → (a : ℕ) →
     a < assignments j → IsTried j a
 tried j ordered all a small =
     by (evaluate (given_of j a) j.locals.netlist.gates) refl
@@ -138,7 +139,7 @@ tried j ordered all a small =
         }
 
 no_fault_under : (j : JobView) (u : Valuation) (t : ℕ) (kind : Kind) (x y : ℤ) → IsJob j → Passes j u →
-    IsFaultUnder j u t kind x y → ⊥
+    IsFaultUnderValues j u t kind x y → ⊥
 no_fault_under j u t Edge x y is p f =
     f.differs ((booleans_Decides _ _).0 (implied (in_ring j.area x y) _
     (at_every j.area _ (p.edges t f.odd f.early) x y (ring_in_box j.area x y f.ring)) f.ring))
@@ -148,14 +149,14 @@ no_fault_under j u t End x y is p f =
     f.differs (subst (λ n. MeetsDemand u (job_demand j x y) (local_run j u n x y)) (sym f.last)
     (meets_is u _ _ (at_every j.area _ p.end x y f.inside)))
 
-no_fault : (j : JobView) → IsJob j → AreOrdered j.locals.netlist.given j.locals.netlist.gates → job_test j ≡ true →
+no_fault : (j : JobView) → IsJob j → AreGatesOrdered j.locals.netlist.given j.locals.netlist.gates → job_test j ≡ true →
     (f : Fault) → ¬ IsFault j f
 no_fault j is ordered all f fault =
     let t = tried j ordered all f.assignment fault.in_range in
     no_fault_under j t.values f.time f.kind f.cell.x f.cell.y is t.passes
     ((decided j f t.values is ordered fault.in_range t.local).0 fault)
 
-no_keep_fault : (j : JobView) → AreOrdered j.locals.netlist.given j.locals.netlist.gates → job_test j ≡ true →
+no_keep_fault : (j : JobView) → AreGatesOrdered j.locals.netlist.given j.locals.netlist.gates → job_test j ≡ true →
     (f : KeepFault) → ¬ IsKeepFault j f
 no_keep_fault j ordered all f fault =
     let t = tried j ordered all f.assignment fault.in_range in

@@ -1,6 +1,7 @@
 -- The run of the whole plane is that of the jobs
 use Rattle.soundness.proofs.Imports.{All, BelongTogether, Bool, CircuitLine, Contains, Demand, Fault, HasGoodBorders}
-use Rattle.soundness.proofs.Imports.{HasInputNames, IsAcceptedBundle, IsAssignmentOf, IsFault, IsFaultUnder, IsJobOf}
+use Rattle.soundness.proofs.Imports.{HasInputNames, IsAcceptedBundle, IsAssignmentOf, IsFault, IsFaultUnderValues}
+use Rattle.soundness.proofs.Imports.{IsJobOf}
 use Rattle.soundness.proofs.Imports.{IsAllowedStop, IsRunOfJobs, JobView, Kind, List, LooksAsAsked, MeetsDemand}
 use Rattle.soundness.proofs.Imports.{ModuleLines}
 use Rattle.soundness.proofs.Imports.{Pattern, Satisfies, Some, State, StopHolds, StopLine, Valuation, and_parts, ap}
@@ -9,13 +10,13 @@ use Rattle.soundness.proofs.Imports.{end_demand, false, false≢true, halo_parts
 use Rattle.soundness.proofs.Imports.{is_live, job_demand, known, local_run, local_values_agree_with_circuit, netlist_of}
 use Rattle.soundness.proofs.Imports.{not}
 use Rattle.soundness.proofs.Imports.{option_map_or, refl, renumber_stop, run, run_under, setting_of, signal_at}
-use Rattle.soundness.proofs.Imports.{slice_get, slice_get-get_or, slice_get_within, some_at, some_neighbour, step}
+use Rattle.soundness.proofs.Imports.{has_neighbour_in_set, slice_get, slice_get-get_or, slice_get_within, some_at, step}
 use Rattle.soundness.proofs.Imports.{stop_with_wire_number, stops, subst, suc, sym, true, true≢false}
 use Rattle.soundness.proofs.Imports.{values_by_local_number, values_by_name, whole, wire_of, with_halo, zero, ℕ, ℤ, ◌%◌}
 use Rattle.soundness.proofs.Imports.{◌&&◌, ◌<◌, ◌∙◌, ◌≡◌, ◌≢◌, ◌≤◌}
 use Rattle.lemmas.proofs.Common.{All-contains_itself, not-true, not_from_false}
 use Rattle.bbm_rule.proofs.Steps.{step_dead}
-use Rattle.module_box.specs.Laws.{LiesInBox, SameInBox}
+use Rattle.module_box.specs.Laws.{IsDeadOutsideBox, SameInBox}
 use Rattle.module_box.proofs.BoxSteps.{even_stays, even_local}
 use Rattle.module_box.proofs.Neighbours.{some_neighbour_more, block_x, block_y, block_both, ring_from, near_step}
 use Rattle.module_box.proofs.Neighbours.{halo_in_ring}
@@ -26,9 +27,9 @@ use Rattle.local_run.proofs.LocalRuns.{even_or_odd, local_even, local_odd}
 use Rattle.local_run.proofs.Stepping.{with_halo_inside, with_halo_outside}
 use Rattle.certificate_lines.proofs.OddBlocks.{area_of}
 use Rattle.border_match.proofs.SameSignals.{same_at}
-use Rattle.soundness.specs.FirstFaults.{StepsWithGoodBorders}
+use Rattle.soundness.specs.FirstFaults.{GoodBordersKeepRunOfJobs}
 use Rattle.soundness.specs.PlainCertificates.{AcceptedKeepsOffRim}
-use Rattle.soundness.specs.HeadlineLaws.{HasNoEndFault, HasNoFault, PlaneStartsAsJobs, PlaneStepsAsJobs}
+use Rattle.soundness.specs.HeadlineLaws.{HasNoEndFault, HasNoJobOrBorderFault, PlaneStartsAsJobs, PlaneStepsAsJobs}
 use Rattle.soundness.specs.HeadlineLaws.{PlaneEndsAsAsked, AcceptedIsCorrect, AcceptedIsOnTime}
 use Rattle.soundness.proofs.InputRuns.{inputs_decide}
 use Rattle.soundness.proofs.StopParts.{all_flat, all_map, local_wire_is, one_said}
@@ -57,7 +58,7 @@ record Setting (lines : List CircuitLine) (p : Pattern) (ms : List ModuleLines) 
 
 -- what is accepted has no fault
 right_of : (lines : List CircuitLine) (p : Pattern) (ms : List ModuleLines) (jobs : List JobView) →
-    IsAcceptedBundle lines p ms jobs → HasNoFault lines p ms jobs
+    IsAcceptedBundle lines p ms jobs → HasNoJobOrBorderFault lines p ms jobs
 right_of lines p ms jobs all = record { of_jobs = all.accepted.no_fault; of_borders = all.accepted.no_border_fault }
 
 -- ---- the start
@@ -86,7 +87,7 @@ own_fault : (lines : List CircuitLine) (p : Pattern) (ms : List ModuleLines) (in
     (j : JobView)
     (kind : Kind) (x y : ℤ) → Known lines p ms i j →
     Satisfies (netlist_of lines) inputs v → IsAssignmentOf j v a →
-    IsFaultUnder j (values_by_local_number j.locals v) t kind x y →
+    IsFaultUnderValues j (values_by_local_number j.locals v) t kind x y →
     IsFault j (fault_at t kind x y a)
 own_fault lines p ms inputs v i t a j kind x y k s is differs =
     let agree = local_values_agree_with_circuit (netlist_of lines) j.locals inputs v a k.is_job.locals s is.bits in
@@ -95,7 +96,7 @@ own_fault lines p ms inputs v i t a j kind x y k s is differs =
 -- ---- local runs stay in their boxes
 
 local_stays : (lines : List CircuitLine) (p : Pattern) (ms : List ModuleLines) (i : ℕ) (j : JobView) (u : Valuation)
-    (t : ℕ) → Known lines p ms i j → LiesInBox j.area (local_run j u t)
+    (t : ℕ) → Known lines p ms i j → IsDeadOutsideBox j.area (local_run j u t)
 unfolding local_run
 local_stays lines p ms i j u zero k x y out = ap (is_live u) (own.start_outside j x y out)
 local_stays lines p ms i j u (suc t) k x y out =
@@ -139,7 +140,7 @@ module _ (lines : List CircuitLine) (p : Pattern) (ms : List ModuleLines) (jobs 
   -- ---- an even step
 
   even_outside : (t : ℕ) → Setting lines p ms jobs inputs v t → t % 2 ≡ 0 → IsRunOfJobs lines p jobs v t →
-      LiesInBox (whole p.size) (run_under (circuit_of lines) p v (suc t))
+      IsDeadOutsideBox (whole p.size) (run_under (circuit_of lines) p v (suc t))
   unfolding run
   even_outside t set e now =
       even_stays (whole p.size) t (run_under (circuit_of lines) p v t)
@@ -158,7 +159,7 @@ module _ (lines : List CircuitLine) (p : Pattern) (ms : List ModuleLines) (jobs 
 
   -- a cell with a neighbour outside the rectangle is dead
   rim_dead : (t : ℕ) (x y : ℤ) → Setting lines p ms jobs inputs v t → t % 2 ≡ 1 → t < p.size.steps →
-      IsRunOfJobs lines p jobs v t → some_neighbour (λ x' y'. not (in_box (whole p.size) x' y')) x y ≡ true →
+      IsRunOfJobs lines p jobs v t → has_neighbour_in_set (λ x' y'. not (in_box (whole p.size) x' y')) x y ≡ true →
       run_under (circuit_of lines) p v t x y ≡ false
   rim_dead t x y set odd early now near = elim (cases_Bool (in_box (whole p.size) x y)) [
     | inr out ↦ now.outside x y out
@@ -173,7 +174,7 @@ module _ (lines : List CircuitLine) (p : Pattern) (ms : List ModuleLines) (jobs 
   ]
 
   odd_outside : (t : ℕ) → Setting lines p ms jobs inputs v t → t % 2 ≡ 1 → t < p.size.steps →
-      IsRunOfJobs lines p jobs v t → LiesInBox (whole p.size) (run_under (circuit_of lines) p v (suc t))
+      IsRunOfJobs lines p jobs v t → IsDeadOutsideBox (whole p.size) (run_under (circuit_of lines) p v (suc t))
   unfolding run
   odd_outside t set odd early now x y out =
       grind (arith, common_steps, not_from_false, step_dead, rim_dead, block_both, block_x, block_y)
@@ -228,14 +229,14 @@ module _ (lines : List CircuitLine) (p : Pattern) (ms : List ModuleLines) (jobs 
       x y h
       ∙ sym (local_odd j u t (local_run j u t) x y odd ∙ ap (λ q. q && step t m x y) h)
 
-pub steps_with_good_borders : StepsWithGoodBorders
+pub steps_with_good_borders : GoodBordersKeepRunOfJobs
 steps_with_good_borders lines p ms jobs inputs v t b s early right now =
     grind (arith, common_steps, even_or_odd, even_outside, even_inside, odd_outside, odd_inside)
 
 -- where some_at is no fault, borders are good at all times
 pub good_borders : (lines : List CircuitLine) (p : Pattern) (ms : List ModuleLines) (jobs : List JobView)
     (v : Valuation)
-    (t : ℕ) → HasNoFault lines p ms jobs → HasGoodBorders lines p ms jobs v t
+    (t : ℕ) → HasNoJobOrBorderFault lines p ms jobs → HasGoodBorders lines p ms jobs v t
 good_borders lines p ms jobs v t right =
     record { of_jobs = λ n j f at kind time is. right.of_jobs n j f at; of_modules = λ n f time. right.of_borders n f }
 
@@ -333,7 +334,7 @@ off_rim lines p ms jobs named b accepted t =
 record Faultless (lines : List CircuitLine) (p : Pattern) (ms : List ModuleLines) (jobs : List JobView)
     (inputs v : Valuation) : Type 0 where
   bundle : BelongTogether lines p ms jobs
-  right : HasNoFault lines p ms jobs
+  right : HasNoJobOrBorderFault lines p ms jobs
   satisfied : Satisfies (netlist_of lines) inputs v
 
 -- the cell of a stop carries the value of the stop's wire in the circuit

@@ -2,7 +2,7 @@
 use Rattle.soundness.proofs.Imports.{CircuitLine, Input, IsCorrect, List, Output, Pattern, Port, Valuation, [], arith}
 use Rattle.soundness.proofs.Imports.{circuit_of, false≢true, number, place_of, pos, refl, run, run_under, start, true}
 use Rattle.soundness.proofs.Imports.{values_by_name, ℕ, ◌∙◌, ◌∷◌, ◌≡◌}
-use Rattle.soundness.specs.HeadlineLaws.{SomeWrongLayout}
+use Rattle.soundness.specs.HeadlineLaws.{SomeLayoutIsWrong}
 
 abbrev name_a : List ℕ
 name_a = 97 ∷ []
@@ -38,7 +38,7 @@ not_correct is =
     let live : ran.values 0 ≡ true = ran.satisfied.given 0 (omega arith) in
     false≢true (shown ∙ live)
 
-pub wrong_example : SomeWrongLayout
+pub wrong_example : SomeLayoutIsWrong
 wrong_example = record {
   lines = lines;
   layout = layout;

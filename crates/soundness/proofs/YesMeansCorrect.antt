@@ -1,25 +1,26 @@
 -- From a yes to the whole pattern
-use Rattle.soundness.proofs.Imports.{AreGoodAfter, AreModules, AreOrdered, BelongTogether, IsAcceptedBundle, IsCorrect}
+use Rattle.soundness.proofs.Imports.{AreGatesOrdered, AreGoodAfter, AreModules, BelongTogether, IsAcceptedBundle}
+use Rattle.soundness.proofs.Imports.{IsCorrect}
 use Rattle.soundness.proofs.Imports.{IsVerdict, JobView, LayoutHeader, List, None, Some, Yes, [], arith, circuit_of}
 use Rattle.soundness.proofs.Imports.{common_steps, defined, input_names, modules, netlist_of, parts_of, setting}
 use Rattle.soundness.proofs.Imports.{size_fault, take, ◌≡◌}
-use Rattle.pattern.specs.Lines.{AreNamed}
+use Rattle.pattern.specs.Lines.{ArePortsNamed}
 use Rattle.certificate.specs.Grammars.{CertView}
 use Rattle.core_book.specs.Concluding.{AreJobsOfCertificate, port_names_of}
-use Rattle.soundness.specs.OnTime.{IsOnTime}
+use Rattle.soundness.specs.OnTime.{AreStopsTrueAndOnTime}
 use Rattle.soundness.proofs.InputRuns.{read_layout-names}
 use Rattle.soundness.proofs.PortNames.{read_layout-is_named}
 use Rattle.soundness.proofs.WholeRuns.{correct, on_time}
 
 -- what a certificate says of its circuit, its layout and its modules
 pub record IsRead (s : CertView) (size : LayoutHeader) : Type 0 where
-  pub ordered : AreOrdered (netlist_of s.circuit).given (netlist_of s.circuit).gates
+  pub ordered : AreGatesOrdered (netlist_of s.circuit).given (netlist_of s.circuit).gates
   pub same : size ≡ s.layout.size
   pub limits : size_fault size ≡ None
   pub laid_out : AreGoodAfter size [] (parts_of s.layout)
   pub are_modules : AreModules (setting s) (modules s)
   pub inputs : take (netlist_of s.circuit).given (defined s.circuit) ≡ input_names s.circuit
-  pub named : AreNamed (Some (port_names_of s.circuit)) (parts_of s.layout)
+  pub named : ArePortsNamed (Some (port_names_of s.circuit)) (parts_of s.layout)
 
 -- it belongs together with the jobs of its modules
 pub bundle_read : (s : CertView) (size : LayoutHeader) (jobs : List JobView) → IsRead s size →
@@ -45,7 +46,7 @@ yes_means-correct s size jobs is own judged =
 pub yes_means-on_time : (s : CertView) (size : LayoutHeader) (jobs : List JobView) → IsRead s size →
     AreJobsOfCertificate s jobs →
     IsVerdict (setting s) (modules s) jobs Yes →
-    IsOnTime (circuit_of s.circuit) s.layout (modules s)
+    AreStopsTrueAndOnTime (circuit_of s.circuit) s.layout (modules s)
 yes_means-on_time s size jobs is own judged =
     on_time s.circuit s.layout (modules s) jobs (read_layout-names s.circuit s.layout is.inputs is.named)
     (accepted_bundle s size jobs is own judged)

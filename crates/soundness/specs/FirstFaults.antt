@@ -46,8 +46,8 @@ pub record HasGoodBorders (lines : List CircuitLine) (p : Pattern) (ms : List Mo
   pub of_modules : (number : ℕ) (f : BorderFault) → f.time ≡ t → ¬ IsBorderFault (setting_of lines p) ms number f
 
 -- If the plane is the jobs' runs before a step, and the borders are good then, it is so after the step.
-abbrev pub StepsWithGoodBorders : Type 0
-StepsWithGoodBorders = (lines : List CircuitLine) (p : Pattern) (ms : List ModuleLines) (jobs : List JobView)
+abbrev pub GoodBordersKeepRunOfJobs : Type 0
+GoodBordersKeepRunOfJobs = (lines : List CircuitLine) (p : Pattern) (ms : List ModuleLines) (jobs : List JobView)
     (inputs v : Valuation) (t : ℕ) →
     BelongTogether lines p ms jobs → Satisfies (netlist_of lines) inputs v → t < p.size.steps →
     HasGoodBorders lines p ms jobs v t →
@@ -57,11 +57,12 @@ StepsWithGoodBorders = (lines : List CircuitLine) (p : Pattern) (ms : List Modul
 
 -- On the whole plane, in the run that begins with the values v, the cell (x, y) is at time t as module m certifies: as
 -- its edge line, or dead if it has none; as each stop line for that cell and time; as the layout asks at the end.
-abbrev pub IsAsCertified : Circuit → Pattern → ModuleLines → Valuation → ℕ → Kind → ℤ → ℤ → Type 0
-IsAsCertified c p m v t Edge x y = run_under c p v t x y ≡ is_live v (edge_signal c m t x y)
-IsAsCertified c p m v t Stop x y = (s : StopLine) → Contains (stops m) s → s.time ≡ t → s.cell.x ≡ x → s.cell.y ≡ y →
+abbrev pub IsCellAsCertified : Circuit → Pattern → ModuleLines → Valuation → ℕ → Kind → ℤ → ℤ → Type 0
+IsCellAsCertified c p m v t Edge x y = run_under c p v t x y ≡ is_live v (edge_signal c m t x y)
+IsCellAsCertified c p m v t Stop x y =
+    (s : StopLine) → Contains (stops m) s → s.time ≡ t → s.cell.x ≡ x → s.cell.y ≡ y →
     run_under c p v t x y ≡ values_by_name c v s.wire
-IsAsCertified c p m v t End x y = MeetsDemand v (end_demand c p x y) (run_under c p v t x y)
+IsCellAsCertified c p m v t End x y = MeetsDemand v (end_demand c p x y) (run_under c p v t x y)
 
 -- A fault of module i under the assignment that v gives its cuts, if the borders are good at all times before it
 pub record IsFirstFault (lines : List CircuitLine) (p : Pattern) (ms : List ModuleLines) (jobs : List JobView)
@@ -79,7 +80,7 @@ pub record IsFirstFault (lines : List CircuitLine) (p : Pattern) (ms : List Modu
 abbrev pub FirstFaultIsReal : Type 0
 FirstFaultIsReal = (lines : List CircuitLine) (p : Pattern) (ms : List ModuleLines) (jobs : List JobView)
     (inputs v : Valuation) (i : ℕ) (m : ModuleLines) (f : Fault) →
-    IsFirstFault lines p ms jobs inputs v i m f → ¬ IsAsCertified (circuit_of lines) p m v f.time f.kind f.cell.x
+    IsFirstFault lines p ms jobs inputs v i m f → ¬ IsCellAsCertified (circuit_of lines) p m v f.time f.kind f.cell.x
     f.cell.y
 
 -- If it is a fault at the end, the layout does not compute the circuit.
@@ -116,7 +117,7 @@ IsModuleAssignmentOf c m v a =
 -- the layout does not compute the circuit.
 pub record IsRealFault (lines : List CircuitLine) (p : Pattern) (m : ModuleLines) (inputs v : Valuation)
     (f : Fault) : Type 0 where
-  pub differs : ¬ IsAsCertified (circuit_of lines) p m v f.time f.kind f.cell.x f.cell.y
+  pub differs : ¬ IsCellAsCertified (circuit_of lines) p m v f.time f.kind f.cell.x f.cell.y
   pub not_asked : f.kind ≡ End →
       ¬ LooksAsAsked p (values_by_name (circuit_of lines) v) (run_under (circuit_of lines) p inputs p.size.steps)
   pub incorrect : f.kind ≡ End → ¬ IsCorrect lines p

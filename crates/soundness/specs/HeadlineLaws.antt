@@ -2,10 +2,10 @@
 use Rattle.std.specs.Prelude.{◌≡◌, ℕ, suc, ℤ, ◌<◌, ◌≤◌, List, None, [], Some, slice_get, take, IsTrue, IsFalse}
 use Rattle.circuit.specs.Entries.{defined}
 use Rattle.circuit.specs.Bridge.{circuit_of, input_names, netlist_of, output_names}
-use Rattle.circuit.specs.Meaning.{AreOrdered, IsFirstGateWithoutRow, Satisfies, Valuation, values_by_name, wire_of}
+use Rattle.circuit.specs.Meaning.{AreGatesOrdered, IsFirstGateWithoutRow, Satisfies, Valuation, values_by_name, wire_of}
 use Rattle.circuit.specs.declared.circuit_line.CircuitLine.{CircuitLine}
 use Rattle.pattern.specs.Layout.{Pattern, parts_of}
-use Rattle.pattern.specs.Lines.{AreGoodAfter, AreNamed, size_fault}
+use Rattle.pattern.specs.Lines.{AreGoodAfter, ArePortsNamed, size_fault}
 use Rattle.pattern.specs.declared.layout_line.Port.{Port}
 use Rattle.bbm_rule.specs.Boxes.{in_box}
 use Rattle.module_box.specs.LocalValues.{values_by_local_number}
@@ -22,14 +22,14 @@ use Rattle.local_run.specs.declared.fault.Kind.TheVariants.{End}
 use Rattle.border_match.specs.BorderFaults.{IsBorderFault}
 use Rattle.border_match.specs.declared.fault.BorderFault.{BorderFault}
 use Rattle.meaning.specs.Implements.{IsCorrect, IsNamed, LooksAsAsked, run_under}
-use Rattle.soundness.specs.OnTime.{IsOnTime}
+use Rattle.soundness.specs.OnTime.{AreStopsTrueAndOnTime}
 use Rattle.core_book.specs.Verdicts.{Accepts}
 
 -- The lines of the circuit, the layout, the modules and the jobs are those of a bundle that was read. `Circuit::gates`,
 -- `Layout::size`, `Cert::modules` and `Cert::jobs` state these facts.
 pub record BelongTogether (lines : List CircuitLine) (p : Pattern) (ms : List ModuleLines)
     (jobs : List JobView) : Type 0 where
-  pub ordered : AreOrdered (netlist_of lines).given (netlist_of lines).gates
+  pub ordered : AreGatesOrdered (netlist_of lines).given (netlist_of lines).gates
   pub limits : size_fault p.size ≡ None
   pub laid_out : AreGoodAfter p.size [] (parts_of p)
   pub are_modules : AreModules (setting_of lines p) ms
@@ -42,7 +42,7 @@ pub record IsAcceptedBundle (lines : List CircuitLine) (p : Pattern) (ms : List 
   pub accepted : Accepts (setting_of lines p) ms jobs
 
 -- no job has a fault, and no module a border fault
-pub record HasNoFault (lines : List CircuitLine) (p : Pattern) (ms : List ModuleLines)
+pub record HasNoJobOrBorderFault (lines : List CircuitLine) (p : Pattern) (ms : List ModuleLines)
     (jobs : List JobView) : Type 0 where
   pub of_jobs : (number : ℕ) (j : JobView) (f : Fault) → slice_get jobs number ≡ Some j → ¬ IsFault j f
   pub of_borders : (number : ℕ) (f : BorderFault) → ¬ IsBorderFault (setting_of lines p) ms number f
@@ -71,7 +71,7 @@ abbrev pub PlaneStepsAsJobs : Type 0
 PlaneStepsAsJobs = (lines : List CircuitLine) (p : Pattern) (ms : List ModuleLines) (jobs : List JobView)
     (inputs v : Valuation)
     (t : ℕ) →
-    BelongTogether lines p ms jobs → HasNoFault lines p ms jobs → Satisfies (netlist_of lines) inputs v →
+    BelongTogether lines p ms jobs → HasNoJobOrBorderFault lines p ms jobs → Satisfies (netlist_of lines) inputs v →
     t < p.size.steps →
     IsRunOfJobs lines p jobs v t → IsRunOfJobs lines p jobs v (suc t)
 
@@ -115,12 +115,13 @@ HasInputNames lines p = (i : ℕ) (q : Port) → slice_get p.ins i ≡ Some q �
 abbrev pub ReadLayoutHasInputNames : Type 0
 ReadLayoutHasInputNames = (lines : List CircuitLine) (p : Pattern) →
     take (netlist_of lines).given (defined lines) ≡ input_names lines →
-    AreNamed (Some (record { ins = input_names lines; outs = output_names lines })) (parts_of p) → HasInputNames lines p
+    ArePortsNamed (Some (record { ins = input_names lines; outs = output_names lines })) (parts_of p) →
+    HasInputNames lines p
 
 -- All its ports are named as the inputs and outputs then.
 abbrev pub ReadLayoutHasPortNames : Type 0
 ReadLayoutHasPortNames = (lines : List CircuitLine) (p : Pattern) →
-    AreNamed (Some (record { ins = input_names lines; outs = output_names lines })) (parts_of p) → IsNamed lines p
+    ArePortsNamed (Some (record { ins = input_names lines; outs = output_names lines })) (parts_of p) → IsNamed lines p
 
 -- If input cells have the names of inputs, the run depends on the values of the inputs alone: it is that in which just
 -- the input cells begin whose input is true.
@@ -140,12 +141,12 @@ AcceptedIsCorrect = (lines : List CircuitLine) (p : Pattern) (ms : List ModuleLi
 -- and its stops hold on the whole plane
 abbrev pub AcceptedIsOnTime : Type 0
 AcceptedIsOnTime = (lines : List CircuitLine) (p : Pattern) (ms : List ModuleLines) (jobs : List JobView) →
-    HasInputNames lines p → IsAcceptedBundle lines p ms jobs → IsOnTime (circuit_of lines) p ms
+    HasInputNames lines p → IsAcceptedBundle lines p ms jobs → AreStopsTrueAndOnTime (circuit_of lines) p ms
 
 -- ---- some bundle with an odd time is accepted, so the laws are not about nothing
 
 -- some bundle with an odd time is accepted
-pub record SomeAcceptedBundle : Type 0 where
+pub record SomeBundleIsAccepted : Type 0 where
   pub lines : List CircuitLine
   pub layout : Pattern
   pub modules : List ModuleLines
@@ -156,7 +157,7 @@ pub record SomeAcceptedBundle : Type 0 where
 -- ---- and some layout is not correct, though its ports are named as the circuit's
 
 -- some layout whose ports are named as the circuit's is not correct
-pub record SomeWrongLayout : Type 0 where
+pub record SomeLayoutIsWrong : Type 0 where
   pub lines : List CircuitLine
   pub layout : Pattern
   pub named : IsNamed lines layout

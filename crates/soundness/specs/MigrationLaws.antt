@@ -11,21 +11,21 @@ use Rattle.certificate.specs.Jobs.{AreJobsOf}
 use Rattle.certificate.specs.Laws.{IsSectionOf}
 use Rattle.section_text.specs.declared.limits.Limits.{Limits}
 use Rattle.certificate_lines.specs.Modules.{AreModules}
-use Rattle.certificate_lines.specs.Versions.{lacks_edge_wire_beside, with_halos}
+use Rattle.certificate_lines.specs.Versions.{has_nonlocal_edge_wire_beside, with_halo_lines}
 use Rattle.core_book.specs.Concluding.{AreJobsOfCertificate, modules, setting}
 use Rattle.core_book.specs.Verdicts.{Accepts}
 
 -- The modules and their jobs are accepted. Then no edge line names a wire that a module beside it lacks. With the edge
 -- lines beside them in place of their own halo lines the modules are accepted too.
 pub record IsAcceptedWithoutHalos (lines : List CircuitLine) (p : Pattern) (ms : List ModuleLines) : Type 0 where
-  pub complete : lacks_edge_wire_beside (setting_of lines p) ms ≡ false
+  pub complete : has_nonlocal_edge_wire_beside (setting_of lines p) ms ≡ false
   pub accepted : (jobs : List JobView) →
-      AreJobsOf (circuit_of lines) p (map (with_halos (setting_of lines p) ms) ms) jobs →
-      Accepts (setting_of lines p) (map (with_halos (setting_of lines p) ms) ms) jobs
+      AreJobsOf (circuit_of lines) p (map (with_halo_lines (setting_of lines p) ms) ms) jobs →
+      Accepts (setting_of lines p) (map (with_halo_lines (setting_of lines p) ms) ms) jobs
 
 -- Modules that are accepted with their halo lines are accepted with the edge lines beside them in place of these.
-abbrev pub AcceptedWithoutHalos : Type 0
-AcceptedWithoutHalos = (lines : List CircuitLine) (p : Pattern) (ms : List ModuleLines) (jobs : List JobView) →
+abbrev pub AcceptedStaysWithoutHalos : Type 0
+AcceptedStaysWithoutHalos = (lines : List CircuitLine) (p : Pattern) (ms : List ModuleLines) (jobs : List JobView) →
     AreModules (setting_of lines p) ms →
     AreJobsOf (circuit_of lines) p ms jobs → Accepts (setting_of lines p) ms jobs → IsAcceptedWithoutHalos lines p ms
 

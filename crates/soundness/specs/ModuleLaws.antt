@@ -1,14 +1,14 @@
 -- A module has one job, and the modules of a certificate have one verdict
 use Rattle.std.specs.Prelude.{◌≡◌, List, None}
 use Rattle.circuit.specs.Bridge.{AreGoodCircuitLines, circuit_of, netlist_of}
-use Rattle.circuit.specs.Meaning.{AreOrdered, Circuit}
+use Rattle.circuit.specs.Meaning.{AreGatesOrdered, Circuit}
 use Rattle.circuit.specs.declared.circuit_line.CircuitLine.{CircuitLine}
 use Rattle.pattern.specs.Layout.{Pattern}
 use Rattle.pattern.specs.Lines.{size_fault}
 use Rattle.module_box.specs.Locals.{AreDistinct}
 use Rattle.module_job.specs.Jobs.{JobView}
 use Rattle.certificate_lines.specs.Entries.{ModuleLines, known}
-use Rattle.certificate_lines.specs.Modules.{AreModules, HasLocalPorts, IsModule}
+use Rattle.certificate_lines.specs.Modules.{AreModules, HasLocalPortWires, IsModule}
 use Rattle.certificate_lines.specs.Settings.{setting_of}
 use Rattle.certificate.specs.Jobs.{AreJobsOf, IsJobOf}
 use Rattle.core_book.specs.Verdicts.{IsVerdict}
@@ -22,8 +22,8 @@ ModuleHasOneJob = (c : Circuit) (p : Pattern) (m : ModuleLines) (j k : JobView) 
 -- a module that is as the grammar asks has a job, if the gates of the circuit are ordered
 abbrev pub ModuleHasSomeJob : Type 0
 ModuleHasSomeJob = (lines : List CircuitLine) (p : Pattern) (m : ModuleLines) →
-    AreOrdered (netlist_of lines).given (netlist_of lines).gates → IsModule (setting_of lines p) m →
-    HasLocalPorts (setting_of lines p) m → (j : JobView) × IsJobOf (circuit_of lines) p m j
+    AreGatesOrdered (netlist_of lines).given (netlist_of lines).gates → IsModule (setting_of lines p) m →
+    HasLocalPortWires (setting_of lines p) m → (j : JobView) × IsJobOf (circuit_of lines) p m j
 
 -- some jobs of the modules, and a verdict on them
 pub record HasVerdict (lines : List CircuitLine) (p : Pattern) (ms : List ModuleLines) : Type 0 where

@@ -15,6 +15,6 @@ StopHolds c p s = (inputs v : Valuation) → Satisfies c.netlist inputs v →
     run_under c p inputs s.time s.cell.x s.cell.y ≡ values_by_name c v s.wire
 
 -- all stops of modules do, each delay takes as many steps as it says, and the inputs of each gate meet
-pub record IsOnTime (c : Circuit) (p : Pattern) (ms : List ModuleLines) : Type 0 where
+pub record AreStopsTrueAndOnTime (c : Circuit) (p : Pattern) (ms : List ModuleLines) : Type 0 where
   pub stops : All (StopHolds c p) (all_stops ms)
   pub times : AreOnTime c (all_stops ms)

@@ -18,7 +18,7 @@ use Rattle.certificate_lines.specs.Rules.{whole}
 use Rattle.certificate_lines.specs.Settings.{setting_of}
 use Rattle.module_job.specs.Jobs.{JobView}
 use Rattle.certificate_lines.specs.declared.certificate_line.StopLine.{StopLine}
-use Rattle.certificate.specs.Arrivals.{AreOnTime, IsDelayBetweenWires, TakesStepsBetweenStops, IsDelayGapTrue}
+use Rattle.certificate.specs.Arrivals.{AreOnTime, IsDelayBetweenWires, TakesStepsFromLastToFirstStop, IsDelayGapTrue}
 use Rattle.certificate.specs.Arrivals.{IsMeetingTimeTrue}
 use Rattle.certificate.specs.declared.times.StopGap.{StopGap}
 use Rattle.certificate.specs.declared.times.StopGap.TheVariants.{Steps}
@@ -27,7 +27,7 @@ use Rattle.local_run.specs.declared.fault.Kind.TheVariants.{Edge, Stop}
 use Rattle.soundness.specs.FirstFaults.{IsModuleAssignmentOf, IsRealFault}
 use Rattle.soundness.specs.HeadlineLaws.{BelongTogether, HasInputNames, IsInputName}
 use Rattle.meaning.specs.Implements.{IsCorrect, IsNamed, run_under}
-use Rattle.soundness.specs.OnTime.{IsOnTime, StopHolds}
+use Rattle.soundness.specs.OnTime.{AreStopsTrueAndOnTime, StopHolds}
 use Rattle.core_book.specs.Verdicts.{Accepts, IsVerdict}
 use Rattle.core_book.specs.declared.verdict.Verdict.TheVariants.{No}
 use Rattle.core_book.specs.declared.verdict.ReportLine.{ReportLine}
@@ -71,16 +71,17 @@ AcceptedKeepsOffRim = (lines : List CircuitLine) (p : Pattern) (ms : List Module
 abbrev pub PlainVerdictDecidesDesign : Type 0
 PlainVerdictDecidesDesign = (lines : List CircuitLine) (p : Pattern) (m : ModuleLines) (jobs : List JobView) →
     HasInputNames lines p → IsNamed lines p → BelongTogether lines p (m ∷ []) jobs → IsPlainModule lines p m →
-    Accepts (setting_of lines p) (m ∷ []) jobs ↔ (IsCorrect lines p × IsOnTime (circuit_of lines) p
+    Accepts (setting_of lines p) (m ∷ []) jobs ↔ (IsCorrect lines p × AreStopsTrueAndOnTime (circuit_of lines) p
     (m ∷ []) × ¬ TouchesRim lines p)
 
 -- what is wrong if the verdict is no: the layout, the stops, or the rim
 abbrev pub IsWrongDesign : List CircuitLine → Pattern → ModuleLines → Type 0
-IsWrongDesign lines p m = (¬ IsCorrect lines p) ⊎ ((¬ IsOnTime (circuit_of lines) p (m ∷ [])) ⊎ TouchesRim lines p)
+IsWrongDesign lines p m = (¬ IsCorrect lines p)
+    ⊎ ((¬ AreStopsTrueAndOnTime (circuit_of lines) p (m ∷ [])) ⊎ TouchesRim lines p)
 
 -- so a verdict of no on a plain certificate says that one of these is
-abbrev pub PlainNoMeansWrong : Type 0
-PlainNoMeansWrong = (lines : List CircuitLine) (p : Pattern) (m : ModuleLines) (jobs : List JobView)
+abbrev pub PlainNoMeansWrongOrRimLive : Type 0
+PlainNoMeansWrongOrRimLive = (lines : List CircuitLine) (p : Pattern) (m : ModuleLines) (jobs : List JobView)
     (report : Vec ReportLine Global) →
     HasInputNames lines p → BelongTogether lines p (m ∷ []) jobs → IsPlainModule lines p m →
     IsVerdict (setting_of lines p)
@@ -118,7 +119,7 @@ pub record DelayLineMeans (lines : List CircuitLine) (ss : List StopLine) (numbe
   pub made : ℕ
   pub is_delay : IsDelayBetweenWires (circuit_of lines) number wanted used made
   pub takes : IsDelayGapTrue (circuit_of lines) ss gap used made
-  pub wrong : gap ≢ Steps wanted → ¬ TakesStepsBetweenStops (circuit_of lines) ss wanted used made
+  pub wrong : gap ≢ Steps wanted → ¬ TakesStepsFromLastToFirstStop (circuit_of lines) ss wanted used made
   pub late : gap ≢ Steps wanted → ¬ AreOnTime (circuit_of lines) ss
 
 -- The meaning of a `meet` line by these stops. The inputs of gate `number` meet at the time of the line. If it has no
@@ -149,5 +150,6 @@ PlainReportLinesHaveMeaning = (lines : List CircuitLine) (p : Pattern) (m : Modu
 -- if the module has no stop and the circuit no delay, nothing is asked of times
 abbrev pub UntimedIsOnTime : Type 0
 UntimedIsOnTime = (lines : List CircuitLine) (p : Pattern) (m : ModuleLines) →
-    stops m ≡ [] → All (λ g. (n : ℕ) → ¬ (g.kind ≡ Delay n)) (netlist_of lines).gates → IsOnTime (circuit_of lines) p
+    stops m ≡ [] → All (λ g. (n : ℕ) → ¬ (g.kind ≡ Delay n)) (netlist_of lines).gates →
+    AreStopsTrueAndOnTime (circuit_of lines) p
     (m ∷ [])

@@ -1,9 +1,9 @@
 //! Laws of the whole plane, each the contract of a function without a body.
-ghost use Rattle.soundness.specs.HeadlineLaws.{AcceptedHasValuation, AcceptedIsCorrect, AcceptedIsOnTime, PlaneEndsAsAsked, SomeAcceptedBundle, InputsDecideTheRun, AcceptedHasNoUndefinedGate, ReadLayoutHasInputNames, ReadLayoutHasPortNames, PlaneStartsAsJobs, PlaneStepsAsJobs, SomeWrongLayout};
-ghost use Rattle.soundness.specs.FirstFaults.{EarliestLineIsFirstFault, EarliestLineIsReal, EndFaultMeansIncorrect, FirstFaultIsReal, StepsWithGoodBorders};
-ghost use Rattle.soundness.specs.PlainCertificates.{AcceptedKeepsOffRim, PlainVerdictDecidesDesign, PlainReportLinesHaveMeaning, PlainNoMeansWrong, UntimedIsOnTime};
+ghost use Rattle.soundness.specs.HeadlineLaws.{AcceptedHasValuation, AcceptedIsCorrect, AcceptedIsOnTime, PlaneEndsAsAsked, SomeBundleIsAccepted, InputsDecideTheRun, AcceptedHasNoUndefinedGate, ReadLayoutHasInputNames, ReadLayoutHasPortNames, PlaneStartsAsJobs, PlaneStepsAsJobs, SomeLayoutIsWrong};
+ghost use Rattle.soundness.specs.FirstFaults.{EarliestLineIsFirstFault, EarliestLineIsReal, EndFaultMeansIncorrect, FirstFaultIsReal, GoodBordersKeepRunOfJobs};
+ghost use Rattle.soundness.specs.PlainCertificates.{AcceptedKeepsOffRim, PlainVerdictDecidesDesign, PlainReportLinesHaveMeaning, PlainNoMeansWrongOrRimLive, UntimedIsOnTime};
 ghost use Rattle.soundness.specs.ModuleLaws.{ModuleHasOneJob, ModuleHasSomeJob, VerdictExists};
-ghost use Rattle.soundness.specs.MigrationLaws.{AcceptedWithoutHalos, MigrationKeepsAcceptance};
+ghost use Rattle.soundness.specs.MigrationLaws.{AcceptedStaysWithoutHalos, MigrationKeepsAcceptance};
 
 /// States that the plane at the start is every job's own run in its box, and dead outside the rectangle.
 pub fn plane_starts_as_jobs()
@@ -16,7 +16,7 @@ pub fn plane_starts_as_jobs()
 /// circuit's values.
 pub fn plane_steps_as_jobs()
     ensures no_fault { PlaneStepsAsJobs }
-    ensures good_borders { StepsWithGoodBorders }
+    ensures good_borders { GoodBordersKeepRunOfJobs }
 {}
 
 /// States that the first fault under the circuit's values is one of the whole plane.
@@ -40,7 +40,7 @@ pub fn first_fault_is_real()
 pub fn plain_verdict_decides_design()
     ensures off_rim { AcceptedKeepsOffRim }
     ensures decides { PlainVerdictDecidesDesign }
-    ensures plain_no_is_wrong { PlainNoMeansWrong }
+    ensures plain_no_is_wrong { PlainNoMeansWrongOrRimLive }
     ensures lines { PlainReportLinesHaveMeaning }
     ensures untimed { UntimedIsOnTime }
 {}
@@ -83,20 +83,20 @@ pub fn inputs_decide_the_run()
 
 /// States that some bundle with an odd time is accepted.
 pub fn something_is_accepted()
-    ensures { SomeAcceptedBundle }
+    ensures { SomeBundleIsAccepted }
 {}
 
 /// States that some layout whose ports are named as the circuit's does not compute it.
 pub fn some_layout_is_wrong()
-    ensures { SomeWrongLayout }
+    ensures { SomeLayoutIsWrong }
 {}
 
 /// States that modules that are accepted with their halo lines are accepted with the edge lines beside them in place of
 /// these.
 ///
 /// So if version 1 is accepted, its migration to version 2 is accepted.
-pub fn accepted_without_halos()
-    ensures modules { AcceptedWithoutHalos }
+pub fn accepted_stays_without_halos()
+    ensures modules { AcceptedStaysWithoutHalos }
     ensures migration { MigrationKeepsAcceptance }
 {}
 

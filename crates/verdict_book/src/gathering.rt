@@ -1,6 +1,6 @@
 //! The end of a locked book.
 ghost use Rattle.std.specs.Prelude.{◌≡◌, ◌<◌, ◌↔◌, false, length, sum_by, vec_len, IfErr, IfOk, IsErr};
-ghost use Rattle.core_book.specs.Book.{IsReplayed, held_count};
+ghost use Rattle.core_book.specs.Book.{IsHistoryReplayed, held_finding_count};
 ghost use Rattle.core_book.specs.Replay.{has_closing};
 
 use crate::book::Book;
@@ -39,12 +39,12 @@ pub fn gather<F: Filings, A: Ledger>(
     ensures returned { IfErr result (λ e. (e.book ≡ book) × (e.shares ≡ shares)) }
     ensures ledger_names_book { IfOk result (λ g. (g.state.digest ≡ F.digest)
         × (g.state.jobs ≡ F.jobs)) }
-    ensures replays { IfOk result (λ g. IsReplayed g.state) }
+    ensures replays { IfOk result (λ g. IsHistoryReplayed g.state) }
     ensures no_closing { IfOk result (λ g. has_closing g.state.history ≡ false) }
     ensures still_open { IfOk result (λ g. g.state.closed ≡ false) }
     ensures filed { IfOk result (λ g. g.filed ≡ length g.state.history) }
     ensures all_filed { IfOk result (λ g. g.filed ≡ sum_by (λ s. s.filed) shares.items) }
-    ensures accepted { IfOk result (λ g. g.accepted ≡ held_count g.state) }
+    ensures accepted { IfOk result (λ g. g.accepted ≡ held_finding_count g.state) }
     ensures all_accepted { IfOk result (λ g. g.accepted ≡ sum_by (λ s. s.accepted) shares.items) }
 {
     if shares.len() < book.shares {

@@ -1,6 +1,6 @@
 //! The value under the lock.
 ghost use Rattle.std.specs.Prelude.{◌≡◌, ◌≢◌, ◌<◌, ◌≤◌, false, [], length, sum_by, vec_len, IfErr, IfOk, OnErr, OnOk};
-ghost use Rattle.core_book.specs.Book.{IsReplayed, after_filing, held_count, reply_to};
+ghost use Rattle.core_book.specs.Book.{IsHistoryReplayed, after_filing, held_finding_count, reply_to};
 ghost use Rattle.core_book.specs.Replay.{has_closing};
 ghost use Rattle.local_run.specs.Shown.{digest_of, job_of, number_of};
 
@@ -27,8 +27,8 @@ pub struct LockedBook<F: Filings, A: Ledger> {
     ghost open_book: { state.closed ≡ false },
     ghost no_closing: { has_closing state.history ≡ false },
     ghost filed: { length state.history ≡ filings.total },
-    ghost accepted: { held_count state ≡ acceptances.total },
-    ghost few: { held_count state ≤ length state.history },
+    ghost accepted: { held_finding_count state ≡ acceptances.total },
+    ghost few: { held_finding_count state ≤ length state.history },
 }
 
 impl<F: Filings, A: Ledger> LockedBook<F, A> {
@@ -98,10 +98,10 @@ impl<F: Filings, A: Ledger> LockedBook<F, A> {
         requires filings { (0 < F.parts) × (F.parts ≤ vec_len shares) }
         requires acceptances { (0 < A.parts) × (A.parts ≤ vec_len shares) }
         ensures state { result.state ≡ self.state }
-        ensures replays { IsReplayed result.state }
+        ensures replays { IsHistoryReplayed result.state }
         ensures filed { result.filed ≡ length self.state.history }
         ensures all_filed { result.filed ≡ sum_by (λ s. s.filed) shares.items }
-        ensures accepted { result.accepted ≡ held_count self.state }
+        ensures accepted { result.accepted ≡ held_finding_count self.state }
         ensures all_accepted { result.accepted ≡ sum_by (λ s. s.accepted) shares.items }
     {
         let LockedBook {

@@ -1,6 +1,6 @@
 //! Jobs of modules. The expected results were worked out by hand from the lines.
 
-ghost use Rattle.module_box.specs.Moves.{IsInShiftRange};
+ghost use Rattle.module_box.specs.Moves.{IsCellInShiftRange};
 
 use bbm_rule::Cell;
 use certificate::*;
@@ -57,7 +57,7 @@ fn is_only_port(job: &Job, port: Cell, start: Signal, demand: Demand) -> bool {
 
 /// Returns whether a cell carries this at a time, as edge and as halo.
 fn carries_edge_and_halo(job: &Job, time: u32, cell: Cell, edge: Signal, halo: Signal) -> bool
-    requires { IsInShiftRange cell }
+    requires { IsCellInShiftRange cell }
 {
     job.edge(time, cell) == edge && job.halo(time, cell) == halo
 }

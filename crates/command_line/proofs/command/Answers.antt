@@ -7,7 +7,8 @@ pub returns : goal.returns
 returns c =
     let shape : App → Shape = λ a. a.top in
     let one = c.in_ok-subcommand.ensures.shape c.in_ok-check_command.ensures.no_globals
-    ∙ ap₂ with_subcommand c.in_ok-top_command.ensures.app (ap shape c.in_ok-check_command.ensures.app) in
+    ∙ ap₂ with_subcommand c.in_ok-top_command_without_commands.ensures.app
+    (ap shape c.in_ok-check_command.ensures.app) in
     let two = c.in_ok-subcommand-2.ensures.shape c.plain_command.ensures.no_globals
     ∙ ap₂ with_subcommand one (ap shape c.plain_command.ensures.app) in
     let three = c.in_ok-subcommand-3.ensures.shape c.plain_command-2.ensures.no_globals

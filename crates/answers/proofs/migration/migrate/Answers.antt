@@ -6,7 +6,7 @@ use Rattle.section_text.specs.Words.{lines_of}
 use Rattle.section_text.specs.declared.section.Form.TheVariants.{End, Header}
 use Rattle.meaning.specs.Design.{front_text}
 use Rattle.circuit.specs.Text.{circuit_text}
-use Rattle.certificate_lines.specs.Versions.{without_halos}
+use Rattle.certificate_lines.specs.Versions.{without_halo_lines}
 use Rattle.certificate.specs.Text.{entry_text, form_text}
 use Rattle.answers.specs.BundleText.{Bundle}
 use Rattle.answers.specs.KeptLines.{lines_not_beginning_with_h}
@@ -16,7 +16,7 @@ use Rattle.answers.proofs.migration.migrate.Goals as goal
 
 joined : (b : Bundle) →
     (circuit_text b.circuit ++ layout_section_text b.size b.parts)
-    ++ (form_text (Header 2) ++ flat_map entry_text (without_halos b.entries) ++ form_text End) ≡ migrate_of b
+    ++ (form_text (Header 2) ++ flat_map entry_text (without_halo_lines b.entries) ++ form_text End) ≡ migrate_of b
 unfolding bundle_text certificate_section_text
 joined b = refl
 
@@ -32,7 +32,7 @@ returns c limits bundle is =
     let from = c.args.from in
     let front = front_text limits in
     let design = circuit_text bundle.circuit ++ layout_section_text bundle.size bundle.parts in
-    let lines = flat_map entry_text (without_halos bundle.entries) in
+    let lines = flat_map entry_text (without_halo_lines bundle.entries) in
     record {
       says = c.in_ok-push_lines_not_beginning_with_h.ensures
           ∙ ap₂ (λ a b. a ++ b)

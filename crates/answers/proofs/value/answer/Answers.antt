@@ -2,7 +2,7 @@ use Rattle.lemmas.proofs.Common.{[], ◌++◌, ◌∙◌, ◌∷◌, ◌≡◌, 
 use Rattle.lemmas.proofs.Common.{rules, subst, ℕ, decimal, length-map}
 use Rattle.section_text.specs.Spelling.{line_text}
 use Rattle.circuit.specs.Entries.{defined}
-use Rattle.circuit.specs.Bridge.{AreValues, IsValuesFault, ValuesStopAt, netlist_of, as_values}
+use Rattle.circuit.specs.Bridge.{AreWireValues, IsValuesFault, ValuesStopAt, netlist_of, as_values}
 use Rattle.circuit.specs.declared.netlist.ValuesFault.TheVariants.{OutOfDomain}
 use Rattle.circuit.specs.Text.{value_lines}
 use Rattle.circuit.proofs.Undefined.{stops_short}
@@ -37,7 +37,8 @@ returns-in-Ok c =
       ordered = c.prove_valid.ensures.gates_ordered;
       says = inl (record {
         values = c.in-Ok.values.items;
-        are = subst (λ (l : List Bool). AreValues (netlist_of c.args.circuit.now) (as_values l) c.in-Ok.values.items)
+        are = subst (λ (l : List Bool).
+            AreWireValues (netlist_of c.args.circuit.now) (as_values l) c.in-Ok.values.items)
             bits
             c.in-Ok.ensures.values;
         says = c.in_ok-output-in-Ok.ensures ∙ ap (value_lines (defined c.args.circuit.now)) c.deref-in-Ok.ensures.value;

@@ -1,6 +1,6 @@
 use Rattle.lemmas.proofs.Common.{◌+◌, ◌∙◌, ◌≡◌, map, subst, sym, ℕ, arc_value}
 use Rattle.module_job.specs.Jobs.{JobView}
-use Rattle.core_book.specs.Verdicts.{IsFirstMissing, IsHeld}
+use Rattle.core_book.specs.Verdicts.{IsFindingHeld, IsFirstMissingFinding}
 use Rattle.core_book.proofs.HeldJobs.{AreFaultsBelow, first-missing, job-at, one-more}
 use Rattle.audit_core.proofs.concluding.faults_of_held_findings.Goals as goal
 
@@ -12,9 +12,9 @@ returns-in_default-clause-missing c = λ number e.
     let same : n ≡ number = cc in
     let at = job-at arc_value c.args.jobs.now n c.index-jobs-number.result c.loop-number-test.true
     c.index-jobs-number.is in
-    let missing : ¬ IsHeld b n (arc_value c.index-jobs-number.result) =
-    subst (λ (j : JobView). ¬ IsHeld b n j) c.deref.ensures c.in_default.ensures.missing in
-    subst (λ (k : ℕ). IsFirstMissing b jobs k) same
+    let missing : ¬ IsFindingHeld b n (arc_value c.index-jobs-number.result) =
+    subst (λ (j : JobView). ¬ IsFindingHeld b n j) c.deref.ensures c.in_default.ensures.missing in
+    subst (λ (k : ℕ). IsFirstMissingFinding b jobs k) same
     (first-missing b jobs n c.loop-number.faults.items _ c.loop-number.invariant at missing)
 
 pub loop-number-preserved : goal.loop-number-preserved

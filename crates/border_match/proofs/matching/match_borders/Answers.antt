@@ -1,8 +1,9 @@
-use Rattle.border_match.proofs.Imports.{AreJobOwners, IsBorderFaultOfJob, IsLeast, IsLeastBorderFault, LayoutHeader}
+use Rattle.border_match.proofs.Imports.{IsBorderFaultOfJob, IsLeastBorderFault, IsLeastCandidate, IsOwnerTableOfJobs}
+use Rattle.border_match.proofs.Imports.{LayoutHeader}
 use Rattle.border_match.proofs.Imports.{Some, ap, arc_value, arith, common_steps, map, modules_in, setting_of}
 use Rattle.border_match.proofs.Imports.{slice_get, subst, sym, whole, ◌∙◌, ◌≡◌}
 use Rattle.lemmas.proofs.Common.{Err, IfOk, Ok, Result}
-use Rattle.module_box.specs.Tiling.{AreOwners}
+use Rattle.module_box.specs.Tiling.{IsTilingOwnerTable}
 use Rattle.certificate_lines.specs.Entries.{modules_of}
 use Rattle.certificate_lines.specs.Versions.{modules_by_version}
 use Rattle.certificate.proofs.FullModules.{meant_areas}
@@ -26,13 +27,14 @@ least_fault-requires-clause-borders_ready c =
     let js = map arc_value c.args.jobs.now in
     let o = c.owners-owners.result.now in
     let owners = c.owners-owners.ensures in
-    let are = subst (AreOwners o) (sym (meant_areas s.version (setting_of s.circuit s.layout) (modules_of s.entries)))
+    let are = subst (IsTilingOwnerTable o)
+    (sym (meant_areas s.version (setting_of s.circuit s.layout) (modules_of s.entries)))
     owners.owners in
     let good = c.modules-count.ensures.good in
     let got : slice_get js c.loop-job.job-index ≡ Some c.deref.result.now =
     job_at arc_value c.args.jobs.now c.loop-job.job-index _ c.deref.result.now c.loop-job-test.true
     (c.deref.ensures ∙ ap arc_value c.job-item.is) in (
-      subst (λ (z : LayoutHeader). AreJobOwners (whole z) o js) (sym c.size-size.ensures.size)
+      subst (λ (z : LayoutHeader). IsOwnerTableOfJobs (whole z) o js) (sym c.size-size.ensures.size)
           (board s.circuit s.layout (modules_in s) js o good c.requires are
           owners.width owners.height),
       quiet_job s.circuit s.layout (modules_in s) js o good c.requires are
@@ -45,15 +47,16 @@ loop-job-preserved c =
     let js = map arc_value c.args.jobs.now in
     let o = c.owners-owners.result.now in
     let owners = c.owners-owners.ensures in
-    let are = subst (AreOwners o) (sym (meant_areas s.version (setting_of s.circuit s.layout) (modules_of s.entries)))
+    let are = subst (IsTilingOwnerTable o)
+    (sym (meant_areas s.version (setting_of s.circuit s.layout) (modules_of s.entries)))
     owners.owners in
     let good = c.modules-count.ensures.good in
     let got : slice_get js c.loop-job.job-index ≡ Some c.deref.result.now =
     job_at arc_value c.args.jobs.now c.loop-job.job-index _ c.deref.result.now c.loop-job-test.true
     (c.deref.ensures ∙ ap arc_value c.job-item.is) in
-    let found : IsLeast (IsBorderFaultOfJob (whole s.layout.size) o js c.deref.result.now)
+    let found : IsLeastCandidate (IsBorderFaultOfJob (whole s.layout.size) o js c.deref.result.now)
     c.in_ok-least_fault.field-0 =
-    subst (λ (z : LayoutHeader). IsLeast
+    subst (λ (z : LayoutHeader). IsLeastCandidate
     (IsBorderFaultOfJob (whole z) o js c.deref.result.now) c.in_ok-least_fault.field-0)
     c.size-size.ensures.size c.in_ok-least_fault.ensures in
     let least = least_by_lines s.circuit s.layout

@@ -1,6 +1,6 @@
 use Rattle.certificate.proofs.Imports.{IsGoodModule, IsJobOf, ap, arc_value, arith, circuit_of, length-map, map}
 use Rattle.certificate.proofs.Imports.{map-append, mapped_at, module_lines, module_lines_with, setting_of, subst, sym}
-use Rattle.certificate.proofs.Imports.{all_module_lines, with_halos, ◌+◌, ◌∙◌}
+use Rattle.certificate.proofs.Imports.{all_module_lines, with_halo_lines, ◌+◌, ◌∙◌}
 use Rattle.certificate.proofs.JobsSoFar.{PartJobs, element_at, full_module, one_list_less, one_part_more, parts_done}
 use Rattle.certificate.proofs.jobs.jobs_with_implied_halos.Goals as goal
 
@@ -18,7 +18,7 @@ pub loop-number-preserved : goal.loop-number-preserved
 loop-number-preserved c =
     let p = c.args.tables.now in
     let circuit = circuit_of p.circuit in
-    let f = with_halos (setting_of p.circuit p.layout) (all_module_lines p.circuit c.args.modules.now) in
+    let f = with_halo_lines (setting_of p.circuit p.layout) (all_module_lines p.circuit c.args.modules.now) in
     let m = c.index-modules-number.result in
     let at = mapped_at (module_lines circuit) c.args.modules.now c.loop-number.number m
     (element_at c.args.modules.now c.loop-number.number m c.loop-number-test.true c.index-modules-number.is) in
@@ -46,5 +46,6 @@ returns c =
     let p = c.args.tables.now in
     let ms = all_module_lines p.circuit c.args.modules.now in
     let long = length-map c.args.modules.now (module_lines (circuit_of p.circuit)) in
-    parts_done (circuit_of p.circuit) p.layout (with_halos (setting_of p.circuit p.layout) ms) ms c.loop-number.number _
+    parts_done (circuit_of p.circuit) p.layout
+    (with_halo_lines (setting_of p.circuit p.layout) ms) ms c.loop-number.number _
     (omega (arith, long, c.loop-number-test.false)) c.loop-number.invariant.jobs

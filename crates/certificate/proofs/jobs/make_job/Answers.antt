@@ -1,4 +1,5 @@
-use Rattle.certificate.proofs.Imports.{All, AreStops, Box2, Demand, IsInShiftRange, IsJobOf, List, ModuleLines, Netlist}
+use Rattle.certificate.proofs.Imports.{All, AreStopsOfLines, Box2, Demand, IsCellInShiftRange, IsJobOf, List}
+use Rattle.certificate.proofs.Imports.{ModuleLines, Netlist}
 use Rattle.certificate.proofs.Imports.{Signal, Signals, StoredBorder, StoredStop, ap, arc_value, arith, cell_at}
 use Rattle.certificate.proofs.Imports.{circuit_of, common_steps, edges, get_or, halos, in_box, is_among, keeps, length}
 use Rattle.certificate.proofs.Imports.{map, module_lines_with, netlist_of, refl, setting_of, stops, stops_in_plane}
@@ -152,7 +153,7 @@ invariant_of-job c =
     let wires_are = c.into_parts-wiring.ensures.wires in
     let gates_are = c.into_parts-wiring.ensures.gates in
     let placed_stops = stops_in_plane area c.in_ok-stops.stops.items in
-    let are_stops : AreStops (circuit_of p.circuit) l (stops m) placed_stops = record {
+    let are_stops : AreStopsOfLines (circuit_of p.circuit) l (stops m) placed_stops = record {
       same = c.in_ok-stops.ensures.same_stops ∙ ap (map stored_stop) c.deref-6.ensures.value
           ∙ stops_say c.requires;
       own = c.in_ok-stops.ensures.own_wires;
@@ -176,11 +177,11 @@ invariant_of-job c =
     record {
       job = subst IsJob (sym (λ i. job_of_shape area.x area.y (wires_are i) (gates_are i) (shape_is i))) job;
       sized = grind (arith, common_steps);
-      near_edges = subst (λ (t : ShapeView). All (λ e. IsInShiftRange e.at.cell) t.edges.events)
+      near_edges = subst (λ (t : ShapeView). All (λ e. IsCellInShiftRange e.at.cell) t.edges.events)
           (sym shape_is) c.in_ok-edges.ensures.in_shift_range;
-      near_halos = subst (λ (t : ShapeView). All (λ e. IsInShiftRange e.at.cell) t.halos.events)
+      near_halos = subst (λ (t : ShapeView). All (λ e. IsCellInShiftRange e.at.cell) t.halos.events)
           (sym shape_is) c.in_ok-halos.ensures.in_shift_range;
-      near_stops = subst (λ (t : ShapeView). All (λ e. IsInShiftRange e.at.cell) t.stops)
+      near_stops = subst (λ (t : ShapeView). All (λ e. IsCellInShiftRange e.at.cell) t.stops)
           (sym shape_is) c.in_ok-stops.ensures.in_shift_range;
     }
 

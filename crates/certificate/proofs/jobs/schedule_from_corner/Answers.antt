@@ -1,4 +1,5 @@
-use Rattle.certificate.proofs.Imports.{All, Box2, IsInShiftRange, IsSignalWireBelow, IsSmallShift, Signals, TimedSignal}
+use Rattle.certificate.proofs.Imports.{All, Box2, IsCellInShiftRange, IsSignalWireBelow, IsSmallShift, Signals}
+use Rattle.certificate.proofs.Imports.{TimedSignal}
 use Rattle.certificate.proofs.Imports.{ap, ap₂, arith, circuit_wire, common_steps, ints, of_z, renumber_signals}
 use Rattle.certificate.proofs.Imports.{shift_to_origin, subst, sym, to_z, w32, wires, ℕ, ℤ, ◌∙◌, ◌≡◌}
 use Rattle.module_box.specs.Moves.{moved_signals}
@@ -65,7 +66,7 @@ returns-clause-in_shift_range c =
     let y = c.args.area.y in
     let low = low_events (circuit_wire c.args.locals.now) c.args.lines.now s c.in_ok-signals.ensures.same_signals
     c.requires.low in
-    subst (λ (t : Signals). All (λ (e : TimedSignal). IsInShiftRange e.at.cell) t.events)
+    subst (λ (t : Signals). All (λ (e : TimedSignal). IsCellInShiftRange e.at.cell) t.events)
     (sym (moved_back x y _ _ s c.moved.result c.shift_to_origin.ensures.distance_is_exact
     c.shift_to_origin.ensures.shift_small c.shift_to_origin-2.ensures.distance_is_exact
     c.shift_to_origin-2.ensures.shift_small c.moved.ensures))

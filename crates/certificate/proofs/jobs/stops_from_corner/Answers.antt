@@ -1,4 +1,4 @@
-use Rattle.certificate.proofs.Imports.{All, Box2, IfOk-weaker, IsInShiftRange, IsSmallShift, List, ap, arith}
+use Rattle.certificate.proofs.Imports.{All, Box2, IfOk-weaker, IsCellInShiftRange, IsSmallShift, List, ap, arith}
 use Rattle.certificate.proofs.Imports.{circuit_wire, common_steps, ints, map, moved_stop, of_z, pos, shift_to_origin}
 use Rattle.certificate.proofs.Imports.{stops_in_plane, subst, sym, to_z, w32, wires, ℕ, ℤ, ◌<◌, ◌∙◌, ◌≡◌}
 use Rattle.module_job.specs.Signals.{renumber_stop}
@@ -9,7 +9,7 @@ use Rattle.certificate.proofs.jobs.stops_from_corner.Goals as goal
 
 pub moved_stops-requires-clause-cells : goal.moved_stops-requires-clause-cells
 moved_stops-requires-clause-cells c =
-    subst (All (λ (s : Stop). IsInShiftRange s.at.cell)) (sym c.deref.ensures.value)
+    subst (All (λ (s : Stop). IsCellInShiftRange s.at.cell)) (sym c.deref.ensures.value)
     (near_stops c.in_ok-placed.placed.items
     (low_stops_of (circuit_wire c.args.locals.now) c.args.stops.now c.in_ok-placed.placed.items
     c.in_ok-placed.ensures.same_stops c.requires.low))
@@ -56,6 +56,6 @@ returns-clause-in_shift_range c =
     let low = low_stops_of (circuit_wire c.args.locals.now) c.args.stops.now ss
     c.in_ok-placed.ensures.same_stops c.requires.low in
     IfOk-weaker c.moved_stops.result _ _ (λ own is.
-    subst (All (λ (s : Stop). IsInShiftRange s.at.cell))
+    subst (All (λ (s : Stop). IsCellInShiftRange s.at.cell))
     (grind (arith, common_steps, moved_back))
     (near_moved_stops area.x area.y ss c.requires.corner.0 c.requires.corner.1 low)) c.moved_stops.ensures

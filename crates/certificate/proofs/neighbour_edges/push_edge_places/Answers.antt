@@ -1,4 +1,5 @@
-use Rattle.certificate.proofs.Imports.{AddsEdgePlaces, All, IsInnerCell, List, StoredBorder, StoredModule, flat_map}
+use Rattle.certificate.proofs.Imports.{AddsEdgePlacesInHalo, All, IsInnerCell, List, StoredBorder, StoredModule}
+use Rattle.certificate.proofs.Imports.{flat_map}
 use Rattle.certificate.proofs.Imports.{length, line_cell, map, rectangle, subst, sym, take, ◌≤◌}
 use Rattle.certificate_lines.proofs.FlatParts.{flat_more}
 use Rattle.certificate.proofs.HaloLists.{edges_then, still_ready}
@@ -33,11 +34,11 @@ loop-number-preserved c =
     (sym c.deref.ensures.value) in
     record {
       table = still_ready boxes c.args.owners.now now new c.loop-number.invariant.table added.count;
-      lists = subst (λ es. AddsEdgePlaces c.args.modules.now boxes es old new)
+      lists = subst (λ es. AddsEdgePlacesInHalo c.args.modules.now boxes es old new)
           (sym (flat_more all c.args.modules.now c.loop-number.number m c.loop-number-test.true
           c.index-modules-number.is))
           (edges_then c.args.modules.now boxes (flat_map all (take c.loop-number.number c.args.modules.now))
           (all m) old now
           new c.loop-number.invariant.lists
-          (subst (λ es. AddsEdgePlaces c.args.modules.now boxes es now new) c.deref.ensures.value added));
+          (subst (λ es. AddsEdgePlacesInHalo c.args.modules.now boxes es now new) c.deref.ensures.value added));
     }

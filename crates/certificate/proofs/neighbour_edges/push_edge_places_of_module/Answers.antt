@@ -1,7 +1,8 @@
-use Rattle.certificate.proofs.Imports.{AddsEdgePlaces, Cell, EdgePlace, IsInnerCell, None, get_or, StoredBorder, ap}
+use Rattle.certificate.proofs.Imports.{AddsEdgePlacesInHalo, Cell, EdgePlace, IsInnerCell, None, get_or, StoredBorder}
+use Rattle.certificate.proofs.Imports.{ap}
 use Rattle.certificate.proofs.Imports.{in_halo, length-map, line_cell, map, option_to_list, rectangle, slice_get}
 use Rattle.certificate.proofs.Imports.{subst, sym, take, ◌∙◌, ◌∷◌, []}
-use Rattle.certificate.specs.HaloPlaces.{AddsPlaceWhere}
+use Rattle.certificate.specs.HaloPlaces.{AddsPlaceIfBoxPasses}
 use Rattle.certificate.proofs.HaloLists.{edge_placed, edges_then, place_found, still_ready, taken_one}
 use Rattle.certificate.proofs.JobsSoFar.{element_at}
 use Rattle.certificate.proofs.StoredSignals.{all_at, item_is}
@@ -31,12 +32,13 @@ loop-line-preserved c =
       count = sym (length-map c.push_place_for_halo_boxes.new.lists.items (λ l. l.items)) ∙ added.count
           ∙ length-map c.loop-line.lists.items (λ l. l.items) ∙ c.loop-line.invariant.count;
       places = λ ms m at edges.
-          subst (λ es. AddsEdgePlaces ms boxes es old new)
+          subst (λ es. AddsEdgePlacesInHalo ms boxes es old new)
           (taken_one c.args.edges.now c.loop-line.line e c.loop-line-test.true is)
           (edges_then ms boxes (take c.loop-line.line c.args.edges.now) (e ∷ []) old now new
           (c.loop-line.invariant.places ms m at edges)
           (edge_placed ms boxes place e now new
           (place_found ms m place at
           ∙ ap option_to_list (ap (λ es. slice_get es c.loop-line.line) edges ∙ here))
-          (subst (λ (d : Cell). AddsPlaceWhere boxes (λ b. in_halo b d.x d.y) place now new) c.cell.ensures added)));
+          (subst (λ (d : Cell). AddsPlaceIfBoxPasses boxes (λ b. in_halo b d.x d.y) place now new) c.cell.ensures
+          added)));
     }

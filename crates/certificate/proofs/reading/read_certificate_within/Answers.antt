@@ -1,12 +1,12 @@
 -- What was read makes good modules.
 use Rattle.certificate.proofs.Imports.{All, AreModules, CertificateLine, HasCircuitWires, List, Setting, ap, arith}
-use Rattle.certificate.proofs.Imports.{common_steps, false, is_haloless_version, lacks_edge_wire_beside}
+use Rattle.certificate.proofs.Imports.{common_steps, false, has_nonlocal_edge_wire_beside, is_haloless_version}
 use Rattle.certificate.proofs.Imports.{lines_of_modules}
 use Rattle.certificate.proofs.Imports.{map, module_lines, modules_of, setting_of, subst, sym, ℕ, ◌&&◌, ◌∙◌, ◌≡◌}
 use Rattle.section_text.proofs.Good.{reads_faultless}
 use Rattle.section_text.specs.Section.{Reads}
 use Rattle.certificate_lines.specs.Modules.{IsWithinLineLimit}
-use Rattle.certificate_lines.specs.BuilderView.{AreModuleOwners}
+use Rattle.certificate_lines.specs.BuilderView.{IsModuleOwnerTable}
 use Rattle.certificate_lines.proofs.StoredLemmas.{modules_stored}
 use Rattle.certificate.specs.Grammars.{certificate_grammar, certificate_section, version_number}
 use Rattle.certificate.proofs.ReadModules.{fails_as, owners_read, reads_as}
@@ -37,11 +37,11 @@ invariant_of-result c =
         modules = modules;
         few_lines = subst (All IsWithinLineLimit) are (faultless_lines c.args.limits g _ _ faultless);
       };
-      complete = subst (λ ns. (is_haloless_version version && lacks_edge_wire_beside g ns) ≡ false) are
+      complete = subst (λ ns. (is_haloless_version version && has_nonlocal_edge_wire_beside g ns) ≡ false) are
           (read_complete c.args.limits g version _ faultless);
       owners = owners_read c.args.circuit.now c.args.layout.now _ c.into_parts-modules.result.owners
-          (subst (λ ns. AreModuleOwners g ns c.into_parts-modules.result.owners) are
-          (subst (λ (s : Setting). AreModuleOwners s (modules_of read.2.entries) c.into_parts-modules.result.owners)
+          (subst (λ ns. IsModuleOwnerTable g ns c.into_parts-modules.result.owners) are
+          (subst (λ (s : Setting). IsModuleOwnerTable s (modules_of read.2.entries) c.into_parts-modules.result.owners)
           same
           c.into_parts-modules.ensures.owners)) modules.tile;
       ports = c.in-Ok.ensures;

@@ -1,4 +1,4 @@
-use Rattle.certificate.proofs.Imports.{Some, ap, arith, delay_line, gate_of, length, meet_line, time_lines_by_number}
+use Rattle.certificate.proofs.Imports.{Some, ap, arith, delay_line, gate_of, length, lines_of_numbered_gates, meet_line}
 use Rattle.certificate.proofs.Imports.{netlist_of, slice_get, sym, time_in_table, ◌++◌, ◌∙◌, ◌≡◌, ◌≤◌}
 use Rattle.certificate.proofs.TimeLemmas.{all_gates, one_gate_more}
 use Rattle.certificate.proofs.times.time_lines_of_gates.Goals as goal
@@ -20,8 +20,8 @@ loop-number-2-init c =
     let past : length gates ≤ c.loop-number.number =
     (let end = c.loop-number-test.false in omega (arith, count, end)) in
     let f = delay_line (time_in_table c.args.firsts.now) (time_in_table c.args.lasts.now) in
-    ap (λ xs. xs ++ time_lines_by_number (meet_line (time_in_table c.args.lasts.now)) 0 gates)
-    (all_gates f (time_lines_by_number f 0 gates) c.loop-number.lines.items c.loop-number.number gates past
+    ap (λ xs. xs ++ lines_of_numbered_gates (meet_line (time_in_table c.args.lasts.now)) 0 gates)
+    (all_gates f (lines_of_numbered_gates f 0 gates) c.loop-number.lines.items c.loop-number.number gates past
     c.loop-number.invariant)
 
 pub loop-number-2-preserved : goal.loop-number-2-preserved

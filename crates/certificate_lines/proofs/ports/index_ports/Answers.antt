@@ -1,4 +1,5 @@
-use Rattle.certificate_lines.proofs.Imports.{AreNumberedRows, ArePortsInLayout, Box2, HaveDistinctCells, LayoutHeader}
+use Rattle.certificate_lines.proofs.Imports.{ArePortsInLayout, AreRowsWithPortsNumbered, Box2, HaveDistinctCells}
+use Rattle.certificate_lines.proofs.Imports.{LayoutHeader}
 use Rattle.certificate_lines.proofs.Imports.{List}
 use Rattle.certificate_lines.proofs.Imports.{None, Port, Some, arith, common_steps, entry_place, get_or, length, refl}
 use Rattle.certificate_lines.proofs.Imports.{size_fault, size_sides, slice_get, slice_get-get_or, subst, sym, whole, ℕ}
@@ -45,7 +46,8 @@ entry_place-requires-clause-small c =
 -- a port at a place among the numbers has a number that fits
 few : (s : LayoutHeader) → size_fault s ≡ None → (b : Box2) → b ≡ whole s → (ports : List Port) →
     HaveDistinctCells ports →
-    ArePortsInLayout s ports → (rows : List ℕ) (count : ℕ) → AreNumberedRows b ports rows count → (k : ℕ) (p : Port) →
+    ArePortsInLayout s ports → (rows : List ℕ) (count : ℕ) → AreRowsWithPortsNumbered b ports rows count →
+    (k : ℕ) (p : Port) →
     slice_get ports k ≡ Some p → (place : ℕ) → entry_place b rows p.cell.x p.cell.y ≡ Some place → (numbers : List ℕ) →
     IsFilling b ports rows count k numbers → k + 1 < 4294967296
 few s limits b is ports apart on_board rows count are k p at place there numbers filling =

@@ -8,7 +8,7 @@ use Rattle.answers.specs.CheckText.{SaysReport}
 use Rattle.answers.specs.BundleText.{bundle_with_limits}
 use Rattle.answers.proofs.Bundles.{bundle_answers, bundle_goes_on, bundle_read, certificate_failed, going_3}
 use Rattle.answers.proofs.Bundles.{refusal_answers}
-use Rattle.check_main.specs.Preparing.{FollowsTakenLines, IsSectionOf}
+use Rattle.check_main.specs.Preparing.{FollowsTakenLines, IsCertificateTextFrom}
 use Rattle.check_main.proofs.SectionBytes.{IsReadFrom, section_is_rest, some_weaker, text_taken}
 use Rattle.check_main.proofs.bundle.report_after_front.Goals as goal
 use Rattle.answers.proofs.SectionLines.{section_bytes}
@@ -85,7 +85,7 @@ prepare-requires-clause-section g c =
     c.read_certificate_and_digest-digest.ensures.reads) in
     let bytes = section_bytes c.taken_text-from.result.now _ (certificate_text cert)
     (read ∙ ap (λ (l : List ℕ). l ++ certificate_text cert) (sym c.taken_text-from.ensures)) in
-    subst (λ (f : FeedView). IsSectionOf f (length c.taken_text-from.result.now) cert)
+    subst (λ (f : FeedView). IsCertificateTextFrom f (length c.taken_text-from.result.now) cert)
     (sym (c.in_default.ensures.ok going).2)
     (record { within = bytes.0; bytes = bytes.2 })
 

@@ -1,5 +1,6 @@
 -- The command ran, or memory ran out before it did, or the words are explained.
-use Rattle.check_main.proofs.Imports.{CheckFault, Err, IsRightInFull, Kinds, List, Memory, No, Ok, Option, Outcome, Ran}
+use Rattle.check_main.proofs.Imports.{CheckFault, Err, IsRightInFull, Kinds, List, Memory, No, Ok, Option, Outcome}
+use Rattle.check_main.proofs.Imports.{RanCommand}
 use Rattle.check_main.proofs.Imports.{Refused, Result, Streams, Yes, YesPromises, [], ap, arith, inl, inr, refl}
 use Rattle.check_main.proofs.Imports.{status_for, subst, sym, ℕ, ◌∙◌, ◌≡◌, ◌⊎◌}
 use Rattle.clap.specs.Words.{HasKind, IsAmong, kind_of}
@@ -27,10 +28,10 @@ help_is_asked kinds error (inr version) (inr among) = inr (subst (λ k. IsAmong 
 
 -- a command ran, whatever its request is called
 ran_for : {R W E : Type 0} {source : Source R} {sink : Sink W} {messages : Sink E} (asked wanted : Request)
-    (old new : Streams R W E) (status : ℕ) → asked ≡ wanted → Ran source sink messages asked old new status →
-    Ran source sink messages wanted old new status
+    (old new : Streams R W E) (status : ℕ) → asked ≡ wanted → RanCommand source sink messages asked old new status →
+    RanCommand source sink messages wanted old new status
 ran_for {source} {sink} {messages} asked wanted old new status same ran =
-    subst (λ (request : Request). Ran source sink messages request old new status) same ran
+    subst (λ (request : Request). RanCommand source sink messages request old new status) same ran
 
 pub returns-in-Ok-clause-ran : goal.returns-in-Ok-clause-ran
 returns-in-Ok-clause-ran g c accepted = ran_for _ _ _ _ _ c.in-Ok.ensures.request (record {

@@ -3,11 +3,11 @@ use Rattle.check_main.proofs.Imports.{Consumes, Err, FeedView, List, None, ap, a
 use Rattle.check_main.proofs.Imports.{own_text_limit, subst, sym, take, ℕ, ◌++◌, ◌+◌, ◌<◌, ◌∙◌, ◌≡◌}
 use Rattle.std.proofs.Common.{rules}
 use Rattle.std.proofs.KnownBytes.{Consumes-trans}
-use Rattle.check_main.specs.Stream.{IsPastLimit}
+use Rattle.check_main.specs.Stream.{IsTextPastLimit}
 use Rattle.check_main.proofs.stream.read_by_blocks.Goals as goal
 
 pub returns-in-Err-TooLong-clause-too_long : goal.returns-in-Err-TooLong-clause-too_long
-unfolding IsPastLimit
+unfolding IsTextPastLimit
 returns-in-Err-TooLong-clause-too_long g c _ =
     let so_far = c.loop.feed.text in
     let more = take c.in-Ok.count c.read.new.buf in

@@ -1,4 +1,5 @@
-use Rattle.core_book.proofs.Imports.{BookView, IsOpenFor, IsPartlyFilled, ap, arc_value, inr, map, new_book, subst, sym}
+use Rattle.core_book.proofs.Imports.{BookView, IsBookFilledSoFar, IsOpenFor, ap, arc_value, inr, map, new_book, subst}
+use Rattle.core_book.proofs.Imports.{sym}
 use Rattle.core_book.proofs.Imports.{◌∙◌, ◌≡◌}
 use Rattle.core_book.proofs.Fillings.{clones-same, new-open}
 use Rattle.core_book.proofs.filling.fill.Goals.{then-not-own+in_ok-to_vec+in_ok-state, else-not-own}
@@ -32,6 +33,6 @@ returns-clause-replaced c = λ other.
           let same = clones-same arc_value c.args.jobs.now w.in_ok-to_vec.field-0.items w.in_ok-to_vec.ensures.ok in
           let is : c.if-not-own.state ≡ new_book digest jobs =
           w.state-is ∙ w.in_ok-state.ensures ∙ ap (new_book digest) same in
-          inr (subst (λ (b : BookView). IsPartlyFilled b after) is c.fill_open_book.ensures.partly)
+          inr (subst (λ (b : BookView). IsBookFilledSoFar b after) is c.fill_open_book.ensures.partly)
       | else-not-own w ↦ absurd (other (c.is_open_for-own.ensures.open_for_jobs w.if-not-own.false))
     ]

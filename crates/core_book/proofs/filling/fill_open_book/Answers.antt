@@ -1,4 +1,5 @@
-use Rattle.core_book.proofs.Imports.{AreGroups, HoldsOfSameShape, JobView, List, ap, arc_value, arith, common_steps}
+use Rattle.core_book.proofs.Imports.{AreGroups, HoldsFindingOfSameShape, JobView, List, ap, arc_value, arith}
+use Rattle.core_book.proofs.Imports.{common_steps}
 use Rattle.core_book.proofs.Imports.{length, length-map, map, shape_of, shapes_of, slice_get, subst, sym, ℕ, ◌+◌, ◌<◌}
 use Rattle.core_book.proofs.Imports.{◌∙◌, ◌≤◌}
 use Rattle.core_book.proofs.Fillings.{filled-all, filling-step, is-full, open-stays}
@@ -37,7 +38,7 @@ fill_number-requires-clause-shapes_equal c = λ other.
     let below : n < length (shapes_of c.loop-number.state.jobs) =
     omega (arith, many, all, same, c.loop-number-test.true) in
     let here = ap (λ js. slice_get js n) own.jobs_are ∙ at in
-    subst (λ k. HoldsOfSameShape c.loop-number.state k (arc_value c.index-jobs-number.result)) first
+    subst (λ k. HoldsFindingOfSameShape c.loop-number.state k (arc_value c.index-jobs-number.result)) first
     (holds_alike c.args.state.now c.loop-number.state g n
     (arc_value c.index-jobs-number.result) c.loop-number.invariant.0 are below here (λ e. other (sym first ∙ e)))
 

@@ -1,7 +1,7 @@
 use Rattle.job_pool.proofs.Imports.{Counts, ap, arc_value, arith, job_of, length, length-map, map, refl, shape_of}
 use Rattle.job_pool.proofs.Imports.{shapes_of, subst, sym, value_at, ◌+◌, ◌<◌, ◌≤◌}
 use Rattle.lemmas.proofs.Common.{slice_get_within, slice_index}
-use Rattle.job_pool.specs.Links.{IsNextMember}
+use Rattle.job_pool.specs.Links.{IsNextOfGroup}
 use Rattle.job_pool.proofs.Linking.{first_has_none_before, to_next}
 use Rattle.job_pool.proofs.Members.{member_shape, read_any}
 use Rattle.job_pool.proofs.Risen.{risen_more}
@@ -68,9 +68,9 @@ loop-member-preserved g c =
     let linked = c.requires.links.count in
     let read = read_any links member 0 (omega (arith, lt, linked)) in
     let own = c.loop-member.invariant.own lt in
-    let next : IsNextMember groups c.args.number (member + 1) (slice_index links member) =
-    subst (λ n. IsNextMember groups n (member + 1) (slice_index links member)) own (c.requires.links.each member lt) in
-    let moved = subst (IsNextMember groups c.args.number (member + 1)) (sym read) next in
+    let next : IsNextOfGroup groups c.args.number (member + 1) (slice_index links member) =
+    subst (λ n. IsNextOfGroup groups n (member + 1) (slice_index links member)) own (c.requires.links.each member lt) in
+    let moved = subst (IsNextOfGroup groups c.args.number (member + 1)) (sym read) next in
     let more = c.in_ok-file_member.ensures.counted in
     let one = ap (λ (z : Counts). z.filed) more in
     let before = c.loop-member.invariant.filed in

@@ -1,19 +1,22 @@
-use Rattle.local_run.proofs.Imports.{Planes, and_parts, ap, ap₂, arith, by_eq_or_not, number_at, refl, sym, ℕ, ◌*◌, ◌+◌}
+use Rattle.local_run.proofs.Imports.{Planes, and_parts, ap, ap₂, arith, by_eq_or_not, cell_number_at, refl, sym, ℕ, ◌*◌}
+use Rattle.local_run.proofs.Imports.{◌+◌}
 use Rattle.local_run.proofs.Imports.{◌%◌, ◌/◌, ◌<◌, ◌∙◌, ◌≡◌}
-use Rattle.lanes.specs.Sweeps.{IsInRangeNotInWord}
+use Rattle.lanes.specs.Sweeps.{IsInRangeNotInWordRest}
 use Rattle.lanes.proofs.FieldLemmas.{one_past, past_all}
 use Rattle.lanes.proofs.SettledLemmas.{settled_once, settled_twice}
 use Rattle.local_run.proofs.QuietLemmas.{number_below}
 use Rattle.local_run.proofs.Silence.{same_place}
-use Rattle.local_run.specs.Steady.{IsNumberCorrect}
+use Rattle.local_run.specs.Steady.{AreSignalsCorrectAtNumber}
 use Rattle.local_run.proofs.border.set_halo_and_check_ring_at_marks.Goals as goal
 
 pub loop-rest-init : goal.loop-rest-init
 loop-rest-init c =
     let a = c.args in
-    let unset : (x y : ℕ) → IsInRangeNotInWord a.first (a.first + 64) a.word (number_at a.job.now.area x y) →
-    IsNumberCorrect a.job.now a.values.now a.lines.now.time a.marked_planes.now.planes (number_at a.job.now.area x y) =
-    λ x y past. c.requires.unset_are_correct (number_at a.job.now.area x y) (omega (arith, past.0, past.1)) past.2 in
+    let unset : (x y : ℕ) → IsInRangeNotInWordRest a.first (a.first + 64) a.word (cell_number_at a.job.now.area x y) →
+    AreSignalsCorrectAtNumber a.job.now a.values.now a.lines.now.time a.marked_planes.now.planes
+    (cell_number_at a.job.now.area x y) =
+    λ x y past. c.requires.unset_are_correct (cell_number_at a.job.now.area x y)
+    (omega (arith, past.0, past.1)) past.2 in
     record {
       shows = c.requires.shows;
       halo = λ x y lx ly past. (unset x y past).halo x y lx ly refl;
@@ -39,21 +42,21 @@ loop-rest-preserved c =
     let number : (j.area.w / 2 + 1) * c.column_and_row-column.result.1 + c.column_and_row-column.result.0 ≡ u =
     ap (λ s. s * c.column_and_row-column.result.1 + c.column_and_row-column.result.0) (sym stride)
     ∙ at.place_is_exact in
-    let here : (x y : ℕ) → x < j.area.w + 2 → number_at j.area x y ≡ u →
+    let here : (x y : ℕ) → x < j.area.w + 2 → cell_number_at j.area x y ≡ u →
     (x / 2 ≡ c.column_and_row-column.result.0) × (y / 2 ≡ c.column_and_row-column.result.1) =
     λ x y lx is. same_place (j.area.w / 2 + 1) c.column_and_row-column.result.0 c.column_and_row-column.result.1 x y
     (omega (arith, at.column, stride)) (omega arith) (number ∙ sym is) in
     let there : (x y : ℕ) → (x / 2 ≡ c.column_and_row-column.result.0) × (y / 2 ≡ c.column_and_row-column.result.1) →
-    number_at j.area x y ≡ u = λ x y s. ap₂ (λ r k. (j.area.w / 2 + 1) * r + k) s.1 s.0 ∙ number in
+    cell_number_at j.area x y ≡ u = λ x y s. ap₂ (λ r k. (j.area.w / 2 + 1) * r + k) s.1 s.0 ∙ number in
     record {
       shows = e.shows;
-      halo = λ x y lx ly past. by_eq_or_not (number_at j.area x y) u
+      halo = λ x y lx ly past. by_eq_or_not (cell_number_at j.area x y) u
           (λ is. let h = here x y lx is in e.halo x y lx ly h.0 h.1)
           (λ ne. λ b lb out. e.rest b x y lb lx (λ s. ne (there x y s))
-          ∙ m.halo x y lx ly (one.from (number_at j.area x y) ne past) b lb out);
-      right = λ all x y lx ly past. by_eq_or_not (number_at j.area x y) u
+          ∙ m.halo x y lx ly (one.from (cell_number_at j.area x y) ne past) b lb out);
+      right = λ all x y lx ly past. by_eq_or_not (cell_number_at j.area x y) u
           (λ is. let h = here x y lx is in e.edges (and_parts _ _ all).1 x y lx ly h.0 h.1)
-          (λ ne. m.right (and_parts _ _ all).0 x y lx ly (one.from (number_at j.area x y) ne past));
+          (λ ne. m.right (and_parts _ _ all).0 x y lx ly (one.from (cell_number_at j.area x y) ne past));
       settled = settled_twice c.args.marked_planes.now c.loop-rest.marked_planes
           c.set_halo_cells_or_are_edges_correct-is_right.new.marked_planes m.settled e.settled;
       same = λ b x y lb lx before. e.rest b x y lb lx (λ s. let h = there x y s in absurd (omega (arith, h, before)))
@@ -63,7 +66,7 @@ loop-rest-preserved c =
 pub returns-clause-halo : goal.returns-clause-halo
 returns-clause-halo c = λ x y lx ly after before.
     c.loop-rest.invariant.halo x y lx ly
-    (past_all c.args.first (c.args.first + 64) c.loop-rest.rest (number_at c.args.job.now.area x y)
+    (past_all c.args.first (c.args.first + 64) c.loop-rest.rest (cell_number_at c.args.job.now.area x y)
     (omega arith) after before)
 
 pub returns-then-u-cells-clause-halo : goal.returns-then-u-cells-clause-halo
@@ -78,5 +81,5 @@ returns-then-u-cells-clause-halo c = λ x y lx ly after before.
     c.loop-rest.invariant.halo x y lx ly (
       after,
       before,
-      c.take_first_mark-place.ensures.first.2 (number_at j.area x y % 64) (omega (arith, below, long)),
+      c.take_first_mark-place.ensures.first.2 (cell_number_at j.area x y % 64) (omega (arith, below, long)),
     )

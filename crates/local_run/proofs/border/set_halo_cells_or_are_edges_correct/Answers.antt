@@ -1,4 +1,4 @@
-use Rattle.local_run.proofs.Imports.{IsEdgeCorrectAt, IsHaloCellSet, and_parts, arith, ℕ, ◌∙◌}
+use Rattle.local_run.proofs.Imports.{IsEdgeCorrectAt, IsHaloCellAsSignal, and_parts, arith, ℕ, ◌∙◌}
 use Rattle.local_run.proofs.Silence.{four_cells}
 use Rattle.lanes.proofs.SettledLemmas.{settled_twice}
 use Rattle.local_run.proofs.border.set_halo_cells_or_are_edges_correct.Goals as goal
@@ -21,7 +21,7 @@ returns-clause-halo c =
     let e3 = c.set_halo_or_is_edge_correct-third.ensures in
     let e4 = c.set_halo_or_is_edge_correct-fourth.ensures in
     λ x y lx ly ex ey. four_cells c.args.column c.args.row
-    (λ (x y : ℕ). IsHaloCellSet c.args.job.now c.args.values.now c.args.lines.now.time
+    (λ (x y : ℕ). IsHaloCellAsSignal c.args.job.now c.args.values.now c.args.lines.now.time
     c.set_halo_or_is_edge_correct-fourth.new.marked_planes.planes x y)
     (λ a l out. e4.rest a _ _ l (omega arith) (λ s. let s0 = s.0 in omega arith)
     ∙ e3.rest a _ _ l (omega arith) (λ s. let s1 = s.1 in omega arith)

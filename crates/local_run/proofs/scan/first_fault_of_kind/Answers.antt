@@ -1,4 +1,4 @@
-use Rattle.local_run.proofs.Imports.{Box2, IsFaultWhereDefined, IsScanStride, ap, arith, box_coord, by_eq_or_not}
+use Rattle.local_run.proofs.Imports.{Box2, IsDefinedAndHasFault, IsScanStride, ap, arith, box_coord, by_eq_or_not}
 use Rattle.local_run.proofs.Imports.{by_lt_or_le, subst, sym, valuation, ℕ, ◌∙◌, ◌≡◌}
 use Rattle.local_run.proofs.Firsts.{first_from, still_at_either_end, passed_over}
 use Rattle.local_run.proofs.NextCells.{free_to, next_at_end}
@@ -46,7 +46,7 @@ cells-preserved c =
           c.args.marked_planes.now.planes c.requires.job_ready c.requires.sought c.requires.shows (omega arith)
           c.cells.invariant.cells next.skips_only_at_end next.demands next.passed_dead x a l lw la)
           (λ g. by_eq_or_not x n
-          (λ same. subst (λ (m : ℕ). IsFaultWhereDefined j c.args.values.now a c.args.search.time c.args.search.kind
+          (λ same. subst (λ (m : ℕ). IsDefinedAndHasFault j c.args.values.now a c.args.search.time c.args.search.kind
           (box_coord j.area.x m)
           (box_coord j.area.y c.rows.y) → ⊥) (sym same) (c.in_default.ensures a la))
           (λ ne f. passed_over j (valuation c.args.values.now a) c.args.search.time c.args.search.kind n x c.rows.y s

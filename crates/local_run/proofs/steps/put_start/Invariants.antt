@@ -1,12 +1,12 @@
 use Rattle.local_run.proofs.Imports.{HasWordsStrideRows, assignments, box_coord, false, lane, local_run, valuation, ℕ}
 use Rattle.local_run.proofs.Imports.{◌*◌, ◌+◌, ◌-◌, ◌/◌, ◌<◌, ◌≡◌, ◌≤◌}
-use Rattle.lanes.specs.Settled.{KeepsSettled}
+use Rattle.lanes.specs.Settled.{AreSettledBlocksUnchanged}
 use Rattle.local_run.proofs.steps.put_start.Given as goal
 
 -- the cells of the rows so far are as the run begins, and all others are dead
 abbrev pub invariant-loop-y : goal.invariant-loop-y
 invariant-loop-y l = record {
-  settled : KeepsSettled l.fn.marked_planes l.marked_planes;
+  settled : AreSettledBlocksUnchanged l.fn.marked_planes l.marked_planes;
   size : HasWordsStrideRows l.values.words (l.job.area.w / 2 + 1) (l.job.area.h / 2 + 1) l.marked_planes.planes;
   above : (a x y : ℕ) → a < assignments l.job → x < l.job.area.w → y < l.y →
       lane l.marked_planes.planes a (1 + x) (1 + y)
@@ -18,7 +18,7 @@ invariant-loop-y l = record {
 -- so are those of the row up to a column
 abbrev pub invariant-loop-x : goal.invariant-loop-x
 invariant-loop-x l = record {
-  settled : KeepsSettled l.fn.marked_planes l.marked_planes;
+  settled : AreSettledBlocksUnchanged l.fn.marked_planes l.marked_planes;
   size : HasWordsStrideRows l.values.words (l.job.area.w / 2 + 1) (l.job.area.h / 2 + 1) l.marked_planes.planes;
   above : (a x y : ℕ) → a < assignments l.job → x < l.job.area.w → y < l.y →
       lane l.marked_planes.planes a (1 + x) (1 + y)

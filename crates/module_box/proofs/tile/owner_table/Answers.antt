@@ -1,4 +1,4 @@
-use Rattle.module_box.proofs.Imports.{IsOwnersTable, OwnersView, ap, arith, common_steps, length, refl}
+use Rattle.module_box.proofs.Imports.{HasOwnerTableSizes, OwnersView, ap, arith, common_steps, length, refl}
 use Rattle.module_box.proofs.Imports.{slice_get-get_or, slice_get_within, slice_index, take, ℕ, ◌*◌, ◌/◌, ◌<◌, ◌∙◌, ◌≡◌}
 use Rattle.lemmas.proofs.Common.{with_items_is}
 use Rattle.module_box.proofs.PartOwners.{owners_full}
@@ -81,7 +81,7 @@ returns c =
     let t = taken_by_all _ _ (length boxes) c.loop-number.number boxes c.loop-number.numbers.items
     c.loop-number.invariant
     (omega arith) in
-    let table : IsOwnersTable owners_view = record {
+    let table : HasOwnerTableSizes owners_view = record {
       width = c.requires.width;
       height = c.requires.height;
       sized = (let b = t.bound in omega (arith, b, c.loop-number.numbers.ok.0));

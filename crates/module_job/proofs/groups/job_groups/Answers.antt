@@ -1,4 +1,5 @@
-use Rattle.module_job.proofs.Imports.{IsFirstLike, List, Some, [], ap, arc_value, arith, false≢true, get, length}
+use Rattle.module_job.proofs.Imports.{IsFirstEqualElement, List, Some, [], ap, arc_value, arith, false≢true, get}
+use Rattle.module_job.proofs.Imports.{length}
 use Rattle.module_job.proofs.Imports.{length-append, length-map, map, mapped_at, same_key, shape_digest, shape_of}
 use Rattle.module_job.proofs.Imports.{shape_summary, slice_get, slice_index, subst, sym, unwrap_or, ℕ, ◌+◌, ◌<◌, ◌∙◌}
 use Rattle.module_job.proofs.Imports.{◌∷◌, ◌≡◌}
@@ -56,16 +57,16 @@ loop-number-preserved c =
     let summary : List ℕ = c.summary.result in
     let head : ℕ = c.in_ok-group.group in
     let is = c.in_ok-group.ensures.first in
-    let like : IsFirstLike (map shape_summary shapes) n head =
+    let like : IsFirstEqualElement (map shape_summary shapes) n head =
     head_like shape_summary shapes n t summary
     (get same_key c.loop-number.summaries summary) head there c.summary.ensures is
     (c.loop-number.invariant.summaries summary) in
     let old : List ℕ = c.loop-number.groups.items in
     let g : ℕ = c.if-not-have_same_shape.group in
-    let here : IsFirstLike shapes n g = elim c.if-not-have_same_shape.branch [
+    let here : IsFirstEqualElement shapes n g = elim c.if-not-have_same_shape.branch [
       | then-not-have_same_shape+in_ok-key+in_ok-first w ↦
-          subst (IsFirstLike shapes n) (sym w.group-is) w.first_job_of_same_shape-group.ensures
-      | else-not-have_same_shape w ↦ subst (IsFirstLike shapes n) (sym w.group-is)
+          subst (IsFirstEqualElement shapes n) (sym w.group-is) w.first_job_of_same_shape-group.ensures
+      | else-not-have_same_shape w ↦ subst (IsFirstEqualElement shapes n) (sym w.group-is)
           (first_equal_shape_number shape_summary shapes n head like
           (c.have_same_shape.ensures.0 w.if-not-have_same_shape.false))
     ] in
@@ -74,7 +75,7 @@ loop-number-preserved c =
     let sum = length-append old (g ∷ []) in
     record {
       count = omega (arith, longer, sum, c.loop-number.invariant.count);
-      each = λ k lt. subst (λ (gs : List ℕ). IsFirstLike shapes k (slice_index gs k)) (sym items)
+      each = λ k lt. subst (λ (gs : List ℕ). IsFirstEqualElement shapes k (slice_index gs k)) (sym items)
           (group_more shapes old n g c.loop-number.invariant.count c.loop-number.invariant.each here k lt);
       summaries = λ other. subst (IsFirstOf (map shape_summary shapes) (n + 1) other)
           (sym (c.in_ok-group.ensures.first_is_added other))

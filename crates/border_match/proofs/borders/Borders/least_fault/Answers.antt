@@ -1,4 +1,4 @@
-use Rattle.border_match.proofs.Imports.{AreHaloMarks, subst, sym, ◌∙◌}
+use Rattle.border_match.proofs.Imports.{AreHaloEventMarks, subst, sym, ◌∙◌}
 use Rattle.border_match.proofs.Least.{least_by_three}
 use Rattle.border_match.proofs.Marks.{fault_unmarked, written_back}
 use Rattle.border_match.proofs.borders.Borders.least_fault.Goals as goal
@@ -12,4 +12,5 @@ returns c =
     least_by_three _ _ _ _ _ _ _ c.least_with_edges_of_modules-by_edges.ensures.better
     c.least_with_unmarked_halo_events-by_halo.ensures
     c.least_with_star_faults.ensures
-    (λ h f. fault_unmarked b c.deref-2.result.now h c.requires.borders_ready (subst (AreHaloMarks b) back marked) f)
+    (λ h f. fault_unmarked b c.deref-2.result.now h c.requires.borders_ready
+    (subst (AreHaloEventMarks b) back marked) f)

@@ -1,5 +1,6 @@
-use Rattle.border_match.proofs.Imports.{AreEventsFarBetween, BorderFault, Borders, Box2, HasCandidateAtMost}
-use Rattle.border_match.proofs.Imports.{IsAtSomeEventBelow, IsExtent, IsFaultOfSearchedJob, IsRising, IsWindowAround}
+use Rattle.border_match.proofs.Imports.{BorderFault, Borders, Box2, HasCandidateAtMost, HasNoWindowEventBetween}
+use Rattle.border_match.proofs.Imports.{IsAtSomeEventBelow, IsExtentOfEvents, IsFaultOfSearchedJob, IsRising}
+use Rattle.border_match.proofs.Imports.{IsWindowAround}
 use Rattle.border_match.proofs.Imports.{JobView, List, ShapeView, Signals, TimedSignal, Window, ap, arith, ints}
 use Rattle.border_match.proofs.Imports.{moment_cmp, moment_of, pos, shape_of, shift_to_origin}
 use Rattle.border_match.proofs.Imports.{subst, sym, ℕ, ◌+◌, ◌∙◌, ◌≡◌}
@@ -12,7 +13,8 @@ use Rattle.border_match.proofs.borders.Borders.least_with_edge_events.Goals as g
 passed : (b : Borders) (other : JobView) (a corner : Box2) (w : Window) (es : List TimedSignal) (s : Signals)
     (sv : ShapeView) (i next : ℕ) (f : BorderFault) → a ≡ b.job.now.area → corner ≡ other.area →
     IsWindowAround a corner w →
-    es ≡ s.events → s ≡ sv.edges → sv ≡ shape_of other → AreEventsFarBetween w es i next → IsFaultOfSearchedJob b f →
+    es ≡ s.events → s ≡ sv.edges → sv ≡ shape_of other → HasNoWindowEventBetween w es i next →
+    IsFaultOfSearchedJob b f →
     IsAtSomeEventBelow next other.edges.events f → IsAtSomeEventBelow i other.edges.events f
 passed b other a corner w es s sv i next f ea ec is same are shape far g h =
     far_step b other a corner w es i next f ea ec is
@@ -20,7 +22,7 @@ passed b other a corner w es s sv i next f ea ec is same are shape far g h =
 
 pub first_near_event_place-place-requires-clause-extent : goal.first_near_event_place-place-requires-clause-extent
 first_near_event_place-place-requires-clause-extent c =
-    subst (λ (es : List TimedSignal). IsExtent es c.args.extent.now)
+    subst (λ (es : List TimedSignal). IsExtentOfEvents es c.args.extent.now)
     (sym (cornered c.args.other.now c.events-events.result.now c.edges.result.now
     c.events-events.ensures.same_list
     (c.edges.ensures ∙ ap (λ (s : ShapeView). s.edges) (c.deref-shape.ensures ∙ c.shape.ensures)))) c.requires.extent

@@ -1,4 +1,5 @@
-use Rattle.border_match.proofs.Imports.{AreHaloMarks, IsAtSomeEventBelow, IsFaultOfSearchedJob, IsNextCandidate, length}
+use Rattle.border_match.proofs.Imports.{AreHaloEventMarks, IsAtSomeEventBelow, IsFaultOfSearchedJob, IsNextCandidate}
+use Rattle.border_match.proofs.Imports.{length}
 use Rattle.border_match.proofs.Imports.{◌-◌}
 use Rattle.border_match.proofs.borders.Borders.least_with_edge_events.Given as goal
 
@@ -6,7 +7,7 @@ abbrev pub invariant-loop-place : goal.invariant-loop-place
 invariant-loop-place l = record {
   better : IsNextCandidate (IsFaultOfSearchedJob l.self)
       (IsAtSomeEventBelow l.place l.other.edges.events) l.fn.best l.least;
-  marked : AreHaloMarks l.self l.seen;
+  marked : AreHaloEventMarks l.self l.seen;
 }
 
 abbrev pub decreases-loop-place : goal.decreases-loop-place

@@ -2,7 +2,7 @@ use Rattle.certificate_lines.proofs.Imports.{arith, common_steps, BuilderView, S
 use Rattle.certificate_lines.proofs.Imports.{gates}
 use Rattle.certificate_lines.proofs.Imports.{known, last_module, length, subst, sym, wire_of, ◌∙◌, ◌≡◌}
 use Rattle.std.specs.Option.{option_and_then}
-use Rattle.certificate_lines.specs.Entries.{name_in}
+use Rattle.certificate_lines.specs.Entries.{wire_name_in_line}
 use Rattle.certificate_lines.specs.Rules.{cut_line_code, use_line_code}
 use Rattle.certificate_lines.proofs.Keeping.{last_known}
 use Rattle.certificate_lines.proofs.StoredLemmas.{cut_count, used_gates}
@@ -16,7 +16,7 @@ returns-in-Cut c m last is =
     (last_known _ _ _ _ _ _ _ c.self.invariant.tracked.kept m) last in
     let counted : c.len.result ≡ length c.args.last.now.cuts.items = grind (arith, common_steps) in
     c.cut_code.ensures d c.in-Cut.field-0
-    (c.requires.wire ∙ ap (λ i. option_and_then (wire_of d) (name_in i)) c.in-Cut.is)
+    (c.requires.wire ∙ ap (λ i. option_and_then (wire_of d) (wire_name_in_line i)) c.in-Cut.is)
     ∙ ap₂ (λ n local. cut_line_code d n local c.in-Cut.field-0)
     (counted ∙ cut_count d c.args.last.now ∙ ap (λ n. length (cuts n)) (sym is)) same
     ∙ ap (code_but_for_order c.args.self.now.setting m) (sym c.in-Cut.is)

@@ -1,8 +1,9 @@
 use Rattle.certificate_lines.proofs.Imports.{All, Bool, BuilderView, List, ap, arith, common_steps}
-use Rattle.certificate_lines.proofs.Imports.{does_neighbour_lack_wire, edges, flat_map, get_or, lacks_edge_wire, length}
+use Rattle.certificate_lines.proofs.Imports.{does_neighbour_lack_wire, edges, flat_map, get_or, lacks_wire_of_some_edge}
+use Rattle.certificate_lines.proofs.Imports.{length}
 use Rattle.certificate_lines.proofs.Imports.{list_any, list_any_at, modules_of, subst, sym, take, take_all, true, ◌<◌}
 use Rattle.certificate_lines.proofs.Imports.{◌∙◌, ◌≡◌}
-use Rattle.certificate_lines.specs.StoredModules.{HasCircuitWire, HasCircuitWires, IsWithin, border_line}
+use Rattle.certificate_lines.specs.StoredModules.{HasCircuitWire, HasCircuitWires, IsCellWithinLayout, border_line}
 use Rattle.certificate_lines.specs.declared.stored_module.StoredModule.{StoredModule}
 use Rattle.certificate_lines.proofs.StoredEdges.{lacked_stored, lines_on_layout}
 use Rattle.certificate_lines.proofs.builder.Builder.does_any_neighbour_lack_a_wire.Goals as goal
@@ -26,8 +27,8 @@ do_neighbours_lack_a_wire-requires-clause-inside c =
     let all = lines_on_layout g c.self.inside.modules.items c.self.invariant.tracked.kept.built.sound i n
     (subst (λ (l : List StoredModule). i < length l) are c.loop-module-test.true)
     (c.module-item.is ∙ ap (λ (l : List StoredModule). get_or l i n) are) in
-    subst (λ (s : BuilderView). All (IsWithin s.setting.size) c.as_slice.result.now) c.self.view_is
-    (subst (All (IsWithin g.size)) (sym c.as_slice.ensures.value) all)
+    subst (λ (s : BuilderView). All (IsCellWithinLayout s.setting.size) c.as_slice.result.now) c.self.view_is
+    (subst (All (IsCellWithinLayout g.size)) (sym c.as_slice.ensures.value) all)
 
 -- whether a module has an edge line whose wire a neighbour lacks
 has_lacked : BuilderView → StoredModule → Bool
@@ -45,7 +46,8 @@ returns-then-do_neighbours_lack_a_wire c =
     (ap (has_lacked v) (sym c.module-item.is) ∙ here) in
     sym hit ∙ ap (list_any (has_lacked v)) c.deref-module-items.ensures.value
     ∙ subst (λ (s : BuilderView). list_any (has_lacked s) c.self.inside.modules.items
-    ≡ list_any (lacks_edge_wire s.setting.circuit (flat_map edges (modules_of s.entries))) (modules_of s.entries))
+    ≡ list_any (lacks_wire_of_some_edge s.setting.circuit (flat_map edges (modules_of s.entries)))
+    (modules_of s.entries))
     c.self.view_is (lacked_stored c.self.inside.tables.circuit c.self.inside.modules.items)
 
 pub returns : goal.returns
@@ -56,5 +58,6 @@ returns c =
     let all : take c.loop-module.module-index l ≡ l = grind (arith, common_steps, take_all) in
     sym c.loop-module.invariant ∙ ap (list_any (has_lacked v)) (all ∙ c.deref-module-items.ensures.value)
     ∙ subst (λ (s : BuilderView). list_any (has_lacked s) c.self.inside.modules.items
-    ≡ list_any (lacks_edge_wire s.setting.circuit (flat_map edges (modules_of s.entries))) (modules_of s.entries))
+    ≡ list_any (lacks_wire_of_some_edge s.setting.circuit (flat_map edges (modules_of s.entries)))
+    (modules_of s.entries))
     c.self.view_is (lacked_stored c.self.inside.tables.circuit c.self.inside.modules.items)

@@ -1,6 +1,8 @@
-use Rattle.certificate_lines.proofs.Imports.{Cell, CircuitAndPorts, Inside, IsPortTable, List, Option, Some, ap, arith}
+use Rattle.certificate_lines.proofs.Imports.{ArePortTableFields, Cell, CircuitAndPorts, Inside, List, Option, Some, ap}
+use Rattle.certificate_lines.proofs.Imports.{arith}
 use Rattle.certificate_lines.proofs.Imports.{circuit_of, common_steps, entry_place, get_or, in_box, length-map}
-use Rattle.certificate_lines.proofs.Imports.{number_at, option_map, port_at, positive, subst, sym, true, wire_of, ℕ}
+use Rattle.certificate_lines.proofs.Imports.{option_map, port_at, port_number_at, positive, subst, sym, true, wire_of}
+use Rattle.certificate_lines.proofs.Imports.{ℕ}
 use Rattle.certificate_lines.proofs.Imports.{◌-◌, ◌∙◌, ◌≡◌}
 use Rattle.certificate_lines.proofs.TableLemmas.{IsNumbered, entry_is, numbered_below, numbered_wire, placed}
 use Rattle.certificate_lines.proofs.TableLemmas.{unnumbered, unplaced}
@@ -12,9 +14,9 @@ place_at : (a : Inside) (c : Cell) (rows : List ℕ) (o : Option ℕ) → rows �
 place_at a c rows o are at = sym (at ∙ ap (λ (rs : List ℕ). entry_place a.area rs c.x c.y) are)
 
 -- what stands in the table at the place of a cell of its area
-entry_at : (a : Inside) → IsPortTable a → (c : Cell) (place n : ℕ) → in_box a.area c.x c.y ≡ true →
+entry_at : (a : Inside) → ArePortTableFields a → (c : Cell) (place n : ℕ) → in_box a.area c.x c.y ≡ true →
     entry_place a.area a.rows.items c.x c.y ≡ Some place → n ≡ get_or a.numbers.items place n →
-    n ≡ number_at a.ports.now c.x c.y
+    n ≡ port_number_at a.ports.now c.x c.y
 entry_at a is c place n inside at entry =
     entry_is a.numbers.items place n entry (is.within c.x c.y place inside at)
     ∙ sym (placed a.numbers.items (entry_place a.area a.rows.items c.x c.y) place at) ∙ is.numbered c.x c.y inside

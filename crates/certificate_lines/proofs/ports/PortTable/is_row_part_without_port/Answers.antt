@@ -1,4 +1,5 @@
-use Rattle.certificate_lines.proofs.Imports.{Box2, Cell, Inside, IsPortTable, List, None, Option, Some, ap, arith, cell}
+use Rattle.certificate_lines.proofs.Imports.{ArePortTableFields, Box2, Cell, Inside, List, None, Option, Some, ap}
+use Rattle.certificate_lines.proofs.Imports.{arith, cell}
 use Rattle.certificate_lines.proofs.Imports.{common_steps, drop, entry_place, in_box, ints, length, list_all, nat_eq}
 use Rattle.certificate_lines.proofs.Imports.{port_at, pos, suc, sym, take, to_z, true, w32, zero, ℕ, ◌+◌, ◌-◌, ◌<◌, ◌∙◌}
 use Rattle.certificate_lines.proofs.Imports.{◌≡◌, ◌≤◌}
@@ -25,7 +26,7 @@ place_at a x y rows o l m are at =
     sym (grind (arith, common_steps, cast_cell))
 
 -- the entries of a part of a row
-row_within : (a : Inside) → IsPortTable a → (x y width place : ℕ) → in_box a.area (pos x) (pos y) ≡ true →
+row_within : (a : Inside) → ArePortTableFields a → (x y width place : ℕ) → in_box a.area (pos x) (pos y) ≡ true →
     x + width ≤ a.area.x + a.area.w → entry_place a.area a.rows.items (pos x) (pos y) ≡ Some place →
     place + width ≤ length a.numbers.items
 row_within a is x y zero place inside fits at =
@@ -37,7 +38,7 @@ row_within a is x y (suc n) place inside fits at =
     omega (arith, lt)
 
 -- no port is at a cell whose entry is zero
-free_at : (a : Inside) → IsPortTable a → (x y width place : ℕ) (numbers : List ℕ) → numbers ≡ a.numbers.items →
+free_at : (a : Inside) → ArePortTableFields a → (x y width place : ℕ) (numbers : List ℕ) → numbers ≡ a.numbers.items →
     in_box a.area (pos x) (pos y) ≡ true → x + width ≤ a.area.x + a.area.w →
     entry_place a.area a.rows.items (pos x) (pos y) ≡ Some place →
     list_all (λ m. nat_eq m 0) (take (place + width - place) (drop place numbers)) ≡ true →
@@ -51,7 +52,7 @@ free_at a is x y width place numbers are inside fits at all k l =
     ∙ part_zero a.numbers.items place width k all l)
 
 -- no port is in a row without entries
-free_row : (a : Inside) → IsPortTable a → (x y width : ℕ) → in_box a.area (pos x) (pos y) ≡ true →
+free_row : (a : Inside) → ArePortTableFields a → (x y width : ℕ) → in_box a.area (pos x) (pos y) ≡ true →
     x + width ≤ a.area.x + a.area.w → entry_place a.area a.rows.items (pos x) (pos y) ≡ None →
     (k : ℕ) → k < width → port_at a.ports.now (pos (x + k)) (pos y) ≡ None
 free_row a is x y width inside fits at k l =

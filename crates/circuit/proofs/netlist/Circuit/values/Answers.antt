@@ -1,4 +1,5 @@
-use Rattle.circuit.proofs.Imports.{AreValues, CircuitLine, Gate, IsGateEvaluationError, IsValuesFault, List, Some, ap}
+use Rattle.circuit.proofs.Imports.{AreWireValues, CircuitLine, Gate, IsGateEvaluationError, IsValuesFault, List, Some}
+use Rattle.circuit.proofs.Imports.{ap}
 use Rattle.circuit.proofs.Imports.{as_values, defined, evaluate, gate_of, gates_of, input_count, length, map}
 use Rattle.circuit.proofs.Imports.{netlist_of, refl, subst, sym, ◌∙◌, ◌≡◌}
 use Rattle.circuit.proofs.Bridging.{gates_are_ordered}
@@ -14,7 +15,7 @@ returns-in-Ok-clause-values c =
     ap (evaluate c.args.inputs.now) (sym (ap (map gate_of) c.as_slice.ensures.value ∙ c.self.invariant.wired))
     ∙ c.in-Ok.ensures.values in
     subst (λ (entries : List CircuitLine).
-    AreValues (netlist_of entries) (as_values c.args.inputs.now) c.in-Ok.values.items)
+    AreWireValues (netlist_of entries) (as_values c.args.inputs.now) c.in-Ok.values.items)
     c.self.view_is
     (evaluated (netlist_of entries) (as_values c.args.inputs.now) c.args.inputs.now c.in-Ok.values.items
     (gates_are_ordered entries c.self.invariant.good) same (λ i h. refl) found)

@@ -1,6 +1,7 @@
-use Rattle.core_book.proofs.Imports.{BookView, IsBook, IsReplayed, after_closing, book_view, subst, sym, true, ◌≡◌}
+use Rattle.core_book.proofs.Imports.{BookView, IsBook, IsHistoryReplayed, after_closing, book_view, subst, sym, true}
+use Rattle.core_book.proofs.Imports.{◌≡◌}
 use Rattle.core_book.proofs.Filings.{IsBook-closed}
-use Rattle.core_book.proofs.Replays.{IsReplayed-closed}
+use Rattle.core_book.proofs.Replays.{IsHistoryReplayed-closed}
 use Rattle.core_book.proofs.book.BookState.close.Goals as goal
 
 pub invariant_of-self-2 : goal.invariant_of-self-2
@@ -11,6 +12,6 @@ invariant_of-self-2 c =
     let is = c.self.invariant in
     record {
       book = subst IsBook left (IsBook-closed b is.book);
-      replayed = subst IsReplayed left (IsReplayed-closed b is.replayed);
+      replayed = subst IsHistoryReplayed left (IsHistoryReplayed-closed b is.replayed);
       counted = is.counted;
     }

@@ -1,9 +1,11 @@
-use Rattle.core_book.proofs.Imports.{Accepted, BookView, Filed, Filing, IsBook, IsReplayed, Some, [], held_count}
+use Rattle.core_book.proofs.Imports.{Accepted, BookView, Filed, Filing, IsBook, IsHistoryReplayed, Some, []}
+use Rattle.core_book.proofs.Imports.{held_finding_count}
 use Rattle.core_book.proofs.Imports.{after_filing, ap, arith, book_view, common_steps, filing_of, reply_to, set, subst}
 use Rattle.core_book.proofs.Imports.{sym, ◌++◌, ◌+◌, ◌∙◌, ◌∷◌, ◌≡◌}
-use Rattle.core_book.proofs.Filings.{IsBook-filed, accepted-inside, held_count-accepted, held_count-filed}
-use Rattle.core_book.proofs.Filings.{held_count-other, left-accepted, left-other}
-use Rattle.core_book.proofs.Replays.{IsReplayed-filed}
+use Rattle.core_book.proofs.Filings.{IsBook-filed, accepted-inside, held_finding_count-accepted}
+use Rattle.core_book.proofs.Filings.{held_finding_count-filed}
+use Rattle.core_book.proofs.Filings.{held_finding_count-other, left-accepted, left-other}
+use Rattle.core_book.proofs.Replays.{IsHistoryReplayed-filed}
 use Rattle.core_book.proofs.book.BookState.file.Goals.{After-push_reserved}
 use Rattle.core_book.proofs.book.BookState.file.Goals as goal
 
@@ -47,9 +49,10 @@ invariant_of-self-in_default c =
     let left = sym (without d c.in_default.not-Accepted) in
     record {
       book = subst IsBook left (IsBook-filed (book d) c.args.finding is.book);
-      replayed = subst IsReplayed left (IsReplayed-filed (book d) c.args.finding is.book is.replayed);
-      counted = is.counted ∙ sym (held_count-other (book d) c.args.finding (refused d c.in_default.not-Accepted))
-          ∙ ap held_count left;
+      replayed = subst IsHistoryReplayed left (IsHistoryReplayed-filed (book d) c.args.finding is.book is.replayed);
+      counted = is.counted ∙ sym (held_finding_count-other (book d) c.args.finding
+          (refused d c.in_default.not-Accepted))
+          ∙ ap held_finding_count left;
     }
 
 pub returns-in_default-clause-reply : goal.returns-in_default-clause-reply
@@ -61,7 +64,7 @@ returns-in_default-clause-after c =
 
 pub returns-in_default-clause-counted : goal.returns-in_default-clause-counted
 returns-in_default-clause-counted c =
-    grind (arith, common_steps, held_count-filed, without)
+    grind (arith, common_steps, held_finding_count-filed, without)
 
 pub index_mut-requires : goal.index_mut-requires
 index_mut-requires c =
@@ -74,10 +77,10 @@ invariant_of-self-2 c =
     let left = sym (with_found d c.in-Accepted.is) in
     record {
       book = subst IsBook left (IsBook-filed (book d) c.args.finding is.book);
-      replayed = subst IsReplayed left (IsReplayed-filed (book d) c.args.finding is.book is.replayed);
+      replayed = subst IsHistoryReplayed left (IsHistoryReplayed-filed (book d) c.args.finding is.book is.replayed);
       counted = ap (λ n. n + 1) is.counted
-          ∙ sym (held_count-accepted (book d) c.args.finding is.book (accepted d c.in-Accepted.is))
-          ∙ ap held_count left;
+          ∙ sym (held_finding_count-accepted (book d) c.args.finding is.book (accepted d c.in-Accepted.is))
+          ∙ ap held_finding_count left;
     }
 
 pub returns-clause-after : goal.returns-clause-after
@@ -86,6 +89,6 @@ returns-clause-after c = grind (arith, common_steps, with_found, c.in-Accepted.i
 pub returns-clause-counted : goal.returns-clause-counted
 returns-clause-counted c =
     let d = (goal.at.returns-clause-counted c).After-push_reserved in
-    held_count-filed (book d) c.args.self.now _ c.args.finding _ c.self.invariant.book c.self.view_is
+    held_finding_count-filed (book d) c.args.self.now _ c.args.finding _ c.self.invariant.book c.self.view_is
     (ap (λ (x : Filing). x.reply) c.filing_of-filing.ensures)
     (with_found d c.in-Accepted.is ∙ ap (λ (b : BookView). after_filing b c.args.finding) c.self.view_is)

@@ -1,6 +1,6 @@
 use Rattle.core_book.proofs.Imports.{CoreView, IsCore, after_claim, ap, arc_value, arith, common_steps, core_view}
 use Rattle.core_book.proofs.Imports.{draws_after_claim, draws_of, job_count_of, length, length-map, length-set}
-use Rattle.core_book.proofs.Imports.{lists_of, next_after_claim, set, subst, sym, ℕ, ◌<◌, ◌∙◌, ◌≡◌}
+use Rattle.core_book.proofs.Imports.{lists_of, next_unless_seat_finished, set, subst, sym, ℕ, ◌<◌, ◌∙◌, ◌≡◌}
 use Rattle.lemmas.proofs.Common.{Global, Vec, map-set, map-set_same}
 use Rattle.core_book.proofs.CoreSteps.{claim-core, drawn-at, left-claim, next-few}
 use Rattle.core_book.proofs.machine.Core.claim.Goals.{After-index_mut, After-next_claim, at-After-next_claim}
@@ -43,7 +43,7 @@ returns-in_default-clause-unchanged c =
 
 -- what a claim leaves
 left : (c : After-next_claim) (next : ℕ) →
-    next ≡ next_after_claim (length c.jobs-count.result.now) c.index_mut.result.now.items c.self.inside.next
+    next ≡ next_unless_seat_finished (length c.jobs-count.result.now) c.index_mut.result.now.items c.self.inside.next
     → c.next_claim.new.drawn.items
     ≡ draws_after_claim (length c.jobs-count.result.now) c.index_mut.result.now.items c.self.inside.next
     → record (core_view c.self.inside)

@@ -1,4 +1,5 @@
-use Rattle.lanes.proofs.Imports.{IsUnmarked, List, arith, bit-zero, by_lt_or_le, cell_at, common_steps, get_or, ℕ, ◌%◌}
+use Rattle.lanes.proofs.Imports.{IsNumberUnmarked, List, arith, bit-zero, by_lt_or_le, cell_at, common_steps, get_or, ℕ}
+use Rattle.lanes.proofs.Imports.{◌%◌}
 use Rattle.lanes.proofs.Imports.{◌/◌, ◌≡◌}
 use Rattle.lemmas.proofs.Common.{replicate, get_or-replicate, get_or_past, length-replicate}
 use Rattle.lanes.proofs.live.LiveMarks.new.Goals as goal
@@ -9,7 +10,7 @@ zeros n = replicate n 0
 zero_word : (n k : ℕ) → get_or (zeros n) k 0 ≡ 0
 zero_word n k = grind (arith, common_steps, by_lt_or_le, get_or-replicate, length-replicate, get_or_past)
 
-unmarked : (n : ℕ) (marks : List ℕ) (u : ℕ) → marks ≡ zeros n → IsUnmarked marks u
+unmarked : (n : ℕ) (marks : List ℕ) (u : ℕ) → marks ≡ zeros n → IsNumberUnmarked marks u
 unfolding cell_at
 unmarked n marks u e = rw (e, zero_word n (u / 64)) (bit-zero (u % 64))
 

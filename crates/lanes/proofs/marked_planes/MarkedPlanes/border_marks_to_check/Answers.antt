@@ -1,24 +1,25 @@
-use Rattle.lanes.proofs.Imports.{AreNumberCellsUnmarked, IsUnmarked, List, arith, inl, inr, mul-le-mul_left, subst, ◌*◌}
+use Rattle.lanes.proofs.Imports.{AreNumberCellsUnmarked, IsNumberUnmarked, List, arith, inl, inr, mul-le-mul_left}
+use Rattle.lanes.proofs.Imports.{subst, ◌*◌}
 use Rattle.lanes.proofs.Imports.{◌+◌, ◌<◌, ℕ, ◌≡◌, ◌≤◌, ◌⊎◌}
-use Rattle.lanes.specs.Borders.{AreSkippableBetween}
+use Rattle.lanes.specs.Borders.{AreNumbersSkippableBetween}
 use Rattle.lanes.specs.declared.marked_planes.MarkedPlanes.{MarkedPlanes}
 use Rattle.lanes.proofs.LiveLemmas.{dead_at}
 use Rattle.lanes.proofs.marked_planes.MarkedPlanes.border_marks_to_check.Goals as goal
 
 -- a number without a mark in a word of marks on ring and halo
 skippable : (f : MarkedPlanes) (others : List ℕ) (u : ℕ) →
-    IsUnmarked f.border_marks.items u ⊎ (AreNumberCellsUnmarked f.live_marks u × IsUnmarked others u) →
-    AreSkippableBetween u (u + 1) others f.planes
+    IsNumberUnmarked f.border_marks.items u ⊎ (AreNumberCellsUnmarked f.live_marks u × IsNumberUnmarked others u) →
+    AreNumbersSkippableBetween u (u + 1) others f.planes
 skippable f others u says column row lc lr after before =
     let s = f.planes.stride in
     let at : u ≡ s * row + column = omega arith in
     let within : s * row + column < s * f.planes.rows =
     let m : s * (row + 1) ≤ s * f.planes.rows = mul-le-mul_left s (omega arith) in omega arith in
     elim says [
-      | inl free ↦ inl (f.all_inner column row lc lr (subst (IsUnmarked f.border_marks.items) at free))
+      | inl free ↦ inl (f.all_inner column row lc lr (subst (IsNumberUnmarked f.border_marks.items) at free))
       | inr free ↦ inr (
         dead_at (s * row + column) f.live_marks f.planes within f.all_dead (rw at at free.0),
-        subst (IsUnmarked others) at free.1,
+        subst (IsNumberUnmarked others) at free.1,
       )
     ]
 

@@ -1,4 +1,4 @@
-use Rattle.lanes.proofs.Imports.{AreUnmarkedAwayFromBorder, List, ap, arith, length, subst, sym, ℕ}
+use Rattle.lanes.proofs.Imports.{AreBorderNumbersMarked, List, ap, arith, length, subst, sym, ℕ}
 use Rattle.lemmas.proofs.Common.{with_items_is}
 use Rattle.lanes.proofs.LiveLemmas.{dead_all}
 use Rattle.lanes.proofs.marked_planes.MarkedPlanes.new.Goals as goal
@@ -15,4 +15,4 @@ invariant_of-result-clause-all_inner c =
     (omega (arith, ap length v, c.in_ok-border_marks.border_marks.ok.0)) in
     let box_coord = c.mark_ring_and_halo_numbers.ensures in
     let box_coord = rw (c.stride.ensures.stride_is_exact, c.rows.ensures.count_is_exact) at box_coord in
-    subst (λ (m : List ℕ). AreUnmarkedAwayFromBorder p.stride p.rows m) (sym items) box_coord
+    subst (λ (m : List ℕ). AreBorderNumbersMarked p.stride p.rows m) (sym items) box_coord

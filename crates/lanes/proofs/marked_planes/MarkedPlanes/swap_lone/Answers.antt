@@ -1,4 +1,4 @@
-use Rattle.lanes.proofs.Imports.{Odd, block_at, is_main, not}
+use Rattle.lanes.proofs.Imports.{Odd, block_at, is_main_diagonal, not}
 use Rattle.lanes.proofs.CalmLemmas.{cells_of, still_stable}
 use Rattle.lanes.proofs.LiveLemmas.{lone_turned, swapped_cells, swapped_dead}
 use Rattle.lanes.proofs.FrozenLemmas.{one_may_turn, still_frozen}
@@ -11,7 +11,7 @@ invariant_of-self-clause-calm c =
     let swap = rw c.block_places-block.ensures.block at c.swap-2.ensures.swapped in
     let marks = rw (c.of.ensures.main, c.of.ensures.anti, c.stride-stride.ensures.stride_is_exact)
     at c.mark_block_and_neighbours.ensures.marked in
-    still_stable (is_main c.args.diagonal) (not (is_main c.args.diagonal))
+    still_stable (is_main_diagonal c.args.diagonal) (not (is_main_diagonal c.args.diagonal))
     (block_at c.args.partition f.planes.stride c.args.u) f.block_marks c.mark_block_and_neighbours.new.self f.planes
     c.swap-2.new.self c.swap-2.ensures.size
     (swapped_cells c.args.diagonal (block_at c.args.partition f.planes.stride c.args.u) f.planes c.swap-2.new.self swap)
@@ -45,7 +45,7 @@ returns-clause-settled_if_even c = λ even u is.
     at c.mark_block_and_neighbours.ensures.marked in
     let free = marks Odd u is.1 in (
       (is.0, free.0),
-      kept_number (is_main c.args.diagonal) (not (is_main c.args.diagonal))
+      kept_number (is_main_diagonal c.args.diagonal) (not (is_main_diagonal c.args.diagonal))
           (block_at c.args.partition f.planes.stride c.args.u) f.planes c.swap-2.new.self u c.swap-2.ensures.size
           (swapped_cells c.args.diagonal (block_at c.args.partition f.planes.stride c.args.u) f.planes
           c.swap-2.new.self swap) free.1,

@@ -1,5 +1,5 @@
 use Rattle.lanes.proofs.Imports.{subst, sym}
-use Rattle.lanes.specs.Settled.{KeepsSettled}
+use Rattle.lanes.specs.Settled.{AreSettledBlocksUnchanged}
 use Rattle.lanes.specs.declared.marked_planes.MarkedPlanes.{MarkedPlanes}
 use Rattle.lanes.proofs.SettledLemmas.{settled_twice}
 use Rattle.lanes.proofs.marked_planes.MarkedPlanes.turn_lone.Goals as goal
@@ -15,7 +15,7 @@ returns-in_default-partition-clause-settled_if_even c = λ even.
     elim c.match-partition.branch [
       | in-Even-Main+else-unmark_even_block_if_dead w ↦
           settled_twice old c.match-partition.self new
-          (subst (KeepsSettled old) (sym w.self-is) w.unmark_even_block_if_dead.ensures.settled) swapped
-      | in-Even+in-Anti-1 w ↦ subst (λ (m : MarkedPlanes). KeepsSettled m new) w.self-is swapped
-      | in-Odd-1 w ↦ subst (λ (m : MarkedPlanes). KeepsSettled m new) w.self-is swapped
+          (subst (AreSettledBlocksUnchanged old) (sym w.self-is) w.unmark_even_block_if_dead.ensures.settled) swapped
+      | in-Even+in-Anti-1 w ↦ subst (λ (m : MarkedPlanes). AreSettledBlocksUnchanged m new) w.self-is swapped
+      | in-Odd-1 w ↦ subst (λ (m : MarkedPlanes). AreSettledBlocksUnchanged m new) w.self-is swapped
     ]

@@ -1,4 +1,4 @@
-use Rattle.lanes.proofs.Imports.{IsNotRowEnd, IsPassedBlock, arith, ◌+◌, ◌<◌, ◌∙◌, ◌≤◌}
+use Rattle.lanes.proofs.Imports.{IsNotRowEndBlock, IsPassedBlock, arith, ◌+◌, ◌<◌, ◌∙◌, ◌≤◌}
 use Rattle.lanes.proofs.FieldLemmas.{one_more, one_past, past_all, past_before, renamed}
 use Rattle.lanes.proofs.SettledLemmas.{settled_twice}
 use Rattle.lanes.proofs.marked_planes.MarkedPlanes.turn_marked_blocks.Goals as goal
@@ -8,7 +8,7 @@ returns-then-u-end-clause-turned c =
     let a = c.args in
     let p = a.self.now.planes in
     renamed p.words p.stride a.partition (IsPassedBlock a.partition p.stride a.first a.end c.loop-rest.rest)
-    (λ n. (a.first ≤ n) × (n < a.end) × IsNotRowEnd a.partition p.stride n) p c.loop-rest.self.planes
+    (λ n. (a.first ≤ n) × (n < a.end) × IsNotRowEndBlock a.partition p.stride n) p c.loop-rest.self.planes
     (λ n l. (
       past_before a.first a.end c.loop-rest.rest c.take_first_mark-place.result.0 n (omega arith) (omega arith)
           (omega arith) c.take_first_mark-place.ensures.first.2 l.0 l.1,
@@ -21,7 +21,7 @@ returns-clause-turned c =
     let a = c.args in
     let p = a.self.now.planes in
     renamed p.words p.stride a.partition (IsPassedBlock a.partition p.stride a.first a.end c.loop-rest.rest)
-    (λ n. (a.first ≤ n) × (n < a.end) × IsNotRowEnd a.partition p.stride n) p c.loop-rest.self.planes
+    (λ n. (a.first ≤ n) × (n < a.end) × IsNotRowEndBlock a.partition p.stride n) p c.loop-rest.self.planes
     (λ n l. (past_all a.first a.end c.loop-rest.rest n (omega arith) l.0 l.1, l.2))
     (λ n is. (is.0.0, is.0.1, is.1)) c.loop-rest.invariant.turned
 

@@ -1,4 +1,5 @@
-use Rattle.lanes.proofs.Imports.{HasWordsStrideRows, IsNotRowEnd, arith, false≢true, sym, ℕ, ◌*◌, ◌-◌, ◌<◌, ◌∙◌, ◌≤◌}
+use Rattle.lanes.proofs.Imports.{HasWordsStrideRows, IsNotRowEndBlock, arith, false≢true, sym, ℕ, ◌*◌, ◌-◌, ◌<◌, ◌∙◌}
+use Rattle.lanes.proofs.Imports.{◌≤◌}
 use Rattle.lanes.proofs.FieldLemmas.{by_row_end, join}
 use Rattle.lanes.proofs.RunLemmas.{first_join, first_part, run_skipped, run_turned}
 use Rattle.lanes.proofs.planes.Planes.step_between_marks.Goals as goal
@@ -10,7 +11,7 @@ loop-at-preserved c =
     let m = c.loop-at.invariant in
     let e = c.turn_block_range.ensures in
     let next = c.next_unmarked-at-in-loop-at.ensures in
-    let blocks = c.block_count-blocks.ensures.count_is_exact in
+    let blocks = c.block_number_count-blocks.ensures.count_is_exact in
     let q = c.loop-at.self in
     let r = c.turn_block_range.new.self in
     let at = c.loop-at.at in
@@ -18,7 +19,7 @@ loop-at-preserved c =
     let marked = c.next_marked-end.ensures in
     let size : HasWordsStrideRows p.words p.stride p.rows r =
     (e.size.0 ∙ m.size.0, e.size.1 ∙ m.size.1, e.size.2 ∙ m.size.2) in
-    let inside : (n : ℕ) → at ≤ n → n < end → IsNotRowEnd part q.stride n = λ n g h.
+    let inside : (n : ℕ) → at ≤ n → n < end → IsNotRowEndBlock part q.stride n = λ n g h.
     by_row_end part q.stride n (λ i. i) (λ out.
     let out = rw m.size.1 at out in
     absurd (false≢true (sym (marked.passed_unmarked n g h)

@@ -1,4 +1,5 @@
-use Rattle.lanes.proofs.Imports.{HasWordsStrideRows, IsUnmarked, KeepsCellsOutsideBlocks, TurnsBlocksBetween, ◌-◌, ◌<◌}
+use Rattle.lanes.proofs.Imports.{HasWordsStrideRows, IsNumberUnmarked, KeepsCellsOutsideBlocks}
+use Rattle.lanes.proofs.Imports.{TurnsNumberedBlocksBetween, ◌-◌, ◌<◌}
 use Rattle.lanes.proofs.Imports.{◌≤◌}
 use Rattle.lanes.proofs.planes.Planes.step_between_marks.Given as goal
 
@@ -7,8 +8,8 @@ abbrev pub invariant-loop-at : goal.invariant-loop-at
 invariant-loop-at l = record {
   size : HasWordsStrideRows l.fn.self.words l.fn.self.stride l.fn.self.rows l.self;
   within : l.at ≤ l.blocks;
-  unmarked : l.at < l.blocks → IsUnmarked l.marks l.at;
-  turned : TurnsBlocksBetween l.partition 0 l.at l.fn.self l.self;
+  unmarked : l.at < l.blocks → IsNumberUnmarked l.marks l.at;
+  turned : TurnsNumberedBlocksBetween l.partition 0 l.at l.fn.self l.self;
   first : KeepsCellsOutsideBlocks l.partition l.fn.self l.self;
 }
 

@@ -1,4 +1,5 @@
-use Rattle.local_run.proofs.Imports.{AreOrdered, AreValueRows, Netlist, ap, arith, assignments, common_steps, div_ceil}
+use Rattle.local_run.proofs.Imports.{AreGatesOrdered, AreValueRows, Netlist, ap, arith, assignments, common_steps}
+use Rattle.local_run.proofs.Imports.{div_ceil}
 use Rattle.local_run.proofs.Imports.{subst, ℕ, ◌%◌, ◌*◌, ◌<◌, ◌^◌, ◌∙◌, ◌≡◌, ◌≤◌}
 use Rattle.lemmas.proofs.Common.{pow_pos}
 use Rattle.std.proofs.Math.Pow.{pow_mono}
@@ -32,7 +33,7 @@ returns c =
     c.in_ok-value_rows.ensures) in
     record {
       job = c.requires;
-      ordered = subst (λ (l : Netlist). AreOrdered l.given l.gates) e c.cuts-count.ensures.gates_ordered;
+      ordered = subst (λ (l : Netlist). AreGatesOrdered l.given l.gates) e c.cuts-count.ensures.gates_ordered;
       wide = (w.0, w.1);
       count = count;
       room = w.2;

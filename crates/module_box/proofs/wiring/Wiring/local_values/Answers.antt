@@ -1,7 +1,7 @@
 use Rattle.module_box.proofs.Imports.{AreModuleValuesAtBit, List, Netlist, ap, arith, bit, lane, length, refl}
 use Rattle.module_box.proofs.Imports.{slice_index, subst}
 use Rattle.module_box.proofs.Imports.{sym, true, ℕ, ◌%◌, ◌*◌, ◌+◌, ◌/◌, ◌<◌, ◌∙◌, ◌≡◌}
-use Rattle.circuit.specs.Bridge.{AreValues}
+use Rattle.circuit.specs.Bridge.{AreWireValues}
 use Rattle.module_box.proofs.LocalRows.{column_defined}
 use Rattle.module_box.proofs.wiring.Wiring.local_values.Goals as goal
 
@@ -36,6 +36,6 @@ returns-clause-values c =
     (let long = ap length same ∙ c.in_ok-column.ensures.gates in omega (arith, below, long))) in
     let is : c.in_ok-values-in-None.values.items ≡ lane (c.args.cut_bits % 64) c.in_ok-column.column.words.items =
     c.in_ok-values-in-None.ensures ∙ ap (lane (c.args.cut_bits % 64)) c.as_slice-in-None.ensures.value in
-    subst (AreValues c.args.self.now (bit c.args.cut_bits)) (sym is)
+    subst (AreWireValues c.args.self.now (bit c.args.cut_bits)) (sym is)
     ((at c.args.self.now c.args.cut_bits c.in_ok-column.column.defined c.in_ok-column.column.words.items
     c.in_ok-column.column.undefined.items c.in_ok-column.ensures.values).values whole)

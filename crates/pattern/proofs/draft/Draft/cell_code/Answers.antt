@@ -1,5 +1,6 @@
 -- The grids hold the cells that are taken.
-use Rattle.pattern.proofs.Imports.{LayoutHeader, ap, arith, cells_of, common_steps, is_taken, parts_of, refl, sym, ◌∙◌}
+use Rattle.pattern.proofs.Imports.{LayoutHeader, ap, arith, cells_of, common_steps, has_taken_cell, parts_of, refl, sym}
+use Rattle.pattern.proofs.Imports.{◌∙◌}
 use Rattle.pattern.proofs.Imports.{◌≡◌}
 use Rattle.pattern.proofs.TakenLemmas.{cells_free, cells_taken, lies_on, outside_is_fault, taken_by}
 use Rattle.pattern.proofs.draft.Draft.cell_code.Goals.{After-is_any_cell_taken}
@@ -23,7 +24,7 @@ is_any_cell_taken-requires-clause-end_on_part c =
     c.args.part.now (sym c.is_inside.ensures ∙ c.if-not-is_inside.false)
 
 taken_here : (c : After-is_any_cell_taken) →
-    c.is_any_cell_taken.result ≡ is_taken (parts_of c.self.inside.layout) c.args.part.now
+    c.is_any_cell_taken.result ≡ has_taken_cell (parts_of c.self.inside.layout) c.args.part.now
 taken_here c =
     c.is_any_cell_taken.ensures
     ∙ taken_by c.self.inside.cells_taken_at_start c.self.inside.cells_taken_at_end

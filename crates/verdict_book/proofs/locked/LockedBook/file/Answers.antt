@@ -1,5 +1,5 @@
 use Rattle.lemmas.proofs.Common.{[], ◌+◌, ◌∙◌, ◌∷◌, ◌≡◌, ap, arith, false, length, length-append, sym}
-use Rattle.core_book.specs.Book.{BookView, held_count, after_filing, accepted_count_after, filing_of}
+use Rattle.core_book.specs.Book.{BookView, held_finding_count, after_filing, accepted_count_after, filing_of}
 use Rattle.core_book.specs.Replay.{has_closing}
 use Rattle.core_book.specs.declared.log_entry.LogEntry.TheVariants.{Filed}
 use Rattle.core_book.proofs.BookLaws.{closed-answers-closed}
@@ -16,8 +16,8 @@ invariant_of-self-in-Accepted g c =
     let entries : length c.file.new.self.history ≡ length old.state.history + 1 =
     ap (λ (b : BookView). length b.history) after
     ∙ length-append old.state.history (Filed (filing_of old.state c.args.finding) ∷ []) in
-    let one : held_count c.file.new.self ≡ held_count old.state + 1 =
-    c.in_ok-reply.ensures.counted ∙ ap (accepted_count_after (held_count old.state)) c.in-Accepted.is in
+    let one : held_finding_count c.file.new.self ≡ held_finding_count old.state + 1 =
+    c.in_ok-reply.ensures.counted ∙ ap (accepted_count_after (held_finding_count old.state)) c.in-Accepted.is in
     record {
       own_digest = ap (λ (b : BookView). b.digest) after ∙ old.own_digest;
       own_jobs = ap (λ (b : BookView). b.jobs) after ∙ old.own_jobs;
@@ -42,9 +42,9 @@ invariant_of-self-in_default g c =
     let entries : length c.file.new.self.history ≡ length old.state.history + 1 =
     ap (λ (b : BookView). length b.history) after
     ∙ length-append old.state.history (Filed (filing_of old.state c.args.finding) ∷ []) in
-    let same : held_count c.file.new.self ≡ held_count old.state =
+    let same : held_finding_count c.file.new.self ≡ held_finding_count old.state =
     c.in_ok-reply.ensures.counted
-    ∙ accepted_count_after-other (held_count old.state) c.in_ok-reply.reply c.in_default.not-Accepted in
+    ∙ accepted_count_after-other (held_finding_count old.state) c.in_ok-reply.reply c.in_default.not-Accepted in
     record {
       own_digest = ap (λ (b : BookView). b.digest) after ∙ old.own_digest;
       own_jobs = ap (λ (b : BookView). b.jobs) after ∙ old.own_jobs;

@@ -1,5 +1,0 @@
-use Rattle.certificate.proofs.Imports.{arith, common_steps}
-use Rattle.certificate.proofs.printing.print_gates.Goals as goal
-
-pub loop-gate-preserved : goal.loop-gate-preserved
-loop-gate-preserved c = grind (arith, common_steps)

@@ -1,5 +1,0 @@
-use Rattle.local_run.proofs.Leasts.{undefined_no_fault}
-use Rattle.local_run.proofs.laws.no_fault_where_undefined.Goals as goal
-
-pub returns : goal.returns
-returns c = undefined_no_fault
