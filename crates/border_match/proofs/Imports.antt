@@ -9,7 +9,7 @@ pub use Rattle.border_match.specs.Boards.{IsAtUnmarkedEventBelow, IsBorderFaultO
 pub use Rattle.border_match.specs.Boards.{IsEventListed, IsInOrAroundBox, KeepsAllModuleNumbers, job_signals, jobs_of}
 pub use Rattle.border_match.specs.BorderFaults.{IsBorderFault, IsLeastBorderFault, edge_signal, halo_signal}
 unfoldable pub use Rattle.border_match.specs.BorderFaults.{border_fault_cmp}
-pub use Rattle.border_match.specs.Candidates.{HasCandidateAtMost, IsLeastCandidate, IsNextCandidate}
+pub use Rattle.border_match.specs.Candidates.{HasCandidateAtMost, IsLeastCandidate, IsUpdatedCandidate}
 pub use Rattle.border_match.specs.Surroundings.{HasNoWindowEventBetween, IsEdgeEventExtent, IsEventOutsideWindow}
 pub use Rattle.border_match.specs.Surroundings.{IsExtentOfEvents}
 pub use Rattle.border_match.specs.Surroundings.{IsInWindow}

@@ -1,5 +1,5 @@
 -- Candidates for a least border fault
-use Rattle.border_match.proofs.Imports.{BorderFault, Greater, HasCandidateAtMost, IsLeastCandidate, IsNextCandidate}
+use Rattle.border_match.proofs.Imports.{BorderFault, Greater, HasCandidateAtMost, IsLeastCandidate, IsUpdatedCandidate}
 use Rattle.border_match.proofs.Imports.{None}
 use Rattle.border_match.proofs.Imports.{Option}
 use Rattle.border_match.proofs.Imports.{Ordering, Some, arith, border_fault_cmp, common_steps, false, tied_itself, ◌≡◌}
@@ -37,30 +37,30 @@ covers_after o m h h1 h2 = grind (arith, common_steps, at_most_trans)
 module _ (F : BorderFault → Type 0) where
   -- none of F has P
   pub better_same : (P : BorderFault → Type 0) (o : Option BorderFault) → ((h : BorderFault) → F h → P h → ⊥) →
-      IsNextCandidate F P o o
+      IsUpdatedCandidate F P o o
   better_same P o none = record { sound = λ s. s; kept = λ h c. c; covers = λ h f p. absurd (none h f p) }
 
   -- the new candidate is at most m, which is one of F and at most each of F with P
   pub better_with : (P : BorderFault → Type 0) (o o' : Option BorderFault) (m : BorderFault) → F m →
       ((h : BorderFault) → F h → P h → border_fault_cmp m h ≢ Greater) →
       ((h : BorderFault) → HasCandidateAtMost o h → HasCandidateAtMost o' h) → (o' ≡ o) ⊎ (o' ≡ Some m) →
-      HasCandidateAtMost o' m → IsNextCandidate F P o o'
+      HasCandidateAtMost o' m → IsUpdatedCandidate F P o o'
   better_with P o o' m f least kept one covered = grind (arith, common_steps, covers_after)
 
-  pub better_then : (P Q R : BorderFault → Type 0) (a b c : Option BorderFault) → IsNextCandidate F P a b →
-      IsNextCandidate F Q b c →
-      ((h : BorderFault) → F h → R h → P h ⊎ Q h) → IsNextCandidate F R a c
+  pub better_then : (P Q R : BorderFault → Type 0) (a b c : Option BorderFault) → IsUpdatedCandidate F P a b →
+      IsUpdatedCandidate F Q b c →
+      ((h : BorderFault) → F h → R h → P h ⊎ Q h) → IsUpdatedCandidate F R a c
   better_then P Q R a b c p q split = grind (arith, common_steps)
 
-  pub better_for : (P Q : BorderFault → Type 0) (a b : Option BorderFault) → IsNextCandidate F P a b →
-      ((h : BorderFault) → F h → Q h → P h) → IsNextCandidate F Q a b
+  pub better_for : (P Q : BorderFault → Type 0) (a b : Option BorderFault) → IsUpdatedCandidate F P a b →
+      ((h : BorderFault) → F h → Q h → P h) → IsUpdatedCandidate F Q a b
   better_for P Q a b better weaker = grind (arith, common_steps)
 
-  pub better_rest : (P Q : BorderFault → Type 0) (a b : Option BorderFault) → IsNextCandidate F P a b →
-      ((h : BorderFault) → Q h → P h ⊎ HasCandidateAtMost b h) → IsNextCandidate F Q a b
+  pub better_rest : (P Q : BorderFault → Type 0) (a b : Option BorderFault) → IsUpdatedCandidate F P a b →
+      ((h : BorderFault) → Q h → P h ⊎ HasCandidateAtMost b h) → IsUpdatedCandidate F Q a b
   better_rest P Q a b better split = grind (arith, common_steps)
 
-  pub least_by_three : (P Q R : BorderFault → Type 0) (a b c : Option BorderFault) → IsNextCandidate F P None a →
-      IsNextCandidate F Q a b → IsNextCandidate F R b c →
+  pub least_by_three : (P Q R : BorderFault → Type 0) (a b c : Option BorderFault) → IsUpdatedCandidate F P None a →
+      IsUpdatedCandidate F Q a b → IsUpdatedCandidate F R b c →
       ((h : BorderFault) → F h → P h ⊎ (Q h ⊎ R h)) → IsLeastCandidate F c
   least_by_three P Q R a b c p q r all = grind (arith, common_steps)

@@ -20,7 +20,7 @@ pub record IsLeastCandidate (F : BorderFault → Type 0) (o : Option BorderFault
   pub least : (h : BorderFault) → F h → HasCandidateAtMost o h
 
 -- A candidate for the least of F becomes another
-pub record IsNextCandidate (F P : BorderFault → Type 0) (old new : Option BorderFault) : Type 0 where
+pub record IsUpdatedCandidate (F P : BorderFault → Type 0) (old new : Option BorderFault) : Type 0 where
   -- which is one of F if the old one was
   pub sound : CandidateSatisfies F old → CandidateSatisfies F new
   -- and at most whatever the old one was at most

@@ -5,7 +5,7 @@ ghost use Rattle.bbm_rule.specs.Boxes.{in_box, in_halo};
 ghost use Rattle.module_box.specs.Moves.{IsCellInShiftRange};
 ghost use Rattle.module_box.specs.Tiling.{owner_of};
 ghost use Rattle.border_match.specs.Boards.{AddsOnlyMarksOfEventsAt, AreHaloEventMarks, AreModuleNumbers, AreHaloOwnersListed, SignalsDifferAt, IsFaultOfSearchedJob, IsAtOwnersEdgeEvent, IsAtEdgeEventOf, IsAtEvent, IsEventListed, IsAtSomeEvent, IsEventPlaceOf, IsAtUnmarkedEvent, AreReadyBorders, IsAtComparedMoment, job_signal, jobs_of};
-ghost use Rattle.border_match.specs.Candidates.{IsNextCandidate, IsLeastCandidate};
+ghost use Rattle.border_match.specs.Candidates.{IsUpdatedCandidate, IsLeastCandidate};
 ghost use Rattle.border_match.specs.Surroundings.{AreEdgeEventExtents, IsEdgeEventExtent};
 ghost use Rattle.border_match.specs.declared.fault.BorderFault.{BorderFault};
 ghost use Rattle.border_match.specs.declared.signals.RingOrHalo.TheVariants.{Halo};
@@ -145,7 +145,7 @@ impl<'a> Borders<'a> {
     ) -> Option<BorderFault>
         requires borders_ready { AreReadyBorders self.now }
         requires event_listed { IsEventListed self.now.job.now.halos.events event }
-        ensures { IsNextCandidate (IsFaultOfSearchedJob self.now) (IsAtEvent event) best result }
+        ensures { IsUpdatedCandidate (IsFaultOfSearchedJob self.now) (IsAtEvent event) best result }
     {
         let fault = possible_fault_at(event);
         if is_less(fault, best)
@@ -215,7 +215,7 @@ impl<'a> Borders<'a> {
             (owner_of self.now.owners.now event.at.cell.x event.at.cell.y) ≡ Some owner.now }
         requires event_listed { IsEventListed owner.now.edges.events event }
         requires marked { AreHaloEventMarks self.now seen.old }
-        ensures better { IsNextCandidate (IsFaultOfSearchedJob self.now) (IsAtEvent event) best
+        ensures better { IsUpdatedCandidate (IsFaultOfSearchedJob self.now) (IsAtEvent event) best
             result }
         ensures marked { AreHaloEventMarks self.now seen.new }
     {
@@ -239,7 +239,7 @@ impl<'a> Borders<'a> {
     ) -> Option<BorderFault>
         requires borders_ready { AreReadyBorders self.now }
         requires one_mark_per_event { length seen.now ≡ length self.now.job.now.halos.events }
-        ensures { IsNextCandidate (IsFaultOfSearchedJob self.now)
+        ensures { IsUpdatedCandidate (IsFaultOfSearchedJob self.now)
             (IsAtUnmarkedEvent seen.now self.now.job.now.halos.events) best result }
     {
         let mut least = best;
@@ -265,7 +265,7 @@ impl<'a> Borders<'a> {
         requires extent { IsEdgeEventExtent other.now extent.now }
         requires numbered { slice_get (jobs_of self.now) number ≡ Some other.now }
         requires marked { AreHaloEventMarks self.now seen.old }
-        ensures better { IsNextCandidate (IsFaultOfSearchedJob self.now)
+        ensures better { IsUpdatedCandidate (IsFaultOfSearchedJob self.now)
             (IsAtSomeEvent other.now.edges.events) best result }
         ensures marked { AreHaloEventMarks self.now seen.new }
     {
@@ -301,7 +301,7 @@ impl<'a> Borders<'a> {
         requires extents { AreEdgeEventExtents (jobs_of self.now) extents.now }
         requires number { number < length self.now.jobs.now }
         requires marked { AreHaloEventMarks self.now seen.old }
-        ensures better { IsNextCandidate (IsFaultOfSearchedJob self.now)
+        ensures better { IsUpdatedCandidate (IsFaultOfSearchedJob self.now)
             (IsAtEdgeEventOf number self.now) best result }
         ensures marked { AreHaloEventMarks self.now seen.new }
     {
@@ -323,7 +323,7 @@ impl<'a> Borders<'a> {
         requires owners_listed { AreHaloOwnersListed self.now near.now }
         requires numbers_exist { AreModuleNumbers self.now near.now }
         requires marked { AreHaloEventMarks self.now seen.old }
-        ensures better { IsNextCandidate (IsFaultOfSearchedJob self.now)
+        ensures better { IsUpdatedCandidate (IsFaultOfSearchedJob self.now)
             (IsAtOwnersEdgeEvent self.now) best result }
         ensures marked { AreHaloEventMarks self.now seen.new }
     {

@@ -3,7 +3,7 @@
 ghost use Rattle.std.specs.Prelude.{pos, ◌≤◌, ◌≡◌, ◌<◌, map, Some};
 ghost use Rattle.module_box.specs.Moves.{moved_all_times};
 ghost use Rattle.border_match.specs.Boards.{AreModuleNumbers, AreHaloOwnersListed, IsFaultOfSearchedJob, DiffersAtTimesWithoutEvent, DiffersAtCellWithoutEvent, AreReadyBorders, DiffersAtStar, job_signals};
-ghost use Rattle.border_match.specs.Candidates.{IsNextCandidate};
+ghost use Rattle.border_match.specs.Candidates.{IsUpdatedCandidate};
 ghost use Rattle.border_match.specs.declared.fault.BorderFault.{BorderFault};
 ghost use Rattle.border_match.specs.declared.signals.RingOrHalo.TheVariants.{Halo};
 ghost use Rattle.lemmas.specs.Bounds.{max_side};
@@ -24,7 +24,8 @@ impl<'a> Borders<'a> {
         cell: Cell,
     ) -> Option<BorderFault>
         requires { AreReadyBorders self.now }
-        ensures { IsNextCandidate (IsFaultOfSearchedJob self.now) (λ h. h.cell ≡ cell) best result }
+        ensures { IsUpdatedCandidate (IsFaultOfSearchedJob self.now) (λ h. h.cell ≡ cell) best
+            result }
     {
         for time in 0..self.job.steps() {
             let fault = BorderFault { time, cell };
@@ -40,7 +41,7 @@ impl<'a> Borders<'a> {
     // time, or an odd one that a line names for the cell, is without one.
     fn least_with_star_fault_at(&self, best: Option<BorderFault>, cell: Cell) -> Option<BorderFault>
         requires { AreReadyBorders self.now }
-        ensures { IsNextCandidate (IsFaultOfSearchedJob self.now)
+        ensures { IsUpdatedCandidate (IsFaultOfSearchedJob self.now)
             (DiffersAtCellWithoutEvent self.now cell) best result }
     {
         if !self.is_halo_cell_inside_layout(cell) || !self.differs_from_owner(0, cell) {
@@ -59,7 +60,7 @@ impl<'a> Borders<'a> {
     ) -> Option<BorderFault>
         requires borders_ready { AreReadyBorders self.now }
         requires corner { (corner.x ≤ max_side) × (corner.y ≤ max_side) }
-        ensures { IsNextCandidate (IsFaultOfSearchedJob self.now)
+        ensures { IsUpdatedCandidate (IsFaultOfSearchedJob self.now)
             (DiffersAtStar self.now (map (moved_all_times (pos corner.x) (pos corner.y)) stars.now))
             best result }
     {
@@ -83,7 +84,7 @@ impl<'a> Borders<'a> {
         border: RingOrHalo,
     ) -> Option<BorderFault>
         requires borders_ready { AreReadyBorders self.now }
-        ensures { IsNextCandidate (IsFaultOfSearchedJob self.now)
+        ensures { IsUpdatedCandidate (IsFaultOfSearchedJob self.now)
             (DiffersAtStar self.now (job_signals border job.now).all_times) best result }
     {
         let corner = job.area();
@@ -103,7 +104,7 @@ impl<'a> Borders<'a> {
         requires borders_ready { AreReadyBorders self.now }
         requires owners_listed { AreHaloOwnersListed self.now near.now }
         requires numbers_exist { AreModuleNumbers self.now near.now }
-        ensures { IsNextCandidate (IsFaultOfSearchedJob self.now)
+        ensures { IsUpdatedCandidate (IsFaultOfSearchedJob self.now)
             (DiffersAtTimesWithoutEvent self.now) best result }
     {
         let mut least = self.least_with_stars_of_module(best, self.job, RingOrHalo::Halo);

@@ -19,7 +19,7 @@ use Rattle.pattern.specs.declared.layout_line.LayoutLine.TheVariants.{Mirror}
 use Rattle.certificate_lines.specs.PortTables.{ArePortsInLayout}
 use Rattle.certificate.specs.Jobs.{wire_of_optional_name, wire_or_dead}
 use Rattle.bbm_rule.specs.Board.{Board}
-use Rattle.certificate.specs.LayoutTablesView.{ArePortWiresLocalIn, HasNothingAt, IsOnGrid, non_mirror_cells}
+use Rattle.certificate.specs.LayoutTablesView.{ArePortWiresLocalIn, HasNothingAt, IsOnGrid, ball_waste_and_port_cells}
 use Rattle.certificate_lines.proofs.BoxPlaces.{skipped}
 use Rattle.certificate_lines.proofs.Lists.{kept}
 use Rattle.certificate_lines.proofs.LayoutPorts.{AllInLayout, port_stands, ports_on_layout}
@@ -133,7 +133,7 @@ IsInLayout s c = in_layout s c.x c.y ≡ true
 
 pub others_inside : (p : Pattern) (s : LayoutHeader) → s ≡ p.size → AreGoodAfter s [] (parts_of p) →
     (cells : List Cell) →
-    cells ≡ non_mirror_cells p → AllInLayout s cells
+    cells ≡ ball_waste_and_port_cells p → AllInLayout s cells
 others_inside p s is good cells are =
     let ports = ports_on_layout p s is good in
     subst (AllInLayout s) (sym are)
@@ -147,7 +147,7 @@ apart : (xs ys : List Cell) (x y : ℤ) → in_cells (xs ++ ys) x y ≡ false �
 apart xs ys x y e = grind (arith, common_steps, or_parts, list_any-append)
 
 pub nothing_here : (p : Pattern) (x y : ℤ) →
-    (in_cells (non_mirror_cells p) x y || in_rectangles p.mirrors x y) ≡ false →
+    (in_cells (ball_waste_and_port_cells p) x y || in_rectangles p.mirrors x y) ≡ false →
     HasNothingAt p x y
 nothing_here p x y e = grind (arith, common_steps, or_parts, apart, no_port)
 

@@ -29,8 +29,8 @@ abbrev pub layout_tables_view : Inside → LayoutTablesView
 layout_tables_view a = record { circuit = a.circuit.now; layout = a.layout.now }
 
 -- the cells of balls, the waste cells and the cells of ports
-abbrev pub non_mirror_cells : Pattern → List Cell
-non_mirror_cells p = ((p.balls ++ p.wastes) ++ map (λ q. q.cell) p.ins) ++ map (λ q. q.cell) p.outs
+abbrev pub ball_waste_and_port_cells : Pattern → List Cell
+ball_waste_and_port_cells p = ((p.balls ++ p.wastes) ++ map (λ q. q.cell) p.ins) ++ map (λ q. q.cell) p.outs
 
 -- the layout has no mirror, ball, waste cell or port at the cell (x, y)
 pub record HasNothingAt (p : Pattern) (x y : ℤ) : Type 0 where

@@ -11,7 +11,7 @@ ghost use Rattle.module_box.specs.Locals.{circuit_wire, is_among};
 ghost use Rattle.certificate_lines.specs.PortTables.{ArePortTables};
 ghost use Rattle.certificate.specs.Jobs.{end_demand, start_signal};
 ghost use Rattle.module_box.specs.Places.{place_in};
-ghost use Rattle.certificate.specs.LayoutTablesView.{AddsStartsAndDemands, HasLayoutSize, HasNothingAt, IsOnGrid, IsPortWireLocalAt, ArePortWiresLocalIn, non_mirror_cells};
+ghost use Rattle.certificate.specs.LayoutTablesView.{AddsStartsAndDemands, HasLayoutSize, HasNothingAt, IsOnGrid, IsPortWireLocalAt, ArePortWiresLocalIn, ball_waste_and_port_cells};
 ghost use Rattle.module_job.specs.Signals.{IsSignalWireBelow, IsDemandWireBelow, renumber_demand, renumber_signal};
 ghost use Rattle.lemmas.specs.Bounds.{max_side};
 
@@ -141,8 +141,8 @@ fn push_port_cells(cells: &mut Vec<Cell>, ports: &[Port]) -> Result<(), AllocErr
 }
 
 // The cells of balls, the waste cells and the cells of ports.
-fn non_mirror_cells(alloc: Global, layout: &Layout) -> Result<Vec<Cell>, AllocError>
-    ensures { IfOk result (λ cells. cells.items ≡ non_mirror_cells layout.now) }
+fn ball_waste_and_port_cells(alloc: Global, layout: &Layout) -> Result<Vec<Cell>, AllocError>
+    ensures { IfOk result (λ cells. cells.items ≡ ball_waste_and_port_cells layout.now) }
 {
     let mut cells = Vec::new(alloc);
     cells.extend_from_slice(layout.balls())?;
@@ -173,7 +173,7 @@ fn occupied_grid(alloc: Global, layout: &Layout) -> Result<Grid, AllocError>
     ensures size { IfOk result (HasLayoutSize layout.now) }
 {
     layout.prove_valid();
-    let cells = non_mirror_cells(alloc, layout)?;
+    let cells = ball_waste_and_port_cells(alloc, layout)?;
     let grid = grid_with_mirrors(alloc, layout, &cells)?;
     Ok(grid)
 }

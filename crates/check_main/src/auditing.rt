@@ -1,12 +1,10 @@
 //! Runs the modules of a certificate by several workers, and keeps what they file.
 ghost use Rattle.std.specs.Prelude.{◌≡◌, ◌<◌, ◌≤◌, false, [], length, map, IfOk, OnOk};
 ghost use Rattle.std.specs.Arc.{arc_value};
-ghost use Rattle.sha2.specs.Sha256.{sha256};
-ghost use Rattle.certificate.specs.Text.{certificate_text};
 ghost use Rattle.core_book.specs.Book.{IsHistoryReplayed};
 ghost use Rattle.core_book.specs.Filling.{IsOpenFor};
 ghost use Rattle.module_job.specs.Groups.{AreGroups};
-ghost use Rattle.core_book.specs.Concluding.{AreJobsOfCertificate, modules};
+ghost use Rattle.core_book.specs.Concluding.{modules};
 ghost use Rattle.core_book.specs.Replay.{has_closing};
 ghost use Rattle.core_book.specs.Filling.{shapes_of};
 ghost use Rattle.check_main.specs.Preparing.{IsNewBookOf};

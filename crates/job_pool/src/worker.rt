@@ -16,7 +16,7 @@ use crate::desk::{Desk, DeskSeat};
 use crate::gate::Gate;
 use certificate::Job;
 use core_book::{Claim, Reply};
-use local_run::{Buffers, Finding, run_job_with_buffers};
+use local_run::{Finding, run_job};
 use std::alloc::{AllocError, Global};
 use std::sync::ledger::Ledger;
 use std::sync::{Arc, Wait};
@@ -62,12 +62,11 @@ impl<F: Filings, A: Ledger> Worker<F, A> {
         requires links { AreGroupLinks shared_work.now.groups.now shared_work.now.links.now }
         ensures { HasWorked shared_work.now.desk.now shared_work.now.groups.now self.old self.new }
     {
-        let mut buffers = Buffers::new(alloc);
         while let Claim::Number(number) = shared_work.desk.claim(&mut self.seat) {
             shared_work.gate.before(number);
             let share = &mut self.share;
             let runs = &mut self.runs;
-            match run_group_if_first(rt, &mut buffers, shared_work, number, share, runs) {
+            match run_group_if_first(rt, alloc, shared_work, number, share, runs) {
                 Ok(()) => shared_work.gate.after(number),
                 Err(_) => {
                     self.starved = true;
@@ -82,7 +81,7 @@ impl<F: Filings, A: Ledger> Worker<F, A> {
 // book's digest. For another number there is nothing to do.
 fn run_group_if_first<F: Filings, A: Ledger, G, R: Wait>(
     rt: &R,
-    buffers: &mut Buffers,
+    alloc: Global,
     shared_work: &SharedWork<'_, F, A, G>,
     number: usize,
     share: &mut Share<F, A>,
@@ -104,13 +103,13 @@ fn run_group_if_first<F: Filings, A: Ledger, G, R: Wait>(
         return Ok(());
     }
     let digest = shared_work.book.digest();
-    let finding = run_job_and_count(buffers, digest, number, &jobs[number], runs)?;
+    let finding = run_job_and_count(alloc, digest, number, &jobs[number], runs)?;
     file_members(rt, shared_work, &finding, number, share)
 }
 
 // Runs a job and counts the run, also one that finds no memory. No other function of this crate runs jobs.
 fn run_job_and_count(
-    buffers: &mut Buffers,
+    alloc: Global,
     digest: [u8; 32],
     number: usize,
     job: &Arc<Job>,
@@ -121,7 +120,7 @@ fn run_job_and_count(
     ensures counted { IsOneMoreOrGreatest runs.old runs.new }
 {
     *runs = runs.saturating_add(1);
-    run_job_with_buffers(buffers, digest, number, job.clone()?)
+    run_job(alloc, digest, number, job.clone()?)
 }
 
 // Files the findings of all members of a group, by that of its first number. It looks at no other job.

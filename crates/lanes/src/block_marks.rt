@@ -5,11 +5,10 @@ ghost use Rattle.lanes.specs.Calm.{AreBlocksMarkedUnlessIn, AreFirstBlocksMarked
 ghost use Rattle.std.specs.Prelude.{ℕ, ◌≡◌, ◌+◌, ◌*◌, ◌^◌, ◌<◌, ◌≤◌, vec_len, IfOk, true};
 
 use crate::blocks::Partition;
-use crate::buffers::Buffers;
 use crate::marks::{fill, mark_even_neighbours, mark_odd_neighbours, set_marks_to_not_both};
 use crate::words::ChangedDiagonals;
 use bbm_rule::marks::{mark, mark_all, unmark};
-use std::alloc::AllocError;
+use std::alloc::{AllocError, Global};
 
 /// A bit for each block of the odd partition, and for each block of the even partition.
 #[derive(Drop)]
@@ -20,20 +19,13 @@ pub struct BlockMarks {
 
 impl BlockMarks {
     /// Creates marks on no block, in `long` words for each partition.
-    pub fn new(buffers: &mut Buffers, long: usize) -> Result<BlockMarks, AllocError>
+    pub fn new(alloc: Global, long: usize) -> Result<BlockMarks, AllocError>
         ensures { IfOk result (λ m. HasRoomForBlockMarks (64 * long) m) }
     {
         Ok(BlockMarks {
-            odd: buffers.take_zeros(long)?,
-            even: buffers.take_zeros(long)?,
+            odd: vec![in alloc; 0u64; long]?,
+            even: vec![in alloc; 0u64; long]?,
         })
-    }
-
-    /// Leaves the vectors to later marks.
-    pub fn leave(self, buffers: &mut Buffers) {
-        let BlockMarks { odd, even } = self;
-        buffers.leave(even);
-        buffers.leave(odd);
     }
 
     /// Returns the marks on the blocks of a partition.

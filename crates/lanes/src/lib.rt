@@ -10,8 +10,7 @@
 //!
 //! The calls that change cells:
 //!
-//! - [`MarkedPlanes::new`] makes planes in which all cells are dead, and [`MarkedPlanes::leave`] leaves their vectors
-//!   to later planes.
+//! - [`MarkedPlanes::new`] makes planes in which all cells are dead.
 //! - [`MarkedPlanes::put`] sets the words of one cell to those of a [`WordSource`], and changes no other cell.
 //! - [`MarkedPlanes::odd_step`] turns all blocks whose upper left corner is odd, which fill box and halo, by the block
 //!   rule. If it returns `false`, no cell changed.
@@ -43,7 +42,6 @@
 mod block_marks;
 mod block_turns;
 mod blocks;
-mod buffers;
 mod frozen;
 mod frozen_steps;
 mod held_cells;
@@ -56,7 +54,6 @@ mod phases;
 mod planes;
 mod words;
 
-pub use buffers::Buffers;
 pub use marked_planes::MarkedPlanes;
 pub use marks::{is_marked, take_first_mark};
 pub use planes::{Planes, WordSource};

@@ -8,13 +8,12 @@ ghost use Rattle.lanes.specs.Live.{AreFirstCellsMarked, AreCellsMarkedUnlessInBo
 ghost use Rattle.std.specs.Prelude.{ℕ, ◌≡◌, ◌/◌, ◌<◌, ◌≤◌, ◌%◌, ◌+◌, ◌*◌, ◌^◌, length, IfOk, true, false};
 
 use crate::blocks::{BlockPlaces, Diagonal};
-use crate::buffers::Buffers;
 use crate::marks::{
     is_marked, mark_if, next_marked_in_either, set_mark, set_marks_to_not_both, swap_two_marks,
 };
 use crate::words::ChangedDiagonals;
 use bbm_rule::marks::mark_all;
-use std::alloc::AllocError;
+use std::alloc::{AllocError, Global};
 
 /// For each plane a bit for each of its cells: one without a mark is dead under each assignment.
 #[derive(Drop)]
@@ -31,31 +30,17 @@ pub struct LiveMarks {
 
 impl LiveMarks {
     /// Marks on no cell, in `long` words for each plane.
-    pub fn new(buffers: &mut Buffers, long: usize) -> Result<LiveMarks, AllocError>
+    pub fn new(alloc: Global, long: usize) -> Result<LiveMarks, AllocError>
         requires { long ≤ 64 }
         ensures size { IfOk result (λ l. HasRoomForCellMarks (64 * long) l) }
         ensures no_cell_marked { IfOk result (λ l. (u : ℕ) → AreNumberCellsUnmarked l u) }
     {
         Ok(LiveMarks {
-            odd: buffers.take_zeros(long)?,
-            right: buffers.take_zeros(long)?,
-            down: buffers.take_zeros(long)?,
-            even: buffers.take_zeros(long)?,
+            odd: vec![in alloc; 0u64; long]?,
+            right: vec![in alloc; 0u64; long]?,
+            down: vec![in alloc; 0u64; long]?,
+            even: vec![in alloc; 0u64; long]?,
         })
-    }
-
-    /// Leaves the vectors to later marks.
-    pub fn leave(self, buffers: &mut Buffers) {
-        let LiveMarks {
-            odd,
-            right,
-            down,
-            even,
-        } = self;
-        buffers.leave(even);
-        buffers.leave(down);
-        buffers.leave(right);
-        buffers.leave(odd);
     }
 
     /// Marks all cells.

@@ -15,7 +15,6 @@ ghost use Rattle.std.specs.Prelude.{ℕ, ◌≡◌, ◌+◌, ◌*◌, ◌/◌, �
 
 use crate::block_marks::BlockMarks;
 use crate::blocks::Partition;
-use crate::buffers::Buffers;
 use crate::frozen::FrozenBlocks;
 use crate::live::LiveMarks;
 use crate::marked_steps::DENSE_STEPS_BEFORE_SEARCH;
@@ -25,7 +24,7 @@ use crate::marks::{
 use crate::phases::WholePlaneSteps;
 use crate::planes::{Planes, WordSource};
 use crate::words::ChangedDiagonals;
-use std::alloc::AllocError;
+use std::alloc::{AllocError, Global};
 
 /// The planes of a run, with marks on the blocks that a turn may change.
 #[derive(Drop)]
@@ -75,7 +74,7 @@ impl MarkedPlanes {
     /// has a mark, since each stays.
     #[tactic(auto, using(crate::proofs::LiveLemmas::dead_blocks))]
     pub fn new(
-        buffers: &mut Buffers,
+        alloc: Global,
         width: usize,
         height: usize,
         words: usize,
@@ -88,11 +87,11 @@ impl MarkedPlanes {
         ensures all_cells_dead { IfOk result (λ m. AreAllCellsDead m.planes) }
         ensures none_settled { IfOk result (λ m. (u : ℕ) → IsBlockSettled m u → ⊥) }
     {
-        let planes = Planes::new(buffers, width, height, words)?;
+        let planes = Planes::new(alloc, width, height, words)?;
         let long = planes.cells_per_plane().div_ceil(64);
-        let block_marks = BlockMarks::new(buffers, long)?;
-        let live_marks = LiveMarks::new(buffers, long)?;
-        let mut border_marks = buffers.take_zeros(long)?;
+        let block_marks = BlockMarks::new(alloc, long)?;
+        let live_marks = LiveMarks::new(alloc, long)?;
+        let mut border_marks = vec![in alloc; 0u64; long]?;
         mark_ring_and_halo_numbers(&mut border_marks, planes.stride(), planes.rows());
         Ok(MarkedPlanes {
             planes,
@@ -104,25 +103,10 @@ impl MarkedPlanes {
             border_marks,
             is_settled: false,
             whole_plane_steps: WholePlaneSteps::NONE,
-            frozen: FrozenBlocks::not_found_yet(buffers.alloc()),
+            frozen: FrozenBlocks::not_found_yet(alloc),
             steps_until_search: DENSE_STEPS_BEFORE_SEARCH,
             searches_left: MAX_FROZEN_SEARCHES,
         })
-    }
-
-    /// Leaves the vectors to later planes.
-    pub fn leave(self, buffers: &mut Buffers) {
-        let MarkedPlanes {
-            planes,
-            block_marks,
-            live_marks,
-            border_marks,
-            ..
-        } = self;
-        buffers.leave(border_marks);
-        live_marks.leave(buffers);
-        block_marks.leave(buffers);
-        planes.leave(buffers);
     }
 
     /// Returns the planes.

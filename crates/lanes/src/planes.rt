@@ -7,10 +7,9 @@ ghost use Rattle.lanes.specs.Across.{TurnsBlocksAcrossLists};
 ghost use Rattle.std.specs.Prelude.{ℕ, ◌≡◌, ◌+◌, ◌-◌, ◌*◌, ◌/◌, ◌%◌, ◌<◌, ◌≤◌, ◌↔◌, length, slice_index, vec_len, IfOk, true, false, not};
 
 use crate::blocks::{BlockPlaces, Partition};
-use crate::buffers::Buffers;
 use crate::words::{are_words_different, has_word_other_than};
 use bbm_rule::turn_lanes;
-use std::alloc::AllocError;
+use std::alloc::{AllocError, Global};
 
 /// The words that a cell is set to: a constant, or words of a list.
 #[derive(Clone, Copy)]
@@ -51,7 +50,7 @@ impl Planes {
 
     /// Creates planes of dead cells, for a box of `width` by `height` cells.
     pub(crate) fn new(
-        buffers: &mut Buffers,
+        alloc: Global,
         width: usize,
         height: usize,
         words: usize,
@@ -70,26 +69,11 @@ impl Planes {
             words,
             stride,
             rows,
-            odd: buffers.take_zeros(long)?,
-            right: buffers.take_zeros(long)?,
-            down: buffers.take_zeros(long)?,
-            even: buffers.take_zeros(long)?,
+            odd: vec![in alloc; 0u64; long]?,
+            right: vec![in alloc; 0u64; long]?,
+            down: vec![in alloc; 0u64; long]?,
+            even: vec![in alloc; 0u64; long]?,
         })
-    }
-
-    /// Leaves the vectors to later planes.
-    pub(crate) fn leave(self, buffers: &mut Buffers) {
-        let Planes {
-            odd,
-            right,
-            down,
-            even,
-            ..
-        } = self;
-        buffers.leave(even);
-        buffers.leave(down);
-        buffers.leave(right);
-        buffers.leave(odd);
     }
 
     /// Turns the blocks whose upper left corner is odd, which fill box and halo.

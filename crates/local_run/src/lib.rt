@@ -31,6 +31,4 @@ mod values;
 
 pub use fault::{Fault, KeepFault, Kind};
 pub use finding::Finding;
-pub use run::{run_job, run_job_with_buffers};
-// What keeps vectors from one run to the next.
-pub use lanes::Buffers;
+pub use run::run_job;

@@ -12,9 +12,9 @@ use crate::lines::{
     EventPlaces, LinePlaces, cell_line_mark_number, mark_lines, marks_of_starred_cells,
     number_mark_word_count,
 };
-use lanes::{Buffers, Planes, is_marked};
+use lanes::{Planes, is_marked};
 use module_job::Job;
-use std::alloc::AllocError;
+use std::alloc::{AllocError, Global};
 use std::mem::swap;
 
 /// Marks on the cells of ring and halo of which a job's lines say something at a time: one for the number of a cell in
@@ -41,42 +41,26 @@ pub struct LineMarks {
 
 impl LineMarks {
     /// Creates marks for the lines of a job. No time was looked at.
-    pub fn new(buffers: &mut Buffers, job: &Job) -> Result<LineMarks, AllocError>
+    pub fn new(alloc: Global, job: &Job) -> Result<LineMarks, AllocError>
         requires { IsJob job.now }
         ensures { IfOk result (λ l. AreStarredCellMarks (shape_of job.now) l.all_times.items) }
     {
-        let all_times = marks_of_starred_cells(buffers, job)?;
-        let mut marks = buffers.take_zeros(all_times.len())?;
-        marks.copy_from_slice(&all_times);
+        let all_times = marks_of_starred_cells(alloc, job)?;
+        let marks = all_times.as_slice().to_vec(alloc)?;
         let long = number_mark_word_count(job);
         let none = EventPlaces::NO_PLACES;
         Ok(LineMarks {
             time: 0,
             marks,
             all_times,
-            events: buffers.take_zeros(long)?,
-            last_event_marks: buffers.take_zeros(long)?,
+            events: vec![in alloc; 0u64; long]?,
+            last_event_marks: vec![in alloc; 0u64; long]?,
             has_last_events: false,
             places: LinePlaces {
                 edges: none,
                 halos: none,
             },
         })
-    }
-
-    /// Leaves the vectors to later marks.
-    pub fn leave(self, buffers: &mut Buffers) {
-        let LineMarks {
-            marks,
-            all_times,
-            events,
-            last_event_marks,
-            ..
-        } = self;
-        buffers.leave(last_event_marks);
-        buffers.leave(events);
-        buffers.leave(marks);
-        buffers.leave(all_times);
     }
 
     /// Marks the cells of which an edge or halo line of the job says something at a time.

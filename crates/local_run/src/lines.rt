@@ -15,10 +15,9 @@ ghost use Rattle.lemmas.specs.Bounds.{max_side, max_steps};
 use crate::leaps::{first_event_place_from, valid_start_place};
 use bbm_rule::Cell;
 use bbm_rule::marks::mark;
-use lanes::Buffers;
 use module_box::{AllTimesSignal, Box2, Moment, Schedule, Signal, TimedSignal};
 use module_job::{Job, Shape};
-use std::alloc::AllocError;
+use std::alloc::{AllocError, Global};
 
 // The column or row of a coordinate, counted from the halo of a span of `count` numbers, if it is there.
 #[tactic(auto, unfolding(crate::specs::Places::halo_coord))]
@@ -339,13 +338,13 @@ pub fn number_mark_word_count(job: &Job) -> usize
 }
 
 /// Marks the cells of which an edge or halo line says something at all times, and their numbers in the planes.
-pub fn marks_of_starred_cells(buffers: &mut Buffers, job: &Job) -> Result<Vec<u64>, AllocError>
+pub fn marks_of_starred_cells(alloc: Global, job: &Job) -> Result<Vec<u64>, AllocError>
     requires { IsJob job.now }
     ensures marks { IfOk result (λ m. AreStarredCellMarks (shape_of job.now) m.items) }
     ensures count { IfOk result (λ m. vec_len m
         ≡ 5 * div_ceil ((job.now.area.w / 2 + 1) * (job.now.area.h / 2 + 1)) 64) }
 {
-    let mut marks = buffers.take_zeros(5 * number_mark_word_count(job))?;
+    let mut marks = vec![in alloc; 0u64; 5 * number_mark_word_count(job)]?;
     mark_stars_of_shape(&mut marks, job.shape());
     Ok(marks)
 }

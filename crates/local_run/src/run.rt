@@ -19,7 +19,7 @@ use crate::lines::EventPlaces;
 use crate::scan::{SoughtFaults, first_fault_of_kind, first_stop_fault};
 use crate::steps::{make_even_step, make_odd_step, put_start};
 use crate::values::Values;
-use lanes::{Buffers, MarkedPlanes};
+use lanes::MarkedPlanes;
 use module_job::Job;
 use std::alloc::{AllocError, Global};
 use std::sync::Arc;
@@ -119,22 +119,18 @@ fn one_step(marked_planes: &mut MarkedPlanes, values: &Values, job: &Job, time: 
 // change nothing, nothing changes before the next time at which a line of ring or halo begins or ends, and the times up
 // to it or to the next stop are leapt over.
 #[tactic(auto, using(crate::proofs::Steady::steady_at_start))]
-fn least_fault(
-    buffers: &mut Buffers,
-    values: &Values,
-    job: &Job,
-) -> Result<Option<Fault>, AllocError>
+fn least_fault(alloc: Global, values: &Values, job: &Job) -> Result<Option<Fault>, AllocError>
     requires { IsRunReady job.now values.now }
     ensures { IfOk result (λ o. IsLeastFault job.now o) }
 {
     let area = job.area();
     let mut marked_planes = MarkedPlanes::new(
-        buffers,
+        alloc,
         area.w as usize,
         area.h as usize,
         values.words(),
     )?;
-    let mut lines = LineMarks::new(buffers, job)?;
+    let mut lines = LineMarks::new(alloc, job)?;
     put_start(&mut marked_planes, values, job);
     let steps = job.steps();
     let mut next = 0;
@@ -163,16 +159,13 @@ fn least_fault(
         time: steps,
         near: EventPlaces::NO_PLACES,
     };
-    let fault = first_fault_of_kind(&marked_planes, values, job, search);
-    lines.leave(buffers);
-    marked_planes.leave(buffers);
-    Ok(fault)
+    Ok(first_fault_of_kind(&marked_planes, values, job, search))
 }
 
 // The least fault of the job. If a used gate lacks a row under every assignment, the job has no fault and is not run.
 #[tactic(auto, using(crate::proofs::Leasts::none_undefined))]
 fn least_fault_if_defined(
-    buffers: &mut Buffers,
+    alloc: Global,
     values: &Values,
     job: &Job,
 ) -> Result<Option<Fault>, AllocError>
@@ -180,7 +173,7 @@ fn least_fault_if_defined(
     ensures { IfOk result (λ o. IsLeastFault job.now o) }
 {
     if values.has_defined_assignment() {
-        least_fault(buffers, values, job)
+        least_fault(alloc, values, job)
     } else {
         Ok(None)
     }
@@ -188,15 +181,15 @@ fn least_fault_if_defined(
 
 // The least fault of the job, and its least keep fault.
 fn least_fault_and_keep_fault(
-    buffers: &mut Buffers,
+    alloc: Global,
     job: &Job,
 ) -> Result<(Option<Fault>, Option<KeepFault>), AllocError>
     ensures fault { IfOk result (λ o. IsLeastFault job.now o.0) }
     ensures keep { IfOk result (λ o. IsLeastKeepFault job.now o.1) }
 {
     job.prove_valid();
-    let values = Values::of(buffers.alloc(), job)?;
-    let fault = least_fault_if_defined(buffers, &values, job)?;
+    let values = Values::of(alloc, job)?;
+    let fault = least_fault_if_defined(alloc, &values, job)?;
     let keep = find_least_keep_fault(&values, job);
     Ok((fault, keep))
 }
@@ -221,27 +214,6 @@ pub fn run_job(
     ensures least_keep_fault { IfOk result (λ f. IsLeastKeepFault (arc_value job)
         (keep_fault_of f)) }
 {
-    run_job_with_buffers(&mut Buffers::new(alloc), digest, number, job)
-}
-
-/// Runs a job as [`run_job`] does, with vectors that earlier runs left. A run without a fault leaves its own.
-///
-/// # Errors
-///
-/// Out of memory. Nothing else prevents a finding.
-pub fn run_job_with_buffers(
-    buffers: &mut Buffers,
-    digest: [u8; 32],
-    number: usize,
-    job: Arc<Job>,
-) -> Result<Finding, AllocError>
-    ensures digest { IfOk result (λ f. digest_of f ≡ digest) }
-    ensures number { IfOk result (λ f. number_of f ≡ number) }
-    ensures job { IfOk result (λ f. job_of f ≡ arc_value job) }
-    ensures least_fault { IfOk result (λ f. IsLeastFault (arc_value job) (fault_of f)) }
-    ensures least_keep_fault { IfOk result (λ f. IsLeastKeepFault (arc_value job)
-        (keep_fault_of f)) }
-{
-    let (fault, keep) = least_fault_and_keep_fault(buffers, &job)?;
+    let (fault, keep) = least_fault_and_keep_fault(alloc, &job)?;
     Ok(Finding::new(digest, number, job, fault, keep))
 }

@@ -74,7 +74,7 @@ impl Moment {
 }
 
 // the signal that the list holds for the cell.
-fn find_all_times(all_times: &[AllTimesSignal], cell: Cell) -> Option<Signal>
+fn find_signal_at_all_times(all_times: &[AllTimesSignal], cell: Cell) -> Option<Signal>
     requires { IsRising cell_cmp cell_of all_times.now }
     ensures { result ≡ all_times_at all_times.now cell.x cell.y }
 {
@@ -169,7 +169,7 @@ impl Schedule {
     pub fn at(&self, t: u32, cell: Cell) -> Signal
         ensures { result ≡ signal_at self.now t cell.x cell.y }
     {
-        if let Some(signal) = find_all_times(&self.all_times, cell) {
+        if let Some(signal) = find_signal_at_all_times(&self.all_times, cell) {
             return signal;
         }
         match find_event(&self.events, Moment { time: t, cell }) {

@@ -36,7 +36,7 @@ use Rattle.certificate.proofs.ArrivalLemmas.{lines_tell}
 use Rattle.local_run.specs.Faults.{IsEdgeFault}
 use Rattle.soundness.specs.PlainCertificates.{IsPlainModule, IsWrongDesign, PlainNoMeansWrongOrRimLive}
 use Rattle.soundness.specs.PlainCertificates.{PlainVerdictDecidesDesign}
-use Rattle.soundness.specs.PlainCertificates.{TouchesRim, UntimedIsOnTime, IsLiveOnRim, KeepLineMeans, LineMeans}
+use Rattle.soundness.specs.PlainCertificates.{TouchesRim, UntimedIsOnTime, IsLiveOnRim, KeepFaultLineMeans, LineMeans}
 use Rattle.soundness.specs.PlainCertificates.{DelayLineMeans, MeetLineMeans, PlainReportLinesHaveMeaning}
 use Rattle.soundness.specs.PlainCertificates.{LocalLineMeans}
 use Rattle.soundness.proofs.KeptGates.{PlaceOf, place_of}
@@ -384,7 +384,7 @@ module _ (lines : List CircuitLine) (p : Pattern) (m : ModuleLines) (jobs : List
       ∥∥₁_elim fault.shown nothing_prop (λ u. undefined_has_none j.locals.netlist (bit f.assignment)
       (values_by_local_number j.locals v) f.gate is.locals.ordered u agree.is_local)
 
-  lacks : (j : JobView) (f : KeepFault) → IsJobOf c p m j → IsKeepFault j f → KeepLineMeans lines p m f.assignment
+  lacks : (j : JobView) (f : KeepFault) → IsJobOf c p m j → IsKeepFault j f → KeepFaultLineMeans lines p m f.assignment
   lacks j f is fault = record {
     inputs = its_inputs f.assignment;
     under = its_assignment f.assignment;
@@ -548,7 +548,7 @@ module _ (lines : List CircuitLine) (p : Pattern) (m : ModuleLines) (jobs : List
   keep_means n j (Some q) f is least e =
       let same : q.assignment ≡ f.assignment = ap (λ (q : KeepFault). q.assignment) (same_Some (renumber_keep j q) f e)
       in
-      subst (KeepLineMeans lines p m) same (lacks j q is least.0)
+      subst (KeepFaultLineMeans lines p m) same (lacks j q is least.0)
 
   all_mean : (report : List ReportLine) → AreReportLines (setting_of lines p) (m ∷ []) jobs report → All Means report
   all_mean report are =

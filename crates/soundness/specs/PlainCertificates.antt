@@ -104,7 +104,7 @@ pub record LocalLineMeans (lines : List CircuitLine) (p : Pattern) (m : ModuleLi
 
 -- The meaning of a `keep` line: there are inputs that have its assignment, for which the circuit has no values. So the
 -- layout does not compute it.
-pub record KeepLineMeans (lines : List CircuitLine) (p : Pattern) (m : ModuleLines) (assignment : ℕ) : Type 0 where
+pub record KeepFaultLineMeans (lines : List CircuitLine) (p : Pattern) (m : ModuleLines) (assignment : ℕ) : Type 0 where
   pub inputs : Valuation
   pub under : IsModuleAssignmentOf (circuit_of lines) m inputs assignment
   pub lacks : (v : Valuation) → ¬ Satisfies (netlist_of lines) inputs v
@@ -134,7 +134,7 @@ pub record MeetLineMeans (lines : List CircuitLine) (ss : List StopLine) (number
 -- about their own gate, by the stops of the module.
 abbrev pub LineMeans : List CircuitLine → Pattern → ModuleLines → ReportLine → Type 0
 LineMeans lines p m (Local i f) = LocalLineMeans lines p m f
-LineMeans lines p m (Keep i f) = KeepLineMeans lines p m f.assignment
+LineMeans lines p m (Keep i f) = KeepFaultLineMeans lines p m f.assignment
 LineMeans lines p m (Border i f) = ⊥
 LineMeans lines p m (Unkept gate) = ⊥
 LineMeans lines p m (DelayLine gate wanted gap) = DelayLineMeans lines (stops m) gate wanted gap

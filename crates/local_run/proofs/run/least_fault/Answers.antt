@@ -44,8 +44,8 @@ first_stop_fault-requires-clause-next c =
     let early = c.loop-time.invariant.run.early in
     let e : c.loop-time.time ≡ c.steps-steps.result = omega (arith, c.steps-steps.ensures) in rw e at m
 
-pub first_fault_of_kind-fault-requires-clause-shows : goal.first_fault_of_kind-fault-requires-clause-shows
-first_fault_of_kind-fault-requires-clause-shows c =
+pub first_fault_of_kind-requires-clause-shows : goal.first_fault_of_kind-requires-clause-shows
+first_fault_of_kind-requires-clause-shows c =
     let m = c.loop-time.invariant.run.shows in
     let early = c.loop-time.invariant.run.early in
     let e : c.loop-time.time ≡ c.steps-steps.result = omega (arith, c.steps-steps.ensures) in rw e at m
@@ -67,7 +67,7 @@ returns c =
     let vs = c.args.values.now in
     let early = c.loop-time.invariant.run.early in
     let time : c.loop-time.time ≡ j.steps = omega (arith, c.loop-time-test.false, c.steps-steps.ensures, early) in
-    end_least_fault j vs c.first_fault_of_kind-fault.result c.requires
+    end_least_fault j vs c.first_fault_of_kind.result c.requires
     (subst (AreFreeBefore j vs) time c.loop-time.invariant.run.free)
     (subst (λ (n : ℕ). HasNoFaultOfKind j vs n Stop) c.steps-steps.ensures c.in_default-first_stop_fault.ensures.0)
-    (rw c.steps-steps.ensures at c.first_fault_of_kind-fault.ensures)
+    (rw c.steps-steps.ensures at c.first_fault_of_kind.ensures)

@@ -1,11 +1,11 @@
-use Rattle.border_match.proofs.Imports.{AreHaloEventMarks, IsAtSomeEventBelow, IsFaultOfSearchedJob, IsNextCandidate}
+use Rattle.border_match.proofs.Imports.{AreHaloEventMarks, IsAtSomeEventBelow, IsFaultOfSearchedJob, IsUpdatedCandidate}
 use Rattle.border_match.proofs.Imports.{length}
 use Rattle.border_match.proofs.Imports.{◌-◌}
 use Rattle.border_match.proofs.borders.Borders.least_with_edge_events.Given as goal
 
 abbrev pub invariant-loop-place : goal.invariant-loop-place
 invariant-loop-place l = record {
-  better : IsNextCandidate (IsFaultOfSearchedJob l.self)
+  better : IsUpdatedCandidate (IsFaultOfSearchedJob l.self)
       (IsAtSomeEventBelow l.place l.other.edges.events) l.fn.best l.least;
   marked : AreHaloEventMarks l.self l.seen;
 }

@@ -2,7 +2,7 @@ use Rattle.module_box.proofs.Imports.{arith, common_steps, length, slice_get-get
 use Rattle.bbm_rule.proofs.CellOrder.{cell_total, cell_exact}
 use Rattle.module_box.proofs.Rising.{raise_low, drop_high, is_absent, is_first, all_times_none}
 use Rattle.module_box.proofs.Rising.{all_times_found}
-use Rattle.module_box.proofs.schedules.find_all_times.Goals as goal
+use Rattle.module_box.proofs.schedules.find_signal_at_all_times.Goals as goal
 
 pub loop-low-preserved-in-Less : goal.loop-low-preserved-in-Less
 loop-low-preserved-in-Less c = grind (arith, common_steps, raise_low, cell_total, slice_get-get_or)
