@@ -177,9 +177,9 @@ class Joining(unittest.TestCase):
         """A mirror that another ball touches stays, and so do all mirrors that hang together with it."""
         mirrors = {(x + i, y + j) for x, y in ((10, 10), (30, 30), (34, 31)) for i in range(4) for j in range(2)}
         beside = {(10, 10), (31, 31)}
-        self.assertEqual(len(lone_ways.free_mirrors(beside, set(), mirrors)), 24)
-        claims = {7 * STEP + 32 * ROW + 37}
-        self.assertEqual(lone_ways.free_mirrors(beside, claims, mirrors), {cell for cell in mirrors if cell[0] < 20})
+        self.assertEqual(len(lone_ways.free_mirrors(beside, set().__contains__, mirrors)), 24)
+        claimed = {32 * ROW + 37}.__contains__
+        self.assertEqual(lone_ways.free_mirrors(beside, claimed, mirrors), {cell for cell in mirrors if cell[0] < 20})
 
     # --- planted mistakes: the program finds each of them -------------------------------------------------------------
 
