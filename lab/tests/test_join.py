@@ -22,6 +22,7 @@ from bbmlab_core.joining.composing import Composed, Connection, NamedPart, compo
 from bbmlab_core.joining.lone_ways import balls_of
 from bbmlab_core.joining.parts import read_part
 from bbmlab_core.joining.places import GAP, Area, all_places
+from bbmlab_core.joining.slack import Cut, Slack
 from bbmlab_core.joining.turning import TURNINGS, UPRIGHT, Placing
 from bbmlab_core.physics.simulation import run_layout
 from bbmlab_core.route.attempt import Attempt
@@ -177,9 +178,25 @@ class Joining(unittest.TestCase):
         """A mirror that another ball touches stays, and so do all mirrors that hang together with it."""
         mirrors = {(x + i, y + j) for x, y in ((10, 10), (30, 30), (34, 31)) for i in range(4) for j in range(2)}
         beside = {(10, 10), (31, 31)}
-        self.assertEqual(len(lone_ways.free_mirrors(beside, set(), mirrors)), 24)
-        claims = {7 * STEP + 32 * ROW + 37}
-        self.assertEqual(lone_ways.free_mirrors(beside, claims, mirrors), {cell for cell in mirrors if cell[0] < 20})
+        self.assertEqual(len(lone_ways.free_mirrors(beside, set().__contains__, mirrors)), 24)
+        claimed = {32 * ROW + 37}.__contains__
+        self.assertEqual(lone_ways.free_mirrors(beside, claimed, mirrors), {cell for cell in mirrors if cell[0] < 20})
+
+    def test_balls_with_time_to_spare(self) -> None:
+        """A ball with time to spare stays on its lone ways. It leaves elsewhere if it could not leave there."""
+        made = self.made()
+        plan = planning.made_plan(made, 512, [0])
+        assert plan
+        self.assertEqual(Slack(made, plan, [0], set()).moved, [])
+        first, last = plan.placed
+        late = replace(plan, end=plan.end + 1000, placed=[first, replace(last, time=last.time + 1000)])
+        slack = Slack(made, late, [0], set())
+        before, job = plan.jobs[0], slack.planned().jobs[0]
+        assert before.start and job.start and job.goal
+        self.assertEqual(slack.moved[0], Cut(0, True, first.part.text.layout.steps))
+        self.assertGreater(job.start.time, before.start.time)
+        self.assertGreaterEqual(job.steps, planning.steps_needed(last, job.start, job.goal, 0))
+        self.assertNotIn(slack.moved[0], Slack(made, late, [0], set(slack.moved)).moved)
 
     # --- planted mistakes: the program finds each of them -------------------------------------------------------------
 
@@ -381,6 +398,27 @@ class Joining(unittest.TestCase):
                 item, left, right, top, bottom = bend.spans[-1]
                 for x, y in map(number_cell, item.mirrors | item.touched):
                     self.assertTrue(left <= x <= right and top <= y <= bottom, bend)
+
+    def test_ways_to_open_ground(self) -> None:
+        """A way out of a part or into it meets nothing, and ends or begins on open ground."""
+        world, chance, part = World(512), random.Random(1), Box(176, 176, 160, 160)
+        for _ in range(60):
+            world.add(Item(frozenset([cell_number((chance.randrange(180, 330), chance.randrange(180, 330)))])))
+        finder, ground = PathFinder(world, chance, command.SETTINGS), coil_ways.CoilGround(world, [part])
+        for dx, dy, is_backward in itertools.product((1, -1), (1, -1), (False, True)):
+            inner = Ball(256 + (dx < 0), 256 + (dy < 0), dx, dy, 2000)
+            other = Ball(60, 60, 1, 1, 1000 if is_backward else 3000)
+            for cells in wiring.GOAL_CELLS:
+                search = coil_ways.OpenSearch(finder, ground, inner, other, is_backward, lambda _: True, cells)
+                legs = next(search.ways())
+                first = finder.before(inner, legs) if is_backward else inner
+                item, last = path_item(first, legs), follow(first, legs)[0]
+                assert item
+                self.assertTrue(world.fits(item))
+                self.assertEqual(inner, last if is_backward else first)
+                end = first if is_backward else last
+                self.assertFalse(part.has((end.x, end.y)))
+                self.assertLess(max(abs(end.x - other.x), abs(end.y - other.y)), abs(end.time - other.time))
 
     def test_ground_of_coils(self) -> None:
         """Squares are free if nothing is in them or near them. Tiles far away from them need as many steps at least."""

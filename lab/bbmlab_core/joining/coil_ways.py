@@ -7,11 +7,11 @@ coil is led in reversed time.
 import bisect
 import heapq
 from dataclasses import dataclass
-from typing import Iterable, Iterator, NamedTuple
+from typing import Callable, Iterable, Iterator, NamedTuple
 
 from ..route.balls import BOUNCE_STEPS, Ball, Leg, Turn, bounce, reversed_legs
 from ..route.bit_rows import BitJoiner
-from ..route.paths import PathFinder
+from ..route.paths import PathFinder, is_in_reach
 from ..route.world import MARGIN, ROW, TILE, Item, World, path_item
 from ..texts.layouts import Box
 from .coils import Coil, coils_of, least_width
@@ -37,6 +37,9 @@ LEAST_AHEAD = 12
 FARTHEST = 140
 # A ball can fly at least so many steps on behind a bounce.
 LEAST_ON = 9
+# The side of the free squares that are open ground, and the steps to spare with which a ball comes there.
+OPEN_SIDE = 48
+OPEN_SPARE = 110
 # The first bit of each tile of a row, and the digits 0 and 1 for these numbers.
 FIRST_BITS = sum(1 << column for column in range(0, ROW, TILE))
 DIGITS = bytes.maketrans(b"\0\1", b"01")
@@ -239,10 +242,13 @@ class CoilSearch:
     If it is backward, the ball is reversed, and so is the way found.
     """
 
-    def __init__(self, finder: PathFinder, ground: CoilGround, ball: Ball, end: int, is_backward: bool) -> None:
+    def __init__(self, finder: PathFinder, ground: CoilGround, ball: Ball, end: int, is_backward: bool,
+                 has_room: Callable[[Item], bool] = lambda _: True, width: int | None = None) -> None:
         self.finder, self.world, self.is_backward, self.end = finder, finder.world, is_backward, end
+        # Whether the modules where a leg passes have room for its wire.
+        self.has_room = has_room
         self.first = CoilBounce(ball.reversed() if is_backward else ball)
-        self.width = least_width(end - self.first.ball.time)
+        self.width = width or least_width(end - self.first.ball.time)
         self.squares = ground.squares(self.width + 1, ball.y)
         self.distances = self.squares.distances()
         # Nothing is added to the world before the search ends.
@@ -253,15 +259,20 @@ class CoilSearch:
 
     def run(self) -> Iterator[tuple[Coil, list[Leg]]]:
         """Yields coils with the legs up to the end, those of a cheap way first."""
+        for bend, room in self.bends():
+            for coil in self.coils_ahead(bend, room):
+                ahead = coil.entry.time - bend.ball.time
+                inner = list(coil.legs(self.end - coil.entry.time))
+                yield coil, [*bend.legs(), Leg(ahead + inner[0].steps, inner[0].turn), *inner[1:]]
+
+    def bends(self) -> Iterator[tuple[CoilBounce, int]]:
+        """Yields the bounces that the search comes to, and how far the ball can fly on straight."""
         bend: CoilBounce | None = self.first if any(self.squares.rows) else None
         while bend is not None and self.tried < MOST_BOUNCES:
             self.seen.add(place_of(bend.ball))
             self.tried += 1
             room = self.room(bend)
-            for coil in self.coils_ahead(bend, room):
-                ahead = coil.entry.time - bend.ball.time
-                inner = list(coil.legs(self.end - coil.entry.time))
-                yield coil, [*bend.legs(), Leg(ahead + inner[0].steps, inner[0].turn), *inner[1:]]
+            yield bend, room
             for option in self.options_behind(bend, room):
                 heapq.heappush(self.queue, option)
             bend = self.next_bend()
@@ -311,14 +322,17 @@ class CoilSearch:
                     if cost is None:
                         cost = bend.cost + self.world.new_cells(bend.ball, steps) + BOUNCE_CELLS
                     self.count += 1
-                    rank = cost + LEFT_CELLS * self.distances.steps_from(i, j)
-                    yield CoilOption(rank, self.count, cost, bend, steps, turn)
+                    yield CoilOption(cost + self.left(i, j), self.count, cost, bend, steps, turn)
+
+    def left(self, x: int, y: int) -> float:
+        """Returns the cost of the way that is left from a cell, about."""
+        return LEFT_CELLS * self.distances.steps_from(x, y)
 
     def with_item(self, bend: CoilBounce) -> CoilBounce | None:
         """Returns a bounce with what the leg before it takes, or None if the leg meets something."""
         assert bend.before is not None
         item = self.leg_item(bend.before, bend.leg)
-        if item is None:
+        if item is None or not self.has_room(item):
             return None
         span = span_of(item, bend.before.ball, bend.ball)
         if any(span.meets(own) for own in bend.spans) or not self.world.fits(item):
@@ -346,3 +360,37 @@ class CoilSearch:
                 if has(box.x + right, box.y + down):
                     yield list(coils_of(ball.flown(ahead), self.width))[index]
                     return
+
+
+class OpenSearch(CoilSearch):
+    """A search for ways from a ball out of its part to open ground, from which it can come to a goal in time.
+
+    If it is backward, the ball comes from the goal to its part.
+    """
+
+    def __init__(self, finder: PathFinder, ground: CoilGround, ball: Ball, goal: Ball, is_backward: bool,
+                 has_room: Callable[[Item], bool], goal_cells: float) -> None:
+        self.goal, self.goal_cells = goal.reversed() if is_backward else goal, goal_cells
+        super().__init__(finder, ground, ball, self.goal.time, is_backward, has_room, OPEN_SIDE)
+
+    def ways(self) -> Iterator[list[Leg]]:
+        """Yields the legs of ways, in their order of time. They end or begin with a straight flight."""
+        half = OPEN_SIDE // 2
+        for bend, room in self.bends():
+            for ahead in range(max(LEAST_AHEAD, bend.begun), room + 1, STRIDE):
+                ball = bend.ball.flown(ahead)
+                if self.squares.has(ball.x - half, ball.y - half) and is_in_reach(ball, self.goal, OPEN_SPARE):
+                    item = self.leg_item(bend, Leg(ahead, None))
+                    if item is not None and self.has_room(item):
+                        legs = [*bend.legs(), Leg(ahead, None)]
+                        yield reversed_legs(legs) if self.is_backward else legs
+                    break
+
+    def options_behind(self, bend: CoilBounce, room: int) -> Iterator[CoilOption]:
+        """Yields the bounces that a ball can come to without another one, if the goal can be reached."""
+        if is_in_reach(bend.ball, self.goal, OPEN_SPARE):
+            yield from super().options_behind(bend, room)
+
+    def left(self, x: int, y: int) -> float:
+        """Returns the cost of the way that is left from a cell, about: to open ground, and then to the goal."""
+        return super().left(x, y) + self.goal_cells * max(abs(x - self.goal.x), abs(y - self.goal.y))

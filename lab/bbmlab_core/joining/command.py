@@ -23,7 +23,8 @@ from .bundles import joined_bundle
 from .composing import Composed, Connection, composed
 from .modules import JoinedModules
 from .parts import PartText, read_part
-from .planning import SPARES, JoinPlan, estimated_side, made_plan
+from .planning import SPARES, JoinPlan, estimated_side, first_spares, made_plan
+from .slack import Cut, Slack
 from .wiring import JoinWiring, TightError, ball_words
 
 NAME = re.compile(r"[a-z][a-z0-9_]{0,15}")
@@ -129,7 +130,8 @@ class JoinSearch:
 
     def __post_init__(self) -> None:
         self.deadline = time.monotonic() + self.asked.effort
-        self.spares = [0] * len(self.made.connections)
+        self.spares = first_spares(self.made)
+        self.closed, self.moved = set[Cut](), list[Cut]()
         self.side = self.asked.side or estimated_side(self.made, self.spares)
 
     def run(self) -> tuple[Routed | None, str]:
@@ -148,11 +150,12 @@ class JoinSearch:
         return None, why
 
     def loosen(self, connections: list[int]) -> None:
-        """Gives some balls between two parts more steps.
+        """Gives some balls between two parts more steps, and has them leave their lone ways elsewhere.
 
         If one of them gets none by that, since another ball decides when its part begins, all balls get more.
         """
         before = self.steps_between()
+        self.closed.update(cut for cut in self.moved if cut.connection in connections)
         for index in connections:
             self.spares[index] += 1
         after = self.steps_between()
@@ -162,7 +165,11 @@ class JoinSearch:
     def steps_between(self) -> list[int]:
         """Returns the steps that each ball between two parts would get."""
         plan = made_plan(self.made, self.side, self.spares)
-        return [job.steps for job in plan.jobs if job.is_between] if plan else []
+        return [job.steps for job in self.slack(plan).planned().jobs if job.is_between] if plan else []
+
+    def slack(self, plan: JoinPlan) -> Slack:
+        """Returns where balls with time to spare leave their lone ways."""
+        return Slack(self.made, plan, self.spares, self.closed)
 
     def attempt(self) -> Routed:
         """Returns the bundle of one attempt; raises NoRouteError."""
@@ -186,11 +193,19 @@ class JoinSearch:
                 raise LabError(f"the parts have no room on a plane of {self.side} by {self.side} cells", 1)
             require_steps(plan.end)
             require_open(plan)
+            slack = self.slack(plan)
+            plan = slack.planned()
             modules = JoinedModules(self.made, plan)
             modules.require_meetings()
             seed = self.asked.seed * 1_000_003 + self.attempts + 1
             wiring = JoinWiring(plan, modules, seed, SETTINGS, self.deadline)
-            closed = [] if self.attempts else wiring.blocked_ends()
+            enclosed = [cut for cut in slack.moved if wiring.is_enclosed(cut.connection, cut.is_output)]
+            self.closed.update(enclosed)
+            if enclosed:
+                continue
+            self.moved = slack.moved
+            moved = {(cut.connection, 1 if cut.is_output else -1) for cut in slack.moved}
+            closed = [] if self.attempts else wiring.blocked_ends(moved)
             if not closed:
                 return plan, modules, wiring
             self.made = with_whole_ports(self.made, plan, closed)

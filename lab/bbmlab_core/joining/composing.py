@@ -55,7 +55,7 @@ class NamedPart:
         """What the part takes without the lone ways. Parts of one text with the same connected ports share it."""
         if not self.ways:
             return self.text.item
-        key = frozenset(self.ways)
+        key = frozenset((wire, way.ball.time) for wire, way in self.ways.items())
         if key not in self.text.shapes:
             self.text.shapes[key] = self.shape()
         return self.text.shapes[key]
@@ -119,8 +119,8 @@ def connected_ways(part: NamedPart, connections: list[Connection]) -> Iterator[t
     given = {own.output for own in connections if own.source == part.name}
     for ports, wires in ((part.text.starts, taken), (part.text.ends, given)):
         for port in ports:
-            if port.wire in wires and port.way is not None:
-                yield port.wire, port.way
+            if port.wire in wires and port.run is not None:
+                yield port.wire, part.text.way(port.wire, port.run, port.run.balls[0])
 
 
 def joined_name(part: str, wire: str) -> str:

@@ -6,8 +6,10 @@ the ball comes later, or leaves earlier. Blocks change by themselves (Margolus 1
 move as before.
 """
 
+from collections import Counter
 from dataclasses import dataclass
-from typing import Container, Iterable, Iterator
+from functools import cached_property
+from typing import Callable, Container, Iterable, Iterator, Mapping
 
 from ..route.balls import Ball, block_cells, run_exactly, start_state
 from ..route.world import ROW, STEP, cell_number, number_cell
@@ -88,6 +90,11 @@ class LoneRun:
             return range(self.bound, max(self.states) + 1)
         return range(self.bound, -1, -1)
 
+    @cached_property
+    def balls(self) -> list[Ball]:
+        """The balls at which the way may be cut, the best first. The last one leaves nothing out."""
+        return [ball for time in self.times() for ball in [lone_ball(self.states[time], time)] if ball]
+
     def steps(self, cut: int) -> range:
         """Returns the times of the steps that are left out if the way is cut at a time."""
         return range(cut, max(self.states)) if self.is_output else range(cut)
@@ -111,14 +118,20 @@ class LoneRuns:
                     run.note_meeting(time)
 
 
-def removable_way(run: LoneRun, claims: set[int], mirrors: set[Cell]) -> LoneWay:
-    """Returns what a run leaves out at its best cut."""
-    ball = next(ball for time in run.times() for ball in [lone_ball(run.states[time], time)] if ball)
+def removable_way(run: LoneRun, ball: Ball, counts: Mapping[int, int], mirrors: set[Cell]) -> LoneWay:
+    """Returns what a run leaves out if it is cut at a ball. `counts` has for each block how often the part claims it.
+    """
     steps = run.steps(ball.time)
     moving = frozenset((time, cell) for time in steps for cell in run.states[time])
     own = frozenset(claim for claim, time in run.claims() if time in steps)
-    beside = {cell for claim in own for cell in block_cells(number_cell(claim % STEP))} & mirrors
-    return LoneWay(ball, moving, own, frozenset(free_mirrors(beside, claims - own, mirrors)))
+    own_counts = Counter(claim % STEP for claim in own)
+    beside = {cell for corner in own_counts for cell in block_cells(number_cell(corner))} & mirrors
+
+    def is_claimed(corner: int) -> bool:
+        """Whether something else claims a block."""
+        return counts.get(corner, 0) > own_counts[corner]
+
+    return LoneWay(ball, moving, own, frozenset(free_mirrors(beside, is_claimed, mirrors)))
 
 
 def lone_ball(cells: frozenset[Cell], time: int) -> Ball | None:
@@ -127,16 +140,15 @@ def lone_ball(cells: frozenset[Cell], time: int) -> Ball | None:
     return balls[0] if balls and len(balls) == 1 else None
 
 
-def free_mirrors(beside: set[Cell], claims: set[int], mirrors: set[Cell]) -> set[Cell]:
-    """Returns the whole mirrors with some cells that no block of some claims touches."""
+def free_mirrors(beside: set[Cell], is_claimed: Callable[[int], bool], mirrors: set[Cell]) -> set[Cell]:
+    """Returns the whole mirrors with some cells that no claimed block touches."""
     left, found = set(beside), set[Cell]()
     pieces = list[set[Cell]]()
     while left:
         pieces.append(piece_of(left.pop(), mirrors))
         left -= pieces[-1]
     near = {cell_number((x - i, y - j)) for piece in pieces for x, y in piece for i in (0, 1) for j in (0, 1)}
-    touching = {claim % STEP for claim in claims if claim % STEP in near}
-    touched = {cell for corner in touching for cell in block_cells(number_cell(corner))}
+    touched = {cell for corner in filter(is_claimed, near) for cell in block_cells(number_cell(corner))}
     for piece in pieces:
         if piece.isdisjoint(touched):
             found |= piece
@@ -148,7 +160,7 @@ def piece_of(cell: Cell, mirrors: set[Cell]) -> set[Cell]:
     found, left = {cell}, [cell]
     while left:
         x, y = left.pop()
-        around = {(x + i, y + j) for i in (-1, 0, 1) for j in (-1, 0, 1)} & mirrors - found
+        around = ({(x + i, y + j) for i in (-1, 0, 1) for j in (-1, 0, 1)} & mirrors) - found
         found |= around
         left += around
     return found

@@ -6,7 +6,7 @@ written. Before that, numbers stand for the lines of paths.
 
 from array import array
 from collections import Counter, defaultdict
-from typing import Iterable, Iterator
+from typing import Callable, Iterable, Iterator
 
 from ..circuits.cones import fewest_cuts
 from ..host.terminal import LabError
@@ -14,7 +14,7 @@ from ..route.balls import moving_cells
 from ..route.board import Bound, NoRouteError
 from ..route.netlist import RouterNetlist
 from ..route.paths import Path
-from ..route.world import ROW, STEP, TILE, number_cell
+from ..route.world import ROW, STEP, TILE, Item, number_cell, tiles_of
 from ..texts.certificates import MAX_CUTS, MAX_USES, Border, Module, ModuleDraft, Stop, local_wires
 from ..texts.layouts import Box, Cell
 from ..texts.limits import SECOND
@@ -144,6 +144,23 @@ class JoinedModules:
                 if len(cuts) > MAX_CUTS or len(uses) > MAX_USES:
                     return False
         return True
+
+    def room_for(self, wire: str) -> Callable[[Item], bool]:
+        """Returns what tells whether the modules that touch an item have room for a wire, as long as none changes."""
+        known: dict[int, bool] = {}
+
+        def has_room(item: Item) -> bool:
+            """Whether the modules have room."""
+            corners = (ROW + 1, ROW - 1, 1 - ROW, -ROW - 1)
+            for tile in tiles_of(number + own for part in item.touched_parts for number in part for own in corners):
+                if tile not in known:
+                    number = self.owners.owner_at((tile % ROW * TILE, tile // ROW * TILE))
+                    known[tile] = number == NOBODY or self.has_room_for(wire, [number])
+                if not known[tile]:
+                    return False
+            return True
+
+        return has_room
 
     def count(self, wire: str, numbers: Iterable[int], change: int) -> None:
         """Notes that a path brings a wire to modules, or no longer does."""

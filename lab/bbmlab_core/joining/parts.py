@@ -1,7 +1,7 @@
 """The parts of a join: bundles with the balls at their starts and ends, and what their balls and mirrors take."""
 
 from array import array
-from collections import defaultdict
+from collections import Counter, defaultdict
 from dataclasses import dataclass, field, replace
 from typing import Collection
 from ..host.terminal import LabError
@@ -26,12 +26,12 @@ ALWAYS = "1"
 class PartPort:
     """A ball at the start or at the end of a part, at its time there, with the wire that it carries.
 
-    If the port is connected, `way` is its lone way.
+    If the port is connected, `run` is its lone run.
     """
 
     wire: str
     ball: Ball
-    way: LoneWay | None = None
+    run: LoneRun | None = None
 
 
 @dataclass(frozen=True)
@@ -49,19 +49,29 @@ class PartText:
     item: Item
     start_fault: str = ""
     end_fault: str = ""
-    # What the part takes without the lone ways of some wires.
-    shapes: dict[frozenset[str], Item] = field(default_factory=dict)
+    # How often each block is claimed.
+    counts: Counter[int] = field(default_factory=Counter)
+    # The lone ways of wires that are cut at a time, and what the part takes without some of them.
+    ways: dict[tuple[str, int], LoneWay] = field(default_factory=dict)
+    shapes: dict[frozenset[tuple[str, int]], Item] = field(default_factory=dict)
 
     @property
     def can_wait(self) -> bool:
         """Whether it takes fewer steps of balls to begin the part later than to lead its balls on."""
         return not self.start_fault and len(self.starts) < len(self.ends)
 
+    def way(self, wire: str, run: LoneRun, ball: Ball) -> LoneWay:
+        """Returns the lone way of a wire's run that is cut at a ball."""
+        key = wire, ball.time
+        if key not in self.ways:
+            self.ways[key] = removable_way(run, ball, self.counts, self.layout.mirror_cells())
+        return self.ways[key]
+
 
 def read_part(name: str, text: str, connected: Collection[str] = ()) -> PartText:
     """Returns a bundle with its balls; raises LabError if it is refused or cannot be joined.
 
-    The ports of connected wires get their lone ways.
+    The ports of connected wires get their lone runs.
     """
     document = read_document(text, "check")
     if document.refusal is not None:
@@ -73,12 +83,12 @@ def read_part(name: str, text: str, connected: Collection[str] = ()) -> PartText
     lone = {} if not connected else lone_runs(circuit, layout, certificate, connected)
     run = PartRun(circuit, layout, certificate, LoneRuns(list(lone.values())))
     item, last = run.run()
-    ways = {key: removable_way(own, run.claims, run.mirrors) for key, own in lone.items()}
     starts, start_fault = start_ports(layout)
     ends, end_fault = end_ports(circuit, layout, run.wires_at_end(last))
-    starts = [replace(port, way=ways.get(("in", port.wire))) for port in starts]
-    ends = [replace(port, way=ways.get(("out", port.wire))) for port in ends]
-    return PartText(circuit, layout, certificate, starts, ends, item, start_fault, end_fault)
+    starts = [replace(port, run=lone.get(("in", port.wire))) for port in starts]
+    ends = [replace(port, run=lone.get(("out", port.wire))) for port in ends]
+    counts = Counter(claim % STEP for claim in run.claims)
+    return PartText(circuit, layout, certificate, starts, ends, item, start_fault, end_fault, counts)
 
 
 def lone_runs(circuit: Circuit, layout: Layout, certificate: Certificate,

@@ -46,6 +46,8 @@ SPARES = (Spare(0.1, 60), Spare(0.2, 100), Spare(0.35, 150), Spare(0.35, 250), S
 SLANTED = 0.6
 # A ball that is led deeper into its part than so many cells gets a step to spare for each further cell.
 SHALLOW = 150
+# The place of the first spare steps in `SPARES` if a ball is led so deep.
+DEEP_SPARE = 2
 # How often all parts are turned anew.
 TURNS = 2
 # For each connection the place of its spare steps in `SPARES`.
@@ -132,6 +134,14 @@ class JoinPlan:
     height: int
 
 
+def first_spares(composed: Composed) -> Spares:
+    """Returns the spare steps of the first plan: more if some ball is led deep into its part."""
+    parts = {part.name: PlacedPart(part) for part in composed.parts}
+    goals = ((parts[own.target], start_ball(parts[own.target], own.input)) for own in composed.connections)
+    is_deep = any(part.cells_too_deep(goal) for part, goal in goals)
+    return [DEEP_SPARE if is_deep else 0] * len(composed.connections)
+
+
 def made_plan(composed: Composed, side: int, spares: Spares) -> JoinPlan | None:
     """Returns a plan on a plane with a side that takes few steps, or None if the parts have no room there.
 
@@ -190,11 +200,15 @@ def set_times(composed: Composed, placed: list[PlacedPart], spares: Spares) -> N
             if connection.target == own.part.name:
                 first = end_ball(by_name[connection.source], connection.output)
                 last = start_ball(own, connection.input)
-                ways = sorted(ways_between(first, last))
-                own_spare = SPARES[min(len(SPARES) - 1, spare + (ways[0] > SLANTED * ways[1]))]
-                steps = own_spare.steps_between(first, last) + own.cells_too_deep(last)
-                after = first.time + steps - (last.time - own.time)
+                after = first.time + steps_needed(own, first, last, spare) - (last.time - own.time)
                 own.time = max(own.time, (after + 1) // 2 * 2)
+
+
+def steps_needed(target: PlacedPart, first: Ball, last: Ball, spare: int) -> int:
+    """Returns the steps for which a ball is led from a part to another one, by the place of its spare steps."""
+    ways = sorted(ways_between(first, last))
+    own = SPARES[min(len(SPARES) - 1, spare + (ways[0] > SLANTED * ways[1]))]
+    return own.steps_between(first, last) + target.cells_too_deep(last)
 
 
 def end_ball(placed: PlacedPart, wire: str) -> Ball:

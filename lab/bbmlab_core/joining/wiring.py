@@ -8,7 +8,7 @@ import random
 import time
 from array import array
 from dataclasses import dataclass
-from itertools import chain
+from itertools import chain, islice
 from typing import Callable, Collection, Iterable, NamedTuple
 
 from ..route.balls import Ball, Leg, follow, reversed_legs
@@ -17,7 +17,7 @@ from ..route.paths import Path, PathFinder, Trail
 from ..route.settings import Settings
 from ..route.world import STEP, TILE, Item, World, cell_number, number_cell, path_item
 from ..texts.layouts import Box
-from .coil_ways import CoilGround, CoilSearch
+from .coil_ways import CoilGround, CoilSearch, OpenSearch
 from .modules import JoinedModules
 from .parts import ALWAYS
 from .planning import SHALLOW, Job, JoinPlan, PlacedPart
@@ -33,6 +33,11 @@ BOUNCE_REACH = 60
 CONNECT_TRIES = 12
 BACK_STEPS = (60, 300)
 JOIN_STEPS = (80, 260)
+# The ways to open ground that are tried at each end if no such path is found, and the tries to join two of them.
+OPEN_WAYS = 4
+OPEN_TRIES = 3
+# The cost of a step to the other end while open ground is sought: searches go there with each of these.
+GOAL_CELLS = (4.0, 1.0, 12.0)
 # The steps for which a ball is led to see that it can leave its part.
 LEAVING_STEPS = 80
 # The paths that are tried for a ball before others make room, and how often that may happen for each ball.
@@ -188,7 +193,7 @@ class JoinWiring:
 
         Of balls between two parts that can get more time, all are tried before the search ends with a TightError.
         """
-        jobs, tight = self.plan.jobs, list[int]()
+        jobs, tight, taken_back = self.plan.jobs, list[int](), set[int]()
         for index in range(len(jobs)):
             self.reserve(index)
         queue = sorted(range(len(jobs)), key=lambda index: (not jobs[index].is_between, -jobs[index].steps))
@@ -201,7 +206,7 @@ class JoinWiring:
             if self.lead(index) or self.lead_first(index):
                 progress(len(self.paths), len(jobs))
                 continue
-            if index in can_loosen:
+            if index in can_loosen and index not in taken_back:
                 tight.append(index)
                 continue
             crossing = self.paths_across(index)
@@ -210,7 +215,10 @@ class JoinWiring:
                 raise NoRouteError(self.words(index), Bound.END)
             for other in crossing:
                 self.take_back(other)
-            queue = [index, *queue, *crossing]
+            taken_back.update(crossing)
+            # The balls between two parts have few ways to go, so they are led again before the others.
+            between = [other for other in crossing if jobs[other].is_between]
+            queue = [index, *between, *queue, *(other for other in crossing if other not in between)]
         if tight:
             raise TightError(self.words(tight[0]), tight)
         return [self.paths[index] for index in range(len(jobs))]
@@ -222,13 +230,26 @@ class JoinWiring:
                 for what, ball in (("from", job.start), ("to", job.goal)) if ball]
         return f"{ball_words(job)} could not be led {' '.join(ends)}"
 
-    def blocked_ends(self) -> list[tuple[int, Ball, int]]:
+    def is_enclosed(self, index: int, is_start: bool) -> bool:
+        """Whether a ball between two parts finds no way from its start to open ground, or from there to its goal."""
+        job = self.plan.jobs[index]
+        assert job.start is not None and job.goal is not None
+        ends = (job.start, job.goal) if is_start else (job.goal, job.start)
+        search = OpenSearch(self.finder, self.ground, *ends, not is_start, self.modules.room_for(job.wire),
+                            GOAL_CELLS[0])
+        return next(search.ways(), None) is None
+
+    def blocked_ends(self, skipped: Collection[tuple[int, int]] = ()) -> list[tuple[int, Ball, int]]:
         """Returns the open ends that no ball can leave even if no other ball is led: the number of the job, the ball,
-        and 1 behind it or -1 before it. The paths to come do not depend on what was tried."""
+        and 1 behind it or -1 before it. The paths to come do not depend on what was tried.
+
+        Skipped ends are jobs with such a number.
+        """
         self.finder.chance = random.Random(0)
         found = [(index, ball, sign) for index, job in enumerate(self.plan.jobs)
                  for ball, sign in ((job.start, 1), (job.goal, -1))
-                 if ball is not None and not any(self.can_leave(ball, sign) for _ in range(TRIES))]
+                 if ball is not None and (index, sign) not in skipped
+                 and not any(self.can_leave(ball, sign) for _ in range(TRIES))]
         self.finder.chance = self.chance
         return found
 
@@ -314,7 +335,10 @@ class JoinWiring:
             return self.finder.lead_on(job.wire, job.start, job.end)
         if job.start is None:
             return self.finder.lead_here(job.wire, job.goal)
-        return self.connected(job.wire, job.start, job.goal)
+        is_deep = max(self.world.depth(ball.x, ball.y) for ball in (job.start, job.goal)) > SHALLOW
+        path = self.connected_outside(job.wire, job.start, job.goal) if is_deep and not tried else None
+        path = path or self.connected(job.wire, job.start, job.goal)
+        return path or (self.connected_outside(job.wire, job.start, job.goal) if not is_deep and not tried else None)
 
     def coiled(self, job: Job) -> Path | None:
         """Returns a path to a coil in which a ball waits, or None. Without a start the ball comes from a coil."""
@@ -322,7 +346,8 @@ class JoinWiring:
         if ball is None:
             assert job.goal is not None
             ball, end = job.goal, 0
-        for coil, legs in CoilSearch(self.finder, self.ground, ball, end, job.start is None).run():
+        has_room = self.modules.room_for(job.wire)
+        for coil, legs in CoilSearch(self.finder, self.ground, ball, end, job.start is None, has_room).run():
             if job.start is None:
                 legs = reversed_legs(legs)
             start = job.start or self.finder.before(ball, legs)
@@ -342,6 +367,47 @@ class JoinWiring:
             path = self.finder.complete(wire, start, goal, legs) if legs else None
             if path is not None:
                 return path
+        return None
+
+    def connected_outside(self, wire: str, start: Ball, goal: Ball) -> Path | None:
+        """Returns a path between two parts whose ends are led to open ground by a search, and joined there."""
+        has_room = self.modules.room_for(wire)
+        for cells in GOAL_CELLS:
+            search = OpenSearch(self.finder, self.ground, goal, start, True, has_room, cells)
+            for behind in islice(search.ways(), OPEN_WAYS):
+                back, last = Trail(self.world, goal, is_backward=True), self.finder.before(goal, behind)
+                turns = [leg.turn for leg in reversed(behind[:-1])]
+                is_free = all(back.push(leg.steps, turn) for leg, turn in zip(reversed(behind), [*turns, None]))
+                legs = self.legs_to_open(start, last, has_room, cells) if is_free else None
+                back.clear()
+                path = self.finder.complete(wire, start, goal, linked(legs, behind)) if legs else None
+                if path is not None and self.modules.has_room_for(wire, self.modules.modules_of(path)):
+                    return path
+        return None
+
+    def legs_to_open(self, start: Ball, last: Ball, has_room: Callable[[Item], bool], cells: float) -> list[Leg] | None:
+        """Returns legs from a ball in a part to a ball on open ground, or None."""
+        search = OpenSearch(self.finder, self.ground, start, last, False, has_room, cells)
+        for ahead in islice(search.ways(), OPEN_WAYS):
+            on = Trail(self.world, start)
+            legs = self.legs_outside(on.ball, last) if all(on.push(*leg) for leg in ahead) else None
+            on.clear()
+            if legs:
+                return linked(ahead, legs)
+        return None
+
+    def legs_outside(self, start: Ball, last: Ball) -> list[Leg] | None:
+        """Returns legs between two balls on open ground, or None."""
+        for _ in range(OPEN_TRIES):
+            stop, on = last.time - self.chance.randint(*JOIN_STEPS), Trail(self.world, start)
+            self.finder.known_departures.clear()
+            legs = [Leg(0, None)]
+            if stop > start.time and self.finder.wander(on, stop, last):
+                legs = on.legs()
+            middle = self.finder.connect_short(on.ball, last, self.settings.path_tries)
+            on.clear()
+            if middle:
+                return linked(legs, middle)
         return None
 
     def legs_between(self, back: Trail, on: Trail, start: Ball, goal: Ball) -> list[Leg] | None:

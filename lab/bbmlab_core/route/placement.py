@@ -66,6 +66,8 @@ class Placer:
         # The earliest time for the gate that is being placed, by its delayed inputs that are never true, and by late
         # inputs.
         self.least_time = 0
+        # The latest time before which no gate with late inputs came.
+        self.late_begun = 0
         # The estimated time at which all gates are done.
         self.horizon = 0
 
@@ -99,12 +101,14 @@ class Placer:
         return None
 
     def late_time(self, inlets: list[Inlet]) -> int:
-        """Returns the earliest time for a gate with some inputs: a late one comes after all balls that wait for it."""
+        """Returns the earliest time for a gate with some inputs: a late one comes after all balls that wait for it, and
+        not before the first late one."""
         netlist = self.board.netlist
         if not any(inlet.ball is None and inlet.root in netlist.late for inlet in inlets):
             return 0
-        return max((own.ball.time for root, own in self.board.waiting.items() if own.ball and netlist.is_awaited(root)),
-                   default=0)
+        times = [own.ball.time for root, own in self.board.waiting.items() if own.ball and netlist.is_awaited(root)]
+        self.late_begun = max([self.late_begun, *times])
+        return self.late_begun
 
     # --- where and when -----------------------------------------------------------------------------------------------
 

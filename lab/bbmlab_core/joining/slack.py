@@ -1,0 +1,94 @@
+"""Balls with time to spare between two parts: they stay on the lone ways inside the parts, which are led already.
+
+Outside such a ball would wander about for thousands of steps, and take the room of others. So an output leaves its part
+as late as it can, and then an input comes to its part as early as it can.
+"""
+
+from dataclasses import replace
+from typing import Collection, Iterable, NamedTuple
+
+from ..route.balls import Ball
+from .composing import Composed, Connection, NamedPart
+from .lone_ways import LoneRun
+from .parts import PartPort
+from .planning import JoinPlan, PlacedPart, Spares, end_ball, jobs_of, start_ball, steps_needed
+
+# A ball with at most so many more steps than it needs is led as it is. Others keep at least the spare steps of this
+# place.
+LEAST_SLACK = 300
+SPARE = 2
+# The steps around a cut from which its ball could not leave: no other cut is made there.
+CLOSED_STEPS = 160
+
+
+class Cut(NamedTuple):
+    """Where the lone way of a connection's output is cut, or that of its input, by the time of the part."""
+
+    connection: int
+    is_output: bool
+    time: int
+
+
+def is_closed(cut: Cut, closed: Iterable[Cut]) -> bool:
+    """Whether a cut is near one from which no ball can leave."""
+    return any(own[:2] == cut[:2] and abs(own.time - cut.time) <= CLOSED_STEPS for own in closed)
+
+
+def run_of(part: NamedPart, ports: list[PartPort], wire: str) -> LoneRun | None:
+    """Returns the lone run of a port whose lone way is left out."""
+    return next((port.run for port in ports if port.wire == wire and wire in part.ways), None)
+
+
+class Slack:
+    """The cuts of a join's lone ways in a plan. `closed` has those from which no ball can leave."""
+
+    def __init__(self, made: Composed, plan: JoinPlan, spares: Spares, closed: Collection[Cut]) -> None:
+        self.made, self.plan, self.spares, self.closed = made, plan, spares, closed
+        self.placed = {own.part.name: own for own in plan.placed}
+        # The balls at which lone ways are cut, by the names of parts and their own wires.
+        self.cuts: dict[tuple[str, str], tuple[LoneRun, Ball]] = {}
+        self.moved: list[Cut] = []
+        for index, own in enumerate(made.connections):
+            self.cut(index, own)
+
+    def cut(self, index: int, own: Connection) -> None:
+        """Cuts the ways of a connection if its ball has much time to spare."""
+        source, target, spare = self.placed[own.source], self.placed[own.target], max(SPARE, self.spares[index])
+        first, last = end_ball(source, own.output), start_ball(target, own.input)
+        if last.time - first.time - steps_needed(target, first, last, spare) <= LEAST_SLACK:
+            return
+        run = run_of(source.part, source.part.text.ends, own.output)
+        for ball in reversed(run.balls) if run else ():
+            placed = source.ball(ball)
+            if steps_needed(target, placed, last, spare) <= last.time - placed.time:
+                if self.move(index, (own.source, own.output), run, ball):
+                    first = placed
+                    break
+        run = run_of(target.part, target.part.text.starts, own.input)
+        for ball in reversed(run.balls) if run else ():
+            placed = target.ball(ball)
+            if steps_needed(target, first, placed, spare) <= placed.time - first.time:
+                if self.move(index, (own.target, own.input), run, ball):
+                    break
+
+    def move(self, index: int, port: tuple[str, str], run: LoneRun | None, ball: Ball) -> bool:
+        """Cuts the lone way of a port at a ball, if a ball can leave there; returns whether that is so."""
+        assert run is not None
+        cut = Cut(index, run.is_output, ball.time)
+        if is_closed(cut, self.closed):
+            return False
+        if ball != run.balls[0]:
+            self.cuts[port] = run, ball
+            self.moved.append(cut)
+        return True
+
+    def planned(self) -> JoinPlan:
+        """Returns the plan with parts that are cut so, and their balls."""
+        placed = [replace(own, part=self.part(own.part)) for own in self.plan.placed]
+        jobs = jobs_of(self.made, {own.part.name: own for own in placed}, self.plan.end)
+        return replace(self.plan, placed=placed, jobs=jobs)
+
+    def part(self, part: NamedPart) -> NamedPart:
+        """Returns a part that is cut so."""
+        cuts = {wire: cut for (name, wire), cut in self.cuts.items() if name == part.name}
+        return replace(part, ways=part.ways | {wire: part.text.way(wire, *cut) for wire, cut in cuts.items()})
