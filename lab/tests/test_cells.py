@@ -25,7 +25,7 @@ FUNCTIONS = {
 
 
 class Bundles(unittest.TestCase):
-    """The files of lab/cells."""
+    """The files of lab/cells, what the cells compute, and their ports."""
 
     def test_each_gets_a_yes(self) -> None:
         """The program says yes to each cell, and each file is a cell of the list."""
@@ -49,10 +49,6 @@ class Bundles(unittest.TestCase):
         ended = subprocess.run([sys.executable, str(support.LAB / "make_cells"), "--check"], capture_output=True,
                                text=True, check=False)
         self.assertEqual((ended.returncode, ended.stdout), (0, ""))
-
-
-class Meaning(unittest.TestCase):
-    """What the cells compute, and their ports."""
 
     def test_functions(self) -> None:
         """The circuit of a cell with constants and garbage has the values of its Boolean function."""
@@ -108,7 +104,7 @@ def states_of(layout: Layout, on: set[str]) -> list[set[Cell]]:
     return states
 
 
-class Command(unittest.TestCase):
+class Command(support.Case):
     """`bbmlab cells`."""
 
     def test_list(self) -> None:
@@ -123,7 +119,5 @@ class Command(unittest.TestCase):
         """`--bundle` writes the file, `--svg` a picture, and an unknown name is a wrong word."""
         self.assertEqual(support.lab("cells", "fredkin", "--bundle").stdout, (FOLDER / "fredkin.txt").read_text())
         self.assertIn("<svg ", support.lab("cells", "turn_left", "--svg").stdout)
-        unknown = support.lab("cells", "../cells/switch")
-        self.assertEqual(unknown.returncode, 2)
-        self.assertIn("there is no cell", unknown.stderr)
+        self.assert_ends(2, "cells", "../cells/switch", err="there is no cell")
         self.assertEqual(support.lab("cells", "--svg").returncode, 2)

@@ -4,9 +4,7 @@ import itertools
 import random
 import shutil
 import subprocess
-import tempfile
 import unittest
-from pathlib import Path
 
 import support
 from bbmlab_core.circuits import circuit_forms, truth
@@ -23,7 +21,7 @@ def number(bits: list[int]) -> int:
     return sum(bit << at for at, bit in enumerate(bits))
 
 
-class Forms(unittest.TestCase):
+class Forms(support.InRoom):
     """A circuit in BLIF and Verilog is the same circuit, judged by others."""
 
     def test_blif_is_read_back(self) -> None:
@@ -45,19 +43,17 @@ class Forms(unittest.TestCase):
             self.skipTest("there is no yosys and abc (Debian: yosys berkeley-abc)")
         abc = shutil.which("berkeley-abc") or "yosys-abc"
         chance = random.Random(4)
-        with tempfile.TemporaryDirectory() as name:
-            room = Path(name)
-            for number in range(40):
-                circuit = circuit_of(random_text(chance, 6))
-                if set(circuit.inputs) & set(circuit.outputs):
-                    continue
-                (room / "a.blif").write_text(circuit_forms.blif_text(circuit))
-                (room / "b.v").write_text(circuit_forms.verilog_text(circuit))
-                subprocess.run(["yosys", "-q", "-p", "read_verilog b.v; synth -flatten -noabc; write_blif b.blif"],
-                               cwd=room, check=True)
-                said = subprocess.run([abc, "-c", "cec a.blif b.blif"], cwd=room, capture_output=True, text=True,
-                                      check=False).stdout
-                self.assertIn("Networks are equivalent", said, (number, said))
+        for number in range(40):
+            circuit = circuit_of(random_text(chance, 6))
+            if set(circuit.inputs) & set(circuit.outputs):
+                continue
+            (self.room / "a.blif").write_text(circuit_forms.blif_text(circuit))
+            (self.room / "b.v").write_text(circuit_forms.verilog_text(circuit))
+            subprocess.run(["yosys", "-q", "-p", "read_verilog b.v; synth -flatten -noabc; write_blif b.blif"],
+                           cwd=self.room, check=True)
+            said = subprocess.run([abc, "-c", "cec a.blif b.blif"], cwd=self.room, capture_output=True, text=True,
+                                  check=False).stdout
+            self.assertIn("Networks are equivalent", said, (number, said))
 
     def test_dot_has_each_wire(self) -> None:
         """The graph has an arrow for each wire, and is read by dot where it is there."""
@@ -68,7 +64,7 @@ class Forms(unittest.TestCase):
             subprocess.run(["dot", "-Tsvg"], input=text.encode(), check=True, stdout=subprocess.DEVNULL)
 
 
-class Commands(unittest.TestCase):
+class Commands(support.Case):
     """What the commands print."""
 
     def test_table_has_all_rows(self) -> None:
@@ -121,8 +117,7 @@ class Commands(unittest.TestCase):
         for text, status, said in ((turned, 0, "equal in all 4 choices of the inputs\n"),
                                    (other, 1, "not equal: only one of them has the output sum\n"),
                                    (wrong, 1, "not equal: with b on, sum differs\n")):
-            done = support.lab("equal", support.example("half_adder"), "-", text=text)
-            self.assertEqual((done.returncode, done.stdout), (status, said))
+            self.assert_ends(status, "equal", support.example("half_adder"), "-", text=text, stdout=said)
 
     def test_depth_and_width(self) -> None:
         """Figures of small circuits."""

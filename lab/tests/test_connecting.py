@@ -49,7 +49,7 @@ def connected(text: str, output: str = "z", given: str = "b", seconds: float = 6
 
 
 class Connecting(unittest.TestCase):
-    """The lab's part: texts that it makes."""
+    """The texts that the lab makes, which balls belong to one machine, and the process that the studio runs."""
 
     def assert_is_buffer(self, text: str) -> Document:
         """Asserts that the program says yes to a text, and that two NOT gates in a row copy `a` to `q`."""
@@ -123,10 +123,6 @@ class Connecting(unittest.TestCase):
             connected(two_nots(88, 44, (0, 0), (44, 0)), seconds=2)
         self.assertIn("There is no room", str(caught.exception))
 
-
-class Machines(unittest.TestCase):
-    """Which balls belong to one machine."""
-
     def test_two_machines(self) -> None:
         """The balls of one gate are one machine, and those of another gate another one."""
         run = machines.MachineRun(read_document(two_nots(200, 160, (20, 60), (120, 70)), "design"))
@@ -139,10 +135,6 @@ class Machines(unittest.TestCase):
         with mock.patch.object(machines, "MAX_MOVES", 100), self.assertRaises(LabError) as caught:
             machines.MachineRun(read_document(two_nots(200, 160, (20, 60), (120, 70)), "design"))
         self.assertIn("more than 100 moves", str(caught.exception))
-
-
-class Process(unittest.TestCase):
-    """The process that the studio runs."""
 
     def run_with(self, text: str, program: str) -> tuple[int, str, bytes | None]:
         """Runs it, and returns its status, what it said, and the text that it wrote."""

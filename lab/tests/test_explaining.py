@@ -26,8 +26,8 @@ def small_noes() -> list:
     return found
 
 
-class OtherAnswers(unittest.TestCase):
-    """Answers of `run` and `value`, which can come from a file."""
+class Explained(unittest.TestCase):
+    """Answers and lines of reports in words, and fixes of certificates."""
 
     def test_what_is_no_answer(self) -> None:
         """A file that no command of the program wrote, or one of another text, is refused with a sentence."""
@@ -45,10 +45,6 @@ class OtherAnswers(unittest.TestCase):
         told = explain_answer("circuit\ninput undefined\noutput undefined\nend\nassign\non undefined\nend\n", "value",
                               "undefined 1\n", "text")
         self.assertEqual((told.verdict, "`undefined`" in told.headline[0]), ("values", True))
-
-
-class Reports(unittest.TestCase):
-    """Lines of reports in words."""
 
     def test_each_line_is_told(self) -> None:
         """Each line of each worked no has sentences; cells and module numbers are those of the line."""
@@ -153,10 +149,6 @@ class Reports(unittest.TestCase):
         self.assertEqual(json.loads(ended.stdout)["verdict"], "no")
         self.assertEqual(ended.returncode, 1)
 
-
-class Fixes(unittest.TestCase):
-    """Fixes of certificates."""
-
     def test_lines_that_are_left_out_come_back(self) -> None:
         """If one edge line of a good bundle is left out, the fix of the first fault is that line."""
         text = support.text_of("gate_and_mirror")
@@ -174,10 +166,6 @@ class Fixes(unittest.TestCase):
         document = support.read_document(support.text_of("wrong_edge"))
         made = certified(document, checked_boxes(document.layout, 8, 12), CertificatePlan())
         self.assertIn("verdict yes", support.checked(made))
-
-
-class Listings(unittest.TestCase):
-    """What `modules` and `migrate` write of a text that is read."""
 
     def test_listings_are_told_as_their_own(self) -> None:
         """They are no values of a circuit."""

@@ -36,7 +36,7 @@ def design(name: str) -> support.Document:
     return support.read_document(support.text_of(name).split("certificate ")[0], "design")
 
 
-class Certificates(unittest.TestCase):
+class Certificates(support.InRoom):
     """`certify`."""
 
     def test_the_program_says_yes(self) -> None:
@@ -104,14 +104,13 @@ class Certificates(unittest.TestCase):
         """With 360 inputs no assignment can be tried by itself; the certificate gets a yes, and its stops and its boxes
         can be kept."""
         text = (support.TOP / "conformance" / "data" / "trains_36_cut_v1.txt").read_text()
-        with tempfile.TemporaryDirectory() as room:
-            file, boxes = Path(room) / "trains.txt", Path(room) / "boxes.txt"
-            file.write_text(text.split("certificate ")[0])
-            ended = support.lab("certify", str(file), BBMCHECK=support.program())
-            self.assertIn("the program says yes", ended.stderr)
-            boxes.write_text("".join(f"module {x} {y} 32 32\n" for y in range(0, 512, 32) for x in range(0, 512, 32)))
-            ended = support.lab("certify", "--boxes", str(boxes), str(file), BBMCHECK=support.program())
-            self.assertEqual((ended.returncode, ended.stdout.count("\nmodule ")), (0, 256))
+        file, boxes = self.room / "trains.txt", self.room / "boxes.txt"
+        file.write_text(text.split("certificate ")[0])
+        ended = support.lab("certify", str(file), BBMCHECK=support.program())
+        self.assertIn("the program says yes", ended.stderr)
+        boxes.write_text("".join(f"module {x} {y} 32 32\n" for y in range(0, 512, 32) for x in range(0, 512, 32)))
+        ended = support.lab("certify", "--boxes", str(boxes), str(file), BBMCHECK=support.program())
+        self.assertEqual((ended.returncode, ended.stdout.count("\nmodule ")), (0, 256))
 
     def test_auto_uses_fewer_gates(self) -> None:
         """Cuts at wires that come in use fewer gates somewhere than safe cuts."""
@@ -189,7 +188,7 @@ def roughened(text: str, chooser: random.Random) -> str:
 
 
 class Json(unittest.TestCase):
-    """`json` and back."""
+    """`json` and back, and pattern files."""
 
     def test_back_to_the_same_text(self) -> None:
         """Each text that is taken comes back from JSON to the byte."""
@@ -206,10 +205,6 @@ class Json(unittest.TestCase):
                                        report)
         self.assertIn('"verdict": "no"', text)
         self.assertIn('"assignment": 2', text)
-
-
-class Golly(unittest.TestCase):
-    """Pattern files."""
 
     def test_there_and_back(self) -> None:
         """A layout comes back from its pattern file, and so do its live cells."""
@@ -257,11 +252,6 @@ def golly_run(document: support.Document, on: list[str], time: int) -> set:
                                                    + after.read_text())[0])
 
 
-def legend_of(picture: str) -> list[str]:
-    """Returns the names in the legend of a picture, which come last."""
-    return [part.text or "" for part in list(ET.fromstring(picture))[-1].iter() if part.tag.endswith("text")]
-
-
 class Pictures(unittest.TestCase):
     """`draw`."""
 
@@ -279,7 +269,9 @@ class Pictures(unittest.TestCase):
         A ball of two cells has its name once.
         """
         ended = support.lab("draw", "--ways", support.example("machine_switch"))
-        self.assertEqual(legend_of(ended.stdout), ["c, d", "x", "y", "z", "no wire"])
+        # The legend comes last.
+        names = [part.text for part in list(ET.fromstring(ended.stdout))[-1].iter() if part.tag.endswith("text")]
+        self.assertEqual(names, ["c, d", "x", "y", "z", "no wire"])
         self.assertEqual([ended.stdout.count(f">{name}<") for name in ("→c", "→x", "d→", "y→", "z→")], [1] * 5)
         # The tail of c, and the head of d, which flies left and up.
         names = {part.text: (float(part.get("x")), float(part.get("y"))) for part in ET.fromstring(ended.stdout).iter()

@@ -40,7 +40,7 @@ def random_legs(chance: random.Random) -> list[Leg]:
 
 
 class Backward(unittest.TestCase):
-    """What is made backwards runs forward."""
+    """What is made backwards runs forward, and paths are taken out and led again."""
 
     def assert_yes(self, text: str, seed: int) -> None:
         """Asserts that a circuit that is placed backwards gets a yes."""
@@ -91,10 +91,6 @@ class Backward(unittest.TestCase):
             self.assertEqual((forward.mirrors, forward.touched, forward.claims),
                              (path.item.mirrors, path.item.touched, path.item.claims))
             done += 1
-
-
-class RipUp(unittest.TestCase):
-    """Paths that are taken out and led again."""
 
     def assert_books(self, board: Board) -> None:
         """Asserts that the world has exactly the items of the board."""

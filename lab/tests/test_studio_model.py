@@ -266,7 +266,7 @@ class Commands(unittest.TestCase):
 
 
 class Runs(unittest.TestCase):
-    """The runs under all choices at once."""
+    """The runs under all choices at once, and where mirrors stay."""
 
     def test_ends(self) -> None:
         """Under each choice of the inputs the last state is that of the lab's run."""
@@ -342,10 +342,6 @@ class Runs(unittest.TestCase):
         for wrong in ("", "circuit\ninput p\ninput p\nend", "circuit\noutput q\nend", "circuit\nswitch a b -> c d\nend",
                       "circuit\nconstructor\nend", "input p"):
             self.assertIs(node(["circuit", wrong])[0]["isWhole"], False, wrong)
-
-
-class Mirrors(unittest.TestCase):
-    """Where mirrors stay."""
 
     def test_falling_mirrors(self) -> None:
         """The mirrors that fall apart are those of the lab, alone and touching others."""

@@ -495,7 +495,7 @@ class Searches(Served):
 
 
 class Limits(support.InRoom):
-    """What ends a program."""
+    """What ends a program, and the command."""
 
     def fake(self, script: str) -> str:
         """Returns the path of a program that does what a script says."""
@@ -545,10 +545,6 @@ class Limits(support.InRoom):
         jobs.close()
         self.assertEqual(told["verdict"], "unknown")
         self.assertIn("There is no verdict", told["words"][0])
-
-
-class Command(support.InRoom):
-    """The command."""
 
     def started(self, *words: str, **environment: str) -> tuple["subprocess.Popen[str]", str]:
         """Starts the studio, and returns its process and the address that it prints."""

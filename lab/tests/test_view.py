@@ -6,7 +6,6 @@ import base64
 import hashlib
 import random
 import re
-import tempfile
 import unittest
 
 import support
@@ -69,7 +68,7 @@ def state_at(document: support.Document, on: list[str], time: int) -> list[list[
     return sorted_cells(run.field.state())
 
 
-class Page(unittest.TestCase):
+class Page(support.InRoom):
     """The page as a file, and in a browser."""
 
     def test_is_one_file(self) -> None:
@@ -98,7 +97,6 @@ class Page(unittest.TestCase):
     def test_in_a_browser(self) -> None:
         """Load, step, toggle an input, click a fault: no console error, and the page shows what it should."""
         support.require_browser()
-        with tempfile.TemporaryDirectory() as room:
-            page = f"{room}/page.html"
-            support.lab("view", support.example("wrong_edge"), "-o", page, "--program", support.program())
-            support.browse("browse_page.py", page, room, seconds=300)
+        page = f"{self.room}/page.html"
+        support.lab("view", support.example("wrong_edge"), "-o", page, "--program", support.program())
+        support.browse("browse_page.py", page, self.room, seconds=300)

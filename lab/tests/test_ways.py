@@ -4,7 +4,6 @@ shown.
 
 import random
 import re
-import tempfile
 import unittest
 from pathlib import Path
 
@@ -202,7 +201,7 @@ class Ways(unittest.TestCase):
                          [((0, 0), (5, 5)), ((0, 3), (3, 0)), ((4, 2), (5, 2)), ((7, 7), (8, 8))])
 
 
-class Large(unittest.TestCase):
+class Large(support.InRoom):
     """Pictures of large layouts."""
 
     def text(self, wires: int) -> str:
@@ -238,10 +237,9 @@ class Large(unittest.TestCase):
         """In a large layout nine wires are grouped by levels, since dashes could not be told apart there; what is no
         wire's is dotted."""
         text = self.text(9).split("certificate")[0]
-        with tempfile.TemporaryDirectory() as room:
-            path = Path(room, "nine.txt")
-            path.write_text(text)
-            large = picture_of(read_design(str(path)), None, None)
+        path = Path(self.room, "nine.txt")
+        path.write_text(text)
+        large = picture_of(read_design(str(path)), None, None)
         self.assertIn(">level 0<", large)
         self.assertNotIn(">w1<", large)
         # The ways of wires have no dashes: those of what is no wire's have class w8.
@@ -287,7 +285,7 @@ class Large(unittest.TestCase):
         self.assertNotIn('class="gate"', picture)
 
 
-class Chosen(unittest.TestCase):
+class Chosen(support.Case):
     """Parts of a picture that a reader asks for."""
 
     def test_piece_within(self) -> None:
@@ -310,9 +308,8 @@ class Chosen(unittest.TestCase):
 
     def test_crop_outside(self) -> None:
         """A part outside the layout is an error, and no picture."""
-        ended = support.lab("draw", support.example("four_modules"), "--crop", "4000", "0", "8", "8")
-        self.assertEqual((ended.returncode, ended.stdout), (4, ""))
-        self.assertIn("lies outside the layout", ended.stderr)
+        self.assert_ends(4, "draw", support.example("four_modules"), "--crop", "4000", "0", "8", "8", stdout="",
+                         err="lies outside the layout")
 
     def test_wires_are_brought_out(self) -> None:
         """The ways of a wire, or of an equal one, keep their colour, and all others are faint."""
@@ -335,9 +332,7 @@ class Chosen(unittest.TestCase):
         for words, told in ((["--ways", "--wires", "nobody"], "there is no wire `nobody`"),
                             (["--ways", "--cone", "none"], "there is no wire `none`"),
                             (["--arrows"], "need --ways")):
-            ended = support.lab("draw", support.example("full_adder"), *words)
-            self.assertEqual(ended.returncode, 4)
-            self.assertIn(told, ended.stderr)
+            self.assert_ends(4, "draw", support.example("full_adder"), *words, err=told)
 
     def test_arrows(self) -> None:
         """An arrow is on each piece that is long enough, with its tip ahead of its arms."""
