@@ -13,7 +13,6 @@ const SLICE = 4;
 const BLANK = { width: 48, height: 48, steps: 0, mirrors: [], balls: [], ins: [], outs: [], wastes: [] };
 
 class Desk {
-  worker;
   off = new Set();
   waysMode = "all";
   hasWave = false;
@@ -24,7 +23,6 @@ class Desk {
   survey = null;
   surveyOrder = -1;
   rows = null;
-  layout;
   model;
   fallen;
   player;

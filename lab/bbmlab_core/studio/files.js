@@ -22,9 +22,6 @@ function chooser(label, groups) {
 }
 
 class Files {
-  desk;
-  verdicts;
-  say;
   folder = "";
   name = "";
   digest = null;
@@ -32,7 +29,6 @@ class Files {
   isFree = false;
   opened = 0;
   hasOffer = false;
-  keepSoon;
 
   /** @param {Desk} desk @param {VerdictPanel} verdicts @param {(text: string, isBad?: boolean) => void} say */
   constructor(desk, verdicts, say) {
@@ -122,17 +118,10 @@ class Files {
     notice(`There is a draft of ${name} from ${new Date(draft.at).toLocaleString()} ${what}. `, [
       ["take the draft", () => {
         forget();
-        this.takeDraft(draft);
+        // It goes on from the version of the file from which it began, so that saving it asks about a newer one.
+        this.digest = draft.digest;
+        this.desk.model.setText(draft.text, "draft");
       }], ["throw it away", forget]]);
-  }
-
-  /**
-   * Takes the text of a draft. It goes on from the version of the file from which the draft began, so that saving it
-   * asks about a newer one.
-   */
-  takeDraft({ text, digest }) {
-    this.digest = digest;
-    this.desk.model.setText(text, "draft");
   }
 
   // ---- save

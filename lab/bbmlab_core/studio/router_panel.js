@@ -17,8 +17,6 @@ function numberField(words, value, least, most) {
 }
 
 class RouterPanel {
-  desk;
-  say;
   isRunning = false;
   seed = 1;
 

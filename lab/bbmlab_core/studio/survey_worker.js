@@ -16,19 +16,15 @@ function choicesOf({ on, isExact }, layout, circuit) {
   return isExact ? surveys.allChoices(inputs) : surveys.sampledChoices(inputs);
 }
 
-/** Sends the ways. Its large arrays are handed over. */
-function sendWays(number, survey) {
-  const ways = survey.shown();
-  postMessage({ number, ways }, [ways.ways.buffer, ways.live.buffer, ways.isMirror.buffer]);
-}
-
 /** Runs for a while, first for the ways and then for the table, and goes on later if there is more to do. */
 function advance() {
   const { number, survey, table } = work;
   if (survey) {
     if (survey.advance(SLICE)) {
       work.survey = null;
-      sendWays(number, survey);
+      const found = survey.shown();
+      // The large arrays are handed over.
+      postMessage({ number, ways: found }, [found.ways.buffer, found.live.buffer, found.isMirror.buffer]);
     }
   } else if (table && table.advance(SLICE)) {
     work.table = null;

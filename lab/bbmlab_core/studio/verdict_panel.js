@@ -32,8 +32,6 @@ const OTHER_PICTURE = {
 };
 
 class VerdictPanel {
-  desk;
-  sketch;
   program = null;
   verdict = null;
   checked = null;
@@ -42,7 +40,6 @@ class VerdictPanel {
   earlier = "";
   editedAt = 0;
   seconds = [];
-  askSoon;
 
   /** @param {Desk} desk @param {Sketch} sketch */
   constructor(desk, sketch) {

@@ -89,13 +89,6 @@ function showPlay() {
   }
 }
 
-/** Shows the outputs and what depends on the run's end. */
-function showRunResults() {
-  panels.showResults(player, goToCell);
-  showTime();
-  stage.takeResults();
-}
-
 /** Shows the cell under the pointer with what there is. */
 function showCell() {
   stage.pointed = pageState.place ? stage.cellAt(...pageState.place) : stage.mark;
@@ -393,7 +386,9 @@ function listenToChanges() {
     stage.paintWave();
   });
   player.listen("end", () => {
-    showRunResults();
+    panels.showResults(player, goToCell);
+    showTime();
+    stage.takeResults();
     speakSoon();
   });
   player.listen("play", () => {
