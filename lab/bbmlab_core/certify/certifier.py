@@ -80,7 +80,9 @@ class Maker:
                    for box in boxes] if boxes else self.divided(Box(0, 0, self.layout.width, self.layout.height))
         if len(modules) > SECOND.max_modules:
             raise LabError(f"the certificate takes {len(modules)} modules; {SECOND.max_modules} is the most", 1)
-        self.add_keeps(modules)
+        for gate in self.circuit.gates:
+            if gate.is_inverse:
+                self.add_keep(gate, modules)
         if self.plan.version == 2:
             for module in modules:
                 module.halos = []
@@ -236,12 +238,6 @@ class Maker:
         yield CutsAndUses(sorted(fewer, key=self.circuit.rank), sorted(more))
 
     # ---- inverse gates
-
-    def add_keeps(self, modules: list[ModuleDraft]) -> None:
-        """Has each inverse gate kept by a module that can show that it always has a row."""
-        for gate in self.circuit.gates:
-            if gate.is_inverse:
-                self.add_keep(gate, modules)
 
     def add_keep(self, gate: Gate, modules: list[ModuleDraft]) -> None:
         """Has a gate kept by the module that needs the fewest more wires for it."""

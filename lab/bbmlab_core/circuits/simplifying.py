@@ -242,19 +242,13 @@ def without_dead(lines: Circuit) -> Circuit:
     return with_names(Circuit(lines.inputs, tuple(gates), outputs, spills), lines.outputs)
 
 
-def literals_of(lines: Circuit) -> dict[str, Literal]:
-    """Returns the literal of each wire."""
-    folder = ConstantFolder(lines)
-    for gate in lines.gates:
-        folder.literals.update(zip(gate.outs,
-                                   folder.values(gate.kind, gate.parameter,
-                                                 [folder.literals[name] for name in gate.ins])))
-    return folder.literals
-
-
 def shared(lines: Circuit) -> Circuit:
     """Returns a circuit in which garbage takes the place of wires with its values, if a gate is dead then."""
-    literals, spare = literals_of(lines), list(lines.spills)
+    folder, spare = ConstantFolder(lines), list(lines.spills)
+    literals = folder.literals
+    for gate in lines.gates:
+        ins = [literals[name] for name in gate.ins]
+        literals.update(zip(gate.outs, folder.values(gate.kind, gate.parameter, ins)))
     born = {name: at for at, gate in enumerate(lines.gates) for name in gate.outs}
     taker = {name: at for at, gate in enumerate(lines.gates) for name in gate.ins}
     pool: dict[Literal, list[str]] = {}

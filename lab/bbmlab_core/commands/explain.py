@@ -11,7 +11,7 @@ from ..farm.answering import why_no_verdict
 from ..host.program import Executable, BadProgramError, ask, find_program
 from ..host.terminal import LabError, painted, read_text, tell, wrapped, write_bytes
 from ..texts.cell_pictures import LEGEND
-from ..texts.documents import command_for
+from ..texts.documents import command_for, read_document
 
 
 def run(options: argparse.Namespace) -> int:
@@ -36,11 +36,11 @@ def run(options: argparse.Namespace) -> int:
     elif program:
         output = asked(program, command, text, options)
     else:
-        own = explaining.own_refusal(text, command)
-        if own is None:
+        refusal = read_document(text, command).refusal
+        if refusal is None:
             find_program(options.program)
             raise LabError("The lab's reader takes the text, but only the program gives a verdict.")
-        output, by_lab = own, True
+        output, by_lab = f"refused {refusal.line} {refusal.code}\n", True
     explanation = explaining.explain_answer(text, command, output, options.file,
                                             Trial(program, Budget(seconds=options.effort, is_of_search=True)))
     if by_lab:

@@ -54,7 +54,9 @@ class CertificateEditor:
         elif finding.word == "border":
             yield from self.for_border(finding)
         elif finding.word == "unkept":
-            yield from self.for_unkept(finding.number("gate"))
+            number = finding.number("gate")
+            for module in (module for module in self.certificate.modules if number in module.uses):
+                yield Proposal("`keep` lines", (self.added(module, f"keep {number}"),))
         elif finding.word == "delay":
             yield from self.for_delay(finding)
         elif finding.word == "meet":
@@ -128,12 +130,6 @@ class CertificateEditor:
                 yield Proposal("lines that agree", (replace(at, text) if at else self.added(place, text),))
             elif at:
                 yield Proposal("lines that agree", (delete(at),))
-
-    def for_unkept(self, number: int) -> Iterator[Proposal]:
-        """Yields a `keep` line in a module that uses the gate."""
-        for module in (module for module in self.certificate.modules if number in module.uses):
-            text = f"keep {number}"
-            yield Proposal("`keep` lines", (self.added(module, text),))
 
     def added(self, module: Module, text: str) -> Edit:
         """Returns the edit that adds a line to a module."""

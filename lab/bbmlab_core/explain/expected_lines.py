@@ -39,11 +39,6 @@ class UnnamedCell:
     time: int
 
 
-def neighbours_of(cell: Cell) -> list[Cell]:
-    """Returns the cells around a cell."""
-    return [(cell[0] + dx, cell[1] + dy) for dx in (-1, 0, 1) for dy in (-1, 0, 1) if dx or dy]
-
-
 class LiveTimes:
     """Notes at which odd times cells of a run are live, with their tables.
 
@@ -223,7 +218,8 @@ class BorderCheck:
         wires = [name for name, other in self.diagnosis.values.tables.items() if other == table]
         if len(wires) < 2:
             return wires
-        here, around = self.near_times([cell], time), self.near_times(neighbours_of(cell), time)
+        neighbours = [(cell[0] + dx, cell[1] + dy) for dx in (-1, 0, 1) for dy in (-1, 0, 1) if dx or dy]
+        here, around = self.near_times([cell], time), self.near_times(neighbours, time)
         far, known = self.layout.steps + 1, [self.diagnosis.local(module) for module in modules]
         return sorted(wires, key=lambda name: (here.get(name, far), -sum(name in local for local in known),
                                                around.get(name, far)))

@@ -350,12 +350,6 @@ def explain_answer(text: str, command: str, output: str, file: str, trial: Trial
     return explain_run(document, output, file) if command == "run" else explain_value(document, output, file)
 
 
-def own_refusal(text: str, command: str) -> str | None:
-    """Returns the refusal of the lab's own reader as the program writes it, or None where it takes the text."""
-    refusal = read_document(text, command).refusal
-    return f"refused {refusal.line} {refusal.code}\n" if refusal else None
-
-
 def as_json(explanation: ExplainedAnswer) -> str:
     """Writes an explanation as one JSON document."""
     members = asdict(explanation)

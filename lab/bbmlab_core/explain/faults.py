@@ -135,7 +135,10 @@ def explain_local(diagnosis: Diagnosis, finding: ReportLine) -> Entry:
     box = module.box
     entry.picture = [f"Module {module.number} by itself at time {time} with {names}:",
                      *text_picture((box.x, box.y, box.width, box.height), live, diagnosis.mirrors, heard, cell)]
-    entry.what += mirror_note(diagnosis, cell)
+    part = diagnosis.layout.part_at(cell, ("mirror",))
+    if part and not stays(part):
+        entry.what.append(f"The cell is of the mirror of line {part.line} (`{diagnosis.document.line(part.line)}`), "
+                          "which by itself does not stay as it is.")
     if occurrence.occurs is Truth.NO:
         add_never_occurs(diagnosis, module, entry)
     elif occurrence.occurs is Truth.YES:
@@ -225,15 +228,6 @@ def signal_words(diagnosis: Diagnosis, signal: Signal, cell: str) -> list[str]:
     if signal.name in ("0", "1"):
         return [f"In the whole run {cell} is {'always' if signal.name == '1' else 'never'} live then{scope}."]
     return [f"In the whole run {cell} is live then if and only if `{signal.name}` is true{scope}."]
-
-
-def mirror_note(diagnosis: Diagnosis, cell: Cell) -> list[str]:
-    """Returns a note where the cell is of a mirror that by itself does not stay as it is."""
-    part = diagnosis.layout.part_at(cell, ("mirror",))
-    if part is None or stays(part):
-        return []
-    return [f"The cell is of the mirror of line {part.line} (`{diagnosis.document.line(part.line)}`), which by itself "
-            "does not stay as it is."]
 
 
 def explain_keep(diagnosis: Diagnosis, finding: ReportLine) -> Entry:

@@ -30,7 +30,9 @@ def replace_file(name: str, data: bytes, before: bytes | None = None, follows: b
     if old and not stat.S_ISREG(old.st_mode):
         write_device(target, data, old)
         return
-    require_writable(target, old)
+    # For a rename the folder alone would count, and for root nothing.
+    if old and (not old.st_mode & 0o222 or not os.access(target, os.W_OK)):
+        raise OSError(errno.EACCES, "the file is protected against writing")
     beside = written_beside(target, data, old)
     try:
         if before is not None and bytes_of(target) != before:
@@ -67,13 +69,6 @@ def write_device(path: str, data: bytes, old: os.stat_result) -> None:
         raise OSError(errno.ELOOP, "this is a link")
     with open(os.open(path, os.O_WRONLY | os.O_NOFOLLOW), "wb", buffering=0) as device:
         device.write(data)
-
-
-def require_writable(target: str, old: os.stat_result | None) -> None:
-    """Raises OSError if a file is protected against writing: for a rename its folder alone would count, and for root
-    nothing."""
-    if old and (not old.st_mode & 0o222 or not os.access(target, os.W_OK)):
-        raise OSError(errno.EACCES, "the file is protected against writing")
 
 
 def written_beside(target: str, data: bytes, old: os.stat_result | None) -> str:

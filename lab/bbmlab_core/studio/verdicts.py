@@ -101,7 +101,9 @@ class Judge:
         own = self.judged(self.text, "own") if self.head != self.text else None
         if own and own.verdict == "yes":
             return own
-        plain = None if has_delay(design.circuit) else plain_certificate(design.circuit, design.layout)
+        # The steps of a `delay` gate are shown by stops alone.
+        has_delay = any(gate.kind == "delay" for gate in design.circuit.gates)
+        plain = None if has_delay else plain_certificate(design.circuit, design.layout)
         if plain:
             return self.judged(self.head + plain, "plain")
         earlier = self.judged(self.head + self.earlier, "earlier") if self.earlier else None
@@ -199,11 +201,6 @@ def wrong_cell(circuit: Circuit, layout: Layout, on: set[str], live: set[Cell]) 
     wanted = {part.cell for part in layout.of_kind("out") if values.get(part.name or "")}
     free = {part.cell for part in layout.of_kind("waste")}
     return min((wanted | layout.mirror_cells() - free) ^ (live - free), default=None)
-
-
-def has_delay(circuit: Circuit) -> bool:
-    """Whether a circuit has a gate whose steps only stops can show."""
-    return any(gate.kind == "delay" for gate in circuit.gates)
 
 
 def plain_certificate(circuit: Circuit, layout: Layout) -> str | None:

@@ -42,12 +42,8 @@ def named(graph: Graph, wiring: MappedGates) -> NamedCircuit:
         for wire in gate.outs:
             if wire not in names:
                 names[wire] = book.numbered("g" if wire in garbage else "k" if gate.word == "source" else "w")
-    spills = sorted((names[wire] for wire in garbage), key=spill_order)
+    # `g2` comes before `g10`.
+    spills = sorted((names[wire] for wire in garbage), key=lambda name: (len(name), name))
     lines = (Gate(gate.word, tuple(names[wire] for wire in gate.ins), tuple(names[wire] for wire in gate.outs),
                   gate.parameter) for gate in gates)
     return NamedCircuit(Circuit(tuple(inputs), tuple(lines), tuple(outputs), tuple(spills)), book.notes())
-
-
-def spill_order(name: str) -> tuple[int, str]:
-    """Returns a key that sorts `g2` before `g10`."""
-    return len(name), name
