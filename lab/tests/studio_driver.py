@@ -30,7 +30,6 @@ class Studio(Driven):
         self.kill()
         words = [sys.executable, self.lab, "studio", str(self.folder / name), "--no-open", "--program", self.program]
         self.server = subprocess.Popen(words, stdout=subprocess.PIPE, stderr=subprocess.DEVNULL, text=True)
-        assert self.server.stdout
         return self.server.stdout.readline().strip()
 
     def kill(self) -> None:

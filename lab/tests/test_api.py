@@ -183,7 +183,6 @@ class Sections(unittest.TestCase):
             bundle = bbmlab.read(support.text_of(name))
             finding = bbmlab.check(bundle).findings[index]
             states = list(bbmlab.local_run(bundle, finding.module or 0, finding.assignment or 0))
-            assert bundle.layout
             self.assertEqual([state.time for state in states], list(range(bundle.layout.steps + 1)))
             with self.subTest(name):
                 self.assertEqual((finding.x, finding.y) in states[finding.time or 0].cells, live)
@@ -279,7 +278,6 @@ class Program(support.InRoom):
         support.program()
         bundle = bbmlab.read(support.text_of("fredkin_gate"))
         bare = bbmlab.Bundle(bundle.circuit, bundle.layout)
-        assert bundle.certificate
         for made in (bbmlab.certify(bare), bbmlab.certify(bundle), bbmlab.certify(bare, grid=(64, 64), cuts="safe"),
                      bbmlab.certify(bare, boxes=[module.box for module in bundle.certificate.modules], version=1)):
             self.assertTrue(bbmlab.check(made).is_yes)

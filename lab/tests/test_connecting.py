@@ -56,7 +56,6 @@ class Connecting(unittest.TestCase):
         verdict = Judge(text, opened(support.program()), 60).verdict()
         self.assertEqual(verdict.verdict, "yes", verdict.words)
         document = read_document(text, "design")
-        assert document.circuit and document.layout
         self.assertEqual((document.circuit.inputs, document.circuit.outputs), (("a",), ("q",)))
         for on in ([], ["a"]):
             run = run_layout(document.layout, on)
@@ -73,7 +72,6 @@ class Connecting(unittest.TestCase):
             with self.subTest(width=width, first=first):
                 made = connected(text)
                 document = self.assert_is_buffer(made.text())
-                assert document.layout
                 self.assertGreater(len(document.layout.of_kind("mirror")), text.count("mirror "))
 
     def test_room_in_the_layout(self) -> None:
@@ -82,7 +80,6 @@ class Connecting(unittest.TestCase):
                                (two_nots(88, 44, (0, 0), (44, 0)), True)):
             layout = read_document(text, "design").layout
             made = connected(text)
-            assert layout
             self.assertEqual((made.width, made.height) != (layout.width, layout.height), is_grown)
 
     def test_straight_ahead(self) -> None:

@@ -108,7 +108,6 @@ class Signals(unittest.TestCase):
                 ran = subprocess.Popen([*LAB, "check", "--jobs", "2", "--format", form, "--program",
                                         fake_program(room, body), room],
                                        stdout=subprocess.PIPE, stderr=subprocess.DEVNULL, text=True)
-                assert ran.stdout is not None
                 while "quick" not in ran.stdout.readline():
                     pass
                 (Path(room) / "go").write_text("")

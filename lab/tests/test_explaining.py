@@ -6,7 +6,6 @@ import re
 import unittest
 
 import support
-from bbmlab_core.certify.certifier import CertificatePlan, certified, checked_boxes
 from bbmlab_core.explain.diagnosis import Diagnosis, Truth
 from bbmlab_core.explain.explaining import as_gcc, explain_answer
 from bbmlab_core.explain.trials import Trial
@@ -160,12 +159,6 @@ class Explained(unittest.TestCase):
             wires = {"a": "ad", "d": "ad"}.get(line[-1], line[-1])
             with self.subTest(line):
                 self.assertTrue(any(f"`{line[:-1]}{wire}`" in " ".join(first.fixes) for wire in wires), first.fixes)
-
-    def test_cut_certificates_get_a_yes(self) -> None:
-        """A design whose certificate `certify` makes again gets a yes."""
-        document = support.read_document(support.text_of("wrong_edge"))
-        made = certified(document, checked_boxes(document.layout, 8, 12), CertificatePlan())
-        self.assertIn("verdict yes", support.checked(made))
 
     def test_listings_are_told_as_their_own(self) -> None:
         """They are no values of a circuit."""

@@ -83,7 +83,6 @@ class Edits(unittest.TestCase):
                 assert report
                 if not is_yes(report):
                     fix = Fixer(text, report, Trial(support.program())).find()
-                    assert fix
                     self.assertEqual((len(fix.edits), fix.remakes, is_yes(fix.report)), (1, False, True),
                                      (lines[number], fix.words))
 
@@ -157,7 +156,6 @@ class Mistakes(unittest.TestCase):
         self.assertNotEqual(text, broken)
         told = explained(broken)
         self.assertIsNotNone(told.fix, told.tried)
-        assert told.fix
         self.assertEqual((told.fix.verdict, told.fix.judge), ("yes", "the program"))
         if not told.fix.certificate_again:
             self.assertTrue(says_yes(applied(broken, told.fix.edits)))
@@ -179,7 +177,6 @@ class Mistakes(unittest.TestCase):
                 self.assertIn(old, text)
                 broken = text.replace(old, new)
                 told = self.fixed(text, broken)
-                assert told.fix
                 self.assertEqual(applied(broken, told.fix.edits), text)
 
     def test_kinds_of_edits(self) -> None:
@@ -193,7 +190,6 @@ class Mistakes(unittest.TestCase):
             with self.subTest(name):
                 self.assertIn(old, text)
                 told = self.fixed(text, text.replace(old, new, 1))
-                assert told.fix
                 self.assertIn(f"`{word} ", " ".join(edit.text and f"`{edit.text}`" for edit in told.fix.edits))
 
     def test_two_fixes(self) -> None:
@@ -202,7 +198,6 @@ class Mistakes(unittest.TestCase):
         text = text_of("fredkin_gate")
         for old, new in (("-> d u v", "-> d v u"), ("out u 8 11\nout v 11 8", "out v 8 11\nout u 11 8")):
             told = self.fixed(text, text.replace(old, new))
-            assert told.fix
             words = " ".join([*told.fix.words, *(sentence for other in told.fix.others for sentence in other)])
             self.assertRegex(words, r"by `fredkin c x y -> d (u v|v u)`")
             self.assertRegex(words, r"by `out [uv] 8 11`")
@@ -210,7 +205,6 @@ class Mistakes(unittest.TestCase):
     def test_no_certificate(self) -> None:
         """A design without a certificate leads to `bbmlab certify`."""
         told = self.fixed(text_of("head_on_bundle"), text_of("not_gate"))
-        assert told.fix
         self.assertTrue(told.fix.certificate_again)
         self.assertIn("`bbmlab certify`", " ".join(told.fix.words))
 
@@ -288,7 +282,6 @@ class Reports(support.InRoom):
             self.assertIs(outcome.is_right, Truth.UNKNOWN if is_right else Truth.NO)
         told = explained(self.many_inputs(False))
         self.assertIn("The layout itself does not do what the circuit asks", " ".join(told.headline))
-        assert told.fix
         self.assertEqual([edit.text for edit in told.fix.edits], ["out i4 20 4"])
 
     def test_right_layout_with_a_wrong_certificate(self) -> None:
@@ -300,7 +293,6 @@ class Reports(support.InRoom):
         self.assertEqual(told.verdict, "no")
         self.assertIn("in 256 sampled choices of the inputs", words)
         self.assertNotIn("The layout itself does not", words)
-        assert told.fix
         self.assertEqual([(edit.action, edit.line) for edit in told.fix.edits],
                          [("delete", lines.index("edge 1 5 5 1") + 1)])
 
@@ -374,7 +366,6 @@ class Command(support.InRoom):
             text = text_of(name)
             trial = Trial(program, Budget(200, 20))
             report = trial.report(text)
-            assert report
             fixer, diagnosis = Fixer(text, report, trial), Diagnosis(support.read_document(text, "check"))
             for finding in report.faults:
                 fix = fixer.find_for(diagnosis, finding)

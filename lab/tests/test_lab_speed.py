@@ -276,7 +276,6 @@ class Once(support.InRoom):
         text = support.text_of("wrong_edge")
         trial = Trial(support.program(), Budget(seconds=30))
         report = trial.report(text)
-        assert report
         fixer, diagnosis = Fixer(text, report, trial), Diagnosis(read(text))
         trial.budget = Budget(seconds=0)
         with mock.patch.object(fixer, "applied_or_none") as applied:

@@ -18,7 +18,6 @@ from bbmlab_core.host.terminal import LabError
 from bbmlab_core.physics.simulation import run_layout
 from bbmlab_core.pictures import golly
 from bbmlab_core.pictures.drawing import centre, module_parts
-from bbmlab_core.pictures.ways import joined_pieces
 from bbmlab_core.texts import json_form
 from bbmlab_core.texts.certificates import Module
 from bbmlab_core.texts.layouts import Box
@@ -303,11 +302,6 @@ class Pictures(unittest.TestCase):
                 report.flush()
                 ended = support.lab("draw", file, "--report", report.name)
                 self.assertEqual((ended.returncode, ended.stdout.count('class="fault"')), (status, count))
-
-    def test_ways_join(self) -> None:
-        """Segments of one diagonal that meet become one."""
-        pieces = [((0, 0), (1, 1)), ((2, 2), (1, 1)), ((4, 4), (5, 5))]
-        self.assertEqual(joined_pieces(pieces), [((0, 0), (2, 2)), ((4, 4), (5, 5))])
 
     def test_ring_and_halo(self) -> None:
         """The ring of a box of four by two cells has all of them, and its halo has sixteen."""

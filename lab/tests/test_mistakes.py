@@ -193,7 +193,6 @@ class Edits(support.InRoom):
         document = support.read_document(SOURCE)
         report = f"bbmcheck 1\ncertificate {certificate_digest(SOURCE)}\nmodules 1\nverdict no\nlocal 0 end 2 0 3 0\n"
         told = as_gcc(explain_answer(SOURCE, "check", report, "text"))
-        assert document.certificate
         module: Module = document.certificate.modules[0]
         self.assertEqual([line.split(" ")[0] for line in told], [f"text:{module.line}:"])
 

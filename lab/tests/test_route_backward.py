@@ -87,7 +87,6 @@ class Backward(unittest.TestCase):
             self.assertEqual(set(path.start.cells()), set(end.cells()))
             self.assertEqual(follow(path.start, reversed_legs(legs))[1], mirrors[::-1])
             forward = path_item(path.start, path.legs)
-            assert forward
             self.assertEqual((forward.mirrors, forward.touched, forward.claims),
                              (path.item.mirrors, path.item.touched, path.item.claims))
             done += 1
@@ -151,7 +150,6 @@ class Backward(unittest.TestCase):
         """A ball is led on for 9,000 steps, which take more legs than the tries of a short wander."""
         attempt = Attempt(RouterNetlist(read_circuit(circuit_text("a", "", "a"))), 1200, 1, Settings())
         path = attempt.last_path("a", Ball(600, 600, 1, 1, 0), 9000)
-        assert path
         self.assertEqual((path.end.time, follow(path.start, path.legs)[0]), (9000, path.end))
         world = World(1200)
         world.add(path.item)

@@ -179,7 +179,6 @@ class Cropping(Routing):
         for bundle in (small, whole):
             self.assertIn("\nverdict yes\n", self.verdict(bundle.text))
         layout = support.read_document(small.text).layout
-        assert layout
         columns = [part.x for part in layout.parts]
         self.assertLess(min(columns), 40)
         self.assertGreater(min(columns), MARGIN - 3)
@@ -198,7 +197,6 @@ class Cropping(Routing):
         for side, words in ((512, ()), (528, ("--seed", "2")), (2048, ()), (4096, ())):
             with self.subTest(side=side):
                 document = self.assert_yes(gate_circuit("fredkin"), "--size", str(side), *words)
-                assert document.layout
                 self.assertEqual((document.layout.width, document.layout.height), (side, side))
                 self.assertEqual((self.room / "bundle.txt").read_text().startswith("limits 2\n"), side > 512)
 

@@ -76,7 +76,6 @@ class Counts(support.InRoom):
     def test_routed(self) -> None:
         """Each gate that was placed has a frame with its name, and the title says that there is a route."""
         status, said, picture = self.route()
-        assert picture is not None
         names = [title.text or "" for title in picture.iter(f"{SVG}title")]
         placed = int(said.split("gates placed ")[1].split(",")[0])
         self.assertEqual((status, len(names), len(set(names))), (0, placed, placed))

@@ -65,7 +65,6 @@ class Parts(support.InRoom):
     def assert_yes(self, part: PartialRoute, count: int) -> None:
         """Asserts that so many gates of a part are kept, with a yes."""
         design = partial_design(part, Settings(), 60)
-        assert design
         self.assertEqual(len(design.gates), count)
         bundle = routed_bundle(partial_text(design.circuit), design).text
         ended = subprocess.run([support.program(), "check"], input=bundle.encode(), capture_output=True, check=False)
@@ -124,7 +123,6 @@ class Parts(support.InRoom):
         part = placed_part(circuit_text("ab", "switch a b -> x y z", "xyz"), 384, 1)
         step = part.steps[0]
         ball = step.outs["x"].ball
-        assert ball
         way = path_item(ball.flown(2), [Leg(20, None)])
         assert way
         other = BallPath("y", ball.flown(2), ball.flown(22), (Leg(20, None),), way)

@@ -552,7 +552,6 @@ class Limits(support.InRoom):
                                    stderr=subprocess.DEVNULL, text=True, env={**os.environ, **environment})
         self.addCleanup(process.wait)
         self.addCleanup(process.terminate)
-        assert process.stdout
         self.addCleanup(process.stdout.close)
         return process, process.stdout.readline().strip()
 

@@ -17,6 +17,7 @@ from support import data_of
 
 SVG = "{http://www.w3.org/2000/svg}"
 LIMITS = {"steps": 30, "names": ["p", "q", "constructor"], "faults": 2}
+FOLDERS = [viewing.TEMPLATE, viewing.TEMPLATE.parent / "studio"]
 
 
 def node(jobs: list[list[Any]]) -> list[Any]:
@@ -296,7 +297,6 @@ class Large(unittest.TestCase):
         """At each time the lines are those of the certificate; those of borders are filed at the first odd time."""
         for name in ("four_modules", "timed_modules", "machine_full_adder"):
             document = example(name)
-            assert document.layout and document.certificate
             steps, modules = document.layout.steps, document.certificate.modules
             times = [*range(0, steps + 1, 2), *range(1, steps + 1, 2)]
             found = node([["linesAt", data_of(document), times]])[0]
@@ -319,15 +319,16 @@ class Large(unittest.TestCase):
 
 
 class Sources(unittest.TestCase):
-    """The sources of the page."""
+    """The sources of the page and of the studio."""
 
     def test_functions_are_short(self) -> None:
         """No function has 40 lines."""
-        count, long = support.long_functions(viewing.TEMPLATE)
-        self.assertEqual((count > 100, long), (True, []))
+        for folder in FOLDERS:
+            count, long = support.long_functions(folder)
+            self.assertEqual((count > 100, long), (True, []))
 
     def test_no_html_from_texts(self) -> None:
         """No script makes HTML or code from a text."""
-        for path in viewing.TEMPLATE.glob("*.js"):
+        for path in (path for folder in FOLDERS for path in folder.glob("*.js")):
             self.assertIsNone(re.search(r"innerHTML|outerHTML|insertAdjacentHTML|document\.write|\beval\(|new "
-                                        r"Function|DOMParser|srcdoc", path.read_text()))
+                                        r"Function|DOMParser|srcdoc|setAttribute\(\"on", path.read_text()), path)

@@ -33,7 +33,6 @@ def moves_by_rule(document: Document, tables: dict[str, Table], full: Table) -> 
     """Returns the steps of the balls from the lab's run, one block after another, by the assignments under which they
     are made."""
     layout = document.layout
-    assert layout
     run, found = WholeRun(layout, tables, full), dict[Table, set[Step]]()
     for _ in range(layout.steps):
         live, is_odd = run.field.live, run.time % 2
@@ -92,7 +91,6 @@ class Ways(unittest.TestCase):
         A run that leaves the rectangle may be a step longer there.
         """
         layout = document.layout
-        assert layout
         tables, full, _ = drawing.wire_tables(document, [])
         wanted = moves_by_rule(document, tables, full)
         run = WholeRun(layout, tables, full)

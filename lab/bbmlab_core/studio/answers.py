@@ -160,9 +160,7 @@ class Answers:
     def begun(self, body: Answer, ports: tuple[str, str] | None) -> Answer:
         """Begins a search."""
         seconds, seed = body.get("seconds"), body.get("seed")
-        if isinstance(seconds, bool) or not isinstance(seconds,
-                                                       (int, float)) or isinstance(seed,
-                                                                                   bool) or not isinstance(seed, int):
+        if type(seconds) not in (int, float) or type(seed) is not int:
             raise Denied(400, "the request has no numbers `seconds` and `seed`")
         text, tab = word(body, "text"), word(body, "tab")
         return self.routes.begin(tab, text, seconds, seed, ports) if self.routes else NO_PROGRAM

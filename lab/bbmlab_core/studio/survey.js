@@ -299,21 +299,17 @@ class Survey {
    */
   shown() {
     const { live, isMirror, marks, leftAt, tables, inputs, choices } = this, ways = Int16Array.from(this.lines());
-    const wires = new Map();
-    for (let index = 4; index < ways.length; index += 5) if (!wires.has(ways[index])) wires.set(ways[index],
-        this.wireOf(ways[index]));
+    const names = [...tables.keys()], wires = new Map();
+    for (let index = 4; index < ways.length; index += 5) {
+      const colour = ways[index];
+      wires.set(colour, colour === CONSTANT ? "1" : colour === OTHER ? null : names[colour - 1]);
+    }
     return { ways, marks, live, isMirror, leftAt, tables, wires, inputCount: inputs.length,
       choiceCount: choices.length };
   }
 
   /** Returns the colour of the wire that has a table, or that of a constant, or that of no wire. */
   colourOf(table) { return table === this.full ? CONSTANT : this.colours.get(table) || OTHER; }
-
-  /** Returns the name of the wire of a colour. */
-  wireOf(colour) {
-    if (colour === CONSTANT || colour === OTHER) return colour === CONSTANT ? "1" : null;
-    return [...this.tables.keys()][colour - 1];
-  }
 }
 
 /** What the outputs should be and what they are, for all choices of up to eight inputs. */
@@ -323,11 +319,10 @@ class TruthTable {
 
   /** @param {Layout} layout @param {Circuit} circuit */
   constructor(layout, circuit) {
-    const choices = allChoices(circuit.inputs);
     // The run of the next choices, and what those before it found: one run takes the memory of a whole layout.
     this.layout = layout;
     this.circuit = circuit;
-    this.choices = choices;
+    this.choices = allChoices(circuit.inputs);
   }
 
   /** Runs for some milliseconds, and returns whether all choices were run. */

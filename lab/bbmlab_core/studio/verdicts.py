@@ -245,24 +245,15 @@ def explained(text: str, bundle: str, output: str, program: Executable, seconds:
                                      for entry in made.entries if entry.is_against][:MAX_LINES]
     whole = fixer.find()
     forms = {entry["line"]: entry for entry in entries}
-    if not report.refused and document.certificate:
-        add_line_fixes(forms, fixer, Diagnosis(document), report, has_own)
+    # Without a certificate of its own a text has no lines that fixes of single lines could change.
+    if has_own and not report.refused and document.certificate:
+        diagnosis = Diagnosis(document)
+        for finding in report.faults[:MAX_FIXED]:
+            fix = fixer.find_for(diagnosis, finding)
+            if fix and finding.text in forms:
+                forms[finding.text]["fix"] = fix_form(fix, report, has_own)
     return {"headline": made.headline[1:], "entries": entries, "fix": fix_form(whole, report, has_own),
             "tried": [] if whole else tried_words(fixer, trial)}
-
-
-def add_line_fixes(forms: dict[str, dict[str, Any]], fixer: Fixer, diagnosis: Diagnosis, report: ReportOrRefusal,
-                   has_own: bool) -> None:
-    """Adds fixes of single lines of a report.
-
-    Without a certificate of its own a text has no lines that these fixes could change.
-    """
-    if not has_own:
-        return
-    for finding in report.faults[:MAX_FIXED]:
-        fix = fixer.find_for(diagnosis, finding)
-        if fix and finding.text in forms:
-            forms[finding.text]["fix"] = fix_form(fix, report, has_own)
 
 
 def fix_form(fix: Fix | None, report: ReportOrRefusal, has_own: bool) -> dict[str, Any] | None:

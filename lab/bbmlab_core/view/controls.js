@@ -203,12 +203,6 @@ function showEntry(number) {
   if (centre) stage.lookAt(centre, box);
 }
 
-/** Goes to a line of the report that somebody chose, and brings the picture into sight. */
-function chooseEntry(number) {
-  showEntry(number);
-  if (innerWidth <= 800) element("whole").scrollIntoView({ block: "nearest" });
-}
-
 /** Goes to the next (1) or previous (-1) line of the report that is against the design. */
 function nextFault(direction) {
   const faults = entries.flatMap((entry, number) => (entry.is_against ? [number] : []));
@@ -417,6 +411,8 @@ listenToChanges();
 showRate();
 showPlay();
 if (panels.showVerdict(data.explanation, player.modules.length > 0))
-    pageState.buttons = panels.showReport(data.explanation,
-    chooseEntry, goToCell);
+    pageState.buttons = panels.showReport(data.explanation, (number) => {
+      showEntry(number);
+      if (innerWidth <= 800) element("whole").scrollIntoView({ block: "nearest" });
+    }, goToCell);
 readAddress();
