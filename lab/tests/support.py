@@ -58,6 +58,10 @@ class InRoom(Case):
         self.addCleanup(room.cleanup)
         self.room = Path(room.name)
 
+    def fake(self, script: str) -> str:
+        """Writes a program that answers as a script of the shell says, and returns its path."""
+        return executable(self.room / "fake", script)
+
     def file(self, name: str, text: str) -> str:
         """Writes a file, one byte for each character, and returns its path."""
         (self.room / name).write_bytes(text.encode("latin-1"))

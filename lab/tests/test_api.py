@@ -85,7 +85,7 @@ class Page(unittest.TestCase):
 
 
 class Import(unittest.TestCase):
-    """`import bbmlab`."""
+    """`import bbmlab`, texts, the values of their sections, `simulate` and `local_run`."""
 
     def test_is_cheap(self) -> None:
         """The import loads no module but the package itself."""
@@ -97,10 +97,6 @@ class Import(unittest.TestCase):
     def test_unknown_name(self) -> None:
         """A name that is not public is not there."""
         self.assertFalse(hasattr(bbmlab, "find_program"))
-
-
-class Sections(unittest.TestCase):
-    """Texts, the values of their sections, `simulate` and `local_run`."""
 
     def test_round_trips(self) -> None:
         """Each worked text that is taken is read and written byte for byte, and read again as the same value."""

@@ -22,7 +22,7 @@ def number(bits: list[int]) -> int:
 
 
 class Forms(support.InRoom):
-    """A circuit in BLIF and Verilog is the same circuit, judged by others."""
+    """A circuit in BLIF and Verilog is the same circuit, and what the commands print."""
 
     def test_blif_is_read_back(self) -> None:
         """The BLIF of a random circuit, mapped back, has the same table."""
@@ -62,10 +62,6 @@ class Forms(support.InRoom):
         self.assertEqual(text.count(" -> "), len(circuit.wires))
         if shutil.which("dot"):
             subprocess.run(["dot", "-Tsvg"], input=text.encode(), check=True, stdout=subprocess.DEVNULL)
-
-
-class Commands(support.Case):
-    """What the commands print."""
 
     def test_table_has_all_rows(self) -> None:
         """The rows of a half adder, and one row."""

@@ -11,11 +11,6 @@ import support
 from bbmlab_core.host.program import ask
 
 
-def fake_program(room: str, body: str) -> str:
-    """Writes a program that answers as its body says."""
-    return support.executable(Path(room) / "fake", body)
-
-
 class Documents(support.InRoom):
     """The lists of docs/JSON.md of what a JSON document has."""
 
@@ -76,8 +71,7 @@ class Check(support.InRoom):
         for body, word in [("exec sleep 5\n", "time-out"), ("exit 70\n", "error"), ("echo hello\n", "error"),
                            (yes, "error")]:
             with self.subTest(word):
-                self.assert_ends(4, "check", "--program", fake_program(self.room, body), "--timeout", "0.3", file,
-                                 out=f"1 {word}")
+                self.assert_ends(4, "check", "--program", self.fake(body), "--timeout", "0.3", file, out=f"1 {word}")
         self.assert_ends(4, "check", "--program", str(self.room / "none"), file, stdout="",
                          err="there is no program at")
 
@@ -123,7 +117,7 @@ class Others(support.InRoom):
         ended = support.lab("trace", support.example("head_on"), "--program", support.program())
         self.assertIn("3: 5,2 2,5", ended.stdout)
         self.assertIn("what the program's run says", ended.stderr)
-        liar = fake_program(self.room, "cat >/dev/null; echo cells 0\n")
+        liar = self.fake("cat >/dev/null; echo cells 0\n")
         self.assertEqual(support.lab("trace", support.example("head_on"), "--program", liar).returncode, 4)
 
     def test_unknown_input(self) -> None:

@@ -13,7 +13,6 @@ from pathlib import Path
 
 import support
 from support import BBMLAB as LAB
-from test_commands import fake_program
 
 # Says yes to a text of one line, $word, as if it were a certificate.
 YES = (r"digest=$(printf '%s\n' $word | sha256sum); printf 'bbmcheck 1\ncertificate %s\nmodules 1\nverdict yes\n' "
@@ -81,7 +80,7 @@ class Signals(unittest.TestCase):
         for name in "abcde":
             (room / f"{name}.txt").write_text("slow\n" if name > "a" else "quick\n")
         body = f"read word; [ $word = slow ] && {{ echo x >>{room}/begun; sleep 60; }}\n" + YES
-        program = fake_program(str(room), body)
+        program = support.executable(room / "fake", body)
         ran = subprocess.Popen([*LAB, "check", "--jobs", "2", "--format", form, "--program", program, str(room)],
                                stdout=subprocess.PIPE, stderr=subprocess.PIPE)
         support.wait_for(lambda: (room / "begun").exists() and (room / "begun").read_text().count("x") == 2)
@@ -106,7 +105,7 @@ class Signals(unittest.TestCase):
                     (Path(room) / f"{name}.txt").write_text(f"{name}\n")
                 body = f"read word; [ $word = quick ] || while [ ! -e {room}/go ]; do sleep 0.05; done\n" + YES
                 ran = subprocess.Popen([*LAB, "check", "--jobs", "2", "--format", form, "--program",
-                                        fake_program(room, body), room],
+                                        support.executable(Path(room) / "fake", body), room],
                                        stdout=subprocess.PIPE, stderr=subprocess.DEVNULL, text=True)
                 while "quick" not in ran.stdout.readline():
                     pass
@@ -117,7 +116,7 @@ class Signals(unittest.TestCase):
 
 
 class Names(support.InRoom):
-    """Names and texts with control characters, and files that are written."""
+    """Names with control characters, files that are written, and numbers that are out of reach."""
 
     def test_no_control_character_comes_out(self) -> None:
         """A file whose name has control characters and bytes of no character is shown by escapes in each form, and the
@@ -169,10 +168,6 @@ class Names(support.InRoom):
         run("fmt", "-i", "--strip-comments", str(file), stdout=subprocess.PIPE)
         self.assertEqual(file.read_bytes(), b"circuit\ninput p\xff\nend\n")
         self.assertEqual(run("fmt", str(file), stdout=subprocess.PIPE).stdout, b"circuit\ninput p\xff\nend\n")
-
-
-class Hostile(support.Case):
-    """Numbers and documents that are out of reach."""
 
     def test_golly_header_of_a_billion(self) -> None:
         """A run of 10^9 cells is refused at once, with a line."""

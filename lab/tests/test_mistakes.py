@@ -19,7 +19,6 @@ from bbmlab_core.texts.certificates import Module
 from bbmlab_core.texts.designs import require_report_of
 from bbmlab_core.texts.reports import ReportError, parse_report
 from bbmlab_core.texts.shape_hints import character_hints
-from test_commands import fake_program
 
 BLIF = ".model x\n.inputs a\n.outputs b\n.names a b\n1 1\n.end\n"
 VERILOG = "module x(input a, output b);\n  assign b = a;\nendmodule\n"
@@ -215,7 +214,7 @@ class Programs(InRoom):
 
     def test_a_yes_is_a_line_and_a_status(self) -> None:
         """A yes with another status is no answer for `explain` and `view`."""
-        odd = fake_program(str(self.room), f"'{support.program()}' \"$@\"\nexit 1\n")
+        odd = self.fake(f"'{support.program()}' \"$@\"\nexit 1\n")
         file = support.example("gate_and_mirror")
         self.ends(4, "the program gave no verdict", "explain", "--program", odd, file)
         self.ends(4, "gave no answer", "explain", "--fix", "--program", odd, file)
@@ -223,7 +222,7 @@ class Programs(InRoom):
 
     def test_a_run_that_is_refused(self) -> None:
         """A `run` without memory says nothing about the lab's run."""
-        full = fake_program(str(self.room), "cat >/dev/null\necho 'bbmcheck: out of memory' >&2\nexit 5\n")
+        full = self.fake("cat >/dev/null\necho 'bbmcheck: out of memory' >&2\nexit 5\n")
         self.ends(0, "the last state was not compared: bbmcheck: out of memory", "trace", "--program", full,
                   support.example("head_on"))
 

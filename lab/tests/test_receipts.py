@@ -60,7 +60,7 @@ class InRoom(support.InRoom):
 
 
 class Documents(InRoom):
-    """What is in a receipt."""
+    """What is in a receipt, what is skipped, and what is checked again."""
 
     def test_digests_are_of_the_bytes(self) -> None:
         """Text, sections, program and report have the digests of their bytes; the sections are cut here at each `end`.
@@ -116,10 +116,6 @@ class Documents(InRoom):
         self.assertEqual(len(list(self.receipts.iterdir())), len(self.NAMES) + len(names))
         ended = self.check()
         self.assertIn(f"held {len(self.NAMES) + len(names)}, checked 0", ended.stdout)
-
-
-class Holding(InRoom):
-    """What is skipped, and what is checked again."""
 
     def test_only_what_changed(self) -> None:
         """A second run checks nothing; a changed byte, another program, a broken receipt and a lost one are checked
@@ -192,7 +188,7 @@ class Holding(InRoom):
 
 
 class Verify(InRoom):
-    """`verify`."""
+    """`verify`, and what the receipts of all parts of a set say together."""
 
     def assert_verified(self, status: int, out: str, name: str, *words: str, text: str = "") -> None:
         """Verifies the receipt of a design. The counting program is no release, so a MANIFEST names it."""
@@ -271,10 +267,6 @@ class Verify(InRoom):
         self.assert_ends(4, "verify", "--again", str(path), str(self.designs / "wrong_edge.txt"), "--program",
                          support.program(), "--release", str(self.room / "MANIFEST"),
                          err="is not the program of the receipt")
-
-
-class Shards(InRoom):
-    """Parts of a set, and what the receipts of all parts say together."""
 
     def test_parts_are_the_whole(self) -> None:
         """Each file is in one of 16 parts, the receipts are those of one run, and `summary` tells their result."""

@@ -28,7 +28,7 @@ class Room(support.InRoom):
 
 
 class Meanwhile(Room):
-    """A file that another editor saves between the reading and the writing."""
+    """What other programs wrote meanwhile, and what stays of a file whose bytes are replaced."""
 
     def test_explain_in_place(self) -> None:
         """`explain --fix -i` leaves the other editor's bytes and puts the fix beside them.
@@ -81,10 +81,6 @@ class Meanwhile(Room):
         with mock.patch.object(folder, "read", read_and_change), self.assertRaises(ChangedError):
             folder.write("design.txt", b"new\n", digest_of(b"old\n"), False)
         self.assertEqual((file.read_bytes(), self.names()), (OTHER, ["design.txt"]))
-
-
-class Kept(Room):
-    """What stays of a file whose bytes are replaced."""
 
     def test_protected_files(self) -> None:
         """A file without the right to write stays as it is, also for root and although its folder could be written."""

@@ -497,10 +497,6 @@ class Searches(Served):
 class Limits(support.InRoom):
     """What ends a program, and the command."""
 
-    def fake(self, script: str) -> str:
-        """Returns the path of a program that does what a script says."""
-        return support.executable(self.room / "program", script)
-
     def test_time_limit(self) -> None:
         """A program that does not end is killed."""
         jobs = Jobs(self.fake(f"exec sleep 987654.{os.getpid()}"), 0.5, MEMORY)
