@@ -3,7 +3,6 @@
 import itertools
 import subprocess
 import sys
-import unittest
 
 import support
 from bbmlab_core.host.program import ask
@@ -24,8 +23,18 @@ FUNCTIONS = {
 }
 
 
-class Bundles(unittest.TestCase):
-    """The files of lab/cells, what the cells compute, and their ports."""
+def states_of(layout: Layout, on: set[str]) -> list[set[Cell]]:
+    """Returns the live cells at each time."""
+    run = run_layout(layout, on)
+    states = [run.field.state()]
+    while run.time < layout.steps:
+        assert run.step(), "a ball left"
+        states.append(run.field.state())
+    return states
+
+
+class Cells(support.Case):
+    """The files of lab/cells, what the cells compute, their ports, and `bbmlab cells`."""
 
     def test_each_gets_a_yes(self) -> None:
         """The program says yes to each cell, and each file is a cell of the list."""
@@ -92,20 +101,6 @@ class Bundles(unittest.TestCase):
             with self.subTest(name):
                 self.assertEqual(cell.constants, len(sources))
                 self.assertEqual(len(cell.document.layout.of_kind("ball")), 2 * len(sources))
-
-
-def states_of(layout: Layout, on: set[str]) -> list[set[Cell]]:
-    """Returns the live cells at each time."""
-    run = run_layout(layout, on)
-    states = [run.field.state()]
-    while run.time < layout.steps:
-        assert run.step(), "a ball left"
-        states.append(run.field.state())
-    return states
-
-
-class Command(support.Case):
-    """`bbmlab cells`."""
 
     def test_list(self) -> None:
         """The list names each cell with its ports, and one cell is a part of the list."""

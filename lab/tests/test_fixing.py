@@ -119,7 +119,8 @@ class Edits(unittest.TestCase):
             near = [line.split(" ") for line in lines if line.startswith("edge ") and line != lines[number]]
             has_near = any(words[4] == name and max(abs(int(words[2]) - int(x)), abs(int(words[3]) - int(y))) <= 1
                            for words in near)
-            group, = (group for group in BorderCheck(Diagnosis(document)).groups() if group.cell == (int(x), int(y)))
+            found = BorderCheck(Diagnosis(document)).all_cell_edits()
+            group, = (group for group in found if group.cell == (int(x), int(y)))
             tried[[edit.text for edit in group.edits] == [lines[number]]] += has_near
         self.assertGreater(tried[True], 5)
         self.assertEqual(tried[False], 0)

@@ -264,8 +264,8 @@ class Once(support.InRoom):
                 self.assertEqual(main(["view", "--program", support.program(), support.example("wrong_edge"), "-o",
                                        out]), 0)
             self.assertEqual(reader.call_count, 1)
-        with mock.patch("bbmlab_core.explain.expected_lines.BorderCheck.groups", autospec=True,
-                        side_effect=BorderCheck.groups) as groups:
+        with mock.patch("bbmlab_core.explain.expected_lines.BorderCheck.all_cell_edits", autospec=True,
+                        side_effect=BorderCheck.all_cell_edits) as groups:
             explain_answer(text, "check", ask(support.program(), "check", text.encode()).output, "text",
                            Trial(support.program()))
         own = [call for call in groups.call_args_list if call.args[0].diagnosis.document.text == text]

@@ -13,7 +13,7 @@ from pathlib import Path
 from unittest import mock
 
 import support
-from bbmlab_core.certify.certifier import Maker, NoBoxError, CertificatePlan, certified, checked_boxes
+from bbmlab_core.certify.certifier import CertificateMaker, NoBoxError, CertificatePlan, certified, checked_boxes
 from bbmlab_core.host.terminal import LabError
 from bbmlab_core.physics.simulation import run_layout
 from bbmlab_core.pictures import golly
@@ -61,16 +61,16 @@ class Certificates(support.InRoom):
 
     def test_no_box_is_tried_twice(self) -> None:
         """If no certificate is found no box was tried twice, though both orders of cuts lead to it."""
-        right, tried = Maker.module, Counter[Box]()
+        right, tried = CertificateMaker.module, Counter[Box]()
         for name, cell in (("machine_full_adder", (40, 40)), ("machine_half_adder", (30, 20))):
-            def module(self: Maker, box: Box, cell: tuple[int, int] = cell) -> Module:
+            def module(self: CertificateMaker, box: Box, cell: tuple[int, int] = cell) -> Module:
                 """Makes no module of the boxes with a cell."""
                 tried[box] += 1
                 if box.has(cell):
                     raise NoBoxError("not here")
                 return right(self, box)
 
-            with (self.subTest(name), mock.patch.object(Maker, "module", module),
+            with (self.subTest(name), mock.patch.object(CertificateMaker, "module", module),
                   self.assertRaisesRegex(LabError, "no certificate was found: not here")):
                 tried.clear()
                 certified(design(name), None, CertificatePlan())
@@ -83,7 +83,7 @@ class Certificates(support.InRoom):
         text = "circuit\ninput a\nsource 1 -> k\nswitch a k -> b c d\noutput b\noutput c\noutput d\nend\n"
         routed = support.lab("route", "-", "--program", support.program(), text=text).stdout
         document = support.read_document(routed.split("certificate ")[0], "design")
-        with mock.patch.object(Maker, "module", side_effect=NoBoxError("not here")):
+        with mock.patch.object(CertificateMaker, "module", side_effect=NoBoxError("not here")):
             with self.assertRaisesRegex(LabError, "not here. 2 of 5 wires have the values of an earlier one in all 2 "
                                         "choices of the inputs, as `b` has those of `a`"):
                 certified(document, None, CertificatePlan())

@@ -225,7 +225,7 @@ class Large(support.InRoom):
             shown = drawing.Drawing()
             shown.ways, shown.labels = drawing.ball_ways(document, None, document.layout.steps)
             steps = sum(len(steps_of(pieces)) for pieces in shown.ways.values())
-            names = drawing.by_levels(shown, document.circuit)
+            names = drawing.group_by_levels(shown, document.circuit)
             self.assertEqual(any(name.startswith("level") for name in names), is_grouped)
             self.assertLessEqual(len([name for name in names if name.startswith("level")]), 8)
             self.assertEqual(sum(len(steps_of(pieces)) for pieces in shown.ways.values()), steps)

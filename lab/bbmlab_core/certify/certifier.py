@@ -57,7 +57,7 @@ class CertificatePlan:
     is_tried: bool = True
 
 
-class Maker:
+class CertificateMaker:
     """Makes certificates of one circuit and layout."""
 
     def __init__(self, circuit: Circuit, layout: Layout, plan: CertificatePlan) -> None:
@@ -341,7 +341,7 @@ def newly_certified(document: Document, boxes: list[Box] | None, plan: Certifica
     circuit, layout = document.circuit, document.layout
     if circuit is None or layout is None:
         raise LabError("certify takes a circuit and a layout")
-    maker = Maker(circuit, layout, plan)
+    maker = CertificateMaker(circuit, layout, plan)
     try:
         certificate = maker.certificate(boxes)
     except NoBoxError as error:

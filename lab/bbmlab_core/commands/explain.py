@@ -34,7 +34,7 @@ def run(options: argparse.Namespace) -> int:
     if options.report:
         output = read_text(options.report)
     elif program:
-        output = asked(program, command, text, options)
+        output = program_answer(program, command, text, options)
     else:
         refusal = read_document(text, command).refusal
         if refusal is None:
@@ -56,7 +56,7 @@ def program_of(options: argparse.Namespace) -> Executable | None:
         return None
 
 
-def asked(program: Executable, command: str, text: str, options: argparse.Namespace) -> str:
+def program_answer(program: Executable, command: str, text: str, options: argparse.Namespace) -> str:
     """Returns what a command of the program writes."""
     answer = ask(program, command, text.encode("latin-1"), options.timeout)
     if answer.status >= 4:

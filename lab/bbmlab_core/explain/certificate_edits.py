@@ -34,7 +34,7 @@ class CertificateEditor:
         self.circuit, self.certificate = diagnosis.circuit, diagnosis.certificate
         self.lines = diagnosis.document.text.split("\n")
         self.check = BorderCheck(diagnosis, seconds)
-        self.groups: list[CellEdits] = self.check.groups()
+        self.groups: list[CellEdits] = self.check.all_cell_edits()
 
     def for_all(self, findings: list[ReportLine]) -> Iterator[Proposal]:
         """Yields edits for a whole report: all borders together, then each by itself, then those for each line of the
@@ -79,7 +79,7 @@ class CertificateEditor:
         if len(near) > 1:
             yield Proposal("border lines as the whole run has them",
                            tuple(dict.fromkeys(edit for group in near for edit in group.edits)))
-        if self.diagnosis.occurring(module) != (1 << (1 << len(module.cuts))) - 1:
+        if self.diagnosis.occurring_assignments(module) != (1 << (1 << len(module.cuts))) - 1:
             yield from self.gates_for_cuts(module)
 
     def gates_for_cuts(self, module: Module) -> Iterator[Proposal]:

@@ -172,7 +172,7 @@ class Diagnosis:
         given = {name: values.tables[name] >> chosen & 1 for name in inputs}
         return Occurrence(Truth.YES, given, table.bit_count() if is_all else 0, total)
 
-    def occurring(self, module: Module) -> Table:
+    def occurring_assignments(self, module: Module) -> Table:
         """Returns a table of assignments of the module's cuts that occur: all of them, or those that occur in the
         samples."""
         inputs, gates = self.circuit.cone(module.cuts)
@@ -194,7 +194,7 @@ class Diagnosis:
         """Returns the least fault of a module's own run under assignments that are known to occur, or None if there is
         none."""
         run = ModuleRun(self.circuit, self.layout, self.certificate, module)
-        run.restrict(self.occurring(module))
+        run.restrict(self.occurring_assignments(module))
         return run.least_fault() if run.full else None
 
     def module_state(self, module: Module, assignment: int, time: int) -> tuple[set[Cell], set[Cell]]:

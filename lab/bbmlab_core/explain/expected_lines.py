@@ -122,11 +122,11 @@ class BorderCheck:
         """Returns the table of a signal."""
         return self.diagnosis.values.full if signal == "1" else self.diagnosis.values.tables[signal]
 
-    def groups(self) -> list[CellEdits]:
+    def all_cell_edits(self) -> list[CellEdits]:
         """Returns the edits of all cells whose lines are wrong, in order of the first wrong time."""
         if self.ring_tables is None:
             return []
-        found = [self.group(cell, self.lines_at.get(cell, []))
+        found = [self.cell_edits(cell, self.lines_at.get(cell, []))
                  for cell in sorted(self.ring_tables.keys() | self.lines_at.keys())]
         return sorted((group for group in found if group), key=lambda group: group.time)
 
@@ -139,7 +139,7 @@ class BorderCheck:
                 lines.setdefault(line.cell, []).append((module, line))
         return lines
 
-    def group(self, cell: Cell, lines: list[tuple[Module, Border]]) -> CellEdits | None:
+    def cell_edits(self, cell: Cell, lines: list[tuple[Module, Border]]) -> CellEdits | None:
         """Returns the edits for one cell, or None if its lines are right or no lines would be."""
         owner = self.owner(cell)
         if owner is None or self.ring_tables is None:

@@ -44,7 +44,7 @@ def assignment_words(values: dict[str, int]) -> str:
     return " ".join(f"{name}={value}" for name, value in values.items()) or "no cut wires"
 
 
-def shown(cell: Cell) -> str:
+def cell_words(cell: Cell) -> str:
     """Returns a cell as (x, y)."""
     return f"({cell[0]}, {cell[1]})"
 
@@ -122,7 +122,7 @@ def explain_local(diagnosis: Diagnosis, finding: ReportLine) -> Entry:
     last = ", the last time," if finding.values["kind"] == "end" else ""
     entry = Entry(finding.text, True, [
         f"Module {module.number} (line {module.line}, box {module.box.words}) was run by itself with {names}.",
-        f"At time {time}{last} the cell {shown(cell)} is {found} and should be {want}: {wanted.why}.",
+        f"At time {time}{last} the cell {cell_words(cell)} is {found} and should be {want}: {wanted.why}.",
         occurrence_words(diagnosis, occurrence, names)], line=wanted.line)
     entry.facts = {"module": module.number, "module_line": module.line, "kind": finding.values["kind"], "time": time,
                    "cell": list(cell),
@@ -160,7 +160,7 @@ def add_never_occurs(diagnosis: Diagnosis, module: Module, entry: Entry) -> None
     last = ", the last time," if fault.kind == "end" else ""
     entry.what.append(f"Under values that do occur the module has a fault too: with {names}, at time "
                       f"{fault.time}{last} at the cell "
-                      f"{shown((fault.x, fault.y))}.")
+                      f"{cell_words((fault.x, fault.y))}.")
     entry.facts["fault_that_occurs"] = {"kind": fault.kind, "time": fault.time, "cell": [fault.x, fault.y],
                                         "assignment": module.assignment_names(fault.assignment)}
     finding = parse_finding(f"local {module.number} {fault.report_words()}")
@@ -196,9 +196,8 @@ def add_difference(diagnosis: Diagnosis, module: Module, entry: Entry, differenc
     entry.cause = "not_heard"
     entry.facts["differs"] = {"time": difference.time, "cell": list(difference.cell)}
     entry.what.append("In the run of the whole layout it is not so. The two runs first differ at time "
-                      f"{difference.time}, at "
-                      f"{shown(difference.cell)}: what comes in over the border is not told to the module, or told "
-                      "wrongly.")
+                      f"{difference.time}, at {cell_words(difference.cell)}: what comes in over the border is not told "
+                      "to the module, or told wrongly.")
     for cell, is_live in difference.unheard[:3]:
         entry.what += unheard_words(diagnosis, module, cell, difference.heard_time, is_live)
 
@@ -213,7 +212,8 @@ def unheard_words(diagnosis: Diagnosis, module: Module, cell: Cell, time: int, i
     state = "live" if is_live else "dead"
     against = (f"against line {teller.line_number(kind, line)} (`{line_words(kind, line)}`)" if line
                else f"and module {teller.number} has no `{kind}` line for it")
-    return [f"At time {time} the cell {shown(cell)} of module {owner.number} is {state} in the whole run, {against}.",
+    return [f"At time {time} the cell {cell_words(cell)} of module {owner.number} is {state} in the whole run, "
+            f"{against}.",
             *signal_words(diagnosis, diagnosis.signal_of(cell, time), "it")]
 
 
@@ -272,9 +272,9 @@ def explain_border(diagnosis: Diagnosis, finding: ReportLine) -> Entry:
     assert owner is not None
     halo, edge = module.line_at("halo", time, cell), owner.line_at("edge", time, cell)
     entry = Entry(finding.text, True, [
-        f"At time {time} modules {module.number} and {owner.number} say different things of the cell {shown(cell)} on "
-        "their border: "
-        f"{said_words(halo, 'halo', module)}, and {said_words(edge, 'edge', owner)}."],
+        f"At time {time} modules {module.number} and {owner.number} say different things of the cell "
+        f"{cell_words(cell)} on their border: {said_words(halo, 'halo', module)}, and "
+        f"{said_words(edge, 'edge', owner)}."],
         line=module.line_number("halo", halo) if halo else owner.line_number("edge", edge) if edge else None,
         cause="border")
     entry.facts = {"module": module.number, "owner": owner.number, "time": time, "cell": list(cell),

@@ -70,13 +70,13 @@ class Bench:
         self.all_values = self.values if self.values.is_all or len(circuit.inputs) > MAX_INPUTS else \
             evaluate_all(circuit)
         self.touched: dict[int, int] = {}
-        self.last = self.final(layout, self.values, notes=True)
+        self.last = self.last_state(layout, self.values, notes=True)
 
     def is_over(self) -> bool:
         """Whether the seconds are used up, or a run would be too long."""
         return processor_seconds() > self.end or self.layout.steps > MAX_STEPS
 
-    def final(self, layout: Layout, values: Valuation, notes: bool = False) -> dict[int, Table] | None:
+    def last_state(self, layout: Layout, values: Valuation, notes: bool = False) -> dict[int, Table] | None:
         """Returns the live cells after the last step, or None if a step leaves the rectangle or the seconds are used
         up."""
         run = WholeRun(layout, values.tables, values.full)
@@ -98,7 +98,7 @@ class Bench:
             else:
                 values = few_values(change.circuit) if not all_of_them or len(self.circuit.inputs) > MAX_INPUTS else \
                     evaluate_all(change.circuit)
-            live = self.final(change.layout, values)
+            live = self.last_state(change.layout, values)
             if live is None or wrong_cells(values, change.layout, live):
                 return False
             if self.values.is_all:

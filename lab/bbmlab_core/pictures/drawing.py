@@ -320,7 +320,7 @@ def legend(drawing: Drawing, wires: list[str], y: int, width: float) -> tuple[li
     return parts, top - y + 12 if parts else 0
 
 
-def shown_part(layout: Layout, drawing: Drawing) -> Layout:
+def clip_to_view(layout: Layout, drawing: Drawing) -> Layout:
     """Returns what a picture shows of a layout, and takes away what it does not show of the drawing."""
     view = drawing.view
     if view is None:
@@ -357,7 +357,7 @@ def svg(layout: Layout, drawing: Drawing, wires: list[str]) -> str:
 
     Above `PLAIN_SIDE` cells a side, letters and margins grow with the part of the layout that is shown.
     """
-    view, layout = drawing.view_of(layout), shown_part(layout, drawing)
+    view, layout = drawing.view_of(layout), clip_to_view(layout, drawing)
     side = max(view.width, view.height)
     scale = max(1.0, side / PLAIN_SIDE)
     widening, margin = min(scale, MAX_WIDENING) * max(1.0, side / LARGE_SIDE), MARGIN * (scale - 1)
@@ -438,7 +438,7 @@ def ball_ways(document: Document, on: list[str] | None, until: int,
     return ways, {name: ", ".join(same) for name, same in equal.items()}
 
 
-def by_levels(drawing: Drawing, circuit: Circuit, most_wires: int = MAX_LEGEND) -> list[str]:
+def group_by_levels(drawing: Drawing, circuit: Circuit, most_wires: int = MAX_LEGEND) -> list[str]:
     """Gives the ways of more wires than some to groups of levels, and returns the groups.
 
     A level counts the gates from the inputs to a wire.

@@ -146,7 +146,7 @@ class Survey {
     this.now = this.next;
     this.nowCount = this.nextCount;
     this.next = now;
-    if (this.time <= this.layout.steps) this.drop();
+    if (this.time <= this.layout.steps) this.dropOutside();
   }
 
   /**
@@ -257,7 +257,7 @@ class Survey {
   }
 
   /** Takes away what left the rectangle, and notes the first time. */
-  drop() {
+  dropOutside() {
     const { width, height } = this.layout, { live, now, nowCount, grid } = this;
     for (let index = 0; index < nowCount; index += 1) {
       const key = now[index], x = grid.xOf(key), y = grid.yOf(key);
@@ -274,7 +274,7 @@ class Survey {
   /**
    * Returns the ways as lines: x, y, x, y and a colour for each. The ways of one colour that lie in a row are one line.
    */
-  lines() {
+  wayLines() {
     const { blocks, sides, down, up, grid } = this, { row } = grid, lines = [];
     for (const [colours, on, dx] of [[down, row + 1, 1], [up, row - 1, -1]]) {
       for (const block of blocks) {
@@ -297,8 +297,8 @@ class Survey {
    * Returns what the page shows of the run, in a form that a worker can send: the names of the wires that have ways, by
    * their colours.
    */
-  shown() {
-    const { live, isMirror, marks, leftAt, tables, inputs, choices } = this, ways = Int16Array.from(this.lines());
+  result() {
+    const { live, isMirror, marks, leftAt, tables, inputs, choices } = this, ways = Int16Array.from(this.wayLines());
     const names = [...tables.keys()], wires = new Map();
     for (let index = 4; index < ways.length; index += 5) {
       const colour = ways[index];
@@ -313,7 +313,7 @@ class Survey {
 }
 
 /** What the outputs should be and what they are, for all choices of up to eight inputs. */
-class TruthTable {
+class TruthTableRun {
   run = null;
   ends = [];
 
@@ -419,4 +419,4 @@ function endsOf(layout, circuit, milliseconds) {
   return run.isEnded && run.leftAt === null ? endParts(run, circuit.outputs, layout) : null;
 }
 
-export { Survey, TruthTable, endsOf, allChoices, sampledChoices, endParts, CONSTANT, OTHER, LANES };
+export { Survey, TruthTableRun, endsOf, allChoices, sampledChoices, endParts, CONSTANT, OTHER, LANES };

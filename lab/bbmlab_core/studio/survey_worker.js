@@ -3,7 +3,7 @@
  * finds. While it runs it looks for newer ones.
  */
 import * as surveys from "./survey.js";
-import { Survey, TruthTable } from "./survey.js";
+import { Survey, TruthTableRun } from "./survey.js";
 
 // How long a run may take before newer messages are looked at, in milliseconds.
 const SLICE = 12;
@@ -22,7 +22,7 @@ function advance() {
   if (survey) {
     if (survey.advance(SLICE)) {
       work.survey = null;
-      const found = survey.shown();
+      const found = survey.result();
       // The large arrays are handed over.
       postMessage({ number, ways: found }, [found.ways.buffer, found.live.buffer, found.isMirror.buffer]);
     }
@@ -40,7 +40,7 @@ onmessage = ({ data: { number, layout, ways, hasTable, circuit = work.circuit } 
   work.number = number;
   work.circuit = circuit;
   work.survey = survey;
-  work.table = hasTable ? new TruthTable(layout, circuit) : null;
+  work.table = hasTable ? new TruthTableRun(layout, circuit) : null;
   if (isIdle && (work.survey || work.table)) turns.port2.postMessage(null);
 };
 

@@ -86,7 +86,8 @@ def picture(document: Document, layout: Layout, name: str) -> str:
     shown.ways, shown.labels = drawing.ball_ways(document, None, layout.steps)
     shown.title = f"{name}: ways of the balls{drawing.sampled_words(document)}"
     most = len(drawing.COLOURS) if max(layout.width, layout.height) > drawing.LARGE_SIDE else drawing.MAX_LEGEND
-    return drawing.svg(layout, shown, drawing.by_levels(shown, document.circuit, most) if document.circuit else on)
+    wires = drawing.group_by_levels(shown, document.circuit, most) if document.circuit else on
+    return drawing.svg(layout, shown, wires)
 
 
 JOBS = {"verdict": verdict, "explain": explain, "export": export}

@@ -171,14 +171,14 @@ function closeOwn() {
 }
 
 /** Notes which line of the report is shown: its button is pressed. */
-function press(number) {
+function markEntry(number) {
   pageState.entry = number;
   pageState.buttons.forEach((button, index) => button.setAttribute("aria-pressed", String(index === number)));
 }
 
 /** Shows no line of the report. */
 function closeEntry() {
-  press(null);
+  markEntry(null);
   stage.fault = null;
   stage.module = null;
   stage.mark = null;
@@ -188,7 +188,7 @@ function closeEntry() {
 /** Goes to the module, time, assignment and cell of a line of the report. */
 function showEntry(number) {
   const { facts } = entries[number], stop = facts.cell || facts.assignment ? undefined : stopOf(facts);
-  press(number);
+  markEntry(number);
   player.play(0);
   stage.fault = facts.cell || (stop ? stop.cell : null);
   stage.mark = null;
