@@ -13,6 +13,7 @@ const SLICE = 4;
 const BLANK = { width: 48, height: 48, steps: 0, mirrors: [], balls: [], ins: [], outs: [], wastes: [] };
 
 class Desk {
+  worker;
   off = new Set();
   waysMode = "all";
   hasWave = false;
@@ -23,6 +24,7 @@ class Desk {
   survey = null;
   surveyOrder = -1;
   rows = null;
+  layout;
   model;
   fallen;
   player;

@@ -13,12 +13,17 @@ const CLICK_MIRROR = [4, 2];
 const between = ([x, y], [u, v]) => [Math.min(x, u), Math.min(y, v), Math.abs(x - u) + 1, Math.abs(y - v) + 1];
 
 class Tools {
+  desk;
+  sketch;
+  say;
   name = "mirror";
   wire = "a";
   isPair = true;
   cell = null;
   source = null;
   hasWires = true;
+  askLarger;
+  onConnect;
   selection = new Set();
   clipboard = [];
   pressed = null;

@@ -22,6 +22,9 @@ function chooser(label, groups) {
 }
 
 class Files {
+  desk;
+  verdicts;
+  say;
   folder = "";
   name = "";
   digest = null;
@@ -29,6 +32,7 @@ class Files {
   isFree = false;
   opened = 0;
   hasOffer = false;
+  keepSoon;
 
   /** @param {Desk} desk @param {VerdictPanel} verdicts @param {(text: string, isBad?: boolean) => void} say */
   constructor(desk, verdicts, say) {

@@ -110,6 +110,7 @@ function takerOf({ kind, box: [x, y, w, h] }, rows, gone) {
 const sharedCell = ({ box: [x, y] }, { box: [u, v] }) => [Math.max(x, u), Math.max(y, v)];
 
 class Model {
+  lines;
   past = [];
   future = [];
   listeners = [];

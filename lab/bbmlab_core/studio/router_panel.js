@@ -17,6 +17,8 @@ function numberField(words, value, least, most) {
 }
 
 class RouterPanel {
+  desk;
+  say;
   isRunning = false;
   seed = 1;
 

@@ -14,9 +14,13 @@ const MAX_FOLLOW_MILLISECONDS = 1500;
 const placesOf = (parts) => parts.map(({ kind, box }) => `${kind} ${box[0]} ${box[1]}`).sort().join("\n");
 
 class SidePanels {
+  desk;
+  sketch;
+  say;
   asked = 0;
   refusal = null;
   typed = null;
+  askSoon;
   gutterKey;
   inputsKey;
 

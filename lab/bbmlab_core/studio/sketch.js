@@ -19,11 +19,13 @@ function wireInks() {
 }
 
 class Sketch extends Stage {
+  desk;
   ghost = null;
   selected = [];
   frame2 = null;
   cursor = null;
   faults = [];
+  base;
   isStale = true;
   isBaseStale = true;
 

@@ -43,12 +43,27 @@ function tablesOf(circuit, inputs, choices) {
 }
 
 class Survey {
+  layout;
+  circuit;
+  choices;
+  inputs;
   time = 0;
   leftAt = null;
   leftLanes = 0;
+  isEnded;
+  full;
+  tables;
+  colours;
+  grid;
+  noted;
+  down;
+  up;
   blocks = [];
   sides = [];
   marks = [];
+  live;
+  passes;
+  isMirror;
   now;
   next;
   nowCount;
@@ -314,6 +329,9 @@ class Survey {
 
 /** What the outputs should be and what they are, for all choices of up to eight inputs. */
 class TruthTableRun {
+  layout;
+  circuit;
+  choices;
   run = null;
   ends = [];
 

@@ -32,6 +32,8 @@ const OTHER_PICTURE = {
 };
 
 class VerdictPanel {
+  desk;
+  sketch;
   program = null;
   verdict = null;
   checked = null;
@@ -40,6 +42,7 @@ class VerdictPanel {
   earlier = "";
   editedAt = 0;
   seconds = [];
+  askSoon;
 
   /** @param {Desk} desk @param {Sketch} sketch */
   constructor(desk, sketch) {

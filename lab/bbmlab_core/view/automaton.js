@@ -18,6 +18,12 @@
  * + 1 further.
  */
 class Grid {
+  bits;
+  width;
+  height;
+  row;
+  count;
+
   /** @param {{width: number, height: number}} size that of the layout */
   constructor({ width, height }) {
     // The least power of two from 1024: a short row of numbers makes runs fast.
@@ -49,6 +55,9 @@ class Grid {
  * a Set.
  */
 class Cells {
+  grid;
+  bytes;
+
   /** @param {Iterable<number>} keys @param {Grid} grid */
   constructor(keys, grid) {
     this.grid = grid;
@@ -184,6 +193,17 @@ const snapshotStep = (steps) => Math.max(64, Math.ceil(steps / 64));
 
 /** A run of a whole layout. The rule undoes itself on each block, so steps go back as well as forward. */
 class WholeRun {
+  layout;
+  grid;
+  mirrors;
+  restless;
+  live;
+  time;
+  direction;
+  every;
+  snapshots;
+  leftAt;
+  moves;
   recent;
   differ;
   pending;
@@ -409,6 +429,20 @@ function heardLines(data, number) {
 
 /** The run of a module by itself under one assignment of its cuts: bit i is the value of cut i. */
 class ModuleRun {
+  data;
+  module;
+  number;
+  assignment;
+  grid;
+  values;
+  every;
+  always;
+  timed;
+  live;
+  time;
+  recent;
+  snapshots;
+
   /** @param {Data} data @param {number} number @param {number} assignment */
   constructor(data, number, assignment) {
     const module = data.certificate.modules[number];

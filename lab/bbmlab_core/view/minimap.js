@@ -4,6 +4,9 @@ import * as painting from "./painting.js";
 const SIDE = 150;
 
 class Minimap {
+  stage;
+  canvas;
+
   /** @param {Stage} stage @param {HTMLCanvasElement} canvas */
   constructor(stage, canvas) {
     this.stage = stage;

@@ -37,11 +37,21 @@ function stopsByTime(modules) {
 }
 
 class Player {
+  data;
+  layout;
+  modules;
   direction = 0;
   rate = 8;
   target = 0;
   slice = AHEAD_SLICE;
+  names;
+  first;
+  on;
+  probes;
+  stops;
   borders = null;
+  own;
+  listeners;
   values;
   run;
   ahead;

@@ -16,6 +16,9 @@ const TRAIL_STEPS = 24, MAX_MOVES = 8000, FIT_SCALE = 60;
 const counted = (count, one, several) => `${count} ${count === 1 ? one : several}`;
 
 class Stage {
+  player;
+  parts;
+  layout;
   fault = null;
   mark = null;
   module = null;
@@ -28,6 +31,7 @@ class Stage {
   frame = null;
   good = null;
   axis = null;
+  wires;
   hasWays = false;
   wire = null;
   pointedWire = null;

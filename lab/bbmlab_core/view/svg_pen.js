@@ -9,6 +9,9 @@ const escaped = (text) => String(text).replace(/[&<>"']/g, (sign) => `&#${sign.c
 const ANCHORS = { left: "start", start: "start", center: "middle", right: "end", end: "end" };
 
 class SvgPen {
+  wide;
+  high;
+  measure;
   parts = [];
   path = [];
   dash = [];

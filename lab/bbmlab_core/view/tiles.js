@@ -135,7 +135,11 @@ function changedPlaces(old, fresh, size) {
 const nameOf = (level, column, row) => `${level} ${column} ${row}`;
 
 class Tiles {
+  width;
+  height;
+  draw;
   made = new Map();
+  coarsest;
 
   /**
    * @param {{width: number, height: number}} size that of the layout

@@ -47,6 +47,10 @@ function countUntil(times, time) {
 
 /** Which probes' cells changed at which times. */
 class Recorder {
+  watched;
+  signals;
+  until;
+
   /** @param {Probe[]} probes @param {WholeRun} run a run at time 0 */
   constructor(probes, run) {
     // Whether a cell is watched, or null if none is; and the signals by their cells.

@@ -26,8 +26,14 @@ function strokePieces({ pen, scale, left, top }, pieces, size) {
 }
 
 class Wires {
+  list;
+  sampled;
+  circuit;
+  filed;
   owners = [];
   starts = [];
+  byName;
+  span;
 
   /** @param {?{wires: Wire[], sampled: string}} ways @param {?Circuit} circuit */
   constructor(ways, circuit) {
