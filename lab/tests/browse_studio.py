@@ -941,13 +941,11 @@ def see_large(studio: Studio) -> None:
 
 
 USES = [draw_collision, drag_mirror, draw_by_keyboard, refuse_circuit, place_mirrors, change_selection, insert_cell,
-        draw_not_gate, take_fix, see_ways, draw_by_touch,
-        do_many_commands, choose_spelling, answer_late, see_dark, use_dialogs, keep_draft, offer_draft_again,
-        keep_selection,
-        ask_twice, use_two_tabs, let_in_once, see_other_picture,
-        forget_old_draft, ask_about_draft, duplicate_tab, say_what_is_kept, see_nothing_yet, undo_numbers, follow_turns,
-        see_kind_of_no,
-        enlarge_for_cell, enlarge_at_sides, route_circuit, connect_ports, see_large]
+        draw_not_gate, take_fix, see_ways, draw_by_touch, do_many_commands, choose_spelling, answer_late, see_dark,
+        use_dialogs, keep_draft, offer_draft_again, keep_selection, ask_twice, use_two_tabs, let_in_once,
+        see_other_picture, forget_old_draft, ask_about_draft, duplicate_tab, say_what_is_kept, see_nothing_yet,
+        undo_numbers, follow_turns, see_kind_of_no, enlarge_for_cell, enlarge_at_sides, route_circuit, connect_ports,
+        see_large]
 
 
 def run_uses(studio: Studio, wanted: list[str]) -> list[str]:

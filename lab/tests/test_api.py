@@ -123,27 +123,18 @@ class Import(unittest.TestCase):
             circuit = circuit.gate(str(gate))
         self.assertEqual(circuit.output(*read.circuit.outputs).spill(*read.circuit.spills), read.circuit)
         layout = bbmlab.Layout(read.layout.width, read.layout.height, read.layout.steps)
-        for box in read.layout.mirrors:
-            layout = layout.mirror(*box)
-        for port in read.layout.ins:
-            layout = layout.in_cell(*port)
-        for port in read.layout.outs:
-            layout = layout.out_cell(*port)
-        for cell in read.layout.balls:
-            layout = layout.ball(*cell)
-        for cell in read.layout.wastes:
-            layout = layout.waste(*cell)
+        for kind, parts in (("mirror", "mirrors"), ("in_cell", "ins"), ("out_cell", "outs"), ("ball", "balls"),
+                            ("waste", "wastes")):
+            for part in getattr(read.layout, parts):
+                layout = getattr(layout, kind)(*part)
         self.assertEqual(layout, read.layout)
         certificate = bbmlab.Certificate(read.certificate.version)
         for module in read.certificate.modules:
             again = bbmlab.Module(module.box).cut(*module.cuts).use(*reversed(module.uses)).keep(
                 *reversed(module.keeps))
-            for line in reversed(module.edges):
-                again = again.edge(*line)
-            for line in reversed(module.halos):
-                again = again.halo(*line)
-            for stop in reversed(module.stops):
-                again = again.stop(*stop)
+            for kind in ("edge", "halo", "stop"):
+                for line in reversed(getattr(module, f"{kind}s")):
+                    again = getattr(again, kind)(*line)
             certificate = certificate.module(again)
         self.assertEqual(certificate, read.certificate)
 

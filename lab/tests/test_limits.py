@@ -40,18 +40,15 @@ def layout(width: int = 2, height: int = 2, steps: int = 0, *parts: str) -> str:
     return "\n".join([f"layout {width} {height} {steps}", *parts, "end"]) + "\n"
 
 
+def wires(count: int, made: str = "input", ended: str = "output") -> str:
+    """Returns a circuit of some wires, by the words before each name in its first and in its last line."""
+    lines = [f"{words} w{number}" for words in (made, ended) for number in range(count)]
+    return "\n".join(["circuit", *lines, "end"]) + "\n"
+
+
 def gates(count: int) -> str:
     """Returns a circuit of some sources."""
-    names = [f"w{number}" for number in range(count)]
-    return "\n".join(["circuit", *(f"source 0 -> {name}" for name in names), *(f"spill {name}" for name in names),
-                      "end"]) + "\n"
-
-
-def wires(count: int) -> str:
-    """Returns a circuit of some inputs that are outputs."""
-    names = [f"w{number}" for number in range(count)]
-    return "\n".join(["circuit", *(f"input {name}" for name in names), *(f"output {name}" for name in names),
-                      "end"]) + "\n"
+    return wires(count, "source 0 ->", "spill")
 
 
 def modules(count: int) -> str:

@@ -32,13 +32,6 @@ DELAYS = [
 ]
 
 
-def random_legs(chance: random.Random) -> list[Leg]:
-    """Returns legs of a path with up to five bounces."""
-    turns = [chance.choice(list(Turn)) for _ in range(chance.randint(0, 5))]
-    return [*(Leg(chance.randint(BOUNCE_STEPS, 40), turn) for turn in turns),
-            Leg(chance.randint(BOUNCE_STEPS, 40), None)]
-
-
 class Backward(unittest.TestCase):
     """What is made backwards runs forward, and paths are taken out and led again."""
 
@@ -75,7 +68,9 @@ class Backward(unittest.TestCase):
         chance = random.Random(5)
         done = 0
         while done < 40:
-            legs, start = random_legs(chance), Ball(400, 400, 1, 1, 0)
+            turns = [chance.choice(list(Turn)) for _ in range(chance.randint(0, 5))]
+            legs = [Leg(chance.randint(BOUNCE_STEPS, 40), turn) for turn in [*turns, None]]
+            start = Ball(400, 400, 1, 1, 0)
             end, mirrors = follow(start, legs)
             item, last = path_item(start, legs), 2 * chance.randint(200, 300) + 1
             if item is None:
