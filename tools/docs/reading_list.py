@@ -356,12 +356,6 @@ def lost_definitions() -> Iterator[str]:
 OTHER_LIST = re.compile(r"`tools/docs/reading_list\.py (\S+\.antt)`[^.;|]*?(\d+)\s+files\s+and\s+(\d+)\s+lines")
 
 
-def lost_of_others(text: str) -> Iterator[str]:
-    """Yields the names that the lists of a page's other statements do not find."""
-    for start, _, _ in OTHER_LIST.findall(text):
-        yield from sorted({f"not found: {name}" for name in closure_of(start).lost})
-
-
 def wrong_numbers(text: str) -> Iterator[str]:
     """Yields the places of a page at which the numbers of files and lines are not those of the list."""
     said = OTHER_LIST.findall(text)
@@ -436,7 +430,9 @@ def main(words: list[str]) -> int:
         text = re.sub(r"\[(`[^`]*`)\]\([^)]*\)", r"\1", page)
         found = [] if "\n".join(lines) in page else ["\n".join([f"{table} does not contain this table:", *lines])]
         found += [*wrong_numbers(text), *wrong_readme(), *missing_words(text, closure.library)]
-        found += [line for line in [*lost, *lost_of_others(text)] if line not in found]
+        for start, _, _ in OTHER_LIST.findall(text):
+            lost += sorted(f"not found: {name}" for name in closure_of(start).lost)
+        found += [line for line in lost if line not in found]
         print(*found, sep="\n", end="\n" if found else "")
         return 1 if found else 0
     print(*lines, sep="\n")
