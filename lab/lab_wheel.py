@@ -18,12 +18,6 @@ HERE = Path(__file__).resolve().parent
 DATE = (1980, 1, 1, 0, 0, 0)
 
 
-def project_table() -> dict[str, Any]:
-    """Returns what `pyproject.toml` says."""
-    with open(HERE / "pyproject.toml", "rb") as file:
-        return tomllib.load(file)
-
-
 def version() -> str:
     """Returns the version of the lab."""
     found = re.search(r'^VERSION = "([^"]+)"$', (HERE / "bbmlab_core" / "__init__.py").read_text(encoding="utf-8"),
@@ -52,7 +46,7 @@ def metadata(about: dict[str, Any]) -> str:
 
 def contents() -> dict[str, bytes]:
     """Returns the files of the wheel, without the list of them."""
-    settings = project_table()
+    settings = tomllib.loads((HERE / "pyproject.toml").read_text(encoding="utf-8"))
     about, folder = settings["project"], f"bbmlab-{version()}.dist-info"
     scripts = "".join(f"{name} = {target}\n" for name, target in about["scripts"].items())
     found = {name: path.read_bytes() for name, path in files_of(settings["tool"]["lab_wheel"])}

@@ -25,7 +25,7 @@ NETLISTS = "BLIF, yosys JSON, RevLib .real, OpenQASM, PLA, AIGER, plain gates"
 RESULTS = ["yes", "no", "refused", "timeout", "missing", "error"]
 
 
-def late(module: str, function: str = "run") -> Callable[[argparse.Namespace], int]:
+def imported_late(module: str, function: str = "run") -> Callable[[argparse.Namespace], int]:
     """Returns a command whose module is imported only when it runs, so that the lab starts quickly."""
     def run(options: argparse.Namespace) -> int:
         """Imports the module and runs the command."""
@@ -183,7 +183,7 @@ def commands_for(words: list[str]) -> tuple[Parser, dict[str, argparse.ArgumentP
         parser = commands.add_parser(name, help=about, description=about, formatter_class=HelpForm,
                                      epilog=f"Example: bbmlab {example}")
         if wanted:
-            parser.set_defaults(run=late(*run.split(".")))
+            parser.set_defaults(run=imported_late(*run.split(".")))
             add_arguments(parser, arguments)
     return whole, commands.choices
 
@@ -382,7 +382,7 @@ COMMANDS: dict[str, tuple[str, str, str, list[Any]]] = {
 }
 
 
-def answered(run: Callable[[argparse.Namespace], int], options: argparse.Namespace) -> int:
+def run_command(run: Callable[[argparse.Namespace], int], options: argparse.Namespace) -> int:
     """Runs a command and returns its exit status; what goes wrong is a line on standard error."""
     from .host.program import BadProgramError, ProgramTimeout
     from .host.signals import Stopped, end_by_pipe, listen
@@ -455,7 +455,7 @@ def main(words: list[str] | None = None) -> int:
     for stream in (sys.stdout, sys.stderr):
         if hasattr(stream, "reconfigure"):
             stream.reconfigure(errors="backslashreplace")
-    status = answered(options.run, options)
+    status = run_command(options.run, options)
     if status == 4:
         drop_output()
     return status

@@ -76,15 +76,6 @@ def mirrors_of(sides: list[tuple[int, int, int, int]]) -> list[Mirror]:
     return [Mirror(*side) for side in sides]
 
 
-def found_machine(name: str, gates: list[str], ports: dict[str, dict[str, Ball]],
-                  sides: list[tuple[int, int, int, int]]) -> Machine:
-    """Returns a machine that a search found:
-
-    `ports` has the balls of `ins`, `inner` and `outs`, and `sides` the mirrors.
-    """
-    return Machine(name, gates, ports["ins"], ports["outs"], mirrors_of(sides), inner=ports["inner"])
-
-
 UNSWITCH_MIRRORS = [
     (25, -32, 4, 2), (40, -19, 2, 4), (-1, -16, 8, 2), (-8, -9, 2, 4), (-11, -4, 2, 4), (-6, -3, 4, 2), (18, -3, 2, 4),
     (6, -1, 2, 4),
@@ -96,12 +87,11 @@ UNSWITCH_MIRRORS = [
 
 def unswitch_machine() -> Machine:
     """Returns a switch, six mirrors that lead its outputs on, and an inverse switch."""
-    ports = {
-        "ins": {"c": Ball(9, 9, 1, 1, 3), "x": Ball(9, 12, 1, -1, 3)},
-        "inner": {"d": Ball(-4, -6, 1, 1, 56), "y": Ball(-3, -6, -1, 1, 56), "z": Ball(-7, 4, -1, 1, 82).at(56)},
-        "outs": {"e": Ball(-11, 1, -1, -1, 86), "w": Ball(-11, 8, -1, 1, 86)},
-    }
-    return found_machine("unswitch", ["switch c x -> d y z", "unswitch d y z -> e w"], ports, UNSWITCH_MIRRORS)
+    ins = {"c": Ball(9, 9, 1, 1, 3), "x": Ball(9, 12, 1, -1, 3)}
+    inner = {"d": Ball(-4, -6, 1, 1, 56), "y": Ball(-3, -6, -1, 1, 56), "z": Ball(-7, 4, -1, 1, 82).at(56)}
+    outs = {"e": Ball(-11, 1, -1, -1, 86), "w": Ball(-11, 8, -1, 1, 86)}
+    gates = ["switch c x -> d y z", "unswitch d y z -> e w"]
+    return Machine("unswitch", gates, ins, outs, mirrors_of(UNSWITCH_MIRRORS), inner=inner)
 
 
 UNINTERACT_MIRRORS = [
@@ -113,14 +103,12 @@ UNINTERACT_MIRRORS = [
 
 def uninteract_machine() -> Machine:
     """Returns a collision, twelve mirrors that lead its outputs on, and a collision run backwards."""
-    ports = {
-        "ins": {"p": Ball(5, 5, 1, 1, 3), "q": Ball(5, 8, 1, -1, 3)},
-        "inner": {"a": Ball(5, 23, 1, 1, 37), "b": Ball(5, 21, 1, 1, 37), "c": Ball(6, 21, -1, 1, 37),
-                  "d": Ball(6, 23, -1, 1, 37)},
-        "outs": {"r": Ball(2, 25, -1, 1, 41), "s": Ball(9, 25, 1, 1, 41)},
-    }
-    return found_machine("uninteract", ["interact p q -> a b c d", "uninteract a b c d -> r s"], ports,
-                         UNINTERACT_MIRRORS)
+    ins = {"p": Ball(5, 5, 1, 1, 3), "q": Ball(5, 8, 1, -1, 3)}
+    inner = {"a": Ball(5, 23, 1, 1, 37), "b": Ball(5, 21, 1, 1, 37), "c": Ball(6, 21, -1, 1, 37),
+             "d": Ball(6, 23, -1, 1, 37)}
+    outs = {"r": Ball(2, 25, -1, 1, 41), "s": Ball(9, 25, 1, 1, 41)}
+    gates = ["interact p q -> a b c d", "uninteract a b c d -> r s"]
+    return Machine("uninteract", gates, ins, outs, mirrors_of(UNINTERACT_MIRRORS), inner=inner)
 
 
 HALF_ADDER_MIRRORS = [

@@ -87,14 +87,10 @@ def draw_collision(studio: Studio) -> None:
     """Draws the collision of two balls from nothing, and gets a yes."""
     studio.start("collision.txt")
     start = time.monotonic()
-    studio.put("width", "16")
-    studio.put("height", "16")
-    studio.put("steps", "6")
+    studio.put_size("16", "16", "6")
     studio.type_circuit(COLLISION)
     assert studio.is_shown("hint")
-    studio.click("#tool-in")
-    studio.press(4, 4)
-    studio.press(4, 11)
+    studio.draw("in", (4, 4), (4, 11))
     studio.click("#tool-out")
     studio.wait(lambda: studio.text("time") == "6 of 6", "the output tool goes to the end")
     studio.click("#ends")
@@ -149,11 +145,6 @@ def drag_mirror(studio: Studio) -> None:
 def example(name: str) -> str:
     """Returns the text of an example."""
     return (TOP / "examples" / f"{name}.txt").read_text()
-
-
-def cell_text(name: str) -> str:
-    """Returns the circuit and the layout of a standard cell."""
-    return (TOP / "lab" / "cells" / f"{name}.txt").read_text().split("certificate ")[0]
 
 
 def draw_by_keyboard(studio: Studio) -> None:
@@ -232,20 +223,18 @@ def place_mirrors(studio: Studio) -> None:
 
 def change_selection(studio: Studio) -> None:
     """Selects by a frame, copies, pastes, rotates, reflects, moves and removes, and undoes all of it."""
-    studio.begin("selection.txt", EMPTY + "")
+    studio.begin("selection.txt", EMPTY)
     first = studio.layout_text()
     studio.draw_mirror((3, 2), (6, 3))
-    studio.click("#tool-ball")
-    studio.press(4, 6)
+    studio.draw("ball", (4, 6))
     studio.click("#pair")
     studio.press(9, 7)
     studio.click("#pair")
-    studio.click("#tool-waste")
-    studio.press(1, 13)
+    studio.draw("waste", (1, 13))
     assert "ball 9 7" in studio.layout_text() and "ball 11 7" not in studio.layout_text(), studio.layout_text()
     studio.click("#tool-select")
     studio.drag((0, 0), (10, 9))
-    for button, wanted in (("#flip-x", "mirror 4 2 4 2"), ("#flip-y", None), ("#rotate", None)):
+    for button in ("#flip-x", "#flip-y", "#rotate"):
         before = studio.layout_text()
         studio.click(button)
         assert studio.layout_text() != before, button
@@ -298,12 +287,9 @@ def draw_not_gate(studio: Studio) -> None:
     studio.click("#hint-circuit")
     studio.press_keys(Keys.CONTROL + "a", "circuit\ninput a\nsource 1 -> one\ninteract a one -> b c d e\noutput c\n"
                       "spill b\nspill d\nspill e\nend")
-    for name, value in (("width", "16"), ("height", "16"), ("steps", "6")):
-        studio.put(name, value)
-    studio.click("#tool-in")
-    studio.press(4, 4)
-    studio.click("#tool-ball")
-    studio.press(4, 11)
+    studio.put_size("16", "16", "6")
+    studio.draw("in", (4, 4))
+    studio.draw("ball", (4, 11))
     studio.click("#tool-out")
     studio.click("#ends")
     studio.verdict("yes")
@@ -450,12 +436,8 @@ def choose(studio: Studio, value: str) -> None:
 def keep_draft(studio: Studio) -> None:
     """The server is killed while the text is not saved; a new server's page offers the draft, and the text is as it
     was."""
-    studio.start("draft.txt", example("not_gate"))
+    draft_mirror(studio, "draft.txt", example("not_gate"))
     studio.verdict("yes")
-    studio.draw_mirror((9, 2), (10, 3))
-    text = studio.layout_text()
-    assert "mirror 9 2" in text, text
-    await_draft(studio)
     studio.kill()
     studio.drag((1, 10), (2, 11))
     studio.wait(lambda: "does not answer" in studio.text("report"), "the page says that the server is gone")
@@ -468,6 +450,14 @@ def keep_draft(studio: Studio) -> None:
     studio.click("#save")
     studio.wait(lambda: (studio.folder / "draft.txt").read_text().startswith(text.split("certificate")[0][:40])
                 and studio.text("name") == "draft.txt", "saved")
+
+
+def draft_mirror(studio: Studio, name: str, text: str | None = None) -> str:
+    """Starts a server of a file, draws a mirror until the browser keeps a draft with it, and returns the address."""
+    address = studio.start(name, text)
+    studio.draw_mirror((9, 2), (10, 3))
+    await_draft(studio)
+    return address
 
 
 def await_draft(studio: Studio) -> None:
@@ -502,18 +492,10 @@ def offer_draft_again(studio: Studio) -> None:
     assert studio.draft_count() == 0
 
 
-def draft_mirror(studio: Studio, name: str) -> None:
-    """Opens a file, draws a mirror until the browser keeps a draft with it, and leaves the page."""
-    studio.start(name)
-    studio.draw_mirror((9, 2), (10, 3))
-    await_draft(studio)
-    studio.browser.get("about:blank")
-
-
 def forget_old_draft(studio: Studio) -> None:
     """A draft that was offered and left is gone after another text was saved over the version from which it began."""
-    (studio.folder / "old.txt").write_text(example("not_gate"))
-    draft_mirror(studio, "old.txt")
+    draft_mirror(studio, "old.txt", example("not_gate"))
+    studio.browser.get("about:blank")
     studio.start("old.txt")
     studio.await_text("notice", "There is a draft of old.txt")
     studio.draw_mirror((1, 8), (2, 9))
@@ -532,8 +514,8 @@ def ask_about_draft(studio: Studio) -> None:
     """A draft that began from another version of the file is offered as such, and saving it asks before it writes over
     the newer one."""
     newer = example("not_gate").replace("ball", "mirror 1 8 2 2\nball", 1)
-    (studio.folder / "versions.txt").write_text(example("not_gate"))
-    draft_mirror(studio, "versions.txt")
+    draft_mirror(studio, "versions.txt", example("not_gate"))
+    studio.browser.get("about:blank")
     studio.start("versions.txt", newer)
     studio.await_text("notice", "that began from another version of the file")
     studio.click("#notice button")
@@ -545,9 +527,7 @@ def ask_about_draft(studio: Studio) -> None:
 
 def duplicate_tab(studio: Studio) -> None:
     """A tab that is duplicated begins with the number of the other one, and takes a number and drafts of its own."""
-    studio.start("twice.txt", example("not_gate"))
-    studio.draw_mirror((9, 2), (10, 3))
-    await_draft(studio)
+    draft_mirror(studio, "twice.txt", example("not_gate"))
     first, number = studio.browser.current_window_handle, studio.script("return bbmlab.server.tab")
     studio.script("window.open(location.href)")
     studio.wait(lambda: len(studio.browser.window_handles) == 2, "the tab is open")
@@ -629,11 +609,8 @@ def ask_twice(studio: Studio) -> None:
 
 def use_two_tabs(studio: Studio) -> None:
     """Two tabs on one file: the second one that saves is asked, and writes over the file or under another name."""
-    (studio.folder / "tabs.txt").write_text(example("not_gate"))
     (studio.folder / "tabs_2.txt").unlink(missing_ok=True)
-    address = studio.start("tabs.txt")
-    studio.draw_mirror((9, 2), (10, 3))
-    await_draft(studio)
+    address = draft_mirror(studio, "tabs.txt", example("not_gate"))
     first = studio.browser.current_window_handle
     studio.new_tab()
     studio.browser.get(address)
@@ -728,7 +705,8 @@ def undo_numbers(studio: Studio) -> None:
 def follow_turns(studio: Studio) -> None:
     """Outputs that are where the balls end follow them around a mirror, to another number of steps and back, by one
     command each."""
-    studio.begin("turns.txt", cell_text("turn_left"), "yes")
+    machine = (TOP / "lab" / "cells" / "turn_left.txt").read_text().split("certificate ")[0]
+    studio.begin("turns.txt", machine, "yes")
     before, field = studio.layout_text(), studio.browser.find_element(By.ID, "steps")
     steps = int(str(field.get_property("value")))
     for number in (2, steps):
@@ -963,13 +941,11 @@ def see_large(studio: Studio) -> None:
 
 
 USES = [draw_collision, drag_mirror, draw_by_keyboard, refuse_circuit, place_mirrors, change_selection, insert_cell,
-        draw_not_gate, take_fix, see_ways, draw_by_touch,
-        do_many_commands, choose_spelling, answer_late, see_dark, use_dialogs, keep_draft, offer_draft_again,
-        keep_selection,
-        ask_twice, use_two_tabs, let_in_once, see_other_picture,
-        forget_old_draft, ask_about_draft, duplicate_tab, say_what_is_kept, see_nothing_yet, undo_numbers, follow_turns,
-        see_kind_of_no,
-        enlarge_for_cell, enlarge_at_sides, route_circuit, connect_ports, see_large]
+        draw_not_gate, take_fix, see_ways, draw_by_touch, do_many_commands, choose_spelling, answer_late, see_dark,
+        use_dialogs, keep_draft, offer_draft_again, keep_selection, ask_twice, use_two_tabs, let_in_once,
+        see_other_picture, forget_old_draft, ask_about_draft, duplicate_tab, say_what_is_kept, see_nothing_yet,
+        undo_numbers, follow_turns, see_kind_of_no, enlarge_for_cell, enlarge_at_sides, route_circuit, connect_ports,
+        see_large]
 
 
 def run_uses(studio: Studio, wanted: list[str]) -> list[str]:

@@ -124,7 +124,7 @@ class Sentences:
             (rf"^At time (\d+) the cell {CELL} of module \d+ is (live|dead) in the whole run", self.is_so),
             (r"^In the whole run (?:it|the cell) is live then if and only if `(\w+)` is true\.$", self.carries),
             (r"^In the whole run (?:it|the cell) is (always|never) live then\.$",
-             lambda match: self.is_always(match.group(1) == "always")),
+             lambda match: self.table() == [match.group(1) == "always"] * 2 ** len(self.whole.inputs)),
             (rf"The mirror of line (\d+) .* falls apart by itself: step (\d+) moves its cell {CELL}", self.falls_apart),
             (r"^No wire of the circuit is true in just the choices", lambda _: self.carries_none()),
         ]
@@ -201,10 +201,6 @@ class Sentences:
     def carries(self, match: re.Match[str]) -> bool:
         """The cell is live if and only if a wire is true."""
         return self.table() == [self.whole.values(on)[match.group(1)] for on in self.whole.choices()]
-
-    def is_always(self, value: bool) -> bool:
-        """The cell is always live, or never."""
-        return self.table() == [value] * 2 ** len(self.whole.inputs)
 
     def carries_none(self) -> bool:
         """No wire is true in just the choices in which the cell is live, and it is neither always nor never live."""

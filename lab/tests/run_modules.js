@@ -2,7 +2,7 @@
 // use modules of the page that need no browser.
 import fs from "node:fs";
 import * as address from "../bbmlab_core/view/address.js";
-import { Cells, circuitValues, Grid, mirrorsOf, ModuleRun, startKeys, trail as movesBefore,
+import { Cells, circuitValues, Grid, mirrorsOf, ModuleRun, startKeys, lastMoves,
   WholeRun } from "../bbmlab_core/view/automaton.js";
 import { placeNames } from "../bbmlab_core/view/labels.js";
 import * as painting from "../bbmlab_core/view/painting.js";
@@ -43,7 +43,7 @@ function ended(data, on) {
 
 /** Returns the moves of each of the last steps, the latest first. */
 const trail = (data, on, time, length) =>
-  movesBefore(runAt(data, on, time), length).map((moves) => moves.map((key) => new Grid(data.layout).cellOf(key)));
+  lastMoves(runAt(data, on, time), length).map((moves) => moves.map((key) => new Grid(data.layout).cellOf(key)));
 
 /** Returns what is watched, when the cells are live, and what the marks say. */
 function waves(data, on) {
@@ -64,7 +64,7 @@ function scene(data, on, time, { scale, left, top, pointed }) {
   const good = new Map(data.layout.outs.map((port) => [String(port.cell), true]));
   painting.scene({ pen, scale, left, top, wide: 900, high: 600, inks },
     { layout: data.layout, modules: [], live: run.live, mirrors,
-    odd: time % 2, trail: movesBefore(run, 8), chosen: null, lines: [], fault: null, mark: null, good, pointed });
+    odd: time % 2, trail: lastMoves(run, 8), chosen: null, lines: [], fault: null, mark: null, good, pointed });
   return pen.text("#fff", "a <title> & \"more\"");
 }
 

@@ -6,7 +6,7 @@ import * as geometry from "../bbmlab_core/studio/geometry.js";
 import { Model, ModelRefusal } from "../bbmlab_core/studio/model.js";
 import * as surveys from "../bbmlab_core/studio/survey.js";
 
-const { Survey, TruthTable } = surveys;
+const { Survey, TruthTableRun } = surveys;
 
 /** Returns whether text, model, text gives the same text, for each text. */
 const law = (texts) => texts.map((text) => new Model(text).text === text);
@@ -118,7 +118,7 @@ function parts(text) {
 
 /** Returns the truth table. */
 function truth(text) {
-  const { layout, circuit } = new Model(text), table = new TruthTable(layout, circuit);
+  const { layout, circuit } = new Model(text), table = new TruthTableRun(layout, circuit);
   table.advance(1e6);
   return table.rows();
 }

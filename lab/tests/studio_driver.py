@@ -30,7 +30,6 @@ class Studio(Driven):
         self.kill()
         words = [sys.executable, self.lab, "studio", str(self.folder / name), "--no-open", "--program", self.program]
         self.server = subprocess.Popen(words, stdout=subprocess.PIPE, stderr=subprocess.DEVNULL, text=True)
-        assert self.server.stdout
         return self.server.stdout.readline().strip()
 
     def kill(self) -> None:
@@ -163,6 +162,12 @@ class Studio(Driven):
         self.aim(*end)
         self.lift()
 
+    def draw(self, tool: str, *cells: tuple[int, int]) -> None:
+        """Clicks cells with a tool."""
+        self.click(f"#tool-{tool}")
+        for cell in cells:
+            self.press(*cell)
+
     def draw_mirror(self, start: tuple[int, int], end: tuple[int, int]) -> None:
         """Draws a mirror from a cell to another one."""
         self.click("#tool-mirror")
@@ -238,6 +243,11 @@ class Studio(Driven):
         field.send_keys(value)
         if name in ("width", "height", "steps"):
             field.send_keys(Keys.TAB)
+
+    def put_size(self, width: str, height: str, steps: str) -> None:
+        """Sets the size and the steps of the layout."""
+        for name, value in (("width", width), ("height", height), ("steps", steps)):
+            self.put(name, value)
 
     def type_circuit(self, text: str) -> None:
         """Types a circuit."""

@@ -34,13 +34,33 @@ from bbmlab_core.texts.json_form import document_json  # noqa: E402
 FEW_TRIES = mock.patch("bbmlab_core.circuits.netlists.search.MAX_TRIES", 8)
 
 
-class InRoom(unittest.TestCase):
+class Case(unittest.TestCase):
+    """Tests of the lab's commands."""
+
+    def assert_ends(self, status: int, *words: str, stdout: str | None = None, out: str = "", err: str = "",
+                    **more: Any) -> subprocess.CompletedProcess[str]:
+        """Runs the lab as `lab` does, and asserts its status, all that it prints if `stdout` is given, and words on
+        standard output and standard error. Returns how it ended."""
+        ended = lab(*words, **more)
+        self.assertEqual(ended.returncode, status, (words, ended.stdout[-2000:], ended.stderr))
+        self.assertEqual(ended.stdout, ended.stdout if stdout is None else stdout, words)
+        self.assertIn(out, ended.stdout, words)
+        self.assertIn(err, ended.stderr, words)
+        self.assertNotIn("Traceback", ended.stderr, words)
+        return ended
+
+
+class InRoom(Case):
     """Tests with a folder of their own."""
 
     def setUp(self) -> None:
         room = tempfile.TemporaryDirectory()
         self.addCleanup(room.cleanup)
         self.room = Path(room.name)
+
+    def fake(self, script: str) -> str:
+        """Writes a program that answers as a script of the shell says, and returns its path."""
+        return executable(self.room / "fake", script)
 
     def file(self, name: str, text: str) -> str:
         """Writes a file, one byte for each character, and returns its path."""

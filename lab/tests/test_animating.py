@@ -12,8 +12,8 @@ from bbmlab_core.texts.designs import read_design
 CELLS = ["fredkin", "switch", "interact", "half_adder", "crossing", "delay_10", "unswitch"]
 
 
-class Tracks(unittest.TestCase):
-    """The cells of the balls."""
+class Animation(unittest.TestCase):
+    """The cells of the balls, and the SVG."""
 
     def test_tracks_are_live_cells(self) -> None:
         """At each time, under all inputs, the cells of the tracks are the live cells outside of mirrors."""
@@ -26,10 +26,6 @@ class Tracks(unittest.TestCase):
                 for time in range(0, layout.steps + 1, 7):
                     live = tracing.state_at(layout, on, time) - layout.mirror_cells()
                     self.assertEqual({cells[time] for _, cells in found}, live, (name, on, time))
-
-
-class Picture(unittest.TestCase):
-    """The SVG."""
 
     def test_attributes_move_together(self) -> None:
         """Each ball has as many places as there are steps in all runs, and is out of sight in the runs of others."""

@@ -8,7 +8,6 @@ import pickle
 import re
 import subprocess
 import sys
-import tempfile
 import unittest
 from pathlib import Path
 
@@ -36,11 +35,6 @@ def fields_of(record: type) -> list[str]:
     fields = ([field.name for field in dataclasses.fields(record) if field.compare]
               if dataclasses.is_dataclass(record) else list(record._fields))  # type: ignore[attr-defined]
     return [name for name in fields if not name.startswith("_")]
-
-
-def is_builder(record: type, function: object) -> bool:
-    """Whether a member of a record returns a record of the same type."""
-    return inspect.isfunction(function) and inspect.signature(function).return_annotation == record.__name__
 
 
 class Page(unittest.TestCase):
@@ -83,16 +77,15 @@ class Page(unittest.TestCase):
         self.assertTrue(all(f"`{name}`" in self.page for name in fields_of(bbmlab.Finding)[3:]))
         for record in (bbmlab.Circuit, bbmlab.Layout, bbmlab.Certificate, bbmlab.Module):
             for name, builder in vars(record).items():
-                if is_builder(record, builder) and name not in ("clipped", "with_parts"):
-                    self.assertEqual(shown.get(name), str(inspect.signature(builder))[len("(self, "):].split(") ->")[0]
-                                     and
-                                     ", ".join(str(part).split(":")[0]
-                                               for part in list(inspect.signature(builder).parameters.values())[1:]),
-                                     name)
+                # A builder returns a record of the same type.
+                if (inspect.isfunction(builder) and name not in ("clipped", "with_parts")
+                        and inspect.signature(builder).return_annotation == record.__name__):
+                    parameters = list(inspect.signature(builder).parameters.values())[1:]
+                    self.assertEqual(shown.get(name), ", ".join(str(part).split(":")[0] for part in parameters), name)
 
 
 class Import(unittest.TestCase):
-    """`import bbmlab`."""
+    """`import bbmlab`, texts, the values of their sections, `simulate` and `local_run`."""
 
     def test_is_cheap(self) -> None:
         """The import loads no module but the package itself."""
@@ -104,10 +97,6 @@ class Import(unittest.TestCase):
     def test_unknown_name(self) -> None:
         """A name that is not public is not there."""
         self.assertFalse(hasattr(bbmlab, "find_program"))
-
-
-class Sections(unittest.TestCase):
-    """Texts and the values of their sections."""
 
     def test_round_trips(self) -> None:
         """Each worked text that is taken is read and written byte for byte, and read again as the same value."""
@@ -134,27 +123,18 @@ class Sections(unittest.TestCase):
             circuit = circuit.gate(str(gate))
         self.assertEqual(circuit.output(*read.circuit.outputs).spill(*read.circuit.spills), read.circuit)
         layout = bbmlab.Layout(read.layout.width, read.layout.height, read.layout.steps)
-        for box in read.layout.mirrors:
-            layout = layout.mirror(*box)
-        for port in read.layout.ins:
-            layout = layout.in_cell(*port)
-        for port in read.layout.outs:
-            layout = layout.out_cell(*port)
-        for cell in read.layout.balls:
-            layout = layout.ball(*cell)
-        for cell in read.layout.wastes:
-            layout = layout.waste(*cell)
+        for kind, parts in (("mirror", "mirrors"), ("in_cell", "ins"), ("out_cell", "outs"), ("ball", "balls"),
+                            ("waste", "wastes")):
+            for part in getattr(read.layout, parts):
+                layout = getattr(layout, kind)(*part)
         self.assertEqual(layout, read.layout)
         certificate = bbmlab.Certificate(read.certificate.version)
         for module in read.certificate.modules:
             again = bbmlab.Module(module.box).cut(*module.cuts).use(*reversed(module.uses)).keep(
                 *reversed(module.keeps))
-            for line in reversed(module.edges):
-                again = again.edge(*line)
-            for line in reversed(module.halos):
-                again = again.halo(*line)
-            for stop in reversed(module.stops):
-                again = again.stop(*stop)
+            for kind in ("edge", "halo", "stop"):
+                for line in reversed(getattr(module, f"{kind}s")):
+                    again = getattr(again, kind)(*line)
             certificate = certificate.module(again)
         self.assertEqual(certificate, read.certificate)
 
@@ -168,10 +148,6 @@ class Sections(unittest.TestCase):
         """No field can be set."""
         with self.assertRaises(dataclasses.FrozenInstanceError):
             bbmlab.Circuit().inputs = ("p",)  # type: ignore[misc]
-
-
-class Runs(unittest.TestCase):
-    """`simulate` and `local_run`."""
 
     def test_last_state_is_the_programs(self) -> None:
         """The last state is what `run` prints, or it is outside at the step that `run` names."""
@@ -194,7 +170,6 @@ class Runs(unittest.TestCase):
             bundle = bbmlab.read(support.text_of(name))
             finding = bbmlab.check(bundle).findings[index]
             states = list(bbmlab.local_run(bundle, finding.module or 0, finding.assignment or 0))
-            assert bundle.layout
             self.assertEqual([state.time for state in states], list(range(bundle.layout.steps + 1)))
             with self.subTest(name):
                 self.assertEqual((finding.x, finding.y) in states[finding.time or 0].cells, live)
@@ -216,8 +191,8 @@ class Runs(unittest.TestCase):
                 bbmlab.local_run(outside, 0, assignment)
 
 
-class Program(unittest.TestCase):
-    """`check` and `explain`."""
+class Program(support.InRoom):
+    """`check`, `explain`, `certify` and `route`."""
 
     def test_report(self) -> None:
         """The report is the program's, with each line of it as an object."""
@@ -255,21 +230,20 @@ class Program(unittest.TestCase):
         """A program that is not there, or gives no report, is a ProgramError; one that takes too long a TimeoutError.
         """
         text = support.text_of("one_wire")
-        with tempfile.TemporaryDirectory() as room:
-            fakes = {"silent": "exit 0",
-                     "liar": "printf 'bbmcheck 1\\ncertificate %064d\\nmodules 1\\nverdict yes\\n' 0; exit 1",
-                     "full": "echo 'bbmcheck: out of memory' >&2; exit 5", "slow": "exec sleep 20"}
-            for name, script in fakes.items():
-                path = Path(room) / name
-                path.write_text(f"#!/bin/sh\n{script}\n")
-                path.chmod(0o755)
-                with self.subTest(name), self.assertRaises(TimeoutError if name == "slow" else bbmlab.ProgramError):
-                    bbmlab.check(text, program=str(path), timeout=0.5 if name == "slow" else None)
-                if name != "slow":
-                    with self.subTest(f"explain, {name}"), self.assertRaises(bbmlab.ProgramError):
-                        bbmlab.explain(text, program=str(path))
-            with self.assertRaises(bbmlab.ProgramError):
-                bbmlab.check(text, program=f"{room}/none")
+        fakes = {"silent": "exit 0",
+                 "liar": "printf 'bbmcheck 1\\ncertificate %064d\\nmodules 1\\nverdict yes\\n' 0; exit 1",
+                 "full": "echo 'bbmcheck: out of memory' >&2; exit 5", "slow": "exec sleep 20"}
+        for name, script in fakes.items():
+            path = self.room / name
+            path.write_text(f"#!/bin/sh\n{script}\n")
+            path.chmod(0o755)
+            with self.subTest(name), self.assertRaises(TimeoutError if name == "slow" else bbmlab.ProgramError):
+                bbmlab.check(text, program=str(path), timeout=0.5 if name == "slow" else None)
+            if name != "slow":
+                with self.subTest(f"explain, {name}"), self.assertRaises(bbmlab.ProgramError):
+                    bbmlab.explain(text, program=str(path))
+        with self.assertRaises(bbmlab.ProgramError):
+            bbmlab.check(text, program=f"{self.room}/none")
         self.assertTrue(issubclass(bbmlab.ProgramError, OSError))
         with self.assertRaises(OSError):
             bbmlab.check("x" * 16_777_217)
@@ -286,16 +260,11 @@ class Program(unittest.TestCase):
         self.assertTrue(bbmlab.check(explanation.fixed).is_yes)
         self.assertEqual(bbmlab.explain(support.text_of("not_local")).verdict, "refused")
 
-
-class Making(unittest.TestCase):
-    """`certify` and `route`."""
-
     def test_certify(self) -> None:
         """A circuit and a layout get a certificate with a yes, by boxes of the lab, a grid, and given boxes."""
         support.program()
         bundle = bbmlab.read(support.text_of("fredkin_gate"))
         bare = bbmlab.Bundle(bundle.circuit, bundle.layout)
-        assert bundle.certificate
         for made in (bbmlab.certify(bare), bbmlab.certify(bundle), bbmlab.certify(bare, grid=(64, 64), cuts="safe"),
                      bbmlab.certify(bare, boxes=[module.box for module in bundle.certificate.modules], version=1)):
             self.assertTrue(bbmlab.check(made).is_yes)

@@ -3,7 +3,6 @@
 import itertools
 import subprocess
 import sys
-import unittest
 
 import support
 from bbmlab_core.host.program import ask
@@ -24,8 +23,18 @@ FUNCTIONS = {
 }
 
 
-class Bundles(unittest.TestCase):
-    """The files of lab/cells."""
+def states_of(layout: Layout, on: set[str]) -> list[set[Cell]]:
+    """Returns the live cells at each time."""
+    run = run_layout(layout, on)
+    states = [run.field.state()]
+    while run.time < layout.steps:
+        assert run.step(), "a ball left"
+        states.append(run.field.state())
+    return states
+
+
+class Cells(support.Case):
+    """The files of lab/cells, what the cells compute, their ports, and `bbmlab cells`."""
 
     def test_each_gets_a_yes(self) -> None:
         """The program says yes to each cell, and each file is a cell of the list."""
@@ -49,10 +58,6 @@ class Bundles(unittest.TestCase):
         ended = subprocess.run([sys.executable, str(support.LAB / "make_cells"), "--check"], capture_output=True,
                                text=True, check=False)
         self.assertEqual((ended.returncode, ended.stdout), (0, ""))
-
-
-class Meaning(unittest.TestCase):
-    """What the cells compute, and their ports."""
 
     def test_functions(self) -> None:
         """The circuit of a cell with constants and garbage has the values of its Boolean function."""
@@ -97,20 +102,6 @@ class Meaning(unittest.TestCase):
                 self.assertEqual(cell.constants, len(sources))
                 self.assertEqual(len(cell.document.layout.of_kind("ball")), 2 * len(sources))
 
-
-def states_of(layout: Layout, on: set[str]) -> list[set[Cell]]:
-    """Returns the live cells at each time."""
-    run = run_layout(layout, on)
-    states = [run.field.state()]
-    while run.time < layout.steps:
-        assert run.step(), "a ball left"
-        states.append(run.field.state())
-    return states
-
-
-class Command(unittest.TestCase):
-    """`bbmlab cells`."""
-
     def test_list(self) -> None:
         """The list names each cell with its ports, and one cell is a part of the list."""
         listed, one = support.lab("cells"), support.lab("cells", "switch")
@@ -123,7 +114,5 @@ class Command(unittest.TestCase):
         """`--bundle` writes the file, `--svg` a picture, and an unknown name is a wrong word."""
         self.assertEqual(support.lab("cells", "fredkin", "--bundle").stdout, (FOLDER / "fredkin.txt").read_text())
         self.assertIn("<svg ", support.lab("cells", "turn_left", "--svg").stdout)
-        unknown = support.lab("cells", "../cells/switch")
-        self.assertEqual(unknown.returncode, 2)
-        self.assertIn("there is no cell", unknown.stderr)
+        self.assert_ends(2, "cells", "../cells/switch", err="there is no cell")
         self.assertEqual(support.lab("cells", "--svg").returncode, 2)

@@ -4,7 +4,6 @@
 """
 
 import tempfile
-import unittest
 from pathlib import Path
 
 import support
@@ -15,7 +14,7 @@ ROUTED = ["4mod5.real", "decoder_2.blif", "ham3.real", "majority_3.gates", "pere
           "toffoli.real"]
 
 
-class Routed(unittest.TestCase):
+class Routed(support.Case):
     """Netlists that become bundles with a yes."""
 
     def test_examples(self) -> None:
@@ -26,8 +25,7 @@ class Routed(unittest.TestCase):
             path = str(CIRCUITS / name)
             with self.subTest(name), tempfile.TemporaryDirectory() as room:
                 bundle = Path(room) / "b.txt"
-                done = support.lab("route", path, "-o", str(bundle), BBMCHECK=program)
-                self.assertEqual(done.returncode, 0, done.stderr)
+                done = self.assert_ends(0, "route", path, "-o", str(bundle), BBMCHECK=program)
                 self.assertRegex(done.stderr, r"bbmlab: The circuit has the outputs of the netlist in all [0-9]+ "
                                  r"choices of the inputs\.")
                 self.assertIn("verdict yes", done.stderr)
@@ -37,6 +35,4 @@ class Routed(unittest.TestCase):
         """A counter of four bits for one cycle, and for two cycles from 0."""
         program = support.program()
         for words in (["--cycles", "1"], ["--cycles", "2", "--state", "initial"]):
-            done = support.lab("route", *words, str(CIRCUITS / "counter_4.blif"), BBMCHECK=program)
-            self.assertEqual(done.returncode, 0, done.stderr)
-            self.assertIn("verdict yes", done.stderr)
+            self.assert_ends(0, "route", *words, str(CIRCUITS / "counter_4.blif"), BBMCHECK=program, err="verdict yes")

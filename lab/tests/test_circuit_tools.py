@@ -4,9 +4,7 @@ import itertools
 import random
 import shutil
 import subprocess
-import tempfile
 import unittest
-from pathlib import Path
 
 import support
 from bbmlab_core.circuits import circuit_forms, truth
@@ -23,8 +21,8 @@ def number(bits: list[int]) -> int:
     return sum(bit << at for at, bit in enumerate(bits))
 
 
-class Forms(unittest.TestCase):
-    """A circuit in BLIF and Verilog is the same circuit, judged by others."""
+class Forms(support.InRoom):
+    """A circuit in BLIF and Verilog is the same circuit, and what the commands print."""
 
     def test_blif_is_read_back(self) -> None:
         """The BLIF of a random circuit, mapped back, has the same table."""
@@ -45,19 +43,17 @@ class Forms(unittest.TestCase):
             self.skipTest("there is no yosys and abc (Debian: yosys berkeley-abc)")
         abc = shutil.which("berkeley-abc") or "yosys-abc"
         chance = random.Random(4)
-        with tempfile.TemporaryDirectory() as name:
-            room = Path(name)
-            for number in range(40):
-                circuit = circuit_of(random_text(chance, 6))
-                if set(circuit.inputs) & set(circuit.outputs):
-                    continue
-                (room / "a.blif").write_text(circuit_forms.blif_text(circuit))
-                (room / "b.v").write_text(circuit_forms.verilog_text(circuit))
-                subprocess.run(["yosys", "-q", "-p", "read_verilog b.v; synth -flatten -noabc; write_blif b.blif"],
-                               cwd=room, check=True)
-                said = subprocess.run([abc, "-c", "cec a.blif b.blif"], cwd=room, capture_output=True, text=True,
-                                      check=False).stdout
-                self.assertIn("Networks are equivalent", said, (number, said))
+        for number in range(40):
+            circuit = circuit_of(random_text(chance, 6))
+            if set(circuit.inputs) & set(circuit.outputs):
+                continue
+            (self.room / "a.blif").write_text(circuit_forms.blif_text(circuit))
+            (self.room / "b.v").write_text(circuit_forms.verilog_text(circuit))
+            subprocess.run(["yosys", "-q", "-p", "read_verilog b.v; synth -flatten -noabc; write_blif b.blif"],
+                           cwd=self.room, check=True)
+            said = subprocess.run([abc, "-c", "cec a.blif b.blif"], cwd=self.room, capture_output=True, text=True,
+                                  check=False).stdout
+            self.assertIn("Networks are equivalent", said, (number, said))
 
     def test_dot_has_each_wire(self) -> None:
         """The graph has an arrow for each wire, and is read by dot where it is there."""
@@ -66,10 +62,6 @@ class Forms(unittest.TestCase):
         self.assertEqual(text.count(" -> "), len(circuit.wires))
         if shutil.which("dot"):
             subprocess.run(["dot", "-Tsvg"], input=text.encode(), check=True, stdout=subprocess.DEVNULL)
-
-
-class Commands(unittest.TestCase):
-    """What the commands print."""
 
     def test_table_has_all_rows(self) -> None:
         """The rows of a half adder, and one row."""
@@ -121,14 +113,13 @@ class Commands(unittest.TestCase):
         for text, status, said in ((turned, 0, "equal in all 4 choices of the inputs\n"),
                                    (other, 1, "not equal: only one of them has the output sum\n"),
                                    (wrong, 1, "not equal: with b on, sum differs\n")):
-            done = support.lab("equal", support.example("half_adder"), "-", text=text)
-            self.assertEqual((done.returncode, done.stdout), (status, said))
+            self.assert_ends(status, "equal", support.example("half_adder"), "-", text=text, stdout=said)
 
     def test_depth_and_width(self) -> None:
         """Figures of small circuits."""
         circuit = circuit_of("circuit\ninput a\nsource 1 -> k\nswitch a k -> b c d\ninteract b c -> e f g h\n"
                              + "".join(f"output {name}\n" for name in "efgh") + "spill d\nend\n")
-        self.assertEqual((truth.depth(circuit), truth.width(circuit)), (2, 5))
+        self.assertEqual((truth.depth(circuit), truth.peak_wire_count(circuit)), (2, 5))
 
 
 class Examples(unittest.TestCase):

@@ -154,7 +154,5 @@ class Alone(support.InRoom):
     def test_without_dask(self) -> None:
         """Where Dask is missing, a line says what to install."""
         self.file("distributed.py", "raise ImportError\n")
-        ended = support.lab("check", "--dask", "x", "--program", support.program(), support.example("full_adder"),
-                            PYTHONPATH=str(self.room))
-        self.assertEqual(ended.returncode, 4)
-        self.assertIn("python3-distributed", ended.stderr)
+        self.assert_ends(4, "check", "--dask", "x", "--program", support.program(), support.example("full_adder"),
+                         PYTHONPATH=str(self.room), err="python3-distributed")

@@ -4,8 +4,6 @@ import json
 import os
 import re
 import subprocess
-import tempfile
-import unittest
 import xml.etree.ElementTree as ET
 from pathlib import Path
 
@@ -13,12 +11,7 @@ import support
 from bbmlab_core.host.program import ask
 
 
-def fake_program(room: str, body: str) -> str:
-    """Writes a program that answers as its body says."""
-    return support.executable(Path(room) / "fake", body)
-
-
-class Documents(unittest.TestCase):
+class Documents(support.InRoom):
     """The lists of docs/JSON.md of what a JSON document has."""
 
     def test_page_is_short(self) -> None:
@@ -36,20 +29,18 @@ class Documents(unittest.TestCase):
         A bundle has no assign section, and `limits` only with its line.
         """
         file, program = support.example("wrong_edge"), support.program()
-        with tempfile.TemporaryDirectory() as room:
-            report = Path(room) / "report"
-            report.write_text(ask(program, "check", Path(file).read_bytes()).output)
-            for words, without in [(("json", "--report", str(report), file), {"assign", "limits"}),
-                                   (("explain", "--json", file), set()),
-                                   (("check", "--format", "json", file), {"stopped", "not_checked", "left_out"}),
-                                   (("trace", "--json", file), set())]:
-                more = () if words[0] == "json" else ("--program", program)
-                document = json.loads(support.lab(*words, *more).stdout)
-                self.assertEqual(set(document) - {"format"}, support.page_members(document["format"]) - without,
-                                 words[0])
+        report = self.room / "report"
+        report.write_text(ask(program, "check", Path(file).read_bytes()).output)
+        for words, without in [(("json", "--report", str(report), file), {"assign", "limits"}),
+                               (("explain", "--json", file), set()),
+                               (("check", "--format", "json", file), {"stopped", "not_checked", "left_out"}),
+                               (("trace", "--json", file), set())]:
+            more = () if words[0] == "json" else ("--program", program)
+            document = json.loads(support.lab(*words, *more).stdout)
+            self.assertEqual(set(document) - {"format"}, support.page_members(document["format"]) - without, words[0])
 
 
-class Check(unittest.TestCase):
+class Check(support.InRoom):
     """`check`."""
 
     def test_statuses(self) -> None:
@@ -58,10 +49,8 @@ class Check(unittest.TestCase):
         yes, no, refused = (support.example(name) for name in ("gate_and_mirror", "wrong_edge", "not_known"))
         for files, status, words in [([yes], 0, "1 yes"), ([yes, no], 1, "1 yes, 1 no"), ([refused], 1, "1 refused"),
                                      ([yes, "/no/such"], 4, "1 missing")]:
-            ended = support.lab("check", "--program", program, *files)
             with self.subTest(words):
-                self.assertEqual(ended.returncode, status)
-                self.assertIn(words, ended.stdout)
+                self.assert_ends(status, "check", "--program", program, *files, out=words)
 
     def test_formats(self) -> None:
         """JSON, TAP and JUnit have a place for each file."""
@@ -77,18 +66,14 @@ class Check(unittest.TestCase):
 
     def test_troubles_are_told_apart(self) -> None:
         """A time-out, a crash and a program that is not there are no noes."""
-        with tempfile.TemporaryDirectory() as room:
-            file = support.example("gate_and_mirror")
-            yes = r"printf 'bbmcheck 1\ncertificate %064d\nmodules 1\nverdict yes\n' 0; exit 1" + "\n"
-            for body, word in [("exec sleep 5\n", "time-out"), ("exit 70\n", "error"), ("echo hello\n", "error"),
-                               (yes, "error")]:
-                ended = support.lab("check", "--program", fake_program(room, body), "--timeout", "0.3", file)
-                with self.subTest(word):
-                    self.assertEqual(ended.returncode, 4)
-                    self.assertIn(f"1 {word}", ended.stdout)
-            ended = support.lab("check", "--program", str(Path(room) / "none"), file)
-            self.assertEqual((ended.returncode, ended.stdout), (4, ""))
-            self.assertIn("there is no program at", ended.stderr)
+        file = support.example("gate_and_mirror")
+        yes = r"printf 'bbmcheck 1\ncertificate %064d\nmodules 1\nverdict yes\n' 0; exit 1" + "\n"
+        for body, word in [("exec sleep 5\n", "time-out"), ("exit 70\n", "error"), ("echo hello\n", "error"),
+                           (yes, "error")]:
+            with self.subTest(word):
+                self.assert_ends(4, "check", "--program", self.fake(body), "--timeout", "0.3", file, out=f"1 {word}")
+        self.assert_ends(4, "check", "--program", str(self.room / "none"), file, stdout="",
+                         err="there is no program at")
 
     def test_folders(self) -> None:
         """A folder is all its .txt files."""
@@ -96,7 +81,7 @@ class Check(unittest.TestCase):
         self.assertEqual(len(json.loads(ended.stdout)["results"]), len(list(support.EXAMPLES.glob("*.txt"))))
 
 
-class Others(unittest.TestCase):
+class Others(support.InRoom):
     """Other commands, and what all have in common."""
 
     def test_no_colours_in_a_pipe(self) -> None:
@@ -123,9 +108,8 @@ class Others(unittest.TestCase):
         `trace` looks at the cells of the box alone.
         """
         for module in ("0", "1"):
-            ended = support.lab("trace", "--module", module, "--assignment", "1", support.example("gate_and_mirror"),
-                                "--program", support.program())
-            self.assertEqual(ended.returncode, 0)
+            ended = self.assert_ends(0, "trace", "--module", module, "--assignment", "1",
+                                     support.example("gate_and_mirror"), "--program", support.program())
             self.assertNotIn("dead mirror", ended.stdout)
 
     def test_trace_is_compared(self) -> None:
@@ -133,15 +117,12 @@ class Others(unittest.TestCase):
         ended = support.lab("trace", support.example("head_on"), "--program", support.program())
         self.assertIn("3: 5,2 2,5", ended.stdout)
         self.assertIn("what the program's run says", ended.stderr)
-        with tempfile.TemporaryDirectory() as room:
-            liar = fake_program(room, "cat >/dev/null; echo cells 0\n")
-            self.assertEqual(support.lab("trace", support.example("head_on"), "--program", liar).returncode, 4)
+        liar = self.fake("cat >/dev/null; echo cells 0\n")
+        self.assertEqual(support.lab("trace", support.example("head_on"), "--program", liar).returncode, 4)
 
     def test_unknown_input(self) -> None:
         """A name that no `in` line has is said with those that there are."""
-        ended = support.lab("draw", support.example("head_on"), "--on", "r")
-        self.assertIn("the names are p, q", ended.stderr)
-        self.assertEqual(ended.returncode, 2)
+        self.assert_ends(2, "draw", support.example("head_on"), "--on", "r", err="the names are p, q")
 
     def test_runs_with_debian_python(self) -> None:
         """The lab runs with /usr/bin/python3, where there is one."""

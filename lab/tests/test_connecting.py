@@ -49,14 +49,13 @@ def connected(text: str, output: str = "z", given: str = "b", seconds: float = 6
 
 
 class Connecting(unittest.TestCase):
-    """The lab's part: texts that it makes."""
+    """The texts that the lab makes, which balls belong to one machine, and the process that the studio runs."""
 
     def assert_is_buffer(self, text: str) -> Document:
         """Asserts that the program says yes to a text, and that two NOT gates in a row copy `a` to `q`."""
         verdict = Judge(text, opened(support.program()), 60).verdict()
         self.assertEqual(verdict.verdict, "yes", verdict.words)
         document = read_document(text, "design")
-        assert document.circuit and document.layout
         self.assertEqual((document.circuit.inputs, document.circuit.outputs), (("a",), ("q",)))
         for on in ([], ["a"]):
             run = run_layout(document.layout, on)
@@ -73,7 +72,6 @@ class Connecting(unittest.TestCase):
             with self.subTest(width=width, first=first):
                 made = connected(text)
                 document = self.assert_is_buffer(made.text())
-                assert document.layout
                 self.assertGreater(len(document.layout.of_kind("mirror")), text.count("mirror "))
 
     def test_room_in_the_layout(self) -> None:
@@ -82,7 +80,6 @@ class Connecting(unittest.TestCase):
                                (two_nots(88, 44, (0, 0), (44, 0)), True)):
             layout = read_document(text, "design").layout
             made = connected(text)
-            assert layout
             self.assertEqual((made.width, made.height) != (layout.width, layout.height), is_grown)
 
     def test_straight_ahead(self) -> None:
@@ -123,10 +120,6 @@ class Connecting(unittest.TestCase):
             connected(two_nots(88, 44, (0, 0), (44, 0)), seconds=2)
         self.assertIn("There is no room", str(caught.exception))
 
-
-class Machines(unittest.TestCase):
-    """Which balls belong to one machine."""
-
     def test_two_machines(self) -> None:
         """The balls of one gate are one machine, and those of another gate another one."""
         run = machines.MachineRun(read_document(two_nots(200, 160, (20, 60), (120, 70)), "design"))
@@ -139,10 +132,6 @@ class Machines(unittest.TestCase):
         with mock.patch.object(machines, "MAX_MOVES", 100), self.assertRaises(LabError) as caught:
             machines.MachineRun(read_document(two_nots(200, 160, (20, 60), (120, 70)), "design"))
         self.assertIn("more than 100 moves", str(caught.exception))
-
-
-class Process(unittest.TestCase):
-    """The process that the studio runs."""
 
     def run_with(self, text: str, program: str) -> tuple[int, str, bytes | None]:
         """Runs it, and returns its status, what it said, and the text that it wrote."""

@@ -6,8 +6,6 @@ The expected values come from the rules of each machine, or from an evaluator in
 import itertools
 import random
 import subprocess
-import tempfile
-import unittest
 from pathlib import Path
 from typing import Callable
 
@@ -44,8 +42,8 @@ def outputs_of(circuit: Circuit, on: set[str]) -> dict[str, bool]:
     return {name: values[name] for name in circuit.outputs}
 
 
-class Blif(unittest.TestCase):
-    """Latches of BLIF."""
+class Cycles(support.InRoom):
+    """Latches of BLIF and AIGER, and flip-flops of yosys."""
 
     def test_random_machines(self) -> None:
         """Random logic between latches, for one to four cycles, with the state at ports."""
@@ -109,10 +107,6 @@ class Blif(unittest.TestCase):
                 map_netlist(text, reading=reading)
             self.assertIn(said, str(found.exception))
 
-
-class Others(unittest.TestCase):
-    """Flip-flops of yosys and latches of AIGER."""
-
     def compare(self, circuit: Circuit, follower: Callable[[int, dict[str, bool]], int], inputs: list[str],
                 cycles: int) -> None:
         """Compares a machine of three bits with the number that follows, for all states and all inputs."""
@@ -139,32 +133,29 @@ class Others(unittest.TestCase):
             """Returns the next number."""
             return 2 if given["clear"] else (number + given["up"]) % 8
 
-        with tempfile.TemporaryDirectory() as name:
-            room = Path(name)
-            kinds = set[str]()
-            for steps, write in (("", "write_json c.json"), ("negedge", "write_json c.json"),
-                                 ("dfflegalize -cell $_DFF_P_ 01; opt_clean; abc -g AND,XOR,MUX;", "write_json c.json"),
-                                 ("dfflegalize -cell $_DFFE_PN_ 01; opt_clean; abc -g AND,XOR,MUX;",
-                                  "write_json c.json"),
-                                 ("dfflegalize -cell $_SDFFCE_PN?N_ 01; opt_clean; abc -g AND,XOR,MUX;",
-                                  "write_json c.json"),
-                                 ("dfflegalize -cell $_DFF_P_ 01; opt_clean; abc -g AND,XOR,MUX;",
-                                  "write_blif c.json")):
-                verilog = COUNTER.replace("posedge", "negedge") if steps == "negedge" else COUNTER
-                yosys(room, verilog, f"{steps.removeprefix('negedge')} opt_clean; {write}")
-                text = (room / "c.json").read_text()
-                kinds |= {word for word in ("$_SDFFE_PP0P_", "$_SDFFE_PP1P_", "$_DFF_P_", "$_SDFFE_NP0P_", "$_DFFE_PN_",
-                                            "$_SDFFCE_PN0N_", "$_SDFFCE_PN1N_", ".latch") if word in text}
-                for cycles in (1, 2):
-                    self.compare(circuit_of(text, cycles), follower, ["up", "clear"], cycles)
-            self.assertGreaterEqual(len(kinds), 5, kinds)
+        kinds = set[str]()
+        for steps, write in (("", "write_json c.json"), ("negedge", "write_json c.json"),
+                             ("dfflegalize -cell $_DFF_P_ 01; opt_clean; abc -g AND,XOR,MUX;", "write_json c.json"),
+                             ("dfflegalize -cell $_DFFE_PN_ 01; opt_clean; abc -g AND,XOR,MUX;",
+                              "write_json c.json"),
+                             ("dfflegalize -cell $_SDFFCE_PN?N_ 01; opt_clean; abc -g AND,XOR,MUX;",
+                              "write_json c.json"),
+                             ("dfflegalize -cell $_DFF_P_ 01; opt_clean; abc -g AND,XOR,MUX;",
+                              "write_blif c.json")):
+            verilog = COUNTER.replace("posedge", "negedge") if steps == "negedge" else COUNTER
+            yosys(self.room, verilog, f"{steps.removeprefix('negedge')} opt_clean; {write}")
+            text = (self.room / "c.json").read_text()
+            kinds |= {word for word in ("$_SDFFE_PP0P_", "$_SDFFE_PP1P_", "$_DFF_P_", "$_SDFFE_NP0P_", "$_DFFE_PN_",
+                                        "$_SDFFCE_PN0N_", "$_SDFFCE_PN1N_", ".latch") if word in text}
+            for cycles in (1, 2):
+                self.compare(circuit_of(text, cycles), follower, ["up", "clear"], cycles)
+        self.assertGreaterEqual(len(kinds), 5, kinds)
 
     def test_first_values_of_yosys(self) -> None:
         """The counter begins with 5, as its Verilog says."""
         support.require("yosys", "yosys")
-        with tempfile.TemporaryDirectory() as room:
-            yosys(Path(room), COUNTER, "opt_clean; write_json c.json")
-            circuit = circuit_of(Path(room, "c.json").read_text(), 2, INITIAL)
+        yosys(self.room, COUNTER, "opt_clean; write_json c.json")
+        circuit = circuit_of(Path(self.room, "c.json").read_text(), 2, INITIAL)
         found = outputs_of(circuit, {"up_0", "up_1"})
         self.assertEqual([found[f"q_{at}__end"] for at in range(3)], [True, True, True])
 

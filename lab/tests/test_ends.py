@@ -13,7 +13,6 @@ from pathlib import Path
 
 import support
 from support import BBMLAB as LAB
-from test_commands import fake_program
 
 # Says yes to a text of one line, $word, as if it were a certificate.
 YES = (r"digest=$(printf '%s\n' $word | sha256sum); printf 'bbmcheck 1\ncertificate %s\nmodules 1\nverdict yes\n' "
@@ -81,7 +80,7 @@ class Signals(unittest.TestCase):
         for name in "abcde":
             (room / f"{name}.txt").write_text("slow\n" if name > "a" else "quick\n")
         body = f"read word; [ $word = slow ] && {{ echo x >>{room}/begun; sleep 60; }}\n" + YES
-        program = fake_program(str(room), body)
+        program = support.executable(room / "fake", body)
         ran = subprocess.Popen([*LAB, "check", "--jobs", "2", "--format", form, "--program", program, str(room)],
                                stdout=subprocess.PIPE, stderr=subprocess.PIPE)
         support.wait_for(lambda: (room / "begun").exists() and (room / "begun").read_text().count("x") == 2)
@@ -106,9 +105,8 @@ class Signals(unittest.TestCase):
                     (Path(room) / f"{name}.txt").write_text(f"{name}\n")
                 body = f"read word; [ $word = quick ] || while [ ! -e {room}/go ]; do sleep 0.05; done\n" + YES
                 ran = subprocess.Popen([*LAB, "check", "--jobs", "2", "--format", form, "--program",
-                                        fake_program(room, body), room],
+                                        support.executable(Path(room) / "fake", body), room],
                                        stdout=subprocess.PIPE, stderr=subprocess.DEVNULL, text=True)
-                assert ran.stdout is not None
                 while "quick" not in ran.stdout.readline():
                     pass
                 (Path(room) / "go").write_text("")
@@ -117,80 +115,67 @@ class Signals(unittest.TestCase):
                 self.assertEqual(ran.returncode, 0)
 
 
-class Names(unittest.TestCase):
-    """Names and texts with control characters."""
+class Names(support.InRoom):
+    """Names with control characters, files that are written, and numbers that are out of reach."""
 
     def test_no_control_character_comes_out(self) -> None:
         """A file whose name has control characters and bytes of no character is shown by escapes in each form, and the
         XML can be read."""
-        with tempfile.TemporaryDirectory() as room:
-            name = os.fsencode(room) + b"/a\x1b[31m\nok 1\xff.txt"
-            Path(os.fsdecode(name)).write_text("circuit\x1b[2J\n")
-            for form in ("text", "tap", "junit", "json", "jsonl"):
-                ended = run("check", "--format", form, "--program", support.program(), os.fsdecode(name),
-                            stdout=subprocess.PIPE)
-                with self.subTest(form):
-                    self.assertEqual(ended.returncode, 1)
-                    self.assertNotIn(b"\x1b", ended.stdout + ended.stderr)
-                    self.assertNotIn(b"\nok 1", ended.stdout)
-                    if form == "junit":
-                        self.assertEqual(ET.fromstring(ended.stdout).get("failures"), "1")
-            ended = run("explain", "--program", support.program(), os.fsdecode(name), stdout=subprocess.PIPE)
-            self.assertNotIn(b"\x1b", ended.stdout + ended.stderr)
-
-
-class Files(unittest.TestCase):
-    """Files that are written."""
+        name = os.fsencode(self.room) + b"/a\x1b[31m\nok 1\xff.txt"
+        Path(os.fsdecode(name)).write_text("circuit\x1b[2J\n")
+        for form in ("text", "tap", "junit", "json", "jsonl"):
+            ended = run("check", "--format", form, "--program", support.program(), os.fsdecode(name),
+                        stdout=subprocess.PIPE)
+            with self.subTest(form):
+                self.assertEqual(ended.returncode, 1)
+                self.assertNotIn(b"\x1b", ended.stdout + ended.stderr)
+                self.assertNotIn(b"\nok 1", ended.stdout)
+                if form == "junit":
+                    self.assertEqual(ET.fromstring(ended.stdout).get("failures"), "1")
+        ended = run("explain", "--program", support.program(), os.fsdecode(name), stdout=subprocess.PIPE)
+        self.assertNotIn(b"\x1b", ended.stdout + ended.stderr)
 
     def test_output_is_not_the_input(self) -> None:
         """An output that is the input, also by a link, is refused, and the file stays."""
-        with tempfile.TemporaryDirectory() as room:
-            file, link = Path(room) / "a.txt", Path(room) / "b.txt"
-            text = support.text_of("not_gate")
-            file.write_text(text)
-            link.symlink_to(file)
-            for words in (("certify", str(file), "-o", str(link)), ("fmt", str(file), "-o", str(file))):
-                with self.subTest(words[0]):
-                    self.assertEqual(run(*words, stdout=subprocess.PIPE,
-                                         env={**os.environ, "BBMCHECK": support.program()}).returncode, 2)
-                    self.assertEqual(file.read_text(), text)
-            self.assertEqual(run("fmt", "-o", str(link), str(file), str(file), stdout=subprocess.PIPE).returncode, 2)
+        file, link = self.room / "a.txt", self.room / "b.txt"
+        text = support.text_of("not_gate")
+        file.write_text(text)
+        link.symlink_to(file)
+        for words in (("certify", str(file), "-o", str(link)), ("fmt", str(file), "-o", str(file))):
+            with self.subTest(words[0]):
+                self.assertEqual(run(*words, stdout=subprocess.PIPE,
+                                     env={**os.environ, "BBMCHECK": support.program()}).returncode, 2)
+                self.assertEqual(file.read_text(), text)
+        self.assertEqual(run("fmt", "-o", str(link), str(file), str(file), stdout=subprocess.PIPE).returncode, 2)
 
     def test_old_file_stays_if_the_disk_is_full(self) -> None:
         """If the new bytes cannot all be written, the old ones stay, and no part of a file is left behind."""
-        with tempfile.TemporaryDirectory() as room:
-            file = Path(room) / "out.svg"
-            file.write_text("old")
-            script = 'ulimit -f 1; trap "" XFSZ; exec "$@"'
-            ended = subprocess.run(["bash", "-c", script, "bash", *LAB, "draw", support.example("full_adder"), "-o",
-                                    str(file)],
-                                   capture_output=True, check=False)
-            self.assertEqual(ended.returncode, 4, ended.stderr)
-            self.assertEqual((file.read_text(), [path.name for path in Path(room).iterdir()]), ("old", ["out.svg"]))
+        file = self.room / "out.svg"
+        file.write_text("old")
+        script = 'ulimit -f 1; trap "" XFSZ; exec "$@"'
+        ended = subprocess.run(["bash", "-c", script, "bash", *LAB, "draw", support.example("full_adder"), "-o",
+                                str(file)],
+                               capture_output=True, check=False)
+        self.assertEqual(ended.returncode, 4, ended.stderr)
+        self.assertEqual((file.read_text(), [path.name for path in self.room.iterdir()]), ("old", ["out.svg"]))
 
     def test_fmt_keeps_comments_and_bytes(self) -> None:
         """`fmt -i` loses comments only if that is asked for, and keeps bytes that are no ASCII as they are."""
-        with tempfile.TemporaryDirectory() as room:
-            file = Path(room) / "a.txt"
-            file.write_bytes(b"circuit   # caf\xe9\ninput  p\xff\nend\n")
-            self.assertEqual(run("fmt", "-i", str(file), stdout=subprocess.PIPE).returncode, 1)
-            self.assertEqual(file.read_bytes(), b"circuit   # caf\xe9\ninput  p\xff\nend\n")
-            run("fmt", "-i", "--strip-comments", str(file), stdout=subprocess.PIPE)
-            self.assertEqual(file.read_bytes(), b"circuit\ninput p\xff\nend\n")
-            self.assertEqual(run("fmt", str(file), stdout=subprocess.PIPE).stdout, b"circuit\ninput p\xff\nend\n")
-
-
-class Hostile(unittest.TestCase):
-    """Numbers and documents that are out of reach."""
+        file = self.room / "a.txt"
+        file.write_bytes(b"circuit   # caf\xe9\ninput  p\xff\nend\n")
+        self.assertEqual(run("fmt", "-i", str(file), stdout=subprocess.PIPE).returncode, 1)
+        self.assertEqual(file.read_bytes(), b"circuit   # caf\xe9\ninput  p\xff\nend\n")
+        run("fmt", "-i", "--strip-comments", str(file), stdout=subprocess.PIPE)
+        self.assertEqual(file.read_bytes(), b"circuit\ninput p\xff\nend\n")
+        self.assertEqual(run("fmt", str(file), stdout=subprocess.PIPE).stdout, b"circuit\ninput p\xff\nend\n")
 
     def test_golly_header_of_a_billion(self) -> None:
         """A run of 10^9 cells is refused at once, with a line."""
         with tempfile.NamedTemporaryFile("w", suffix=".rle") as file:
             file.write("x = 1000000000, y = 1, rule = B3/S23\n1000000000o!\n")
             file.flush()
-            ended = support.lab("from-golly", file.name)
-            self.assertEqual((ended.returncode, ended.stdout), (4, ""))
-            self.assertIn("4100 rows or columns; a layout takes 4096 at most", ended.stderr)
+            self.assert_ends(4, "from-golly", file.name, stdout="",
+                             err="4100 rows or columns; a layout takes 4096 at most")
 
     def test_times_that_make_no_sense(self) -> None:
         """Negative times, and a first time behind the last, are wrong words."""
@@ -214,9 +199,8 @@ class Hostile(unittest.TestCase):
                 place = place[key]
             place[path[-1]] = value
             with self.subTest(name):
-                ended = support.lab("json", "--back", "-", text=json.dumps(changed))
-                self.assertEqual((ended.returncode, ended.stdout), (4, ""))
-                self.assertIn(f"bbmlab: {name} is ", ended.stderr)
+                self.assert_ends(4, "json", "--back", "-", text=json.dumps(changed), stdout="",
+                                 err=f"bbmlab: {name} is ")
 
     def test_ways_of_many_inputs_are_sampled(self) -> None:
         """With 360 inputs the ways are drawn from samples, the picture says so, and the ways of two levels of gates

@@ -6,7 +6,6 @@ import re
 import unittest
 
 import support
-from bbmlab_core.certify.certifier import CertificatePlan, certified, checked_boxes
 from bbmlab_core.explain.diagnosis import Diagnosis, Truth
 from bbmlab_core.explain.explaining import as_gcc, explain_answer
 from bbmlab_core.explain.trials import Trial
@@ -26,8 +25,8 @@ def small_noes() -> list:
     return found
 
 
-class OtherAnswers(unittest.TestCase):
-    """Answers of `run` and `value`, which can come from a file."""
+class Explained(unittest.TestCase):
+    """Answers and lines of reports in words, and fixes of certificates."""
 
     def test_what_is_no_answer(self) -> None:
         """A file that no command of the program wrote, or one of another text, is refused with a sentence."""
@@ -45,10 +44,6 @@ class OtherAnswers(unittest.TestCase):
         told = explain_answer("circuit\ninput undefined\noutput undefined\nend\nassign\non undefined\nend\n", "value",
                               "undefined 1\n", "text")
         self.assertEqual((told.verdict, "`undefined`" in told.headline[0]), ("values", True))
-
-
-class Reports(unittest.TestCase):
-    """Lines of reports in words."""
 
     def test_each_line_is_told(self) -> None:
         """Each line of each worked no has sentences; cells and module numbers are those of the line."""
@@ -153,10 +148,6 @@ class Reports(unittest.TestCase):
         self.assertEqual(json.loads(ended.stdout)["verdict"], "no")
         self.assertEqual(ended.returncode, 1)
 
-
-class Fixes(unittest.TestCase):
-    """Fixes of certificates."""
-
     def test_lines_that_are_left_out_come_back(self) -> None:
         """If one edge line of a good bundle is left out, the fix of the first fault is that line."""
         text = support.text_of("gate_and_mirror")
@@ -168,16 +159,6 @@ class Fixes(unittest.TestCase):
             wires = {"a": "ad", "d": "ad"}.get(line[-1], line[-1])
             with self.subTest(line):
                 self.assertTrue(any(f"`{line[:-1]}{wire}`" in " ".join(first.fixes) for wire in wires), first.fixes)
-
-    def test_cut_certificates_get_a_yes(self) -> None:
-        """A design whose certificate `certify` makes again gets a yes."""
-        document = support.read_document(support.text_of("wrong_edge"))
-        made = certified(document, checked_boxes(document.layout, 8, 12), CertificatePlan())
-        self.assertIn("verdict yes", support.checked(made))
-
-
-class Listings(unittest.TestCase):
-    """What `modules` and `migrate` write of a text that is read."""
 
     def test_listings_are_told_as_their_own(self) -> None:
         """They are no values of a circuit."""

@@ -3,9 +3,7 @@ and the API's search.
 """
 
 import json
-import tempfile
 import time
-import unittest
 from pathlib import Path
 
 import support
@@ -15,21 +13,19 @@ from bbmlab_core.texts.code_names import CODE_NAMES
 UNSWITCH = "circuit\ninput c\ninput y\ninput z\nunswitch c y z -> d x\noutput d\noutput x\nend\n"
 
 
-class Rows(unittest.TestCase):
-    """Circuits without values."""
+class FirstAnswers(support.InRoom):
+    """Circuits without values, `certify --plain`, `check --only` and `bbmlab.route`."""
 
     def test_route_does_not_search(self) -> None:
         """`route` names the gate, its inputs and their values at once, as the program's `value` does."""
-        with tempfile.TemporaryDirectory() as room:
-            path = Path(room) / "circuit.txt"
-            path.write_text(UNSWITCH)
-            started = time.monotonic()
-            ended = support.lab("route", "--effort", "25", str(path), BBMCHECK=support.program())
-            self.assertEqual((ended.returncode, time.monotonic() - started < 20), (1, True))
-            self.assertIn("gate 0 (`unswitch`, line 5) has no row for c=0 y=1 z=0, which it gets with y on",
-                          ended.stderr)
-            ended = support.lab("explain", str(self.valued(path, ["y"])), BBMCHECK=support.program())
-            self.assertIn("has no row for", ended.stdout)
+        path = self.room / "circuit.txt"
+        path.write_text(UNSWITCH)
+        started = time.monotonic()
+        ended = support.lab("route", "--effort", "25", str(path), BBMCHECK=support.program())
+        self.assertEqual((ended.returncode, time.monotonic() - started < 20), (1, True))
+        self.assertIn("gate 0 (`unswitch`, line 5) has no row for c=0 y=1 z=0, which it gets with y on", ended.stderr)
+        ended = support.lab("explain", str(self.valued(path, ["y"])), BBMCHECK=support.program())
+        self.assertIn("has no row for", ended.stdout)
 
     def valued(self, path: Path, on: list[str]) -> Path:
         """Writes a circuit with an assign section."""
@@ -52,20 +48,13 @@ class Rows(unittest.TestCase):
             found = missing_row(document.circuit)
             self.assertEqual(found and found[:6], wanted, text)
 
-
-class Commands(unittest.TestCase):
-    """`certify --plain` and `check --only`."""
-
     def test_plain_certificate_of_a_no(self) -> None:
         """`--plain` writes the certificate also if the program says no to it, with the no."""
-        with tempfile.TemporaryDirectory() as room:
-            out = Path(room) / "plain.txt"
-            ended = support.lab("certify", "--plain", support.example("plain_no"), "-o", str(out),
-                                BBMCHECK=support.program())
-            self.assertEqual(ended.returncode, 1)
-            self.assertIn("the program does not say yes: no: local 0 end 3", ended.stderr)
-            self.assertEqual(support.lab("check", str(out), BBMCHECK=support.program()).returncode, 1)
-            self.assertIn("certificate 2\nmodule 0 0 8 8\n", out.read_text())
+        out = self.room / "plain.txt"
+        self.assert_ends(1, "certify", "--plain", support.example("plain_no"), "-o", str(out),
+                         BBMCHECK=support.program(), err="the program does not say yes: no: local 0 end 3")
+        self.assertEqual(support.lab("check", str(out), BBMCHECK=support.program()).returncode, 1)
+        self.assertIn("certificate 2\nmodule 0 0 8 8\n", out.read_text())
 
     def test_only_some_results(self) -> None:
         """`--only` lists some results, and counts all of them. A refusal has its line, its code and the code's name."""
@@ -94,10 +83,6 @@ class Commands(unittest.TestCase):
         self.assertEqual({number: name.lower() for name, number in names.items()},
                          {number: name.replace("_", "") for number, name in CODE_NAMES.items()})
 
-
-class Search(unittest.TestCase):
-    """`bbmlab.route`."""
-
     def test_netlists_progress_and_cancel(self) -> None:
         """A netlist is mapped and routed, progress is told, and a search can be cancelled.
 
@@ -109,7 +94,6 @@ class Search(unittest.TestCase):
         seen: list[tuple[int, int, int, int]] = []
         blif = ".model m\n.inputs a b\n.outputs y\n.names a b y\n11 1\n.end\n"
         bundle = bbmlab.route(blif, effort=60, progress=lambda *words: seen.append(words))
-        assert bundle.circuit
         self.assertEqual((bundle.circuit.inputs, bool(seen)), (("a", "b"), True))
         self.assertTrue(bbmlab.check(bundle, program=support.program()).is_yes)
         free = "# by hand\n" + support.text_of("half_adder")

@@ -3,10 +3,8 @@ unknown.
 """
 
 import os
-import tempfile
 import unittest
 from collections import Counter
-from pathlib import Path
 from types import SimpleNamespace
 
 import support
@@ -42,7 +40,7 @@ def says_yes(text: str) -> bool:
 
 
 class Edits(unittest.TestCase):
-    """Edits of whole lines."""
+    """Edits of whole lines, lines that are left out of a certificate, and which mirrors fall apart."""
 
     def test_lines_count_in_the_text_before(self) -> None:
         """Edits do not shift each other's lines, and two lines that are added at one place keep their order."""
@@ -60,7 +58,6 @@ class Edits(unittest.TestCase):
             with self.subTest(one=one, two=two):
                 self.assertEqual(applied(one, edits_between(one, two)), two)
 
-
     def test_module_for_a_gap(self) -> None:
         """A module that was left out is added again, if no wire comes into its box."""
         head = "circuit\ninput p\noutput p\nend\nlayout 16 8 3\nin p 2 2\nout p 5 5\nend\n"
@@ -68,10 +65,6 @@ class Edits(unittest.TestCase):
         text = whole.replace("module 8 0 8 8\n", "")
         self.assertEqual([applied(text, edits) for edits in refusal_edits(support.read_document(text))], [whole])
         self.assertTrue(says_yes(whole))
-
-
-class DeletedLines(unittest.TestCase):
-    """Lines that are left out of a certificate in which several wires have the same values."""
 
     def test_one_edit(self) -> None:
         """Each `edge` line of such a wire that is left out is put back by one edit: it names the wire of the nearest
@@ -90,10 +83,8 @@ class DeletedLines(unittest.TestCase):
                 assert report
                 if not is_yes(report):
                     fix = Fixer(text, report, Trial(support.program())).find()
-                    assert fix
                     self.assertEqual((len(fix.edits), fix.remakes, is_yes(fix.report)), (1, False, True),
                                      (lines[number], fix.words))
-
 
     def test_nearest_line(self) -> None:
         """The wire of the line about the cell at the nearest time comes first, then those that most modules know, then
@@ -128,14 +119,11 @@ class DeletedLines(unittest.TestCase):
             near = [line.split(" ") for line in lines if line.startswith("edge ") and line != lines[number]]
             has_near = any(words[4] == name and max(abs(int(words[2]) - int(x)), abs(int(words[3]) - int(y))) <= 1
                            for words in near)
-            group, = (group for group in BorderCheck(Diagnosis(document)).groups() if group.cell == (int(x), int(y)))
+            found = BorderCheck(Diagnosis(document)).all_cell_edits()
+            group, = (group for group in found if group.cell == (int(x), int(y)))
             tried[[edit.text for edit in group.edits] == [lines[number]]] += has_near
         self.assertGreater(tried[True], 5)
         self.assertEqual(tried[False], 0)
-
-
-class Mirrors(unittest.TestCase):
-    """Which mirrors fall apart."""
 
     def test_stays_is_what_two_steps_do(self) -> None:
         """A rectangle alone stays if it is as it was after one and two steps of the automaton."""
@@ -169,7 +157,6 @@ class Mistakes(unittest.TestCase):
         self.assertNotEqual(text, broken)
         told = explained(broken)
         self.assertIsNotNone(told.fix, told.tried)
-        assert told.fix
         self.assertEqual((told.fix.verdict, told.fix.judge), ("yes", "the program"))
         if not told.fix.certificate_again:
             self.assertTrue(says_yes(applied(broken, told.fix.edits)))
@@ -191,7 +178,6 @@ class Mistakes(unittest.TestCase):
                 self.assertIn(old, text)
                 broken = text.replace(old, new)
                 told = self.fixed(text, broken)
-                assert told.fix
                 self.assertEqual(applied(broken, told.fix.edits), text)
 
     def test_kinds_of_edits(self) -> None:
@@ -205,7 +191,6 @@ class Mistakes(unittest.TestCase):
             with self.subTest(name):
                 self.assertIn(old, text)
                 told = self.fixed(text, text.replace(old, new, 1))
-                assert told.fix
                 self.assertIn(f"`{word} ", " ".join(edit.text and f"`{edit.text}`" for edit in told.fix.edits))
 
     def test_two_fixes(self) -> None:
@@ -214,7 +199,6 @@ class Mistakes(unittest.TestCase):
         text = text_of("fredkin_gate")
         for old, new in (("-> d u v", "-> d v u"), ("out u 8 11\nout v 11 8", "out v 8 11\nout u 11 8")):
             told = self.fixed(text, text.replace(old, new))
-            assert told.fix
             words = " ".join([*told.fix.words, *(sentence for other in told.fix.others for sentence in other)])
             self.assertRegex(words, r"by `fredkin c x y -> d (u v|v u)`")
             self.assertRegex(words, r"by `out [uv] 8 11`")
@@ -222,7 +206,6 @@ class Mistakes(unittest.TestCase):
     def test_no_certificate(self) -> None:
         """A design without a certificate leads to `bbmlab certify`."""
         told = self.fixed(text_of("head_on_bundle"), text_of("not_gate"))
-        assert told.fix
         self.assertTrue(told.fix.certificate_again)
         self.assertIn("`bbmlab certify`", " ".join(told.fix.words))
 
@@ -238,8 +221,8 @@ def first_line(text: str, beginning: str) -> str:
     return next(line for line in text.split("\n") if line.startswith(beginning)) + "\n"
 
 
-class Reports(unittest.TestCase):
-    """Reports that are not of the text, and the lab's own reports."""
+class Reports(support.InRoom):
+    """Reports that are not of the text or the lab's own, and what was not tried or only in samples."""
 
     def test_another_report_is_refused(self) -> None:
         """`explain --report` and `view --report` refuse a report with another digest, and one that names a module that
@@ -251,13 +234,10 @@ class Reports(unittest.TestCase):
         own = support.checked(text)
         with self.assertRaisesRegex(ReportError, "not of this text"):
             explain_answer(text, "check", own.replace("local 1", "local 9"), "text")
-        with tempfile.TemporaryDirectory() as room:
-            path = Path(room) / "report"
-            path.write_text(report)
-            for command in ("explain", "view"):
-                ended = support.lab(command, support.example("wrong_edge"), "--report", str(path))
-                self.assertEqual(ended.returncode, 4)
-                self.assertIn("not of this text", ended.stderr)
+        path = self.room / "report"
+        path.write_text(report)
+        for command in ("explain", "view"):
+            self.assert_ends(4, command, support.example("wrong_edge"), "--report", str(path), err="not of this text")
 
     def test_digest_is_the_program_s(self) -> None:
         """The digest of a certificate is that of the program's report."""
@@ -277,10 +257,6 @@ class Reports(unittest.TestCase):
                 self.assertEqual((own.verdict, [finding.text for finding in own.findings]),
                                  (report.verdict, [finding.text for finding in report.findings]), case.name)
         self.assertGreater(count, 100)
-
-
-class ThreeValues(unittest.TestCase):
-    """What was not tried is unknown, and a sentence that rests on samples names them."""
 
     def many_inputs(self, is_right: bool) -> str:
         """Returns a bundle with 13 inputs, each of whose balls flies straight on; one `out` is at a wrong cell if it is
@@ -307,7 +283,6 @@ class ThreeValues(unittest.TestCase):
             self.assertIs(outcome.is_right, Truth.UNKNOWN if is_right else Truth.NO)
         told = explained(self.many_inputs(False))
         self.assertIn("The layout itself does not do what the circuit asks", " ".join(told.headline))
-        assert told.fix
         self.assertEqual([edit.text for edit in told.fix.edits], ["out i4 20 4"])
 
     def test_right_layout_with_a_wrong_certificate(self) -> None:
@@ -319,7 +294,6 @@ class ThreeValues(unittest.TestCase):
         self.assertEqual(told.verdict, "no")
         self.assertIn("in 256 sampled choices of the inputs", words)
         self.assertNotIn("The layout itself does not", words)
-        assert told.fix
         self.assertEqual([(edit.action, edit.line) for edit in told.fix.edits],
                          [("delete", lines.index("edge 1 5 5 1") + 1)])
 
@@ -333,33 +307,30 @@ class ThreeValues(unittest.TestCase):
         self.assertIn("Under values that do occur the module has a fault too", " ".join(entry.what))
 
 
-class Command(unittest.TestCase):
-    """`explain --fix`."""
+class Command(support.InRoom):
+    """`explain --fix`, and faulty texts made of right ones by one edit."""
 
     def test_files(self) -> None:
         """The text goes to standard output or to another file, and over the input only with -i."""
-        with tempfile.TemporaryDirectory() as room:
-            path, other = Path(room) / "text.txt", Path(room) / "fixed.txt"
-            path.write_text(text_of("wrong_edge"))
-            program = support.program()
-            ended = support.lab("explain", "--fix", str(path), "--program", program)
-            self.assertEqual((ended.returncode, says_yes(ended.stdout), path.read_text()),
-                             (0, True, text_of("wrong_edge")))
-            self.assertEqual(support.lab("explain", "--fix", str(path), "-o", str(path), "--program",
-                                         program).returncode, 2)
-            self.assertEqual(path.read_text(), text_of("wrong_edge"))
-            support.lab("explain", "--fix", str(path), "-o", str(other), "--program", program)
-            self.assertTrue(says_yes(other.read_text()))
-            self.assertEqual(support.lab("explain", "--fix", "-i", str(path), "--program", program).returncode, 0)
-            self.assertTrue(says_yes(path.read_text()))
-            self.assertEqual(support.lab("explain", "-o", str(other), str(path), "--program", program).returncode, 2)
+        path, other = self.room / "text.txt", self.room / "fixed.txt"
+        path.write_text(text_of("wrong_edge"))
+        program = support.program()
+        ended = support.lab("explain", "--fix", str(path), "--program", program)
+        self.assertEqual((ended.returncode, says_yes(ended.stdout), path.read_text()), (0, True, text_of("wrong_edge")))
+        self.assertEqual(support.lab("explain", "--fix", str(path), "-o", str(path), "--program",
+                                     program).returncode, 2)
+        self.assertEqual(path.read_text(), text_of("wrong_edge"))
+        support.lab("explain", "--fix", str(path), "-o", str(other), "--program", program)
+        self.assertTrue(says_yes(other.read_text()))
+        self.assertEqual(support.lab("explain", "--fix", "-i", str(path), "--program", program).returncode, 0)
+        self.assertTrue(says_yes(path.read_text()))
+        self.assertEqual(support.lab("explain", "-o", str(other), str(path), "--program", program).returncode, 2)
 
     def test_without_the_program(self) -> None:
         """Without the program the lab tries the edits by its own runs, says so, and ends with 1: it gives no verdict.
         """
-        ended = support.lab("explain", "--fix", support.example("wrong_edge"), "--program", "/no/such/program")
-        self.assertEqual(ended.returncode, 1)
-        self.assertIn("only the program gives a verdict", ended.stderr)
+        ended = self.assert_ends(1, "explain", "--fix", support.example("wrong_edge"), "--program", "/no/such/program",
+                                 err="only the program gives a verdict")
         self.assertTrue(says_yes(ended.stdout))
 
     def test_no_fix_says_what_was_tried(self) -> None:
@@ -369,14 +340,9 @@ class Command(unittest.TestCase):
                  "output v", "end", "layout 8 8 1",
                  "in c 2 2", "in x 4 4", "in y 2 5", "out d 3 3", "out u 5 5", "out v 3 4", "end",
                  "certificate 2", "module 0 0 8 8", "cut c", "cut x", "cut y", "use 0", "end", ""]
-        ended = support.lab("explain", "--fix", "-", text="\n".join(lines), BBMCHECK=support.program())
-        self.assertEqual((ended.returncode, ended.stdout), (1, ""))
-        self.assertIn("No fix was found", ended.stderr)
+        ended = self.assert_ends(1, "explain", "--fix", "-", text="\n".join(lines), BBMCHECK=support.program(),
+                                 stdout="", err="No fix was found")
         self.assertIn("one gate line", ended.stderr)
-
-
-class Measure(unittest.TestCase):
-    """Faulty texts made of right ones by one edit."""
 
     def test_mutants_are_fixed(self) -> None:
         """At least 95 percent get a yes in at most two rounds, and no fix leads to a refusal."""
@@ -401,7 +367,6 @@ class Measure(unittest.TestCase):
             text = text_of(name)
             trial = Trial(program, Budget(200, 20))
             report = trial.report(text)
-            assert report
             fixer, diagnosis = Fixer(text, report, trial), Diagnosis(support.read_document(text, "check"))
             for finding in report.faults:
                 fix = fixer.find_for(diagnosis, finding)

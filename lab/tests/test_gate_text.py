@@ -2,9 +2,6 @@
 
 import itertools
 import random
-import tempfile
-import unittest
-from pathlib import Path
 from typing import Callable
 
 import support
@@ -36,8 +33,8 @@ def random_text(chance: random.Random) -> tuple[str, list[str], list[tuple[str, 
                       ""]), inputs, gates, outputs
 
 
-class Gates(unittest.TestCase):
-    """The circuit of a text has the values of its gates."""
+class Gates(support.InRoom):
+    """The circuit of a text has the values of its gates, and wrong texts get a sentence with the line."""
 
     def test_random_texts(self) -> None:
         """Random gates, wires that are used many times or never, and inputs that are outputs."""
@@ -73,10 +70,6 @@ class Gates(unittest.TestCase):
             self.assertIsNone(netlist_format(support.text_of(name)))
         self.assertIsNone(netlist_format("circuit\ninput a\ninput b\nand a b -> c\noutput c\nend\nlayout 2 2 0\nend\n"))
 
-
-class Refused(unittest.TestCase):
-    """Wrong texts get a sentence with the line."""
-
     def test_sentences(self) -> None:
         """Each wrong line, and what its sentence says."""
         for line, said in (
@@ -109,26 +102,23 @@ class Refused(unittest.TestCase):
     def test_explain_names_the_command(self) -> None:
         """`explain` says what reads such a text: as a hint behind the line `circuit`, which the program refuses, or
         else in one line."""
-        with tempfile.TemporaryDirectory() as room:
-            path = Path(room) / "a.txt"
-            path.write_text("input a\nnot a -> b\noutput b\n")
-            said = support.lab("explain", str(path))
-            self.assertEqual((said.returncode, said.stderr), (
-                1, f"bbmlab: {path}: this is a text of plain gates: `bbmlab circuit` and `route` read it\n"))
-            said = support.lab("explain", "-", text="circuit\ninput a\nnot a -> b\noutput b\nend\n",
-                               BBMCHECK=support.program())
-            self.assertIn("`bbmlab circuit` writes a circuit of a text of such gates", " ".join(said.stdout.split()))
+        path = self.room / "a.txt"
+        path.write_text("input a\nnot a -> b\noutput b\n")
+        said = support.lab("explain", str(path))
+        self.assertEqual((said.returncode, said.stderr), (
+            1, f"bbmlab: {path}: this is a text of plain gates: `bbmlab circuit` and `route` read it\n"))
+        said = support.lab("explain", "-", text="circuit\ninput a\nnot a -> b\noutput b\nend\n",
+                           BBMCHECK=support.program())
+        self.assertIn("`bbmlab circuit` writes a circuit of a text of such gates", " ".join(said.stdout.split()))
 
     def test_large_files(self) -> None:
         """Files of 50 MB end with a sentence and status 1, in bounded time and memory."""
-        with tempfile.TemporaryDirectory() as room:
-            path = Path(room) / "large"
-            for head, line in (("input a\nnot a -> b\n", "not a -> c\n"), (".model m\n.inputs a\n", ".names a b\n"),
-                               ("{", "{"), ("OPENQASM 3;\n", "x q;\n"),
-                               ("aig 9 9 9 9 9\n", "\x01"), (".numvars 1\n.variables a\n", "t1 a\n"),
-                               (".i 1\n.o 1\n", "1 1\n"), (" ", " "),
-                               ("/*", "*"), ("//\n", "//\n")):
-                path.write_text(head + line * (50_000_000 // len(line)))
-                done = support.lab("circuit", str(path), seconds=200, memory=1_500_000_000)
-                self.assertEqual((done.returncode, done.stdout), (1, ""), (head, done.stderr[-300:]))
-                self.assertRegex(done.stderr, r"\Abbmlab: [^\n]+\n\Z")
+        path = self.room / "large"
+        for head, line in (("input a\nnot a -> b\n", "not a -> c\n"), (".model m\n.inputs a\n", ".names a b\n"),
+                           ("{", "{"), ("OPENQASM 3;\n", "x q;\n"),
+                           ("aig 9 9 9 9 9\n", "\x01"), (".numvars 1\n.variables a\n", "t1 a\n"),
+                           (".i 1\n.o 1\n", "1 1\n"), (" ", " "),
+                           ("/*", "*"), ("//\n", "//\n")):
+            path.write_text(head + line * (50_000_000 // len(line)))
+            done = self.assert_ends(1, "circuit", str(path), seconds=200, memory=1_500_000_000, stdout="")
+            self.assertRegex(done.stderr, r"\Abbmlab: [^\n]+\n\Z")

@@ -2,17 +2,14 @@
 certificate.
 """
 
-import tempfile
-import unittest
-from pathlib import Path
 
 import support
 from bbmlab_core.texts.gates import GATE_SIZES
 from bbmlab_core.physics.standard_cells import cell_names
 
 
-class Hints(unittest.TestCase):
-    """What `explain` says."""
+class Hints(support.InRoom):
+    """What `explain` says, and texts with comments."""
 
     def explained(self, text: str, *words: str) -> str:
         """Returns what `explain` prints, in one line."""
@@ -57,25 +54,20 @@ class Hints(unittest.TestCase):
         self.assertRegex(said, r"The layout itself does not do what the circuit asks: with a=\d b=\d the cell \(\d+, "
                          r"\d+\) is (live|dead) at the end")
 
-
-class Comments(unittest.TestCase):
-    """Texts with comments."""
-
     def test_commands_that_take_comments(self) -> None:
         """What only reads a text takes comments, any spaces and unsorted lists, and says what it says of the one
         spelling."""
         plain = support.text_of("wrong_edge")
         free = "# by hand\n\n" + plain
         free = free.replace("\nlayout", "\n  layout").replace("\nend\n", "  # the end\nend # of it\n")
-        with tempfile.TemporaryDirectory() as room:
-            (Path(room) / "free").mkdir()
-            (Path(room) / "free" / "a.txt").write_text(free)
-            (Path(room) / "a.txt").write_text(plain)
-            for words in (["trace"], ["draw"], ["draw", "--ways"], ["view"], ["golly"], ["json"]):
-                one, other = (support.lab(*words, str(Path(room) / name), BBMCHECK=support.program())
-                              for name in ("free/a.txt", "a.txt"))
-                self.assertEqual((one.returncode, one.stdout.replace("free/a.txt", "a.txt")),
-                                 (other.returncode, other.stdout), words)
+        (self.room / "free").mkdir()
+        (self.room / "free" / "a.txt").write_text(free)
+        (self.room / "a.txt").write_text(plain)
+        for words in (["trace"], ["draw"], ["draw", "--ways"], ["view"], ["golly"], ["json"]):
+            one, other = (support.lab(*words, str(self.room / name), BBMCHECK=support.program())
+                          for name in ("free/a.txt", "a.txt"))
+            self.assertEqual((one.returncode, one.stdout.replace("free/a.txt", "a.txt")),
+                             (other.returncode, other.stdout), words)
         text = support.text_of("half_adder")
         one, other = (support.lab("route", "--circuit-only", "-", text=own)
                       for own in ("# an adder\n" + text.replace("\n", "  # why\n"), text))
@@ -85,9 +77,8 @@ class Comments(unittest.TestCase):
         """A refusal of a text with comments names the line of the file."""
         text = "# one\n\ncircuit\ninput a # two\noutput b\nend\nlayout 8 8 3\nend\n"
         for command in ("draw", "json", "trace", "route"):
-            ended = support.lab(command, "-", text=text, BBMCHECK=support.program())
-            self.assertEqual(ended.returncode, 1)
-            self.assertIn("line 5 is refused with code 3", ended.stderr, command)
+            self.assert_ends(1, command, "-", text=text, BBMCHECK=support.program(),
+                             err="line 5 is refused with code 3")
 
     def test_commands_give_hints(self) -> None:
         """What only refuses a text says in its one line how to write it, as `explain` does."""

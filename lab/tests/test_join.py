@@ -14,6 +14,7 @@ import time
 import unittest
 from dataclasses import replace
 from pathlib import Path
+from typing import Iterable
 from unittest import mock
 
 import support
@@ -200,10 +201,10 @@ class Joining(unittest.TestCase):
 
     # --- planted mistakes: the program finds each of them -------------------------------------------------------------
 
-    def made(self) -> Composed:
-        """Returns two half adders in a row."""
-        part = read_part("half", self.parts["half"].read_text(), ["sum", "a"])
-        return composed({"a": part, "b": part}, [Connection("a", "sum", "b", "a")])
+    def made(self, names: str = "ab", words: Iterable[str] = ("a.sum=b.a",), lone: str = "sum a") -> Composed:
+        """Returns connected half adders, two in a row if no others are given, and wires whose balls may come alone."""
+        part = read_part("half", self.parts["half"].read_text(), lone.split())
+        return composed(dict.fromkeys(names, part), [command.connection_of(word) for word in words])
 
     def verdict_with(self, change: mock._patch) -> str: # type: ignore[type-arg]
         """Returns the first lines that the program says of a join with a mistake."""
@@ -278,9 +279,8 @@ class Joining(unittest.TestCase):
     def test_time_for_each_ball(self) -> None:
         """A part to which many balls come begins so late that each of them gets its steps, and with more to spare
         later."""
-        part = read_part("half", self.parts["half"].read_text(), ["sum", "carry", "a", "b"])
         words = ("a.sum=c.a", "b.sum=c.b", "a.carry=d.a", "b.carry=d.b", "c.sum=e.a", "d.sum=e.b")
-        made = composed(dict.fromkeys("abcde", part), [command.connection_of(word) for word in words])
+        made = self.made("abcde", words, "sum carry a b")
         ends = []
         for spare, own in enumerate(planning.SPARES):
             with mock.patch.object(planning, "SHALLOW", 30):
@@ -327,9 +327,7 @@ class Joining(unittest.TestCase):
 
     def test_more_time_for_all_balls(self) -> None:
         """If a ball gets no more time by itself, since another one decides when its part begins, all get more."""
-        part = read_part("half", self.parts["half"].read_text(), ["sum", "carry", "a", "b"])
-        words = ("a.sum=b.a", "b.sum=c.a", "a.carry=c.b")
-        made = composed(dict.fromkeys("abc", part), [command.connection_of(word) for word in words])
+        made = self.made("abc", ("a.sum=b.a", "b.sum=c.a", "a.carry=c.b"), "sum carry a b")
         search = command.JoinSearch(made, command.JoinOptions(1, 800, 60), ProgressLine(60))
         before = search.steps_between()
         search.loosen([2])
@@ -525,13 +523,10 @@ class Joining(unittest.TestCase):
         self.assert_refused(1, "a loop through a, b", *two, "A.sum=B.a", "B.sum=A.a")
         self.assert_refused(1, "a loop through a", "@half", "--connect", "A.sum=A.a")
         self.assert_refused(2, "there is a part a already", "@half", "a=@half")
-        self.assert_refused(1, "names have at most 32 characters", f"{'x' * 16}=@half", "a=" + str(self.long_names()))
-
-    def long_names(self) -> Path:
-        """Returns a routed circuit with a wire of 31 characters."""
         name = "w" * 31
         text = BLOCK.replace("input a", f"input {name}").replace("switch a", f"switch {name}")
-        return routed(text, self.room, "long")
+        long = routed(text, self.room, "long")
+        self.assert_refused(1, "names have at most 32 characters", f"{'x' * 16}=@half", f"a={long}")
 
     def test_delays_that_do_not_meet(self) -> None:
         """A delayed output is not led to a gate whose other input is delayed too: its stops would not meet."""
@@ -557,14 +552,10 @@ class Joining(unittest.TestCase):
 
     def test_cells_that_are_no_balls(self) -> None:
         """A part whose ports are single cells can be joined only if they need not be led."""
-        self.assert_refused(1, "are not balls of two cells", str(self.single_cell()), "@block", "--connect", "B.b=A.p")
-
-    def single_cell(self) -> Path:
-        """Returns a bundle with a yes whose input is a single cell."""
-        made = self.room / "single.txt"
-        made.write_text("circuit\ninput p\noutput p\nend\nlayout 16 16 4\nin p 4 4\nout p 8 8\nend\n"
-                        "certificate 2\nmodule 0 0 16 16\ncut p\nend\n")
-        return made
+        single = self.room / "single.txt"
+        single.write_text("circuit\ninput p\noutput p\nend\nlayout 16 16 4\nin p 4 4\nout p 8 8\nend\n"
+                          "certificate 2\nmodule 0 0 16 16\ncut p\nend\n")
+        self.assert_refused(1, "are not balls of two cells", str(single), "@block", "--connect", "B.b=A.p")
 
     def test_interrupt(self) -> None:
         """An interrupt ends the command in time, and writes nothing."""

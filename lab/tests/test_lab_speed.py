@@ -63,7 +63,7 @@ def plain_least_fault(run: ModuleRun) -> Fault | None:
 
 
 class Runs(unittest.TestCase):
-    """What runs say."""
+    """What runs say, and what a layout of many modules asks for each of them."""
 
     def test_least_faults(self) -> None:
         """The least fault of each module is that of a run that makes each step, also where lines with times are left
@@ -137,10 +137,6 @@ class Runs(unittest.TestCase):
                 if not run.step():
                     wanted = None
             self.assertEqual(check.ring_tables, wanted, name)
-
-
-class ManyModules(unittest.TestCase):
-    """What a layout of many modules asks for each of them."""
 
     def test_parts_of_a_box(self) -> None:
         """The parts in a box are those that a look at all parts finds, clipped, and the look is at few of many parts.
@@ -254,8 +250,8 @@ def plain_values(words: list[str], form: Form) -> Values | None:
     return [value for place, value in values if place.isupper()]
 
 
-class Once(unittest.TestCase):
-    """Work that is done once."""
+class Once(support.InRoom):
+    """Work that is done once, and what a large layout takes."""
 
     def test_one_reading_of_a_page(self) -> None:
         """`view` reads the text once, and `explain` compares the borders of its text once."""
@@ -268,8 +264,8 @@ class Once(unittest.TestCase):
                 self.assertEqual(main(["view", "--program", support.program(), support.example("wrong_edge"), "-o",
                                        out]), 0)
             self.assertEqual(reader.call_count, 1)
-        with mock.patch("bbmlab_core.explain.expected_lines.BorderCheck.groups", autospec=True,
-                        side_effect=BorderCheck.groups) as groups:
+        with mock.patch("bbmlab_core.explain.expected_lines.BorderCheck.all_cell_edits", autospec=True,
+                        side_effect=BorderCheck.all_cell_edits) as groups:
             explain_answer(text, "check", ask(support.program(), "check", text.encode()).output, "text",
                            Trial(support.program()))
         own = [call for call in groups.call_args_list if call.args[0].diagnosis.document.text == text]
@@ -280,14 +276,12 @@ class Once(unittest.TestCase):
         text = support.text_of("wrong_edge")
         trial = Trial(support.program(), Budget(seconds=30))
         report = trial.report(text)
-        assert report
         fixer, diagnosis = Fixer(text, report, trial), Diagnosis(read(text))
         trial.budget = Budget(seconds=0)
         with mock.patch.object(fixer, "applied_or_none") as applied:
             self.assertEqual([fixer.find_for(diagnosis, finding) for finding in report.faults],
                              [None] * len(report.faults))
         self.assertEqual(applied.call_count, 0)
-
 
     def test_the_effort_is_that_of_the_search(self) -> None:
         """What `explain` did before the search does not count, so that a large text gets its search too; in the studio
@@ -316,19 +310,14 @@ class Once(unittest.TestCase):
             self.assertIsNotNone(BorderCheck(Diagnosis(document), 30.0).ring_tables)
             self.assertGreater(step.call_count, 5)
 
-
-class Memory(unittest.TestCase):
-    """What a large layout takes."""
-
     def test_trace_of_many_mirrors(self) -> None:
         """The trace of a hundred thousand mirror cells over 500 steps fits into 400 MB."""
         mirrors = "".join(f"mirror 2 {y} 500 2\n" for y in range(5, 495, 4))
         text = f"layout 512 512 500\n{mirrors}end\n"
-        with tempfile.TemporaryDirectory() as room:
-            path = Path(room) / "mirrors.txt"
-            path.write_text(text)
-            for more in ([], ["--from", "490"]):
-                ended = support.lab("trace", *more, "--program", "/nonexistent", str(path), memory=MEMORY)
-                self.assertIn(ended.returncode, (0, 1), ended.stderr)
-                self.assertNotIn("dead mirror cells", ended.stdout)
-                self.assertEqual(ended.stderr[:42], "bbmlab: the last state was not compared: t")
+        path = self.room / "mirrors.txt"
+        path.write_text(text)
+        for more in ([], ["--from", "490"]):
+            ended = support.lab("trace", *more, "--program", "/nonexistent", str(path), memory=MEMORY)
+            self.assertIn(ended.returncode, (0, 1), ended.stderr)
+            self.assertNotIn("dead mirror cells", ended.stdout)
+            self.assertEqual(ended.stderr[:42], "bbmlab: the last state was not compared: t")

@@ -40,18 +40,15 @@ def layout(width: int = 2, height: int = 2, steps: int = 0, *parts: str) -> str:
     return "\n".join([f"layout {width} {height} {steps}", *parts, "end"]) + "\n"
 
 
+def wires(count: int, made: str = "input", ended: str = "output") -> str:
+    """Returns a circuit of some wires, by the words before each name in its first and in its last line."""
+    lines = [f"{words} w{number}" for words in (made, ended) for number in range(count)]
+    return "\n".join(["circuit", *lines, "end"]) + "\n"
+
+
 def gates(count: int) -> str:
     """Returns a circuit of some sources."""
-    names = [f"w{number}" for number in range(count)]
-    return "\n".join(["circuit", *(f"source 0 -> {name}" for name in names), *(f"spill {name}" for name in names),
-                      "end"]) + "\n"
-
-
-def wires(count: int) -> str:
-    """Returns a circuit of some inputs that are outputs."""
-    names = [f"w{number}" for number in range(count)]
-    return "\n".join(["circuit", *(f"input {name}" for name in names), *(f"output {name}" for name in names),
-                      "end"]) + "\n"
+    return wires(count, "source 0 ->", "spill")
 
 
 def modules(count: int) -> str:
@@ -85,7 +82,7 @@ def refusal_of(text: str, command: str = "check") -> str | None:
 
 
 class Values(unittest.TestCase):
-    """The last value of each limit, and the one after it."""
+    """The last value of each limit and the one after it, and where and how the line is written."""
 
     def test_last_value_and_one_beyond(self) -> None:
         """The last value is taken, and the next is refused with code 2 at the line that makes it so; `limits 2` counts
@@ -142,10 +139,6 @@ class Values(unittest.TestCase):
                          "refused 7 2")
         self.assertEqual(refusal_of(LINE + "circuit\ninput a\ndelay 4097 a -> b\n", "circuit"), "refused 4 2")
         self.assertEqual(refusal_of(LINE + f"circuit\ninput {'a' * 33}\n", "circuit"), "refused 3 1")
-
-
-class Line(unittest.TestCase):
-    """Where and how the line is written."""
 
     def test_other_first_lines(self) -> None:
         """Other numbers and other spellings are refused as any first line that begins no section."""
@@ -260,8 +253,8 @@ console.log(JSON.stringify([FIRST, SECOND]));"""
         self.assertEqual(told, [(own.head.strip(), own.max_side, own.max_steps) for own in (FIRST, SECOND)])
 
 
-class Runs(unittest.TestCase):
-    """Runs of large layouts."""
+class Runs(support.InRoom):
+    """Runs of large layouts, and what a program that knows the line says."""
 
     TEXT = LINE + layout(4096, 4096, 40, "mirror 4081 4080 2 2", "mirror 1031 1030 2 2", "ball 4064 4064",
                          "ball 1020 1020", "ball 4091 4000",
@@ -285,20 +278,14 @@ class Runs(unittest.TestCase):
             self.assertEqual({tuple(cell) for cell in cells}, wanted[moment], moment)
         self.assertNotEqual(wanted[0], wanted[40])
 
-
-class Program(unittest.TestCase):
-    """What a program that knows the line says."""
-
     def test_large_layout_gets_a_yes(self) -> None:
         """A layout of 4096 columns in modules of 64 by 64 gets a yes, by `certify`."""
         path = support.program_of_limits_2()
-        with tempfile.TemporaryDirectory() as room:
-            source, made = Path(room) / "large.txt", Path(room) / "made.txt"
-            source.write_text(LINE + EMPTY + layout(4096, 128, 1))
-            ended = support.lab("certify", str(source), "--grid", "64,64", "-o", str(made), "--program", path)
-            self.assertEqual(ended.returncode, 0, ended.stderr)
-            self.assertIn("says yes", ended.stderr)
-            self.assertTrue(made.read_text().startswith(LINE))
+        source, made = self.room / "large.txt", self.room / "made.txt"
+        source.write_text(LINE + EMPTY + layout(4096, 128, 1))
+        self.assert_ends(0, "certify", str(source), "--grid", "64,64", "-o", str(made), "--program", path,
+                         err="says yes")
+        self.assertTrue(made.read_text().startswith(LINE))
 
     def test_fix_adds_the_line(self) -> None:
         """`explain` proposes the line, which it tried."""
@@ -314,8 +301,6 @@ class Program(unittest.TestCase):
         for side in ("512", "528"):
             with tempfile.TemporaryDirectory() as room:
                 made = Path(room) / "made.txt"
-                ended = support.lab("route", support.example("half_adder"), "--size", side, "-o", str(made),
-                                    "--program", path)
-                self.assertEqual(ended.returncode, 0, ended.stderr)
-                self.assertIn("verdict yes", ended.stderr)
+                self.assert_ends(0, "route", support.example("half_adder"), "--size", side, "-o", str(made),
+                                 "--program", path, err="verdict yes")
                 self.assertEqual(made.read_text().startswith(LINE), side == "528")

@@ -5,9 +5,6 @@ import random
 import re
 import shutil
 import subprocess
-import tempfile
-import unittest
-from pathlib import Path
 
 import support
 from bbmlab_core.circuits import aiger_form, circuit_forms, line_forms
@@ -79,7 +76,7 @@ def run_aiger(text: str, bits: tuple[bool, ...]) -> list[bool]:
     return [values[literal >> 1] != bool(literal & 1) for literal in wanted]
 
 
-class Written(unittest.TestCase):
+class Written(support.InRoom):
     """A circuit in another form has its outputs, by a simulator of that form."""
 
     def test_random_circuits(self) -> None:
@@ -112,13 +109,12 @@ class Written(unittest.TestCase):
 
     def test_commands(self) -> None:
         """Each form is written by the command, and read by it again."""
-        with tempfile.TemporaryDirectory() as room:
-            for form in ("blif", "aiger", "real", "qasm"):
-                path = str(Path(room) / form)
-                self.assertEqual(support.lab("circuit", "--to", form, support.example("half_adder"), "-o",
-                                             path).returncode, 0)
-                done = support.lab("equal", support.example("half_adder"), path)
-                self.assertEqual((done.returncode, done.stdout), (0, "equal in all 4 choices of the inputs\n"), form)
+        for form in ("blif", "aiger", "real", "qasm"):
+            path = str(self.room / form)
+            self.assertEqual(support.lab("circuit", "--to", form, support.example("half_adder"), "-o",
+                                         path).returncode, 0)
+            done = support.lab("equal", support.example("half_adder"), path)
+            self.assertEqual((done.returncode, done.stdout), (0, "equal in all 4 choices of the inputs\n"), form)
 
 
 def gates_blif(gates: list[Gate], lines: int, starts: list[str], ends: list[str]) -> str:

@@ -23,31 +23,16 @@ MAX_BYTES = 1_000_000
 SAMPLES = 64
 
 
-def number_of(names: list[str], on: set[str]) -> int:
-    """Returns the number whose bits are wires, the lowest first."""
-    return sum(1 << index for index, name in enumerate(names) if name in on)
+OUTPUTS = {"adder_4": ["s0", "s1", "s2", "s3", "c4"], "adder_8": [f"s_{bit}" for bit in range(9)],
+           "multiplier_4": [f"p_{bit}" for bit in range(8)]}
 
 
-def sum_of_adder_4(on: set[str]) -> dict[str, bool]:
-    """Returns the outputs of the adder of two numbers of four bits and a carry."""
-    total = number_of([f"a{bit}" for bit in range(4)], on) + number_of([f"b{bit}" for bit in range(4)],
-                                                                       on) + ("c0" in on)
-    return {name: bool(total >> bit & 1) for bit, name in enumerate(["s0", "s1", "s2", "s3", "c4"])}
-
-
-def sum_of_adder_8(on: set[str]) -> dict[str, bool]:
-    """Returns the outputs of the adder of two numbers of eight bits."""
-    total = number_of([f"a_{bit}" for bit in range(8)], on) + number_of([f"b_{bit}" for bit in range(8)], on)
-    return {f"s_{bit}": bool(total >> bit & 1) for bit in range(9)}
-
-
-def product_of_multiplier_4(on: set[str]) -> dict[str, bool]:
-    """Returns the outputs of the multiplier of two numbers of four bits."""
-    product = number_of([f"a_{bit}" for bit in range(4)], on) * number_of([f"b_{bit}" for bit in range(4)], on)
-    return {f"p_{bit}": bool(product >> bit & 1) for bit in range(8)}
-
-
-RULES = {"adder_4": sum_of_adder_4, "adder_8": sum_of_adder_8, "multiplier_4": product_of_multiplier_4}
+def outputs_of(name: str, on: set[str]) -> dict[str, bool]:
+    """Returns the outputs of a machine by arithmetic with the numbers whose bits are inputs, the lowest first."""
+    mark, width = ("", 4) if name == "adder_4" else ("_", int(name[-1]))
+    a, b = (sum(1 << bit for bit in range(width) if f"{letter}{mark}{bit}" in on) for letter in "ab")
+    result = a * b if name == "multiplier_4" else a + b + ("c0" in on)
+    return {output: bool(result >> bit & 1) for bit, output in enumerate(OUTPUTS[name])}
 
 
 class Machines(unittest.TestCase):
@@ -72,17 +57,17 @@ class Machines(unittest.TestCase):
 
     def test_circuits_compute_their_arithmetic(self) -> None:
         """The circuit of each machine adds or multiplies."""
-        for name, rule in RULES.items():
+        for name in OUTPUTS:
             _, circuit, _ = self.read(name)
             for on in self.choices(circuit, random.randrange(10**6)):
                 values, missing = values_under(circuit, on)
                 self.assertIsNone(missing)
-                self.assertEqual({wire: values[wire] for wire in circuit.outputs}, rule(on), (name, on))
+                self.assertEqual({wire: values[wire] for wire in circuit.outputs}, outputs_of(name, on), (name, on))
 
     def test_balls_compute_their_arithmetic(self) -> None:
         """The balls of the layout end as the arithmetic says, in sampled choices of the inputs at once."""
         seed = random.randrange(10**6)
-        for name, rule in RULES.items():
+        for name in OUTPUTS:
             _, circuit, layout = self.read(name)
             choices = self.choices(circuit, seed)
             tables = {wire: sum(1 << column for column, on in enumerate(choices) if wire in on)
@@ -90,7 +75,7 @@ class Machines(unittest.TestCase):
             run = WholeRun(layout, tables, (1 << SAMPLES) - 1)
             self.assertTrue(run.run_to(layout.steps))
             for part in layout.of_kind("out"):
-                wanted = sum(1 << column for column, on in enumerate(choices) if rule(on)[part.name or ""])
+                wanted = sum(1 << column for column, on in enumerate(choices) if outputs_of(name, on)[part.name or ""])
                 self.assertEqual(run.field.live.get(key_of(part.cell), 0), wanted, (name, part, seed))
 
     def test_circuits_are_those_of_the_sources(self) -> None:
@@ -104,11 +89,11 @@ class Machines(unittest.TestCase):
     def test_size(self) -> None:
         """All bundles together are below a megabyte."""
         self.assertLess(sum(path.stat().st_size for path in MACHINES.glob("*.xz")), MAX_BYTES)
-        self.assertEqual({path.name.partition(".")[0] for path in MACHINES.glob("*.xz")}, set(RULES))
+        self.assertEqual({path.name.partition(".")[0] for path in MACHINES.glob("*.xz")}, set(OUTPUTS))
 
     def test_program_says_yes(self) -> None:
         """Each machine gets a yes."""
         path = support.program_of_limits_2()
-        for name in RULES:
+        for name in OUTPUTS:
             ended = subprocess.run([path, "check"], input=self.text(name).encode(), capture_output=True, check=False)
             self.assertEqual((ended.returncode, ended.stdout.decode().splitlines()[3]), (0, "verdict yes"), name)

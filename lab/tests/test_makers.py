@@ -13,12 +13,11 @@ from pathlib import Path
 from unittest import mock
 
 import support
-from bbmlab_core.certify.certifier import Maker, NoBoxError, CertificatePlan, certified, checked_boxes
+from bbmlab_core.certify.certifier import CertificateMaker, NoBoxError, CertificatePlan, certified, checked_boxes
 from bbmlab_core.host.terminal import LabError
 from bbmlab_core.physics.simulation import run_layout
 from bbmlab_core.pictures import golly
 from bbmlab_core.pictures.drawing import centre, module_parts
-from bbmlab_core.pictures.ways import joined_pieces
 from bbmlab_core.texts import json_form
 from bbmlab_core.texts.certificates import Module
 from bbmlab_core.texts.layouts import Box
@@ -36,7 +35,7 @@ def design(name: str) -> support.Document:
     return support.read_document(support.text_of(name).split("certificate ")[0], "design")
 
 
-class Certificates(unittest.TestCase):
+class Certificates(support.InRoom):
     """`certify`."""
 
     def test_the_program_says_yes(self) -> None:
@@ -62,16 +61,16 @@ class Certificates(unittest.TestCase):
 
     def test_no_box_is_tried_twice(self) -> None:
         """If no certificate is found no box was tried twice, though both orders of cuts lead to it."""
-        right, tried = Maker.module, Counter[Box]()
+        right, tried = CertificateMaker.module, Counter[Box]()
         for name, cell in (("machine_full_adder", (40, 40)), ("machine_half_adder", (30, 20))):
-            def module(self: Maker, box: Box, cell: tuple[int, int] = cell) -> Module:
+            def module(self: CertificateMaker, box: Box, cell: tuple[int, int] = cell) -> Module:
                 """Makes no module of the boxes with a cell."""
                 tried[box] += 1
                 if box.has(cell):
                     raise NoBoxError("not here")
                 return right(self, box)
 
-            with (self.subTest(name), mock.patch.object(Maker, "module", module),
+            with (self.subTest(name), mock.patch.object(CertificateMaker, "module", module),
                   self.assertRaisesRegex(LabError, "no certificate was found: not here")):
                 tried.clear()
                 certified(design(name), None, CertificatePlan())
@@ -84,7 +83,7 @@ class Certificates(unittest.TestCase):
         text = "circuit\ninput a\nsource 1 -> k\nswitch a k -> b c d\noutput b\noutput c\noutput d\nend\n"
         routed = support.lab("route", "-", "--program", support.program(), text=text).stdout
         document = support.read_document(routed.split("certificate ")[0], "design")
-        with mock.patch.object(Maker, "module", side_effect=NoBoxError("not here")):
+        with mock.patch.object(CertificateMaker, "module", side_effect=NoBoxError("not here")):
             with self.assertRaisesRegex(LabError, "not here. 2 of 5 wires have the values of an earlier one in all 2 "
                                         "choices of the inputs, as `b` has those of `a`"):
                 certified(document, None, CertificatePlan())
@@ -104,14 +103,13 @@ class Certificates(unittest.TestCase):
         """With 360 inputs no assignment can be tried by itself; the certificate gets a yes, and its stops and its boxes
         can be kept."""
         text = (support.TOP / "conformance" / "data" / "trains_36_cut_v1.txt").read_text()
-        with tempfile.TemporaryDirectory() as room:
-            file, boxes = Path(room) / "trains.txt", Path(room) / "boxes.txt"
-            file.write_text(text.split("certificate ")[0])
-            ended = support.lab("certify", str(file), BBMCHECK=support.program())
-            self.assertIn("the program says yes", ended.stderr)
-            boxes.write_text("".join(f"module {x} {y} 32 32\n" for y in range(0, 512, 32) for x in range(0, 512, 32)))
-            ended = support.lab("certify", "--boxes", str(boxes), str(file), BBMCHECK=support.program())
-            self.assertEqual((ended.returncode, ended.stdout.count("\nmodule ")), (0, 256))
+        file, boxes = self.room / "trains.txt", self.room / "boxes.txt"
+        file.write_text(text.split("certificate ")[0])
+        ended = support.lab("certify", str(file), BBMCHECK=support.program())
+        self.assertIn("the program says yes", ended.stderr)
+        boxes.write_text("".join(f"module {x} {y} 32 32\n" for y in range(0, 512, 32) for x in range(0, 512, 32)))
+        ended = support.lab("certify", "--boxes", str(boxes), str(file), BBMCHECK=support.program())
+        self.assertEqual((ended.returncode, ended.stdout.count("\nmodule ")), (0, 256))
 
     def test_auto_uses_fewer_gates(self) -> None:
         """Cuts at wires that come in use fewer gates somewhere than safe cuts."""
@@ -189,7 +187,7 @@ def roughened(text: str, chooser: random.Random) -> str:
 
 
 class Json(unittest.TestCase):
-    """`json` and back."""
+    """`json` and back, and pattern files."""
 
     def test_back_to_the_same_text(self) -> None:
         """Each text that is taken comes back from JSON to the byte."""
@@ -206,10 +204,6 @@ class Json(unittest.TestCase):
                                        report)
         self.assertIn('"verdict": "no"', text)
         self.assertIn('"assignment": 2', text)
-
-
-class Golly(unittest.TestCase):
-    """Pattern files."""
 
     def test_there_and_back(self) -> None:
         """A layout comes back from its pattern file, and so do its live cells."""
@@ -257,11 +251,6 @@ def golly_run(document: support.Document, on: list[str], time: int) -> set:
                                                    + after.read_text())[0])
 
 
-def legend_of(picture: str) -> list[str]:
-    """Returns the names in the legend of a picture, which come last."""
-    return [part.text or "" for part in list(ET.fromstring(picture))[-1].iter() if part.tag.endswith("text")]
-
-
 class Pictures(unittest.TestCase):
     """`draw`."""
 
@@ -279,7 +268,9 @@ class Pictures(unittest.TestCase):
         A ball of two cells has its name once.
         """
         ended = support.lab("draw", "--ways", support.example("machine_switch"))
-        self.assertEqual(legend_of(ended.stdout), ["c, d", "x", "y", "z", "no wire"])
+        # The legend comes last.
+        names = [part.text for part in list(ET.fromstring(ended.stdout))[-1].iter() if part.tag.endswith("text")]
+        self.assertEqual(names, ["c, d", "x", "y", "z", "no wire"])
         self.assertEqual([ended.stdout.count(f">{name}<") for name in ("→c", "→x", "d→", "y→", "z→")], [1] * 5)
         # The tail of c, and the head of d, which flies left and up.
         names = {part.text: (float(part.get("x")), float(part.get("y"))) for part in ET.fromstring(ended.stdout).iter()
@@ -311,11 +302,6 @@ class Pictures(unittest.TestCase):
                 report.flush()
                 ended = support.lab("draw", file, "--report", report.name)
                 self.assertEqual((ended.returncode, ended.stdout.count('class="fault"')), (status, count))
-
-    def test_ways_join(self) -> None:
-        """Segments of one diagonal that meet become one."""
-        pieces = [((0, 0), (1, 1)), ((2, 2), (1, 1)), ((4, 4), (5, 5))]
-        self.assertEqual(joined_pieces(pieces), [((0, 0), (2, 2)), ((4, 4), (5, 5))])
 
     def test_ring_and_halo(self) -> None:
         """The ring of a box of four by two cells has all of them, and its halo has sixteen."""

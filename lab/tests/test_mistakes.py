@@ -4,8 +4,6 @@ nothing is lost.
 
 import json
 import os
-import tempfile
-import unittest
 from pathlib import Path
 from unittest.mock import patch
 
@@ -21,7 +19,6 @@ from bbmlab_core.texts.certificates import Module
 from bbmlab_core.texts.designs import require_report_of
 from bbmlab_core.texts.reports import ReportError, parse_report
 from bbmlab_core.texts.shape_hints import character_hints
-from test_commands import fake_program
 
 BLIF = ".model x\n.inputs a\n.outputs b\n.names a b\n1 1\n.end\n"
 VERILOG = "module x(input a, output b);\n  assign b = a;\nendmodule\n"
@@ -35,8 +32,7 @@ class InRoom(support.InRoom):
 
     def ends(self, status: int, sentence: str, *words: str, **environment: str) -> None:
         """Asserts how a command ends, and that it says a sentence on standard error."""
-        ended = support.lab(*words, **environment)
-        self.assertEqual(ended.returncode, status, (words, ended.stderr))
+        ended = self.assert_ends(status, *words, **environment)
         self.assertRegex(ended.stderr, sentence)
         self.assertNotIn("Traceback", ended.stderr)
 
@@ -115,8 +111,7 @@ class Texts(InRoom):
     def test_control_characters_of_a_netlist(self) -> None:
         """No name of a netlist reaches the terminal as it is."""
         blif = self.file("a.blif", BLIF.replace("inputs a", "inputs \x1b[31mA").replace("names a", "names \x1b[31mA"))
-        ended = support.lab("route", "--circuit-only", blif)
-        self.assertEqual(ended.returncode, 0)
+        ended = self.assert_ends(0, "route", "--circuit-only", blif)
         self.assertNotIn("\x1b", ended.stderr + ended.stdout)
 
     def test_parameters_of_yosys(self) -> None:
@@ -150,8 +145,7 @@ class Texts(InRoom):
         """A name of a file that is no text is shown by its bytes."""
         name = os.fsencode(self.room) + b"/b\xff.txt"
         Path(os.fsdecode(name)).write_text("layout 2 2 0\nend\n")
-        ended = support.lab("view", os.fsdecode(name))
-        self.assertEqual((ended.returncode, "b\\xff.txt" in ended.stdout), (0, True))
+        self.assert_ends(0, "view", os.fsdecode(name), out="b\\xff.txt")
 
     def test_patterns_far_away(self) -> None:
         """A place with thousands of digits is no place."""
@@ -164,8 +158,8 @@ class Texts(InRoom):
                           hint in character_hints(line)], [True, False])
 
 
-class Edits(unittest.TestCase):
-    """Edits at the end of a text, and of many equal lines."""
+class Edits(support.InRoom):
+    """Edits at the end of a text and of many equal lines, and reports that are not of the text."""
 
     def test_ends_of_texts(self) -> None:
         """Of empty lines at the end the first is deleted, and a missing line feed is told."""
@@ -178,10 +172,6 @@ class Edits(unittest.TestCase):
         """Edits between texts of many equal lines make the one of the other."""
         old, new = "waste 2 2\n# c\n" * 1990, "waste 2 2\n" * 1990
         self.assertEqual(applied(old, edits_between(old, new)), new)
-
-
-class Reports(unittest.TestCase):
-    """Reports that are not of the text, though the digest is that of its certificate."""
 
     def test_lines_of_nothing(self) -> None:
         """A line about what the text does not have, and a report that contradicts itself, are refused."""
@@ -202,18 +192,16 @@ class Reports(unittest.TestCase):
         document = support.read_document(SOURCE)
         report = f"bbmcheck 1\ncertificate {certificate_digest(SOURCE)}\nmodules 1\nverdict no\nlocal 0 end 2 0 3 0\n"
         told = as_gcc(explain_answer(SOURCE, "check", report, "text"))
-        assert document.certificate
         module: Module = document.certificate.modules[0]
         self.assertEqual([line.split(" ")[0] for line in told], [f"text:{module.line}:"])
 
     def test_receipts_of_errors(self) -> None:
         """A receipt whose report is none does not count, whatever it says; nor does one of endless seconds."""
         name = "x.txt"
-        with tempfile.TemporaryDirectory() as room:
-            file = Path(room) / name
-            file.write_bytes(Path(support.example("gate_and_mirror")).read_bytes())
-            support.lab("check", "--program", support.program(), "--receipts", f"{room}/r", str(file))
-            receipt = json.loads(next((Path(room) / "r").iterdir()).read_text())
+        file = self.room / name
+        file.write_bytes(Path(support.example("gate_and_mirror")).read_bytes())
+        support.lab("check", "--program", support.program(), "--receipts", f"{self.room}/r", str(file))
+        receipt = json.loads(next((self.room / "r").iterdir()).read_text())
         parse_receipt(json.dumps(receipt).encode())
         for changes in ({"verdict": "error", "report": "x\ncertificate 0\n"}, {"verdict": "error", "report": "x"},
                         {"processor_seconds": 10**400}):
@@ -226,16 +214,15 @@ class Programs(InRoom):
 
     def test_a_yes_is_a_line_and_a_status(self) -> None:
         """A yes with another status is no answer for `explain` and `view`."""
-        odd = fake_program(str(self.room), f"'{support.program()}' \"$@\"\nexit 1\n")
+        odd = self.fake(f"'{support.program()}' \"$@\"\nexit 1\n")
         file = support.example("gate_and_mirror")
         self.ends(4, "the program gave no verdict", "explain", "--program", odd, file)
         self.ends(4, "gave no answer", "explain", "--fix", "--program", odd, file)
-        ended = support.lab("view", "--program", odd, file)
-        self.assertEqual((ended.returncode, "the page has no report" in ended.stderr), (0, True))
+        self.assert_ends(0, "view", "--program", odd, file, err="the page has no report")
 
     def test_a_run_that_is_refused(self) -> None:
         """A `run` without memory says nothing about the lab's run."""
-        full = fake_program(str(self.room), "cat >/dev/null\necho 'bbmcheck: out of memory' >&2\nexit 5\n")
+        full = self.fake("cat >/dev/null\necho 'bbmcheck: out of memory' >&2\nexit 5\n")
         self.ends(0, "the last state was not compared: bbmcheck: out of memory", "trace", "--program", full,
                   support.example("head_on"))
 

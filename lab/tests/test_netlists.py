@@ -90,7 +90,7 @@ def random_blif(chooser: random.Random) -> str:
                       ""])
 
 
-class Equivalence(unittest.TestCase):
+class Equivalence(support.InRoom):
     """The circuit computes what the netlist says."""
 
     def compare(self, text: str, values_of: Callable[[dict[str, bool]], dict[str, bool]], inputs: list[str],
@@ -173,18 +173,17 @@ class Equivalence(unittest.TestCase):
 
     def test_formats_agree_on_bits(self) -> None:
         """BLIF and JSON name the bits of a port alike, whichever way its indices run."""
-        with tempfile.TemporaryDirectory() as room:
-            source = Path(room) / "bits.v"
-            source.write_text("module bits (input [0:2] a, input [6:4] b, output [1:0] y);\n"
-                              "assign y = {a[0] & b[4], a[2] | b[6]};\nendmodule\n")
-            for write in ("write_blif", "write_json"):
-                circuit = circuit_of(made_by_yosys(source, write))
-                with self.subTest(write):
-                    self.assertEqual(set(circuit.inputs), {"a_0", "a_1", "a_2", "b_4", "b_5", "b_6"})
-                    for on, wanted in (({"a_0", "b_4"}, {"y_1"}), ({"a_2"}, {"y_0"}), ({"b_6"}, {"y_0"}),
-                                       ({"a_0", "a_1", "b_5"}, set())):
-                        values, _ = values_under(circuit, on)
-                        self.assertEqual({wire for wire in circuit.outputs if values[wire]}, wanted, on)
+        source = self.room / "bits.v"
+        source.write_text("module bits (input [0:2] a, input [6:4] b, output [1:0] y);\n"
+                          "assign y = {a[0] & b[4], a[2] | b[6]};\nendmodule\n")
+        for write in ("write_blif", "write_json"):
+            circuit = circuit_of(made_by_yosys(source, write))
+            with self.subTest(write):
+                self.assertEqual(set(circuit.inputs), {"a_0", "a_1", "a_2", "b_4", "b_5", "b_6"})
+                for on, wanted in (({"a_0", "b_4"}, {"y_1"}), ({"a_2"}, {"y_0"}), ({"b_6"}, {"y_0"}),
+                                   ({"a_0", "a_1", "b_5"}, set())):
+                    values, _ = values_under(circuit, on)
+                    self.assertEqual({wire for wire in circuit.outputs if values[wire]}, wanted, on)
 
     @FEW_TRIES
     def test_wide_adder_at_samples(self) -> None:
@@ -308,7 +307,7 @@ def wide_xor(count: int) -> str:
     return f".model m\n.inputs {' '.join(names)}\n.outputs y\n{''.join(lines)}.end\n"
 
 
-class Command(unittest.TestCase):
+class Command(support.Case):
     """`bbmlab route` with netlists."""
 
     def test_circuit_only(self) -> None:
@@ -325,16 +324,13 @@ class Command(unittest.TestCase):
     def test_a_wrong_netlist(self) -> None:
         """A netlist that cannot be mapped ends with status 1 and its sentence."""
         text, sentence = REFUSED["a loop"]
-        ended = support.lab("route", "--circuit-only", "-", text=text)
-        self.assertEqual((ended.returncode, ended.stdout), (1, ""))
-        self.assertIn(sentence, ended.stderr)
+        self.assert_ends(1, "route", "--circuit-only", "-", text=text, stdout="", err=sentence)
 
     def test_verilog_gets_a_yes(self) -> None:
         """Verilog, through yosys and the router, gets a yes from the program."""
         netlist = made_by_yosys(ADDER, "write_json")
-        ended = support.lab("route", "-", "--effort", "120", "--program", support.program(), text=netlist)
-        self.assertEqual(ended.returncode, 0, ended.stderr)
-        self.assertIn("verdict yes", ended.stderr)
+        self.assert_ends(0, "route", "-", "--effort", "120", "--program", support.program(), text=netlist,
+                         err="verdict yes")
 
 
 class Sentences(unittest.TestCase):

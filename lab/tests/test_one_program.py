@@ -3,7 +3,6 @@
 import hashlib
 import json
 import os
-import unittest
 from pathlib import Path
 from unittest import mock
 
@@ -27,7 +26,7 @@ def digest(path: Path) -> str:
 
 
 class Replaced(support.InRoom):
-    """A program that a liar replaces while it answers for the first time."""
+    """A program that a liar replaces while it answers for the first time, and the copy of a program."""
 
     def setUp(self) -> None:
         super().setUp()
@@ -88,7 +87,6 @@ class Replaced(support.InRoom):
         first = jobs.run("a", job)
         self.assertTrue(self.was_replaced())
         self.assertNotIn("modules 77", first["report"] + jobs.run("a", job)["report"])
-        assert jobs.worker
         jobs.worker.end()
         self.assertNotIn("modules 77", jobs.run("a", job)["report"])
 
@@ -99,10 +97,6 @@ class Replaced(support.InRoom):
             self.assertEqual([status for _, status, *_ in said], [1, 1])
             self.assertTrue(self.was_replaced())
             self.assertEqual([kind for *_, kind, _ in remote.answers(self.digest, [self.text], 60)], ["other program"])
-
-
-class Copies(unittest.TestCase):
-    """The copy of a program."""
 
     def test_nobody_writes(self) -> None:
         """The copy cannot be written, by its descriptor nor by its path, and both kinds of copies can be executed."""

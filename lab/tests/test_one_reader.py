@@ -20,12 +20,6 @@ PLACES = [b"%b", b"a%bb", b"a %bb", b"a%b b", b"%ba", b"a%b", b"a%b\nb", b"a\n%b
           b"layout%b8 8 3", b"->%b->", b"a%b->b"]
 
 
-def python_words(data: bytes) -> list[list[str]]:
-    """Returns the words of the lines that contain one, as the server has them."""
-    text = data.decode("latin-1")
-    return [words for words in map(free_words, text[mark_length(text):].split("\n")) if words]
-
-
 class OneReader(unittest.TestCase):
     """Python and JavaScript."""
 
@@ -35,7 +29,8 @@ class OneReader(unittest.TestCase):
         found, = node(["words", [text_of(text) for text in texts]])
         for text, words in zip(texts, found):
             own = [[bytes_of(word).decode("latin-1") for word in line] for line in words]
-            self.assertEqual(own, python_words(text), text)
+            lines = text.decode("latin-1")[mark_length(text.decode("latin-1")):].split("\n")
+            self.assertEqual(own, [words for words in map(free_words, lines) if words], text)
             once = spelled(text.decode("latin-1")).text
             self.assertEqual("".join(" ".join(line) + "\n" for line in own), once, text)
             self.assertEqual(spelled(once).text, once, text)

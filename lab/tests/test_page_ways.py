@@ -57,7 +57,6 @@ class Ways(unittest.TestCase):
     def test_all_steps_are_there(self) -> None:
         """The page has the same steps as `draw --ways`."""
         document = read_document(support.text_of("full_adder"))
-        assert document.layout
         found = page_ways.page_ways(document)
         assert found
         ways = {wire["name"]: [tuple(sorted(((x, y), (u, v)))) for x, y, u, v,

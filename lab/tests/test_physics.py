@@ -205,7 +205,7 @@ class OneBall(unittest.TestCase):
 
 
 class TwoBalls(unittest.TestCase):
-    """Collisions of balls of two cells."""
+    """Collisions of balls of two cells, and balls of one cell."""
 
     def test_right_angles(self) -> None:
         """Two balls at a right angle with this lag have this result, for each pair of directions and either order."""
@@ -259,10 +259,6 @@ class TwoBalls(unittest.TestCase):
                 cells = {*ball((ORIGIN, ORIGIN), (1, 1)), *ball((ORIGIN + x, ORIGIN + y), (1, 1))}
                 with self.subTest(x=x, y=y):
                     self.assertEqual(run(cells, [], 30), moved(cells, (1, 1), 30))
-
-
-class OneCell(unittest.TestCase):
-    """Balls of one cell."""
 
     def test_mirrors(self) -> None:
         """A ball of one cell comes back on its own track from either mirror."""

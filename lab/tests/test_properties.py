@@ -87,7 +87,6 @@ class RoundTrips(unittest.TestCase):
     @given(pr.bundles(), st.data())
     def test_json(self, bundle: "bbmlab.Bundle", data: st.DataObject) -> None:
         """The JSON form of a text gives it back, byte for byte; of one with an assign section too."""
-        assert bundle.layout
         on = tuple(name for name in dict.fromkeys(port.name for port in bundle.layout.ins) if data.draw(st.booleans()))
         for part in (bundle, bbmlab.Bundle(bundle.circuit), bbmlab.Bundle(None, bundle.layout, None, on)):
             form = document_json(read_document(str(part)), None)
@@ -99,7 +98,6 @@ class RoundTrips(unittest.TestCase):
     def test_golly(self, bundle: "bbmlab.Bundle") -> None:
         """Golly's form keeps the layout in its comments, and its cells are the start; without comments the start comes
         back, moved by even steps."""
-        assert bundle.layout
         text, on = str(bundle.layout), {port.name for port in bundle.layout.ins[::2]}
         start = next(iter(bbmlab.simulate(bundle.layout, on))).cells
         model = read_document(text, "layout").layout

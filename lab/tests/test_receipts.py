@@ -60,7 +60,7 @@ class InRoom(support.InRoom):
 
 
 class Documents(InRoom):
-    """What is in a receipt."""
+    """What is in a receipt, what is skipped, and what is checked again."""
 
     def test_digests_are_of_the_bytes(self) -> None:
         """Text, sections, program and report have the digests of their bytes; the sections are cut here at each `end`.
@@ -116,10 +116,6 @@ class Documents(InRoom):
         self.assertEqual(len(list(self.receipts.iterdir())), len(self.NAMES) + len(names))
         ended = self.check()
         self.assertIn(f"held {len(self.NAMES) + len(names)}, checked 0", ended.stdout)
-
-
-class Holding(InRoom):
-    """What is skipped, and what is checked again."""
 
     def test_only_what_changed(self) -> None:
         """A second run checks nothing; a changed byte, another program, a broken receipt and a lost one are checked
@@ -188,28 +184,25 @@ class Holding(InRoom):
         ended = self.check()
         self.assertEqual(ended.returncode, 4)
         self.assertIn("4 error", ended.stdout)
-        ended = support.lab("check", "--again", "--program", self.program, str(self.designs))
-        self.assertEqual((ended.returncode, "--receipts" in ended.stderr), (2, True))
+        self.assert_ends(2, "check", "--again", "--program", self.program, str(self.designs), err="--receipts")
 
 
 class Verify(InRoom):
-    """`verify`."""
+    """`verify`, and what the receipts of all parts of a set say together."""
 
-    def verify(self, name: str, text: str | None = None, *words: str) -> "subprocess.CompletedProcess[str]":
+    def assert_verified(self, status: int, out: str, name: str, *words: str, text: str = "") -> None:
         """Verifies the receipt of a design. The counting program is no release, so a MANIFEST names it."""
         manifest = self.room / "MANIFEST"
         manifest.write_text(f"version 1\nprogram_sha256 {digest(Path(self.program).read_bytes())}\n")
-        return support.lab("verify", str(self.receipt(name)), text or str(self.designs / f"{name}.txt"), "--program",
-                           self.program, "--release", str(manifest), *words)
+        self.assert_ends(status, "verify", str(self.receipt(name)), text or str(self.designs / f"{name}.txt"),
+                         "--program", self.program, "--release", str(manifest), *words, out=out)
 
     def test_right_receipts(self) -> None:
         """A receipt of each verdict is of its text, also after the program was run again."""
         self.check()
         for name, verdict in (("gate_and_mirror", "yes"), ("wrong_edge", "no"), ("not_known", "refused")):
             for words in ((), ("--again",)):
-                ended = self.verify(name, None, *words)
-                self.assertEqual(ended.returncode, 0, ended.stdout + ended.stderr)
-                self.assertIn(f": {verdict}, by", ended.stdout)
+                self.assert_verified(0, f": {verdict}, by", name, *words)
 
     def test_another_text(self) -> None:
         """Another text is refused, and the sections that differ are named."""
@@ -221,11 +214,9 @@ class Verify(InRoom):
             changed = [*parts]
             changed[place] += b"\n# more"
             other.write_bytes(b"\nend\n".join(changed))
-            ended = self.verify("full_adder", str(other))
-            self.assertEqual(ended.returncode, 1)
-            self.assertIn(f"of another text: the {name} section differs", ended.stdout)
+            self.assert_verified(1, f"of another text: the {name} section differs", "full_adder", text=str(other))
         other.write_bytes(text + b"\n")
-        self.assertIn("what stands behind the sections differs", self.verify("full_adder", str(other)).stdout)
+        self.assert_verified(1, "what stands behind the sections differs", "full_adder", text=str(other))
 
     def test_changed_receipts(self) -> None:
         """A changed report, verdict, status or digest, a truncated receipt and another document are refused in words.
@@ -242,14 +233,10 @@ class Verify(InRoom):
                 new = old[:-1] + ("1" if old[-1] != "1" else "2")
             self.assertIn(old, whole)
             self.receipt("wrong_edge").write_text(whole.replace(old, new))
-            ended = self.verify("wrong_edge")
-            self.assertEqual(ended.returncode, 1, reason)
-            self.assertIn(reason, ended.stdout)
+            self.assert_verified(1, reason, "wrong_edge")
         for cut in (0, 1, 100, len(whole) - 3):
             self.receipt("wrong_edge").write_text(whole[:cut])
-            ended = self.verify("wrong_edge")
-            self.assertEqual(ended.returncode, 1)
-            self.assertIn("truncated", ended.stdout)
+            self.assert_verified(1, "truncated", "wrong_edge")
 
     def test_a_report_of_another_certificate(self) -> None:
         """A report that is put into the receipt of another text, with its digest, is refused."""
@@ -258,16 +245,13 @@ class Verify(InRoom):
         other = json.loads(self.receipt("gate_and_mirror").read_text())
         receipt.update(report=other["report"], report_sha256=other["report_sha256"])
         self.receipt("full_adder").write_text(json.dumps(receipt))
-        ended = self.verify("full_adder")
-        self.assertEqual(ended.returncode, 1)
-        self.assertIn("of another certificate", ended.stdout)
+        self.assert_verified(1, "of another certificate", "full_adder")
 
     def test_a_program_that_is_no_release(self) -> None:
         """Without a MANIFEST that names it the program is told, and the receipt does not count."""
         self.check()
-        ended = support.lab("verify", str(self.receipt("full_adder")), str(self.designs / "full_adder.txt"))
-        self.assertEqual(ended.returncode, 1)
-        self.assertIn("is no release that is known here", ended.stdout)
+        self.assert_ends(1, "verify", str(self.receipt("full_adder")), str(self.designs / "full_adder.txt"),
+                         out="is no release that is known here")
 
     def test_again_with_another_answer(self) -> None:
         """--again tells a report that the program does not give, and refuses to run another program."""
@@ -277,18 +261,12 @@ class Verify(InRoom):
         receipt["report"] = receipt["report"].replace("verdict no\n", "verdict yes\n").split("local")[0]
         receipt.update(report_sha256=digest(receipt["report"].encode()), verdict="yes", status=0)
         path.write_text(json.dumps(receipt))
-        self.assertEqual(self.verify("wrong_edge").returncode, 0, "a receipt is no signature")
-        ended = self.verify("wrong_edge", None, "--again")
-        self.assertEqual(ended.returncode, 1)
-        self.assertIn("says something else", ended.stdout)
-        other = support.lab("verify", "--again", str(path), str(self.designs / "wrong_edge.txt"), "--program",
-                            support.program(), "--release", str(self.room / "MANIFEST"))
-        self.assertEqual(other.returncode, 4)
-        self.assertIn("is not the program of the receipt", other.stderr)
-
-
-class Shards(InRoom):
-    """Parts of a set, and what the receipts of all parts say together."""
+        # A receipt is no signature.
+        self.assert_verified(0, "", "wrong_edge")
+        self.assert_verified(1, "says something else", "wrong_edge", "--again")
+        self.assert_ends(4, "verify", "--again", str(path), str(self.designs / "wrong_edge.txt"), "--program",
+                         support.program(), "--release", str(self.room / "MANIFEST"),
+                         err="is not the program of the receipt")
 
     def test_parts_are_the_whole(self) -> None:
         """Each file is in one of 16 parts, the receipts are those of one run, and `summary` tells their result."""
@@ -311,15 +289,12 @@ class Shards(InRoom):
         self.assertEqual(support.lab("summary", str(self.receipts)).returncode, 0)
         self.program = counting_program(self.room, "# another")
         support.lab("check", "--program", self.program, "--receipts", str(self.receipts), support.example("half_adder"))
-        told = support.lab("summary", str(self.receipts))
-        self.assertEqual((told.returncode, "2 programs" in told.stdout), (4, True))
+        self.assert_ends(4, "summary", str(self.receipts), out="2 programs")
         self.receipt("half_adder").write_text("{}")
-        told = support.lab("summary", str(self.receipts))
-        self.assertEqual((told.returncode, "does not count" in told.stdout), (4, True))
+        self.assert_ends(4, "summary", str(self.receipts), out="does not count")
         self.assertEqual(support.lab("summary", str(self.designs)).returncode, 4)
 
     def test_wrong_parts(self) -> None:
         """A part that is none is a wrong argument."""
         for word in ("0/3", "4/3", "3", "1/", "/2", "a/b", "1/0", "-1/2"):
-            ended = support.lab("check", f"--shard={word}", str(self.designs))
-            self.assertEqual(ended.returncode, 2, word)
+            self.assert_ends(2, "check", f"--shard={word}", str(self.designs))

@@ -4,6 +4,7 @@ links.
 
 import os
 import stat
+import unittest
 from pathlib import Path
 from unittest import mock
 
@@ -17,18 +18,15 @@ from bbmlab_core.studio.folder import ChangedError, Folder, digest_of
 from bbmlab_core.texts.spelling import spelled
 
 OTHER = b"# of another editor\n"
+FOR_ROOT = unittest.skipIf(os.getuid(), "only root can give files to another user")
 
 
-class Room(support.InRoom):
-    """Tests with a folder."""
+class Meanwhile(support.InRoom):
+    """What other programs wrote meanwhile, and what stays of a file whose bytes are replaced."""
 
     def names(self) -> list[str]:
         """Returns the names in the folder."""
         return sorted(path.name for path in self.room.iterdir())
-
-
-class Meanwhile(Room):
-    """A file that another editor saves between the reading and the writing."""
 
     def test_explain_in_place(self) -> None:
         """`explain --fix -i` leaves the other editor's bytes and puts the fix beside them.
@@ -82,10 +80,6 @@ class Meanwhile(Room):
             folder.write("design.txt", b"new\n", digest_of(b"old\n"), False)
         self.assertEqual((file.read_bytes(), self.names()), (OTHER, ["design.txt"]))
 
-
-class Kept(Room):
-    """What stays of a file whose bytes are replaced."""
-
     def test_protected_files(self) -> None:
         """A file without the right to write stays as it is, also for root and although its folder could be written."""
         file = self.room / "free.txt"
@@ -96,10 +90,9 @@ class Kept(Room):
         self.assertIn("the file is protected against writing", ended.stderr)
         self.assertEqual(self.names(), ["free.txt"])
 
+    @FOR_ROOT
     def test_owner_and_mode(self) -> None:
         """Owner, group and mode stay."""
-        if os.getuid():
-            self.skipTest("only root can give files to another user")
         file = self.room / "free.txt"
         file.write_bytes(b"circuit\n\nend\n")
         os.chown(file, 12345, 12346)
@@ -109,10 +102,9 @@ class Kept(Room):
         self.assertEqual((file.read_bytes(), found.st_uid, found.st_gid, stat.S_IMODE(found.st_mode)),
                          (b"circuit\nend\n", 12345, 12346, 0o640))
 
+    @FOR_ROOT
     def test_an_owner_that_cannot_be_given(self) -> None:
         """A user who may write a file of another one, and cannot give it away, writes into it."""
-        if os.getuid():
-            self.skipTest("only root can give files to another user")
         file = self.room / "free.txt"
         file.write_bytes(b"a longer text than the new one\n")
         os.chown(file, 12345, 12346)
@@ -126,16 +118,12 @@ class Kept(Room):
         file.write_bytes(b"old")
         file.chmod(0o600)
 
-        def look(_number: int) -> None:
-            """Notes the modes of all files."""
-            seen.extend(stat.S_IMODE(path.stat().st_mode) & 0o077 for path in self.room.iterdir())
-
         opened = os.open
 
         def open_and_look(path: str, flags: int, mode: int = 0o777) -> int:
             """Opens a file, and notes the modes of all files."""
             found = opened(path, flags, mode)
-            look(found)
+            seen.extend(stat.S_IMODE(path.stat().st_mode) & 0o077 for path in self.room.iterdir())
             return found
 
         with mock.patch("os.open", open_and_look):

@@ -89,7 +89,7 @@ def qasm_text(chance: random.Random, lines: int, gates: list[Gate], version: int
 
 
 class Mapped(unittest.TestCase):
-    """Random texts: the table of the source is that of the circuit."""
+    """The table of a source is that of its circuit, and what is no netlist of bits gets a sentence."""
 
     def compare(self, text: str, inputs: list[int], kept: list[int], gates: list[Gate], starts: list[bool]) -> None:
         """Compares a text's circuit with its gates under all inputs."""
@@ -159,10 +159,6 @@ class Mapped(unittest.TestCase):
                              ([(0, True), (2, True)], [4])]
         self.compare(text, [0, 1, 2, 3], [2, 3], gates, [False] * 5)
 
-
-class Tables(unittest.TestCase):
-    """PLA and AIGER."""
-
     def values(self, text: str) -> list[tuple[int, ...]]:
         """Returns the outputs for all inputs, the first input changing last."""
         with support.FEW_TRIES:
@@ -186,10 +182,6 @@ class Tables(unittest.TestCase):
         # The same in binary: each gate is two differences.
         binary = "aig 5 2 0 4 3\n10\n6\n7\n1\n" + "".join(map(chr, (2, 2, 3, 2, 1, 2)))
         self.assertEqual(self.values(binary), wanted)
-
-
-class Refused(unittest.TestCase):
-    """What is no netlist of bits gets a sentence with its line."""
 
     def test_sentences(self) -> None:
         """Each wrong text, and what its sentence says."""

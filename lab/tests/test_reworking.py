@@ -4,7 +4,6 @@ import itertools
 import random
 import tempfile
 import unittest
-from pathlib import Path
 
 import support
 from bbmlab_core.circuits.cleaning import clean
@@ -119,7 +118,7 @@ def constants_first(text: str) -> str:
 
 
 class Inverse(unittest.TestCase):
-    """The inverse computes inputs from outputs, and twice it is the circuit."""
+    """The inverse computes inputs from outputs, and the command compares it with the circuit before."""
 
     def test_random_circuits(self) -> None:
         """Circuits that exchange their inputs: the inverse leads back, with constants and garbage exchanged."""
@@ -177,10 +176,6 @@ class Inverse(unittest.TestCase):
         self.assertRegex(done.stderr, r"\Abbmlab: \S+: there is no inverse: the garbage `a` is 1 with a on and 0 with "
                          r"no input on")
 
-
-class Compared(unittest.TestCase):
-    """The command compares what it makes with the circuit before."""
-
     def test_wrong_circuits_are_found(self) -> None:
         """A wrong inverse and a wrong smaller circuit get a sentence, and a right one the inputs that were tried."""
         before = circuit_of("circuit\ninput a\ninput b\nsource 0 -> k\nfredkin a b k -> x y z\nfredkin x y z -> c d e\n"
@@ -188,14 +183,14 @@ class Compared(unittest.TestCase):
         wrong = circuit_of("circuit\ninput a\ninput b\ndelay 1 b -> c\ndelay 1 a -> d\noutput c\noutput d\nend\n")
         right = circuit_of("circuit\ninput a\ninput b\ndelay 1 a -> c\ndelay 1 b -> d\noutput c\noutput d\nend\n")
         back = circuit_of("circuit\ninput c\ninput d\ndelay 1 d -> a\ndelay 1 c -> b\noutput a\noutput b\nend\n")
-        self.assertEqual(circuit_commands.compared(simplify, before, right), "in all 4 choices of the inputs")
+        self.assertEqual(circuit_commands.agreement_words(simplify, before, right), "in all 4 choices of the inputs")
         for change, after, said in ((simplify, wrong, "with a on, c differs"),
                                     (inverse, back, "it does not give `a` back")):
             with self.assertRaisesRegex(LabError, f"the new circuit is wrong: {said}. This is a fault of the lab"):
-                circuit_commands.compared(change, before, after)
+                circuit_commands.agreement_words(change, before, after)
 
 
-class Clean(unittest.TestCase):
+class Clean(support.InRoom):
     """Computing, copying and undoing leaves no garbage but the inputs and constants."""
 
     def test_random_circuits(self) -> None:
@@ -244,13 +239,10 @@ class Clean(unittest.TestCase):
     def test_routed(self) -> None:
         """A clean half adder, routed, gets a yes, and its modules keep each inverse gate."""
         program = support.program()
-        with tempfile.TemporaryDirectory() as room:
-            path, bundle = Path(room) / "c.txt", Path(room) / "b.txt"
-            done = support.lab("circuit", "--clean", support.example("half_adder"), "-o", str(path))
-            self.assertEqual(done.returncode, 0, done.stderr)
-            done = support.lab("route", str(path), "-o", str(bundle), BBMCHECK=program)
-            self.assertEqual(done.returncode, 0, done.stderr)
-            lines = bundle.read_text().splitlines()
+        path, bundle = self.room / "c.txt", self.room / "b.txt"
+        self.assert_ends(0, "circuit", "--clean", support.example("half_adder"), "-o", str(path))
+        self.assert_ends(0, "route", str(path), "-o", str(bundle), BBMCHECK=program)
+        lines = bundle.read_text().splitlines()
         inverse_gates = [line for line in lines if line.startswith(("unswitch", "uninteract"))]
         self.assertEqual(len({line for line in lines if line.startswith("keep ")}), len(inverse_gates))
         self.assertGreater(len(inverse_gates), 2)

@@ -32,15 +32,8 @@ DELAYS = [
 ]
 
 
-def random_legs(chance: random.Random) -> list[Leg]:
-    """Returns legs of a path with up to five bounces."""
-    turns = [chance.choice(list(Turn)) for _ in range(chance.randint(0, 5))]
-    return [*(Leg(chance.randint(BOUNCE_STEPS, 40), turn) for turn in turns),
-            Leg(chance.randint(BOUNCE_STEPS, 40), None)]
-
-
 class Backward(unittest.TestCase):
-    """What is made backwards runs forward."""
+    """What is made backwards runs forward, and paths are taken out and led again."""
 
     def assert_yes(self, text: str, seed: int) -> None:
         """Asserts that a circuit that is placed backwards gets a yes."""
@@ -75,7 +68,9 @@ class Backward(unittest.TestCase):
         chance = random.Random(5)
         done = 0
         while done < 40:
-            legs, start = random_legs(chance), Ball(400, 400, 1, 1, 0)
+            turns = [chance.choice(list(Turn)) for _ in range(chance.randint(0, 5))]
+            legs = [Leg(chance.randint(BOUNCE_STEPS, 40), turn) for turn in [*turns, None]]
+            start = Ball(400, 400, 1, 1, 0)
             end, mirrors = follow(start, legs)
             item, last = path_item(start, legs), 2 * chance.randint(200, 300) + 1
             if item is None:
@@ -87,14 +82,9 @@ class Backward(unittest.TestCase):
             self.assertEqual(set(path.start.cells()), set(end.cells()))
             self.assertEqual(follow(path.start, reversed_legs(legs))[1], mirrors[::-1])
             forward = path_item(path.start, path.legs)
-            assert forward
             self.assertEqual((forward.mirrors, forward.touched, forward.claims),
                              (path.item.mirrors, path.item.touched, path.item.claims))
             done += 1
-
-
-class RipUp(unittest.TestCase):
-    """Paths that are taken out and led again."""
 
     def assert_books(self, board: Board) -> None:
         """Asserts that the world has exactly the items of the board."""
@@ -155,7 +145,6 @@ class RipUp(unittest.TestCase):
         """A ball is led on for 9,000 steps, which take more legs than the tries of a short wander."""
         attempt = Attempt(RouterNetlist(read_circuit(circuit_text("a", "", "a"))), 1200, 1, Settings())
         path = attempt.last_path("a", Ball(600, 600, 1, 1, 0), 9000)
-        assert path
         self.assertEqual((path.end.time, follow(path.start, path.legs)[0]), (9000, path.end))
         world = World(1200)
         world.add(path.item)

@@ -16,7 +16,7 @@ EACH_DIRECTION = [Ball(40 + (dx < 0), 40 + (dy < 0), dx, dy, 0) for dx in (1, -1
 
 
 class Balls(unittest.TestCase):
-    """A ball by algebra is where the rule of blocks leads it."""
+    """A ball by algebra is where the rule of blocks leads it, and the cells and gates of the library."""
 
     def test_bounce(self) -> None:
         """A bounce ends on the track that the algebra says, in all directions, and not a step sooner than
@@ -65,10 +65,6 @@ class Balls(unittest.TestCase):
             self.assertEqual(set(path_run(ball, [Leg(9, None)]).states[-1]), set(ball.flown(9).cells()))
             self.assertEqual(set(ball.reversed().cells()), set(ball.cells()))
 
-
-class Cells(unittest.TestCase):
-    """The library."""
-
     def ends(self, cell: GateCell, shift: tuple[int, int, int]) -> tuple[dict, dict]:
         """Returns the last state of a run of a moved cell, and the state that the gate's rule asks for."""
         inputs, outputs = PORTS[cell.word]
@@ -116,10 +112,6 @@ class Cells(unittest.TestCase):
                 flying = {own for ball in cell.ins.values() if time < ball.time for own in ball.at(time).cells()}
                 flying |= {own for ball in cell.outs.values() if time >= ball.time for own in ball.at(time).cells()}
                 self.assertEqual(set(state) - flying, set(cell.names[time]), (word, time))
-
-
-class Names(unittest.TestCase):
-    """The rows of gates that the tests use are those of a circuit's gate."""
 
     def test_port_counts(self) -> None:
         """Each gate has as many ports as wires."""

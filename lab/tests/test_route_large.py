@@ -53,7 +53,7 @@ def random_pair(chance: random.Random) -> tuple[Ball, Ball]:
 
 
 class BitRows(unittest.TestCase):
-    """Paths by rows of bits."""
+    """Paths by rows of bits, planes that grow, and the way ahead of waiting balls."""
 
     def test_joins_come_to_the_goal(self) -> None:
         """Each join ends at its goal, and its mirrors have room and its legs a free way; most pairs of balls on a free
@@ -99,10 +99,6 @@ class BitRows(unittest.TestCase):
         last = bit_rows.Bend(10, Turn.FLAT, Ball(140, 160, -1, 1, 30))
         self.assertIsNone(bit_rows.middle_of(first, last, 500))
 
-
-class Growth(unittest.TestCase):
-    """Planes that grow."""
-
     def test_what_is_there_stays(self) -> None:
         """A plane that grew has the same rows and diagonals, and takes items beyond its old border, which were refused
         before."""
@@ -140,7 +136,6 @@ class Growth(unittest.TestCase):
         self.assertGreater(max(grown), 128)
         self.assertLessEqual(max(grown), 192)
 
-
     def test_ends_get_room(self) -> None:
         """Before balls are led to the last time the plane grows until their ways have room by estimate: here 30 balls
         for some 300 steps."""
@@ -155,10 +150,6 @@ class Growth(unittest.TestCase):
             self.assertEqual(side > 160, is_grown)
             self.assertLess(side, 1.3 * least)
             self.assertEqual(side >= least, is_grown)
-
-
-class Lanes(unittest.TestCase):
-    """The way ahead of waiting balls."""
 
     def test_gates_keep_off(self) -> None:
         """No gate is put on the way ahead of a ball that waits, but for the gate that consumes it, or behind the ball.
@@ -176,7 +167,7 @@ class Lanes(unittest.TestCase):
 
 
 class Cropping(Routing):
-    """Layouts as small as what they contain."""
+    """Layouts as small as what they contain, and planes of sides below and above the first limit."""
 
     def test_crop_keeps_the_design(self) -> None:
         """The cropped layout gets a yes like the whole one, is no larger, and has a margin of at most a tile and four
@@ -188,7 +179,6 @@ class Cropping(Routing):
         for bundle in (small, whole):
             self.assertIn("\nverdict yes\n", self.verdict(bundle.text))
         layout = support.read_document(small.text).layout
-        assert layout
         columns = [part.x for part in layout.parts]
         self.assertLess(min(columns), 40)
         self.assertGreater(min(columns), MARGIN - 3)
@@ -201,17 +191,12 @@ class Cropping(Routing):
         except NoRouteError:
             return None
 
-
-class Sides(Routing):
-    """Planes of sides below and above the first limit, up to the largest."""
-
     def test_sides(self) -> None:
         """On planes of given sides a circuit gets a yes, and the lab's run its values; the line of limits is there only
         if it is needed."""
         for side, words in ((512, ()), (528, ("--seed", "2")), (2048, ()), (4096, ())):
             with self.subTest(side=side):
                 document = self.assert_yes(gate_circuit("fredkin"), "--size", str(side), *words)
-                assert document.layout
                 self.assertEqual((document.layout.width, document.layout.height), (side, side))
                 self.assertEqual((self.room / "bundle.txt").read_text().startswith("limits 2\n"), side > 512)
 
@@ -253,10 +238,8 @@ class Words(Routing):
         old.chmod(0o755)
         for side, words in (("528", "does not read texts that begin with `limits 2`"),
                             ("512", "this is an error of the router")):
-            ended = support.lab("route", support.example("half_adder"), "--size", side, "-o", str(made), "--program",
-                                str(old))
-            self.assertEqual(ended.returncode, 1)
-            self.assertIn(words, ended.stderr)
+            self.assert_ends(1, "route", support.example("half_adder"), "--size", side, "-o", str(made), "--program",
+                             str(old), err=words)
 
     def test_pickled_errors_keep_their_bound(self) -> None:
         """What ended an attempt in a process of its own is known to the others."""

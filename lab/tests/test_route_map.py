@@ -3,7 +3,6 @@
 import random
 import sys
 import tempfile
-import unittest
 import xml.etree.ElementTree as tree
 from pathlib import Path
 
@@ -29,8 +28,8 @@ def world_with(size: int, cells: list[tuple[int, int]]) -> World:
     return world
 
 
-class Counts(unittest.TestCase):
-    """How many cells of a tile are taken."""
+class Counts(support.InRoom):
+    """How many cells of a tile are taken, and the option `--map` of `route`."""
 
     def test_counts(self) -> None:
         """Each cell counts once, in its own tile: compared with a count cell by cell, after a growth too."""
@@ -65,10 +64,6 @@ class Counts(unittest.TestCase):
         crowding = crowding_of(Board(RouterNetlist(circuit), 96, Settings()))
         self.assertEqual((crowding.part, crowding.gates), (0, ()))
 
-
-class Map(unittest.TestCase):
-    """The option `--map` of `route`."""
-
     def route(self, *words: str) -> tuple[int, str, tree.Element | None]:
         """Routes a circuit of ten gates; returns the status, what was said, and the map."""
         with tempfile.TemporaryDirectory() as room:
@@ -81,7 +76,6 @@ class Map(unittest.TestCase):
     def test_routed(self) -> None:
         """Each gate that was placed has a frame with its name, and the title says that there is a route."""
         status, said, picture = self.route()
-        assert picture is not None
         names = [title.text or "" for title in picture.iter(f"{SVG}title")]
         placed = int(said.split("gates placed ")[1].split(",")[0])
         self.assertEqual((status, len(names), len(set(names))), (0, placed, placed))
@@ -97,10 +91,9 @@ class Map(unittest.TestCase):
 
     def test_own_input(self) -> None:
         """The map is not written over the circuit or the bundle."""
-        with tempfile.TemporaryDirectory() as room:
-            circuit = Path(room) / "circuit.txt"
-            circuit.write_text(str(made_circuit("forward", 3, 4, 1)))
-            before = circuit.read_bytes()
-            for words in ((str(circuit),), (f"{room}/out.txt", "-o", f"{room}/out.txt")):
-                ended = support.lab("route", str(circuit), "--map", *words)
-                self.assertEqual((ended.returncode, circuit.read_bytes()), (2, before), ended.stderr)
+        circuit = self.room / "circuit.txt"
+        circuit.write_text(str(made_circuit("forward", 3, 4, 1)))
+        before = circuit.read_bytes()
+        for words in ((str(circuit),), (f"{self.room}/out.txt", "-o", f"{self.room}/out.txt")):
+            ended = support.lab("route", str(circuit), "--map", *words)
+            self.assertEqual((ended.returncode, circuit.read_bytes()), (2, before), ended.stderr)

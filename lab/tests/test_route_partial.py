@@ -6,8 +6,6 @@ import io
 import re
 import subprocess
 import sys
-import tempfile
-import unittest
 from collections import Counter
 from pathlib import Path
 from typing import Any, Callable
@@ -61,13 +59,12 @@ def slow_above(most: int) -> Callable[..., Design | str]:
     return led
 
 
-class Parts(unittest.TestCase):
-    """Gates that an attempt placed before it failed."""
+class Parts(support.InRoom):
+    """Gates that an attempt placed before it failed, steps of another board, and the summary's counts."""
 
     def assert_yes(self, part: PartialRoute, count: int) -> None:
         """Asserts that so many gates of a part are kept, with a yes."""
         design = partial_design(part, Settings(), 60)
-        assert design
         self.assertEqual(len(design.gates), count)
         bundle = routed_bundle(partial_text(design.circuit), design).text
         ended = subprocess.run([support.program(), "check"], input=bundle.encode(), capture_output=True, check=False)
@@ -121,16 +118,11 @@ class Parts(unittest.TestCase):
         self.assertEqual(steps_without(part.steps, "e"), [first])
         self.assertEqual(steps_without([second, first], "e"), [second])
 
-
-class Adopting(unittest.TestCase):
-    """Steps that another board made."""
-
     def test_no_room_to_wait(self) -> None:
         """A ball whose way was given to a path that was led later is named, and does not take it as well."""
         part = placed_part(circuit_text("ab", "switch a b -> x y z", "xyz"), 384, 1)
         step = part.steps[0]
         ball = step.outs["x"].ball
-        assert ball
         way = path_item(ball.flown(2), [Leg(20, None)])
         assert way
         other = BallPath("y", ball.flown(2), ball.flown(22), (Leg(20, None),), way)
@@ -141,30 +133,25 @@ class Adopting(unittest.TestCase):
         again = Attempt(RouterNetlist(part.circuit), 384, 1, Settings())
         self.assertEqual(again.adopt([step]), "")
 
-
-class Counting(unittest.TestCase):
-    """What the summary counts."""
-
     def test_what_is_counted_is_kept(self) -> None:
         """The summary counts the gates of the bundle, and one more sentence those whose balls could not be led to the
         end."""
         part = placed_part(made_circuit("forward", 12, 8, 1), 512, 1)
-        with tempfile.TemporaryDirectory() as room:
-            options = argparse.Namespace(keep_partial=True, map=None, output=f"{room}/part.txt", seed=1, size=512,
-                                         effort=1.0, jobs=1, compact=False, timeout=60, late=[])
-            for is_interrupted in (False, True):
-                outcome = Outcome(None, "", Counter(), 1, 12, 12, part.steps, 512, is_interrupted)
-                said = io.StringIO()
-                with mock.patch.object(partial, "led_design", slow_above(3)), \
-                        mock.patch.object(partial, "finishable_step_count", lambda *_: 3), \
-                        contextlib.redirect_stderr(said):
-                    report_failure(part.circuit, outcome, options, find_program(support.program()))
-                kept = sum(line.split(" ")[0] in GATE_SIZES for line in Path(options.output).read_text().split("\n"))
-                with self.subTest(is_interrupted=is_interrupted):
-                    self.assertEqual(re.findall(r"[0-9]+ of [0-9]+ gates", said.getvalue()), [f"{kept} of 12 gates"],
-                                     said.getvalue())
-                    self.assertIn(f"bbmlab: {12 - kept} more had a place", said.getvalue())
-                    self.assertIn("verdict yes", said.getvalue())
+        options = argparse.Namespace(keep_partial=True, map=None, output=f"{self.room}/part.txt", seed=1, size=512,
+                                     effort=1.0, jobs=1, compact=False, timeout=60, late=[])
+        for is_interrupted in (False, True):
+            outcome = Outcome(None, "", Counter(), 1, 12, 12, part.steps, 512, is_interrupted)
+            said = io.StringIO()
+            with mock.patch.object(partial, "led_design", slow_above(3)), \
+                    mock.patch.object(partial, "finishable_step_count", lambda *_: 3), \
+                    contextlib.redirect_stderr(said):
+                report_failure(part.circuit, outcome, options, find_program(support.program()))
+            kept = sum(line.split(" ")[0] in GATE_SIZES for line in Path(options.output).read_text().split("\n"))
+            with self.subTest(is_interrupted=is_interrupted):
+                self.assertEqual(re.findall(r"[0-9]+ of [0-9]+ gates", said.getvalue()), [f"{kept} of 12 gates"],
+                                 said.getvalue())
+                self.assertIn(f"bbmlab: {12 - kept} more had a place", said.getvalue())
+                self.assertIn("verdict yes", said.getvalue())
 
     def test_only_parts_count(self) -> None:
         """If a part is kept, an attempt backward in time, which leaves none, does not count; else it does."""

@@ -3,9 +3,6 @@
 import os
 import subprocess
 import sys
-import tempfile
-import unittest
-from pathlib import Path
 
 import support
 
@@ -13,7 +10,7 @@ import support
 HEAVY = {"dataclasses", "inspect", "json", "multiprocessing", "pathlib", "subprocess", "typing"}
 
 
-class Start(unittest.TestCase):
+class Start(support.InRoom):
     """`bbmlab --help` and its kin."""
 
     def test_late_imports(self) -> None:
@@ -41,22 +38,18 @@ class Start(unittest.TestCase):
 
         Another user's cache is not used.
         """
-        with tempfile.TemporaryDirectory() as room:
-            for is_own in (True, False):
-                cache = Path(room) / str(is_own)
-                cache.mkdir()
-                if not is_own:
-                    if os.getuid():
-                        continue
-                    os.chown(cache, 12345, 12345)
-                ended = support.lab("cells", XDG_CACHE_HOME=str(cache), PYTHONDONTWRITEBYTECODE="")
-                self.assertEqual(ended.returncode, 0, ended.stderr)
-                self.assertEqual(any(path.name.startswith("standard_cells.") for path in cache.rglob("*.pyc")), is_own)
+        for is_own in (True, False):
+            cache = self.room / str(is_own)
+            cache.mkdir()
+            if not is_own:
+                if os.getuid():
+                    continue
+                os.chown(cache, 12345, 12345)
+            self.assert_ends(0, "cells", XDG_CACHE_HOME=str(cache), PYTHONDONTWRITEBYTECODE="")
+            self.assertEqual(any(path.name.startswith("standard_cells.") for path in cache.rglob("*.pyc")), is_own)
         self.assertEqual(list(support.LAB.rglob("*.pyc")), [])
 
     def test_wrong_command(self) -> None:
         """A command that there is not is refused with the list of those that there are."""
-        ended = support.lab("shake", "file")
-        self.assertEqual(ended.returncode, 2)
-        self.assertIn("invalid choice: 'shake'", ended.stderr)
+        ended = self.assert_ends(2, "shake", "file", err="invalid choice: 'shake'")
         self.assertIn("'from-golly'", ended.stderr)

@@ -5,20 +5,17 @@ BBMLAB_SHOTS names a folder that keeps the screenshots.
 """
 
 import os
-import tempfile
-import unittest
 from pathlib import Path
 
 import support
 
 
-class Browser(unittest.TestCase):
+class Browser(support.InRoom):
     """The page in a browser."""
 
     def test_in_a_browser(self) -> None:
         """Each use of `browse_studio.py` comes to its end, and the console has no error."""
         support.require_browser()
-        with tempfile.TemporaryDirectory() as room:
-            folder = Path(os.environ.get("BBMLAB_SHOTS") or room)
-            (folder / "collision.txt").unlink(missing_ok=True)
-            support.browse("browse_studio.py", str(folder), support.program(), support.BBMLAB[1])
+        folder = Path(os.environ.get("BBMLAB_SHOTS") or self.room)
+        (folder / "collision.txt").unlink(missing_ok=True)
+        support.browse("browse_studio.py", str(folder), support.program(), support.BBMLAB[1])

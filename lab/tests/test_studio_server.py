@@ -50,9 +50,10 @@ class Served(support.InRoom):
         self.addCleanup(self.server.server_close)
         self.addCleanup(self.server.shutdown)
 
-    def send(self, method: str, path: str, body: bytes = b"", **headers: str) -> tuple[int, dict[str, str], bytes]:
+    def send(self, method: str, path: str, body: bytes | dict[str, Any] = b"",
+             **headers: str) -> tuple[int, dict[str, str], bytes]:
         """Returns the status, the headers and the body of an answer. Headers that are empty are left out."""
-        guard = self.server.guard
+        guard, body = self.server.guard, body if isinstance(body, bytes) else json.dumps(body).encode()
         lines = {"Host": guard.host, "Origin": f"http://{guard.host}", "Content-Type": "application/json",
                  "Content-Length": str(len(body)),
                  "X-Bbmlab-Key": guard.key, **{name.replace("_", "-"): value for name, value in headers.items()}}
@@ -71,7 +72,7 @@ class Served(support.InRoom):
 
     def ask(self, request: str, /, **body: Any) -> dict[str, Any]:
         """Returns the answer to a request of the page."""
-        status, _, data = self.send("POST", f"api/{request}", json.dumps(body).encode())
+        status, _, data = self.send("POST", f"api/{request}", body)
         self.assertEqual(status, 200, data)
         answer: dict[str, Any] = json.loads(data)
         return answer
@@ -105,10 +106,8 @@ class Security(Served):
         self.assertEqual(self.server.address, f"http://{guard.host}/#{token}")
         for wrong in ("", "x", token[:-1], guard.key, "\ud800"):
             self.assertEqual(self.enter(wrong)[0], 403, wrong)
-        self.assertEqual(self.send("POST", "api/enter", json.dumps({"token": token}).encode(), X_Bbmlab_Key="",
-                                   Origin="null")[0], 403)
-        self.assertEqual(self.send("POST", "api/enter", json.dumps({"token": "x" * 2000}).encode(), X_Bbmlab_Key="")[0],
-                         413)
+        self.assertEqual(self.send("POST", "api/enter", {"token": token}, X_Bbmlab_Key="", Origin="null")[0], 403)
+        self.assertEqual(self.enter("x" * 2000)[0], 413)
         self.assertEqual(entries, [])
         status, data = self.enter(token)
         self.assertEqual((status, json.loads(data)), (200, {"key": guard.key}))
@@ -119,7 +118,7 @@ class Security(Served):
 
     def enter(self, token: str) -> tuple[int, bytes]:
         """Returns the status and the body of the answer to a token."""
-        status, _, data = self.send("POST", "api/enter", json.dumps({"token": token}).encode(), X_Bbmlab_Key="")
+        status, _, data = self.send("POST", "api/enter", {"token": token}, X_Bbmlab_Key="")
         return status, data
 
     def test_nothing_secret_is_served(self) -> None:
@@ -327,11 +326,9 @@ class Verdicts(Served):
         self.assertEqual((told["verdict"], told["report"], told["is_last"]), ("none", "", False))
         told = self.ask("verdict", text=head, tab="a", stage="made", earlier="")
         self.assertEqual((told["verdict"], told["by"], told["is_last"]), ("yes", "certify", True))
-        told = self.ask("verdict", text=text_of("wrong_delay"), tab="a", stage="first",
-                        earlier="")
+        told = self.ask("verdict", text=text_of("wrong_delay"), tab="a", stage="first", earlier="")
         self.assertEqual((told["verdict"], told["by"], told["is_last"]), ("no", "own", False))
-        told = self.ask("verdict", text=text_of("wrong_delay"), tab="a", stage="other",
-                        earlier="")
+        told = self.ask("verdict", text=text_of("wrong_delay"), tab="a", stage="other", earlier="")
         self.assertNotIn("With all inputs on", told["words"][0])
         told = self.ask("verdict", text=text.replace("out b 26 28", "out b 26 27"), tab="a", stage="other", earlier="")
         self.assertEqual((told["verdict"], told["words"][0][:83]),
@@ -372,9 +369,8 @@ class Verdicts(Served):
                           self.ask("export", text=text, tab="a", bundle="", form=form, name="a<b>", on=["p"])["text"],
                           form)
         self.assertIn("error", self.ask("export", text="circuit\n", tab="a", bundle="", form="svg", name="a", on=[]))
-        self.assertEqual(self.send("POST", "api/export",
-                                   json.dumps({"text": "", "tab": "", "bundle": "", "form": "svg",
-                                               "name": ""}).encode())[0], 400)
+        wrong = {"text": "", "tab": "", "bundle": "", "form": "svg", "name": ""}
+        self.assertEqual(self.send("POST", "api/export", wrong)[0], 400)
         for form in ("", "SVG", "../page"):
             self.assertIn("svg, golly or page",
                           self.ask("export", text=text, tab="a", bundle="", form=form, name="a", on=[])["error"])
@@ -452,7 +448,7 @@ class Searches(Served):
         told = self.ended("a")
         self.assertEqual((told["state"], "text" in told), ("failed", False))
         self.assertIn("loop", told["said"][-1])
-        self.assertEqual(self.send("POST", "api/connect", json.dumps(words).encode())[0], 400)
+        self.assertEqual(self.send("POST", "api/connect", words)[0], 400)
 
     def test_a_search_is_cancelled(self) -> None:
         """A cancelled search ends with its processes, and another one can begin then; while it runs, no other one can.
@@ -489,17 +485,12 @@ class Searches(Served):
             self.assertIn("error", self.ask("route", tab="a", text=self.CIRCUIT, seconds=seconds, seed=seed))
         for words in ({"seconds": "60", "seed": 1}, {"seconds": 60, "seed": 1.5}, {"seconds": True, "seed": 1},
                       {"seconds": 60}):
-            self.assertEqual(self.send("POST", "api/route",
-                                       json.dumps({"tab": "a", "text": self.CIRCUIT, **words}).encode())[0], 400)
+            self.assertEqual(self.send("POST", "api/route", {"tab": "a", "text": self.CIRCUIT, **words})[0], 400)
         self.assertEqual(self.routes.found, {})
 
 
 class Limits(support.InRoom):
-    """What ends a program."""
-
-    def fake(self, script: str) -> str:
-        """Returns the path of a program that does what a script says."""
-        return support.executable(self.room / "program", script)
+    """What ends a program, and the command."""
 
     def test_time_limit(self) -> None:
         """A program that does not end is killed."""
@@ -546,17 +537,12 @@ class Limits(support.InRoom):
         self.assertEqual(told["verdict"], "unknown")
         self.assertIn("There is no verdict", told["words"][0])
 
-
-class Command(support.InRoom):
-    """The command."""
-
     def started(self, *words: str, **environment: str) -> tuple["subprocess.Popen[str]", str]:
         """Starts the studio, and returns its process and the address that it prints."""
         process = subprocess.Popen([*support.BBMLAB, "studio", f"{self.room}/a.txt", *words], stdout=subprocess.PIPE,
                                    stderr=subprocess.DEVNULL, text=True, env={**os.environ, **environment})
         self.addCleanup(process.wait)
         self.addCleanup(process.terminate)
-        assert process.stdout
         self.addCleanup(process.stdout.close)
         return process, process.stdout.readline().strip()
 

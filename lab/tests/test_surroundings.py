@@ -75,8 +75,7 @@ class Outputs(Room):
         name = self.room / "a\nforged.txt:1: error: \x1b[31mb.txt"
         for text in ("circuit\nsource 2 -> a\nend\n", support.text_of("wrong_edge")):
             name.write_text(text)
-            ended = support.lab("explain", "--gcc", "--program", support.program(), str(name))
-            self.assertEqual(ended.returncode, 1, ended.stderr)
+            ended = self.assert_ends(1, "explain", "--gcc", "--program", support.program(), str(name))
             for line in ended.stdout.splitlines():
                 self.assertIn("a\\x0aforged.txt:1: error: \\x1b[31mb.txt:", line)
         for command in ("view", "trace"):
@@ -87,7 +86,7 @@ class Outputs(Room):
 
 
 class Inputs(Room):
-    """Files that are none, and folders."""
+    """Files that are none, folders, and receipts of equal names."""
 
     def test_pipes(self) -> None:
         """A pipe to which nobody writes ends with the time limit; in a folder it is left out, with a sentence."""
@@ -100,10 +99,9 @@ class Inputs(Room):
                             seconds=30)
         self.assertEqual((ended.returncode, time.monotonic() - started < 20), (4, True))
         self.assertIn("the file did not end within 1 seconds", ended.stdout)
-        ended = support.lab("check", "--timeout", "1", "--receipts", str(self.room / "r"), "--program",
-                            support.program(), str(folder), seconds=30)
-        self.assertEqual(ended.returncode, 0, ended.stdout)
-        self.assertIn(f"bbmlab: {folder}/x.txt: this is no plain file, and is left out", ended.stderr)
+        self.assert_ends(0, "check", "--timeout", "1", "--receipts", str(self.room / "r"), "--program",
+                         support.program(), str(folder), seconds=30,
+                         err=f"bbmlab: {folder}/x.txt: this is no plain file, and is left out")
         ended = self.shell('cat "$1" | lab check --timeout 20 --program "$2" /dev/fd/0',
                            support.example("gate_and_mirror"), support.program())
         self.assertEqual(ended.returncode, 0, ended.stdout)
@@ -126,10 +124,6 @@ class Inputs(Room):
                  for number in range(1, 10)]
         self.assertEqual(sorted(len(part["results"]) for part in parts), [0] * 8 + [1])
         self.assertEqual([part["all_yes"] for part in parts], [False] * 9)
-
-
-class Receipts(Room):
-    """Receipts of equal names."""
 
     def test_two_folders(self) -> None:
         """Files of one relative name in two folders have two receipts in one folder, and a file has one from wherever
@@ -155,14 +149,12 @@ class Programs(Room):
         program = self.program("[ \"$1\" = check ] || exec \"$real\" \"$@\"\ncat >/dev/null; exec \"$real\" check "
                                f"<'{good}'")
         receipts = self.room / "receipts"
-        ended = support.lab("check", "--program", program, "--receipts", str(receipts), wrong, good)
-        self.assertEqual(ended.returncode, 4)
-        self.assertIn("gave the report of another text", ended.stdout)
+        self.assert_ends(4, "check", "--program", program, "--receipts", str(receipts), wrong, good,
+                         out="gave the report of another text")
         self.assertEqual([path.name.endswith("gate_and_mirror.txt.json") for path in receipts.iterdir()], [True])
         for words in (["certify", support.example("not_gate")], ["route", support.example("half_adder")],
                       ["explain", wrong], ["explain", "--fix", wrong]):
-            ended = support.lab(*words, "--program", program)
-            self.assertEqual(ended.returncode, 4, (words, ended.stdout, ended.stderr))
+            ended = self.assert_ends(4, *words, "--program", program)
             self.assertNotIn("says yes", ended.stderr)
         jobs = Jobs(program, 20.0, 4096)
         self.addCleanup(jobs.close)
@@ -175,8 +167,7 @@ class Programs(Room):
         for output in ("cells x\\nfoo\\n", "cells 1\\nfoo\\n", "cells 2\\n1 2\\n", "", "cells 1\\n1 2",
                        "cells 99999999999999999999\\n"):
             program = self.program(f"cat >/dev/null; printf '{output}'")
-            ended = support.lab("trace", "--program", program, support.example("gate_and_mirror"))
-            self.assertEqual(ended.returncode, 4, (output, ended.stderr))
+            ended = self.assert_ends(4, "trace", "--program", program, support.example("gate_and_mirror"))
             self.assertEqual(len(ended.stderr.splitlines()), 1, ended.stderr)
             self.assertNotIn("Traceback", ended.stderr)
 
@@ -313,7 +304,6 @@ class Words(Room):
                 "cells": {"cell_7": {"type": "$lut", "parameters": {"WIDTH": width, "LUT": table},
                                      "port_directions": {"A": "input", "Y": "output"},
                                      "connections": {"A": [place + 2 for place in range(width)], "Y": [9]}}}}}}
-            ended = support.lab("route", "--circuit-only", "-", text=json.dumps(netlist))
-            self.assertEqual(ended.returncode, 0 if is_good else 1, (width, table, ended.stderr))
+            ended = self.assert_ends(0 if is_good else 1, "route", "--circuit-only", "-", text=json.dumps(netlist))
             if not is_good:
                 self.assertIn("cell_7", ended.stderr)

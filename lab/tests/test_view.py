@@ -6,8 +6,6 @@ import base64
 import hashlib
 import random
 import re
-import tempfile
-import unittest
 
 import support
 from bbmlab_core.physics.simulation import ModuleRun, run_layout
@@ -16,8 +14,15 @@ from support import data_of, sorted_cells
 from test_view_engine import node
 
 
-class Script(unittest.TestCase):
-    """The page's script under node."""
+def state_at(document: support.Document, on: list[str], time: int) -> list[list[int]]:
+    """Returns the live cells at a time by the lab's run."""
+    run = run_layout(document.layout, on)
+    run.run_to(time)
+    return sorted_cells(run.field.state())
+
+
+class Page(support.InRoom):
+    """The page's script under node, and the page as a file and in a browser."""
 
     def test_last_states_of_the_cases(self) -> None:
         """The page ends each worked run as the case says."""
@@ -62,16 +67,6 @@ class Script(unittest.TestCase):
         self.assertEqual([told["states"] for told in node(jobs)], wanted)
 
 
-def state_at(document: support.Document, on: list[str], time: int) -> list[list[int]]:
-    """Returns the live cells at a time by the lab's run."""
-    run = run_layout(document.layout, on)
-    run.run_to(time)
-    return sorted_cells(run.field.state())
-
-
-class Page(unittest.TestCase):
-    """The page as a file, and in a browser."""
-
     def test_is_one_file(self) -> None:
         """The page asks for nothing from elsewhere, and a text can't end its data early."""
         ended = support.lab("view", support.example("wrong_edge"), "--program", support.program())
@@ -98,7 +93,6 @@ class Page(unittest.TestCase):
     def test_in_a_browser(self) -> None:
         """Load, step, toggle an input, click a fault: no console error, and the page shows what it should."""
         support.require_browser()
-        with tempfile.TemporaryDirectory() as room:
-            page = f"{room}/page.html"
-            support.lab("view", support.example("wrong_edge"), "-o", page, "--program", support.program())
-            support.browse("browse_page.py", page, room, seconds=300)
+        page = f"{self.room}/page.html"
+        support.lab("view", support.example("wrong_edge"), "-o", page, "--program", support.program())
+        support.browse("browse_page.py", page, self.room, seconds=300)

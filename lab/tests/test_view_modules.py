@@ -17,6 +17,7 @@ from support import data_of
 
 SVG = "{http://www.w3.org/2000/svg}"
 LIMITS = {"steps": 30, "names": ["p", "q", "constructor"], "faults": 2}
+FOLDERS = [viewing.TEMPLATE, viewing.TEMPLATE.parent / "studio"]
 
 
 def node(jobs: list[list[Any]]) -> list[Any]:
@@ -42,7 +43,7 @@ def many_outputs(count: int, wrong: list[int]) -> Document:
 
 
 class Address(unittest.TestCase):
-    """The part of the address behind "#"."""
+    """The part of the address behind "#", and the names of ports on the page."""
 
     def test_what_is_written_is_read(self) -> None:
         """Each part comes back, and all of them together."""
@@ -67,10 +68,6 @@ class Address(unittest.TestCase):
                 "#on=constructor,p,p%00": {"on": ["constructor", "p"]},
                 "#t=30&z=1,2&fault=2&javascript:alert(1)": {"time": 30, "fault": 2}}
         self.assertEqual(node([["read", text, LIMITS] for text in some]), list(some.values()))
-
-
-class Names(unittest.TestCase):
-    """The names of ports on the page."""
 
     def test_same_places_as_in_pictures(self) -> None:
         """The page and `draw` place names by the same rules."""
@@ -114,7 +111,7 @@ def part_box(part: ET.Element) -> Rect:
 
 
 class Pictures(unittest.TestCase):
-    """What is seen as SVG."""
+    """What is seen as SVG: also trails, the waveform and the outputs."""
 
     def test_rulers(self) -> None:
         """Numbers of columns and rows are at the middle of their cells, and the cell under the pointer has its numbers
@@ -151,10 +148,6 @@ class Pictures(unittest.TestCase):
         wanted = [[12 * part.x, 12 * part.y, 12 * part.width + 0.5, 12 * part.height + 0.5]
                   for part in example("full_adder").layout.of_kind("mirror")]
         self.assertEqual((len(found), sorted([float(part) for part in rect] for rect in rects)), (1, sorted(wanted)))
-
-
-class Runs(unittest.TestCase):
-    """Trails, the waveform and the outputs."""
 
     def test_trails(self) -> None:
         """Trails are the moves of the last steps, as the lab's pictures have them, also through collisions and off
@@ -210,7 +203,7 @@ class Runs(unittest.TestCase):
 
 
 class Large(unittest.TestCase):
-    """What makes pages of large layouts quick: what is still is in tiles, and runs know what differs from it."""
+    """What makes pages of large layouts quick, and what the modules of a certificate say."""
 
     def test_what_differs_from_the_mirrors(self) -> None:
         """A run knows it after steps, jumps and steps back, in layouts whose mirrors fall apart too."""
@@ -300,15 +293,10 @@ class Large(unittest.TestCase):
         quick = node([["tiles", {"width": 4096, "height": 4096}, place, 0]])[0]
         self.assertEqual((quick["isFirst"], quick["drawn"], quick["frames"]), (True, 7, 1))
 
-
-class ModuleLines(unittest.TestCase):
-    """What the modules of a certificate say, and where they are."""
-
     def test_lines_of_a_time(self) -> None:
         """At each time the lines are those of the certificate; those of borders are filed at the first odd time."""
         for name in ("four_modules", "timed_modules", "machine_full_adder"):
             document = example(name)
-            assert document.layout and document.certificate
             steps, modules = document.layout.steps, document.certificate.modules
             times = [*range(0, steps + 1, 2), *range(1, steps + 1, 2)]
             found = node([["linesAt", data_of(document), times]])[0]
@@ -331,15 +319,16 @@ class ModuleLines(unittest.TestCase):
 
 
 class Sources(unittest.TestCase):
-    """The sources of the page."""
+    """The sources of the page and of the studio."""
 
     def test_functions_are_short(self) -> None:
         """No function has 40 lines."""
-        count, long = support.long_functions(viewing.TEMPLATE)
-        self.assertEqual((count > 100, long), (True, []))
+        for folder in FOLDERS:
+            count, long = support.long_functions(folder)
+            self.assertEqual((count > 100, long), (True, []))
 
     def test_no_html_from_texts(self) -> None:
         """No script makes HTML or code from a text."""
-        for path in viewing.TEMPLATE.glob("*.js"):
+        for path in (path for folder in FOLDERS for path in folder.glob("*.js")):
             self.assertIsNone(re.search(r"innerHTML|outerHTML|insertAdjacentHTML|document\.write|\beval\(|new "
-                                        r"Function|DOMParser|srcdoc", path.read_text()))
+                                        r"Function|DOMParser|srcdoc|setAttribute\(\"on", path.read_text()), path)

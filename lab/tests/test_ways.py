@@ -4,7 +4,6 @@ shown.
 
 import random
 import re
-import tempfile
 import unittest
 from pathlib import Path
 
@@ -34,7 +33,6 @@ def moves_by_rule(document: Document, tables: dict[str, Table], full: Table) -> 
     """Returns the steps of the balls from the lab's run, one block after another, by the assignments under which they
     are made."""
     layout = document.layout
-    assert layout
     run, found = WholeRun(layout, tables, full), dict[Table, set[Step]]()
     for _ in range(layout.steps):
         live, is_odd = run.field.live, run.time % 2
@@ -93,7 +91,6 @@ class Ways(unittest.TestCase):
         A run that leaves the rectangle may be a step longer there.
         """
         layout = document.layout
-        assert layout
         tables, full, _ = drawing.wire_tables(document, [])
         wanted = moves_by_rule(document, tables, full)
         run = WholeRun(layout, tables, full)
@@ -202,7 +199,7 @@ class Ways(unittest.TestCase):
                          [((0, 0), (5, 5)), ((0, 3), (3, 0)), ((4, 2), (5, 2)), ((7, 7), (8, 8))])
 
 
-class Large(unittest.TestCase):
+class Large(support.InRoom):
     """Pictures of large layouts."""
 
     def text(self, wires: int) -> str:
@@ -228,7 +225,7 @@ class Large(unittest.TestCase):
             shown = drawing.Drawing()
             shown.ways, shown.labels = drawing.ball_ways(document, None, document.layout.steps)
             steps = sum(len(steps_of(pieces)) for pieces in shown.ways.values())
-            names = drawing.by_levels(shown, document.circuit)
+            names = drawing.group_by_levels(shown, document.circuit)
             self.assertEqual(any(name.startswith("level") for name in names), is_grouped)
             self.assertLessEqual(len([name for name in names if name.startswith("level")]), 8)
             self.assertEqual(sum(len(steps_of(pieces)) for pieces in shown.ways.values()), steps)
@@ -238,10 +235,9 @@ class Large(unittest.TestCase):
         """In a large layout nine wires are grouped by levels, since dashes could not be told apart there; what is no
         wire's is dotted."""
         text = self.text(9).split("certificate")[0]
-        with tempfile.TemporaryDirectory() as room:
-            path = Path(room, "nine.txt")
-            path.write_text(text)
-            large = picture_of(read_design(str(path)), None, None)
+        path = Path(self.room, "nine.txt")
+        path.write_text(text)
+        large = picture_of(read_design(str(path)), None, None)
         self.assertIn(">level 0<", large)
         self.assertNotIn(">w1<", large)
         # The ways of wires have no dashes: those of what is no wire's have class w8.
@@ -287,7 +283,7 @@ class Large(unittest.TestCase):
         self.assertNotIn('class="gate"', picture)
 
 
-class Chosen(unittest.TestCase):
+class Chosen(support.Case):
     """Parts of a picture that a reader asks for."""
 
     def test_piece_within(self) -> None:
@@ -310,9 +306,8 @@ class Chosen(unittest.TestCase):
 
     def test_crop_outside(self) -> None:
         """A part outside the layout is an error, and no picture."""
-        ended = support.lab("draw", support.example("four_modules"), "--crop", "4000", "0", "8", "8")
-        self.assertEqual((ended.returncode, ended.stdout), (4, ""))
-        self.assertIn("lies outside the layout", ended.stderr)
+        self.assert_ends(4, "draw", support.example("four_modules"), "--crop", "4000", "0", "8", "8", stdout="",
+                         err="lies outside the layout")
 
     def test_wires_are_brought_out(self) -> None:
         """The ways of a wire, or of an equal one, keep their colour, and all others are faint."""
@@ -335,9 +330,7 @@ class Chosen(unittest.TestCase):
         for words, told in ((["--ways", "--wires", "nobody"], "there is no wire `nobody`"),
                             (["--ways", "--cone", "none"], "there is no wire `none`"),
                             (["--arrows"], "need --ways")):
-            ended = support.lab("draw", support.example("full_adder"), *words)
-            self.assertEqual(ended.returncode, 4)
-            self.assertIn(told, ended.stderr)
+            self.assert_ends(4, "draw", support.example("full_adder"), *words, err=told)
 
     def test_arrows(self) -> None:
         """An arrow is on each piece that is long enough, with its tip ahead of its arms."""

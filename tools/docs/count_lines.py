@@ -18,17 +18,13 @@ def is_counted(path: str) -> bool:
     return path.startswith("crates/") and path.endswith((".rt", ".antt"))
 
 
-def line_count(text: bytes) -> int:
-    return sum(1 for line in text.splitlines() if line.strip())
-
-
 def lines_here() -> Counter[str]:
     """The lines by crate, of the files of the working tree that git knows."""
     paths = subprocess.run(["git", "ls-files"], cwd=TOP, check=True, capture_output=True, text=True).stdout.split()
     lines: Counter[str] = Counter()
     for path in filter(is_counted, paths):
         if (TOP / path).is_file():
-            lines[path.split("/")[1]] += line_count((TOP / path).read_bytes())
+            lines[path.split("/")[1]] += sum(1 for line in (TOP / path).read_bytes().splitlines() if line.strip())
     return lines
 
 

@@ -175,16 +175,13 @@ def is_shown(command, output, wanted):
     return all(any(line == piece for line in rest) for piece in wanted)
 
 
-def environment_in(room):
-    """The environment of a command: with the program and the lab on PATH."""
-    return {**os.environ, "PATH": f"{room / '.bin'}:{os.environ['PATH']}", "BBMCHECK": str(room / "bbmcheck")}
-
-
 def faults_of(room, shown):
     """What is wrong with a command."""
     try:
         ended = subprocess.run(["sh", "-c", shown.command], cwd=room, stdin=subprocess.DEVNULL, stdout=subprocess.PIPE,
-                               stderr=subprocess.STDOUT, timeout=SECONDS, check=False, env=environment_in(room))
+                               stderr=subprocess.STDOUT, timeout=SECONDS, check=False,
+                               env={**os.environ, "PATH": f"{room / '.bin'}:{os.environ['PATH']}",
+                                    "BBMCHECK": str(room / "bbmcheck")})
     except subprocess.TimeoutExpired:
         yield f"it had not ended after {SECONDS} seconds"
         return

@@ -313,7 +313,8 @@ class Closure:
             elif here in file.uses and file.uses[here].name is not None:
                 self.reach(file.uses[here].path, file.uses[here].name or "")
             elif here in file.uses or here in file.modules_of_kit or here in file.children:
-                module = file.uses[here].module if here in file.uses else (*whole_path(file.path), here)
+                path = file.path.removesuffix(".antt").removesuffix("/Lib").split("/")
+                module = file.uses[here].module if here in file.uses else ("Rattle", *path, here)
                 for rest in re.findall(rf"(?<![\w.']){re.escape(here)}{REST}", code):
                     self.reach_path(file,
                                     [*(module if here not in file.modules_of_kit else ["Rattle"]),
@@ -323,24 +324,16 @@ class Closure:
         """Reaches what a path names: the longest path of a module, and a name of it. Projections may follow."""
         for end in range(len(whole), 3, -1):
             target = target_of(whole[:end])
-            if target and target.name and (target.path.endswith(".rt") or is_passed_on(target.path, target.name)):
+            if not target or not target.name:
+                continue
+            there = file_of(target.path)
+            if target.path.endswith(".rt") or target.name in there.owner or target.name in there.passed_on:
                 self.reach(target.path, target.name)
                 return
         if is_ours(whole):
             self.lost.append(f"{file.path}: {'.'.join(whole)} is not found")
         else:
             self.library.add(whole[-1])
-
-
-def whole_path(path: str) -> tuple[str, ...]:
-    """The path of a file's module, as a line writes it."""
-    return ("Rattle", *path.removesuffix(".antt").removesuffix("/Lib").split("/"))
-
-
-def is_passed_on(path: str, name: str) -> bool:
-    """Whether a file defines a name, or gives it to others."""
-    file = file_of(path)
-    return name in file.owner or name in file.passed_on
 
 
 def lost_definitions() -> Iterator[str]:
@@ -361,12 +354,6 @@ def lost_definitions() -> Iterator[str]:
 
 
 OTHER_LIST = re.compile(r"`tools/docs/reading_list\.py (\S+\.antt)`[^.;|]*?(\d+)\s+files\s+and\s+(\d+)\s+lines")
-
-
-def lost_of_others(text: str) -> Iterator[str]:
-    """Yields the names that the lists of a page's other statements do not find."""
-    for start, _, _ in OTHER_LIST.findall(text):
-        yield from sorted({f"not found: {name}" for name in closure_of(start).lost})
 
 
 def wrong_numbers(text: str) -> Iterator[str]:
@@ -443,7 +430,9 @@ def main(words: list[str]) -> int:
         text = re.sub(r"\[(`[^`]*`)\]\([^)]*\)", r"\1", page)
         found = [] if "\n".join(lines) in page else ["\n".join([f"{table} does not contain this table:", *lines])]
         found += [*wrong_numbers(text), *wrong_readme(), *missing_words(text, closure.library)]
-        found += [line for line in [*lost, *lost_of_others(text)] if line not in found]
+        for start, _, _ in OTHER_LIST.findall(text):
+            lost += sorted(f"not found: {name}" for name in closure_of(start).lost)
+        found += [line for line in lost if line not in found]
         print(*found, sep="\n", end="\n" if found else "")
         return 1 if found else 0
     print(*lines, sep="\n")

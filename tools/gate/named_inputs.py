@@ -98,12 +98,6 @@ def case_of(source: str, cases: dict[str, Case]) -> Case | None:
     return Case(source, [command], text, status, output)
 
 
-def tests_of(top: Path) -> set[str]:
-    """Returns the tests of the crates, as an edit names them."""
-    files = [*top.glob("crates/*/src/*.rt")]
-    return {f"test {it.parent.parent.name} {it.stem}::{name}" for it in files for name in TEST.findall(it.read_text())}
-
-
 def gives(case: Case, said: str) -> bool:
     """Returns whether a case expects what an edit says that it gives."""
     found = LINE.match(said)
@@ -138,7 +132,10 @@ def fault_of(text: str, cases: dict[str, Case], tests: set[str]) -> str | None:
 
 def faults(top: Path = TOP) -> list[str]:
     """Returns what is wrong with the inputs that the edits name, and with what docs/TESTING.md says of their number."""
-    cases, tests = named_cases(), tests_of(top)
+    # The tests of the crates, as an edit names them.
+    tests = {f"test {it.parent.parent.name} {it.stem}::{name}" for it in top.glob("crates/*/src/*.rt")
+             for name in TEST.findall(it.read_text())}
+    cases = named_cases()
     texts = {it: it.read_text() for folder in FOLDERS for it in sorted(top.glob(f"crates/*/{folder}/*.edit"))}
     said = {it: fault_of(text, cases, tests) for it, text in texts.items()}
     found = [f"{it.relative_to(top)}: {why}" for it, why in said.items() if why]

@@ -69,11 +69,6 @@ def text_lines(text: bytes) -> Iterator[bytes]:
         yield b"\\ " + last
 
 
-def repeat_lines(text):
-    count, unit = text.rstrip(b"\n").split(b" ", 1)
-    yield b"%s times \\ %s" % (count, unit)
-
-
 def case_text(name: str, words: list[str], given: list[bytes], status: int, **texts: bytes) -> bytes:
     """A case, by the lines that stand for what it is given, and by the texts of `output` and `errors`."""
     lines = [f"case {name}".encode(), " ".join(["words", *words]).encode(), *([b"input", *given] if given else [])]
@@ -85,7 +80,8 @@ def case_text(name: str, words: list[str], given: list[bytes], status: int, **te
 def folder_case(folder):
     """The case of a folder."""
     repeat = folder / "stdin_repeat"
-    given = repeat_lines(repeat.read_bytes()) if repeat.exists() else text_lines((folder / "stdin").read_bytes())
+    given = ([b"%s times \\ %s" % tuple(repeat.read_bytes().rstrip(b"\n").split(b" ", 1))] if repeat.exists()
+             else text_lines((folder / "stdin").read_bytes()))
     texts = {name: (folder / file).read_bytes() for name, file in (("output", "stdout"), ("errors", "stderr"))
              if (folder / file).exists()}
     return case_text(folder.name, (folder / "args").read_text().split(), list(given), number(folder / "status", 0),
@@ -117,10 +113,6 @@ def run_cases(text, most):
         rows = sorted(live, key=lambda cell: (cell[1], cell[0]))
         yield answered_case(f"run_of_{text.stem}_{number}", "run", asked, 0,
                             b"cells %d\n" % len(rows) + b"".join(b"%d %d\n" % cell for cell in rows))
-
-
-def has_word(text, words):
-    return any(line.split(b" ", 1)[0].decode() in words for line in text.read_bytes().split(b"\n"))
 
 
 def is_taken(folder, options):
@@ -159,7 +151,7 @@ def main():
             out.write(folder_case(folder))
     if options.bundles:
         for text in sorted(options.bundles.glob("*_v[12].txt")):
-            if has_word(text, options.without):
+            if any(line.split(b" ", 1)[0].decode() in options.without for line in text.read_bytes().split(b"\n")):
                 continue
             if options.large and text.read_bytes().count(b"\n") > MOST_LINES:
                 # conformance/cases.py makes the text of version 2.

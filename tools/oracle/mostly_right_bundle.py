@@ -136,11 +136,6 @@ def make_wrong(rng, lines, local, cells, steps):
             lines[rng.randrange(1, steps, 2), y, x] = rng.choice([*local, "1"])
 
 
-def border_texts(kind, lines):
-    for (time, y, x), signal in sorted(lines.items()):
-        yield f"{kind} {'*' if time < 0 else time} {x} {y} {signal}"
-
-
 def right_stops(rng, tables, local, box, history, steady):
     """By place the wires that some cells of the box carry at some times.
 
@@ -153,17 +148,6 @@ def right_stops(rng, tables, local, box, history, steady):
         if same:
             stops[time, y, x] = same[time * len(same) // (steps + 1)] if steady else rng.choice(same)
     return stops
-
-
-def make_stop_wrong(rng, stops, local, box, steps):
-    x, y, w, h = box
-    if local:
-        stops[rng.randint(0, steps), rng.randrange(y, y + h), rng.randrange(x, x + w)] = rng.choice(local)
-
-
-def stop_texts(stops):
-    for (time, y, x), wire in sorted(stops.items()):
-        yield f"stop {time} {wire} {x} {y}"
 
 
 def timed(rng, gates, stops, mood):
@@ -196,11 +180,16 @@ def module_lines(rng, tables, box, places, known, history, mood):
         lines = right_lines(rng, tables, local, cells, history, mood.steady)
         if rng.random() < mood.wrong:
             make_wrong(rng, lines, local, cells, len(history) - 1)
-        texts += border_texts(kind, lines)
+        texts += [f"{kind} {'*' if time < 0 else time} {x} {y} {signal}"
+                  for (time, y, x), signal in sorted(lines.items())]
     stops = right_stops(rng, tables, local, box, history, mood.steady)
     if rng.random() < mood.wrong / 2:
-        make_stop_wrong(rng, stops, local, box, len(history) - 1)
-    return [*texts, *stop_texts(stops)], [*stops.items()]
+        x, y, w, h = box
+        if local:
+            wire = rng.choice(local)
+            stops[rng.randint(0, len(history) - 1), rng.randrange(y, y + h), rng.randrange(x, x + w)] = wire
+    texts += [f"stop {time} {wire} {x} {y}" for (time, y, x), wire in sorted(stops.items())]
+    return texts, [*stops.items()]
 
 
 def end_cells(rng, tables, owners, solid, free, last, mood):

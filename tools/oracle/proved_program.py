@@ -12,10 +12,15 @@ def program():
     return told.stdout.decode()[:-1]
 
 
-def fuzz_parser(usage, runs, seed=1):
-    """A parser of how many texts are tried, the seed, and a program in place of the proved one."""
+def fuzz_options(usage, runs, seed=1, commands=()):
+    """How many texts are tried, the seed, a program in place of the proved one, and which of some commands are tried.
+    """
     parser = argparse.ArgumentParser(usage=usage)
     parser.add_argument("runs", nargs="?", type=int, default=runs)
     parser.add_argument("seed", nargs="?", type=int, default=seed)
     parser.add_argument("--program")
-    return parser
+    if commands:
+        parser.add_argument("--commands", type=lambda names: names.split(","), default=list(commands))
+    options = parser.parse_args()
+    options.program = options.program or program()
+    return options

@@ -11,13 +11,6 @@ from reference import INVERSE, Certificate, Circuit, Lines, Refused, read_sectio
 from reference_findings import KINDS, Pattern, least_fault, least_keep
 
 
-def add_halos(certificate):
-    """In version 2 the edge lines beside a module are its halo lines."""
-    if certificate.version == 2:
-        for module in certificate.modules:
-            module.lines[b"halo"] = certificate.beside(module)
-
-
 def border_fault(certificate, module):
     """The time, y and x of the least one, or None.
 
@@ -89,7 +82,9 @@ def answer(text: bytes) -> tuple[int, bytes]:
         layout = read_section(lines, Pattern(lines.limits, {b"in": set(circuit.inputs), b"out": set(circuit.outputs)}))
         first = lines.taken
         certificate = read_section(lines, Certificate(circuit, layout))
-        add_halos(certificate)
+        # In version 2 the edge lines beside a module are its halo lines.
+        for module in certificate.modules if certificate.version == 2 else []:
+            module.lines[b"halo"] = certificate.beside(module)
         last = lines.taken
         lines.finish()
     except Refused as refused:

@@ -107,20 +107,10 @@ def command_part(name, page, top):
     yield from (".PP", "Example:", ".PP", ".RS", f".B {roff(page.example)}", ".RE")
 
 
-def release_date():
-    return re.search(r"^date (\S+)$", MANIFEST.read_text(), re.MULTILINE).group(1)
-
-
-def refusal_codes():
-    """The codes of refusals, and what each is for, from the table of docs/FORMATS.md."""
-    section = FORMATS.read_text().split("\n## Refusals\n")[1].split("\n## ")[0]
-    found = re.findall(r"^\| (\d+) \| (.+) \|$", section, re.MULTILINE)
-    return sorted(found, key=lambda row: int(row[0]))
-
-
 def man_page(version, top, pages):
     first, *facts = version.splitlines()
-    yield from (f".\\\" {NOTE}", f'.TH BBMCHECK 1 "{release_date()}" "{roff(first)}" "User Commands"')
+    date = re.search(r"^date (\S+)$", MANIFEST.read_text(), re.MULTILINE).group(1)
+    yield from (f".\\\" {NOTE}", f'.TH BBMCHECK 1 "{date}" "{roff(first)}" "User Commands"')
     yield from (".SH NAME", f"bbmcheck \\- {roff(PURPOSE)}")
     yield from (".SH SYNOPSIS", f".B {roff(top.usage)}", ".SH DESCRIPTION")
     yield from reads_and_writes(top)
@@ -135,7 +125,9 @@ def man_page(version, top, pages):
     yield from tagged(top.statuses)
     yield from (".SH REFUSALS", roff("`refused LINE CODE` names the first line with a failing test, counted from 1, "
                                      "and its first failing test:"))
-    yield from tagged(refusal_codes())
+    section = FORMATS.read_text().split("\n## Refusals\n")[1].split("\n## ")[0]
+    codes = re.findall(r"^\| (\d+) \| (.+) \|$", section, re.MULTILINE)
+    yield from tagged(sorted(codes, key=lambda row: int(row[0])))
     yield from (".SH REPORTS", roff("The report of `check` has lines for the reasons of a no, and lines about stops. M "
                                     "is a module, T a time, X Y a cell,"),
                 roff("G a gate, and A an assignment: bit i of A is the value of the module's cut i."))
@@ -155,12 +147,6 @@ def flags(page):
     return [flag for option in page.options for flag in re.findall(r"(?<!\S)--?[\w-]+", option[0])]
 
 
-def flags_with_values(pages):
-    found = {flag for page in pages.values() for head, _ in page.options if "<" in head
-             for flag in re.findall(r"--?[\w-]+", head)}
-    return sorted(found)
-
-
 def bash_completions(top, pages):
     names = [name for name, _ in top.commands]
     yield from (f"# {NOTE}", "_bbmcheck() {", "    local words=")
@@ -169,7 +155,9 @@ def bash_completions(top, pages):
     for name in names:
         yield f'            {name}) words="{" ".join(flags(pages[name]) if name in pages else pages)}" ;;'
     yield from ("        esac", "    fi", '    case ${COMP_WORDS[COMP_CWORD - 1]} in')
-    yield from ("        # A number follows, and no file.", f'        {" | ".join(flags_with_values(pages))}) words=; '
+    with_values = {flag for page in pages.values() for head, _ in page.options if "<" in head
+                   for flag in re.findall(r"--?[\w-]+", head)}
+    yield from ("        # A number follows, and no file.", f'        {" | ".join(sorted(with_values))}) words=; '
                 'compopt +o default 2>/dev/null ;;')
     yield from ("        # A file follows: bash completes it if nothing is offered.", "        *'<' | *'>') words= ;;",
                 "    esac")

@@ -13,7 +13,7 @@ TRIED = gate_script("try_wrong_bodies")
 
 
 class Refusals(unittest.TestCase):
-    """The outcome by what was not proved."""
+    """The outcome by what was not proved, and the numbers of docs/TESTING.md."""
 
     def outcome(self, line: str) -> Any:
         """Returns the outcome of a function `c::m::f` with this line."""
@@ -39,10 +39,6 @@ class Refusals(unittest.TestCase):
         self.assertEqual(self.outcome("proved"), TRIED.Outcome.PROVED)
         self.assertEqual(self.outcome("no proof: it calls `c::m::g`, which is not proved"), TRIED.Outcome.WAITS)
         self.assertEqual(self.outcome("could not tell: a limit"), TRIED.Outcome.LIMIT)
-
-
-class Counts(unittest.TestCase):
-    """The numbers of docs/TESTING.md."""
 
     def test_a_missing_edit_is_seen(self) -> None:
         """The numbers fit these folders, and no longer after an edit is gone or one more is refused."""

@@ -57,7 +57,7 @@ class CertificatePlan:
     is_tried: bool = True
 
 
-class Maker:
+class CertificateMaker:
     """Makes certificates of one circuit and layout."""
 
     def __init__(self, circuit: Circuit, layout: Layout, plan: CertificatePlan) -> None:
@@ -80,7 +80,9 @@ class Maker:
                    for box in boxes] if boxes else self.divided(Box(0, 0, self.layout.width, self.layout.height))
         if len(modules) > SECOND.max_modules:
             raise LabError(f"the certificate takes {len(modules)} modules; {SECOND.max_modules} is the most", 1)
-        self.add_keeps(modules)
+        for gate in self.circuit.gates:
+            if gate.is_inverse:
+                self.add_keep(gate, modules)
         if self.plan.version == 2:
             for module in modules:
                 module.halos = []
@@ -237,12 +239,6 @@ class Maker:
 
     # ---- inverse gates
 
-    def add_keeps(self, modules: list[ModuleDraft]) -> None:
-        """Has each inverse gate kept by a module that can show that it always has a row."""
-        for gate in self.circuit.gates:
-            if gate.is_inverse:
-                self.add_keep(gate, modules)
-
     def add_keep(self, gate: Gate, modules: list[ModuleDraft]) -> None:
         """Has a gate kept by the module that needs the fewest more wires for it."""
         found = keeping_cone(self.circuit, gate.number)
@@ -345,7 +341,7 @@ def newly_certified(document: Document, boxes: list[Box] | None, plan: Certifica
     circuit, layout = document.circuit, document.layout
     if circuit is None or layout is None:
         raise LabError("certify takes a circuit and a layout")
-    maker = Maker(circuit, layout, plan)
+    maker = CertificateMaker(circuit, layout, plan)
     try:
         certificate = maker.certificate(boxes)
     except NoBoxError as error:

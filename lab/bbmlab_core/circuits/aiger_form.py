@@ -29,7 +29,7 @@ class AndGraph:
             self.known[high, low] = 2 * (self.input_count + len(self.gates))
         return self.known[high, low]
 
-    def of_rows(self, rows: list[str], ins: list[Literal]) -> Literal:
+    def literal_of_rows(self, rows: list[str], ins: list[Literal]) -> Literal:
         """Returns the literal of a table that is true if a row fits."""
         none = 1
         for row in rows:
@@ -53,7 +53,7 @@ def aiger_text(circuit: Circuit) -> str:
     graph = AndGraph(circuit.inputs)
     for gate in circuit.gates:
         ins = [graph.literals[name] for name in gate.ins]
-        graph.literals.update((name, graph.of_rows(rows, ins)) for name, rows in output_rows(gate))
+        graph.literals.update((name, graph.literal_of_rows(rows, ins)) for name, rows in output_rows(gate))
     first, count = graph.input_count, len(graph.gates)
     body = "".join(difference_bytes(2 * (first + at) - high) + difference_bytes(high - low) for at,
                    (high, low) in enumerate(graph.gates, 1))

@@ -35,7 +35,7 @@ class Cleaner:
 
     def fresh_name(self, name: str, ending: str) -> str:
         """Returns a new name that looks like another one."""
-        return self.book.fresh(name[:MAX_NAME - len(ending)] + ending)
+        return self.book.fresh_name(name[:MAX_NAME - len(ending)] + ending)
 
     def run(self) -> Circuit:
         """Returns the lines of the circuit."""

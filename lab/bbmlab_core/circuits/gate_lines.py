@@ -22,7 +22,7 @@ def read_circuit(circuit: Circuit) -> Circuit:
     return document.circuit
 
 
-def payload(gate: Gate) -> tuple[str, ...]:
+def outputs_without_control(gate: Gate) -> tuple[str, ...]:
     """Returns the outputs of a gate, without the one that hands its control on."""
     has_control = GATE_SIZES[gate.kind][0] and gate.kind not in ("interact", "uninteract", "delay")
     return gate.outs[1:] if has_control else gate.outs

@@ -63,7 +63,7 @@ class KeepSearch:
         own = [self.circuit.gates[number] for number in gates]
         return {wire for gate in own for wire in gate.ins} - {wire for gate in own for wire in gate.outs}
 
-    def lacking(self, gates: Gates) -> int:
+    def missing_row_count(self, gates: Gates) -> int:
         """Returns under how many of the sampled assignments the inverse gate, the last of some gates, has no row while
         the others have theirs."""
         self.runs += len(gates)
@@ -75,7 +75,7 @@ class KeepSearch:
         """Returns the wires that cut gates off, and the gates, if they are few enough and show the row under all
         assignments."""
         cuts, order = sorted(self.cuts(gates)), sorted(gates)
-        if len(cuts) > MAX_CUTS or len(order) > MAX_USES or self.lacking(gates):
+        if len(cuts) > MAX_CUTS or len(order) > MAX_USES or self.missing_row_count(gates):
             return None
         values = evaluate(self.circuit, cuts, order)
         if values.rows[self.number] != (values.rows[order[-2]] if len(order) > 1 else values.full):
@@ -88,7 +88,7 @@ class KeepSearch:
         module can use."""
         every, found = frozenset({*self.before, self.number}), list[int]()
         for number in reversed(self.before):
-            if self.lacking(every - {number}):
+            if self.missing_row_count(every - {number}):
                 found.append(number)
             if len(found) >= MAX_USES:
                 break
@@ -105,7 +105,7 @@ class KeepSearch:
                 if larger in seen or len(larger) > MAX_USES:
                     continue
                 seen.add(larger)
-                lacking = self.lacking(larger)
+                lacking = self.missing_row_count(larger)
                 found = self.shown(larger) or self.shown(self.cut_off(larger)) if lacking == 0 else None
                 if found:
                     return found
@@ -133,7 +133,7 @@ class KeepSearch:
                 seen.add(smaller)
                 count = len(self.cuts(smaller))
                 # One wire too many may still be led back to one gate.
-                if count > MAX_CUTS + 1 or self.lacking(smaller):
+                if count > MAX_CUTS + 1 or self.missing_row_count(smaller):
                     continue
                 found = self.shown(smaller)
                 if found:

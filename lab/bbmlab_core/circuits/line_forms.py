@@ -44,7 +44,7 @@ class LineNetwork:
 
     def zero(self) -> str:
         """Returns a line that is 0."""
-        return self.free.pop() if self.free else self.constant(self.book.fresh("zero"), 0)
+        return self.free.pop() if self.free else self.constant(self.book.fresh_name("zero"), 0)
 
     def add(self, gate: Gate) -> None:
         """Adds the steps of a gate."""
@@ -105,7 +105,7 @@ def qasm_text(circuit: Circuit) -> str:
     book.taken.update(RESERVED)
     def fresh(name: str) -> str:
         """Returns a new name that is no reserved word."""
-        return book.fresh(f"{name}_" if name in RESERVED else name)
+        return book.fresh_name(f"{name}_" if name in RESERVED else name)
 
     qubits = {line: fresh(line) for line in circuit.inputs}
     bits = {line: fresh(name) for line, name in network.ends.items()}

@@ -6,7 +6,7 @@ Each wire gets a literal, by the rules of `netlists.graph`: wires with one liter
 
 from ..texts.circuits import Circuit, Gate
 from .cones import keeping_cone
-from .gate_lines import payload, read_circuit
+from .gate_lines import outputs_without_control, read_circuit
 from .inverting import require_rows
 from .netlists.graph import FALSE, TRUE, Graph, Literal
 
@@ -33,7 +33,7 @@ class ConstantFolder:
         """Returns the circuit after the pass."""
         for gate in self.before.gates:
             ins = [self.wire(name) for name in gate.ins]
-            if not self.is_folded(gate, ins) and not self.is_undone(gate, ins):
+            if not self.try_fold(gate, ins) and not self.try_undo(gate, ins):
                 self.emit(gate.kind, gate.parameter, ins, gate.outs)
         gates = [Gate(gate.kind, tuple(map(self.wire, gate.ins)), gate.outs, gate.parameter)
                  for gate in self.gates
@@ -85,17 +85,17 @@ class ConstantFolder:
             return [ins[0], graph.or_(ins[1], ins[2])]
         return [graph.or_(ins[0], ins[2]), graph.or_(ins[0], ins[1])]
 
-    def is_folded(self, gate: Gate, ins: list[str]) -> bool:
+    def try_fold(self, gate: Gate, ins: list[str]) -> bool:
         """Replaces a gate whose inputs are constant, alike or opposite. Returns whether it did."""
         outs, known = list(gate.outs), [self.literals[name] for name in ins]
         if gate.kind == "delay" and known[0] in (FALSE, TRUE):
             self.alias(outs, ins)
         elif gate.kind == "switch":
-            return self.is_switch_folded(outs, ins, known)
+            return self.try_fold_switch(outs, ins, known)
         elif gate.kind == "interact":
-            return self.is_interact_folded(outs, ins, known)
+            return self.try_fold_interact(outs, ins, known)
         elif gate.kind in ("fredkin", "cswap"):
-            return self.is_fredkin_folded(outs if gate.kind == "fredkin" else [outs[0], outs[2], outs[1]], ins, known)
+            return self.try_fold_fredkin(outs if gate.kind == "fredkin" else [outs[0], outs[2], outs[1]], ins, known)
         elif gate.kind == "unswitch" and (known[0] in (FALSE, TRUE) or FALSE in known[1:]):
             taken = 1 if known[0] == TRUE or known[0] != FALSE and known[2] == FALSE else 2
             self.dropped.append(ins[3 - taken])
@@ -110,7 +110,7 @@ class ConstantFolder:
             return False
         return True
 
-    def is_switch_folded(self, outs: list[str], ins: list[str], known: list[Literal]) -> bool:
+    def try_fold_switch(self, outs: list[str], ins: list[str], known: list[Literal]) -> bool:
         """Replaces a switch whose control or input is constant, or which are alike or opposite."""
         control, other = known
         if control == TRUE or other == control:
@@ -123,7 +123,7 @@ class ConstantFolder:
             return False
         return True
 
-    def is_interact_folded(self, outs: list[str], ins: list[str], known: list[Literal]) -> bool:
+    def try_fold_interact(self, outs: list[str], ins: list[str], known: list[Literal]) -> bool:
         """Replaces an interaction of which one input is constant, or whose inputs are alike or opposite."""
         one, other = known
         if FALSE in known or one == other ^ 1:
@@ -142,7 +142,7 @@ class ConstantFolder:
             return False
         return True
 
-    def is_fredkin_folded(self, outs: list[str], ins: list[str], known: list[Literal]) -> bool:
+    def try_fold_fredkin(self, outs: list[str], ins: list[str], known: list[Literal]) -> bool:
         """Replaces a Fredkin gate with a constant control or inputs that are alike, and makes it a switch if one of
         these is 0."""
         control, high, low = known
@@ -160,7 +160,7 @@ class ConstantFolder:
             return False
         return True
 
-    def is_undone(self, gate: Gate, ins: list[str]) -> bool:
+    def try_undo(self, gate: Gate, ins: list[str]) -> bool:
         """Removes a gate and the earlier one that it undoes. Returns whether it did."""
         parts = ins[1:] if gate.kind in ("switch", "unswitch", "fredkin", "cswap") else ins
         places = {self.place.get(name, -1) for name in parts}
@@ -173,7 +173,8 @@ class ConstantFolder:
         if control and self.literals[now[0]] | 1 != self.literals[ins[0]] | 1:
             return False
         is_opposite = control and self.literals[now[0]] != self.literals[ins[0]]
-        found = exchanged(before.kind, gate.kind, parts == wires[control:], parts[::-1] == wires[control:], is_opposite)
+        found = returned_order(before.kind, gate.kind, parts == wires[control:], parts[::-1] == wires[control:],
+                               is_opposite)
         if found is None:
             return False
         back = now[control:] if found else now[control:][::-1]
@@ -184,7 +185,7 @@ class ConstantFolder:
         return True
 
 
-def exchanged(first: str, second: str, is_same: bool, is_turned: bool, is_opposite: bool) -> bool | None:
+def returned_order(first: str, second: str, is_same: bool, is_turned: bool, is_opposite: bool) -> bool | None:
     """Returns whether a gate gives the inputs of an earlier one back in their order, False if in the other one, and
     None if it does not.
 
@@ -219,7 +220,7 @@ def without_dead(lines: Circuit) -> Circuit:
     spare, became, kept = set(lines.spills), dict[str, str](), list[Gate]()
     order = list(lines.spills)
     for gate in reversed(lines.gates):
-        own, unused = payload(gate), gate.outs[:len(gate.outs) - len(payload(gate))]
+        own, unused = outputs_without_control(gate), gate.outs[:len(gate.outs) - len(outputs_without_control(gate))]
         if not all(name in spare for name in own):
             kept.append(gate)
             continue
@@ -242,19 +243,13 @@ def without_dead(lines: Circuit) -> Circuit:
     return with_names(Circuit(lines.inputs, tuple(gates), outputs, spills), lines.outputs)
 
 
-def literals_of(lines: Circuit) -> dict[str, Literal]:
-    """Returns the literal of each wire."""
-    folder = ConstantFolder(lines)
-    for gate in lines.gates:
-        folder.literals.update(zip(gate.outs,
-                                   folder.values(gate.kind, gate.parameter,
-                                                 [folder.literals[name] for name in gate.ins])))
-    return folder.literals
-
-
-def shared(lines: Circuit) -> Circuit:
+def with_shared_garbage(lines: Circuit) -> Circuit:
     """Returns a circuit in which garbage takes the place of wires with its values, if a gate is dead then."""
-    literals, spare = literals_of(lines), list(lines.spills)
+    folder, spare = ConstantFolder(lines), list(lines.spills)
+    literals = folder.literals
+    for gate in lines.gates:
+        ins = [literals[name] for name in gate.ins]
+        literals.update(zip(gate.outs, folder.values(gate.kind, gate.parameter, ins)))
     born = {name: at for at, gate in enumerate(lines.gates) for name in gate.outs}
     taker = {name: at for at, gate in enumerate(lines.gates) for name in gate.ins}
     pool: dict[Literal, list[str]] = {}
@@ -262,22 +257,22 @@ def shared(lines: Circuit) -> Circuit:
         pool.setdefault(literals[name], []).append(name)
     swaps: dict[str, str] = {}
     for gate in reversed(lines.gates):
-        used = [name for name in payload(gate) if name not in spare]
+        used = [name for name in outputs_without_control(gate) if name not in spare]
         found: dict[str, str] = {}
         for name in used if gate.kind != "source" else []:
             last = taker.get(name, len(lines.gates))
             fits = [other for other in pool.get(literals[name], []) if born.get(other, -1) < last
-                    and other not in payload(gate) and other not in found.values()
+                    and other not in outputs_without_control(gate) and other not in found.values()
                     and (name in taker or other in born)]
             if fits:
                 found[name] = fits[0]
         if used and len(found) == len(used) and gate.kind != "source":
             swaps = {**found, **{other: name for name, other in found.items()}}
             break
-    return exchange(lines, swaps)
+    return with_exchanged_uses(lines, swaps)
 
 
-def exchange(lines: Circuit, swaps: dict[str, str]) -> Circuit:
+def with_exchanged_uses(lines: Circuit, swaps: dict[str, str]) -> Circuit:
     """Returns a circuit in which those who use pairs of wires use the other one."""
     gates = [Gate(gate.kind, tuple(swaps.get(name, name) for name in gate.ins), gate.outs, gate.parameter)
              for gate in lines.gates]
@@ -300,12 +295,12 @@ def kept_count(circuit: Circuit) -> int:
     return sum(keeping_cone(circuit, number) is not None for number in inverse) if len(inverse) <= MAX_SEARCHED else 0
 
 
-def passes(lines: Circuit, may_share: bool) -> Circuit:
+def after_passes(lines: Circuit, may_share: bool) -> Circuit:
     """Returns a circuit after passes that change it no more."""
     for _ in range(MAX_PASSES):
         before = lines
         lines = without_dead(ConstantFolder(lines).run())
-        lines = without_dead(shared(lines)) if may_share else lines
+        lines = without_dead(with_shared_garbage(lines)) if may_share else lines
         if lines == before:
             break
     return lines
@@ -320,7 +315,7 @@ def simplify(circuit: Circuit) -> Circuit:
     require_rows(circuit, "the circuit")
     lines = circuit
     for may_share in (True, False):
-        found = passes(lines, may_share)
+        found = after_passes(lines, may_share)
         result = read_circuit(found)
         lost = sum(gate.is_inverse for gate in result.gates) - kept_count(result)
         if not lost or lost <= sum(gate.is_inverse for gate in circuit.gates) - kept_count(circuit):

@@ -60,7 +60,7 @@ def depth(circuit: Circuit) -> int:
     return max(depths.values(), default=0)
 
 
-def width(circuit: Circuit) -> int:
+def peak_wire_count(circuit: Circuit) -> int:
     """Returns the most wires that are there at once, if the gates act in their order."""
     count = most = len(circuit.inputs)
     for gate in circuit.gates:
@@ -77,7 +77,7 @@ def circuit_figures(circuit: Circuit) -> list[tuple[str, str]]:
             ("garbage", str(len(circuit.spills))), ("gates", str(len(circuit.gates) - kinds["source"])),
             *((f"  {word}", str(kinds[word])) for word in sorted(kinds) if word != "source"),
             ("depth", str(depth(circuit))),
-            ("width", str(width(circuit)))]
+            ("width", str(peak_wire_count(circuit)))]
 
 
 def figures(document: Document) -> list[tuple[str, str]]:

@@ -3,7 +3,7 @@
 import argparse
 import csv
 import io
-from typing import Callable, Iterable
+from typing import Callable
 
 from ..circuits import truth
 from ..circuits.aiger_form import aiger_text
@@ -34,7 +34,7 @@ def run_circuit(options: argparse.Namespace) -> int:
             lines, before = change(circuit), circuit
             text, circuit = text_of(lines), read_circuit(lines)
             if before.outputs:
-                tell(f"the new circuit was compared with the one before {compared(change, before, circuit)}")
+                tell(f"the new circuit was compared with the one before {agreement_words(change, before, circuit)}")
     except LabError as error:
         raise LabError(f"{options.file}: {error}", error.status) from error
     if options.clean and any(name.endswith("_not") for name in circuit.outputs):
@@ -43,7 +43,7 @@ def run_circuit(options: argparse.Namespace) -> int:
     return 0
 
 
-def compared(change: Callable[[Circuit], Circuit], before: Circuit, after: Circuit) -> str:
+def agreement_words(change: Callable[[Circuit], Circuit], before: Circuit, after: Circuit) -> str:
     """Returns in which inputs a changed circuit has the values that it should have, in words.
 
     Raises LabError where it has others.
@@ -78,15 +78,11 @@ def run_table(options: argparse.Namespace) -> int:
     _, circuit = circuit_of(options.file, Reading.asked(options))
     on = None if options.on is None else [name for name in options.on.split(",") if name]
     rows = truth.rows(circuit, on)
-    write_text(options.output, csv_text(rows) if options.csv else table_text(circuit, [*rows]))
-    return 0
-
-
-def csv_text(rows: Iterable[list[str]]) -> str:
-    """Returns rows as comma-separated values."""
     out = io.StringIO()
-    csv.writer(out, lineterminator="\n").writerows(rows)
-    return out.getvalue()
+    if options.csv:
+        csv.writer(out, lineterminator="\n").writerows(rows)
+    write_text(options.output, out.getvalue() if options.csv else table_text(circuit, [*rows]))
+    return 0
 
 
 def table_text(circuit: Circuit, rows: list[list[str]]) -> str:

@@ -40,7 +40,7 @@ def picture_of(design: tuple[Document, Layout], names: str | None, time: int | N
             picture.faults.append(((finding.number("x"), finding.number("y")), finding.text))
     # In a large layout dashes cannot be told apart.
     most = len(drawing.COLOURS) if is_large else drawing.MAX_LEGEND
-    wires = drawing.by_levels(picture, document.circuit, most) if document.circuit else tracing.port_names(layout)
+    wires = drawing.group_by_levels(picture, document.circuit, most) if document.circuit else tracing.port_names(layout)
     return drawing.svg(layout, picture, wires)
 
 

@@ -11,7 +11,7 @@ from ..farm.answering import why_no_verdict
 from ..host.program import Executable, BadProgramError, ask, find_program
 from ..host.terminal import LabError, painted, read_text, tell, wrapped, write_bytes
 from ..texts.cell_pictures import LEGEND
-from ..texts.documents import command_for
+from ..texts.documents import command_for, read_document
 
 
 def run(options: argparse.Namespace) -> int:
@@ -34,13 +34,13 @@ def run(options: argparse.Namespace) -> int:
     if options.report:
         output = read_text(options.report)
     elif program:
-        output = asked(program, command, text, options)
+        output = program_answer(program, command, text, options)
     else:
-        own = explaining.own_refusal(text, command)
-        if own is None:
+        refusal = read_document(text, command).refusal
+        if refusal is None:
             find_program(options.program)
             raise LabError("The lab's reader takes the text, but only the program gives a verdict.")
-        output, by_lab = own, True
+        output, by_lab = f"refused {refusal.line} {refusal.code}\n", True
     explanation = explaining.explain_answer(text, command, output, options.file,
                                             Trial(program, Budget(seconds=options.effort, is_of_search=True)))
     if by_lab:
@@ -56,7 +56,7 @@ def program_of(options: argparse.Namespace) -> Executable | None:
         return None
 
 
-def asked(program: Executable, command: str, text: str, options: argparse.Namespace) -> str:
+def program_answer(program: Executable, command: str, text: str, options: argparse.Namespace) -> str:
     """Returns what a command of the program writes."""
     answer = ask(program, command, text.encode("latin-1"), options.timeout)
     if answer.status >= 4:

@@ -16,7 +16,7 @@ from ..studio.answers import Answers
 from ..studio.folder import Folder
 from ..studio.jobs import Jobs
 from ..studio.routes import Routes
-from ..studio.server import Studio, studio_server
+from ..studio.server import studio_server
 
 
 def run(options: argparse.Namespace) -> int:
@@ -39,7 +39,8 @@ def run(options: argparse.Namespace) -> int:
     print(server.address, flush=True)
     tell("the studio runs until you press Ctrl-C. The address lets one browser in, which can change the files of this "
          "folder.")
-    server.on_entry = lambda: tell_of_entry(server)
+    server.on_entry = lambda: print("bbmlab: a browser has opened the studio. Another one gets in by "
+                                    f"{server.address}", file=sys.stderr, flush=True)
     if jobs:
         threading.Thread(target=jobs.warm, daemon=True).start()
     with ExitStack() as ending:
@@ -74,9 +75,3 @@ def private_page(folder: Path, address: str) -> Path:
         file.write('<!DOCTYPE html>\n<meta charset="utf-8"><title>bbmlab studio</title>\n<meta http-equiv="refresh" '
                    f'content="0; url={escape(address)}">\n')
     return path
-
-
-def tell_of_entry(server: Studio) -> None:
-    """Says on standard error that a browser was let in, and which address lets the next one in."""
-    print(f"bbmlab: a browser has opened the studio. Another one gets in by {server.address}", file=sys.stderr,
-          flush=True)

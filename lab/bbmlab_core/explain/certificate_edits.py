@@ -34,7 +34,7 @@ class CertificateEditor:
         self.circuit, self.certificate = diagnosis.circuit, diagnosis.certificate
         self.lines = diagnosis.document.text.split("\n")
         self.check = BorderCheck(diagnosis, seconds)
-        self.groups: list[CellEdits] = self.check.groups()
+        self.groups: list[CellEdits] = self.check.all_cell_edits()
 
     def for_all(self, findings: list[ReportLine]) -> Iterator[Proposal]:
         """Yields edits for a whole report: all borders together, then each by itself, then those for each line of the
@@ -54,7 +54,9 @@ class CertificateEditor:
         elif finding.word == "border":
             yield from self.for_border(finding)
         elif finding.word == "unkept":
-            yield from self.for_unkept(finding.number("gate"))
+            number = finding.number("gate")
+            for module in (module for module in self.certificate.modules if number in module.uses):
+                yield Proposal("`keep` lines", (self.added(module, f"keep {number}"),))
         elif finding.word == "delay":
             yield from self.for_delay(finding)
         elif finding.word == "meet":
@@ -77,7 +79,7 @@ class CertificateEditor:
         if len(near) > 1:
             yield Proposal("border lines as the whole run has them",
                            tuple(dict.fromkeys(edit for group in near for edit in group.edits)))
-        if self.diagnosis.occurring(module) != (1 << (1 << len(module.cuts))) - 1:
+        if self.diagnosis.occurring_assignments(module) != (1 << (1 << len(module.cuts))) - 1:
             yield from self.gates_for_cuts(module)
 
     def gates_for_cuts(self, module: Module) -> Iterator[Proposal]:
@@ -128,12 +130,6 @@ class CertificateEditor:
                 yield Proposal("lines that agree", (replace(at, text) if at else self.added(place, text),))
             elif at:
                 yield Proposal("lines that agree", (delete(at),))
-
-    def for_unkept(self, number: int) -> Iterator[Proposal]:
-        """Yields a `keep` line in a module that uses the gate."""
-        for module in (module for module in self.certificate.modules if number in module.uses):
-            text = f"keep {number}"
-            yield Proposal("`keep` lines", (self.added(module, text),))
 
     def added(self, module: Module, text: str) -> Edit:
         """Returns the edit that adds a line to a module."""

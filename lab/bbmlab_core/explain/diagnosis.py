@@ -172,7 +172,7 @@ class Diagnosis:
         given = {name: values.tables[name] >> chosen & 1 for name in inputs}
         return Occurrence(Truth.YES, given, table.bit_count() if is_all else 0, total)
 
-    def occurring(self, module: Module) -> Table:
+    def occurring_assignments(self, module: Module) -> Table:
         """Returns a table of assignments of the module's cuts that occur: all of them, or those that occur in the
         samples."""
         inputs, gates = self.circuit.cone(module.cuts)
@@ -194,7 +194,7 @@ class Diagnosis:
         """Returns the least fault of a module's own run under assignments that are known to occur, or None if there is
         none."""
         run = ModuleRun(self.circuit, self.layout, self.certificate, module)
-        run.restrict(self.occurring(module))
+        run.restrict(self.occurring_assignments(module))
         return run.least_fault() if run.full else None
 
     def module_state(self, module: Module, assignment: int, time: int) -> tuple[set[Cell], set[Cell]]:
@@ -204,14 +204,11 @@ class Diagnosis:
         heard = run.halos.at(time) if time % 2 and time < self.layout.steps else {}
         return run.field.state(assignment), {cell_of(key) for key, table in heard.items() if table >> assignment & 1}
 
-    def whole_run(self, inputs: dict[str, int]) -> WholeRun:
-        """Returns a new run of the whole layout under a choice of inputs; those not named are off."""
-        return WholeRun(self.layout, {name: value for name, value in inputs.items() if value}, 1)
-
     def first_difference(self, module: Module, assignment: int, inputs: dict[str, int],
                          until: int) -> Difference | None:
         """Returns where a module's own run first differs from the whole one, up to a time."""
-        own, whole = ModuleRun(self.circuit, self.layout, self.certificate, module), self.whole_run(inputs)
+        own = ModuleRun(self.circuit, self.layout, self.certificate, module)
+        whole = WholeRun(self.layout, {name: value for name, value in inputs.items() if value}, 1)
         keys = {key_of(cell) for cell in module.box.cells()}
         halo = [cell for cell in sorted(module.box.halo(), key=row_order) if self.layout.has(cell)]
         unheard: list[tuple[Cell, bool]] = []

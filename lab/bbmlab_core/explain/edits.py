@@ -93,19 +93,15 @@ def edits_between(old: str, new: str) -> list[Edit]:
     while last < min(len(before), len(after)) - first and before[-1 - last] == after[-1 - last]:
         last += 1
     middle, other = before[first:len(before) - last], after[first:len(after) - last]
-    if max(len(middle), len(other)) > MAX_COMPARED or equal_pairs(middle, other) > MAX_PAIRS:
+    # In how many ways a line of one text and an equal line of the other can be chosen.
+    counts = Counter(other)
+    if max(len(middle), len(other)) > MAX_COMPARED or sum(counts[line] for line in middle) > MAX_PAIRS:
         return hunk_edits(first, len(middle), other)
     edits: list[Edit] = []
     for _, low, high, start, end in difflib.SequenceMatcher(None, middle, other, autojunk=False).get_opcodes():
         if middle[low:high] != other[start:end]:
             edits += hunk_edits(first + low, high - low, other[start:end])
     return edits
-
-
-def equal_pairs(one: list[str], other: list[str]) -> int:
-    """Returns in how many ways a line of one list and an equal line of another can be chosen."""
-    counts = Counter(other)
-    return sum(counts[line] for line in one)
 
 
 def hunk_edits(before: int, count: int, new: list[str]) -> list[Edit]:

@@ -39,11 +39,6 @@ class UnnamedCell:
     time: int
 
 
-def neighbours_of(cell: Cell) -> list[Cell]:
-    """Returns the cells around a cell."""
-    return [(cell[0] + dx, cell[1] + dy) for dx in (-1, 0, 1) for dy in (-1, 0, 1) if dx or dy]
-
-
 class LiveTimes:
     """Notes at which odd times cells of a run are live, with their tables.
 
@@ -127,11 +122,11 @@ class BorderCheck:
         """Returns the table of a signal."""
         return self.diagnosis.values.full if signal == "1" else self.diagnosis.values.tables[signal]
 
-    def groups(self) -> list[CellEdits]:
+    def all_cell_edits(self) -> list[CellEdits]:
         """Returns the edits of all cells whose lines are wrong, in order of the first wrong time."""
         if self.ring_tables is None:
             return []
-        found = [self.group(cell, self.lines_at.get(cell, []))
+        found = [self.cell_edits(cell, self.lines_at.get(cell, []))
                  for cell in sorted(self.ring_tables.keys() | self.lines_at.keys())]
         return sorted((group for group in found if group), key=lambda group: group.time)
 
@@ -144,7 +139,7 @@ class BorderCheck:
                 lines.setdefault(line.cell, []).append((module, line))
         return lines
 
-    def group(self, cell: Cell, lines: list[tuple[Module, Border]]) -> CellEdits | None:
+    def cell_edits(self, cell: Cell, lines: list[tuple[Module, Border]]) -> CellEdits | None:
         """Returns the edits for one cell, or None if its lines are right or no lines would be."""
         owner = self.owner(cell)
         if owner is None or self.ring_tables is None:
@@ -223,7 +218,8 @@ class BorderCheck:
         wires = [name for name, other in self.diagnosis.values.tables.items() if other == table]
         if len(wires) < 2:
             return wires
-        here, around = self.near_times([cell], time), self.near_times(neighbours_of(cell), time)
+        neighbours = [(cell[0] + dx, cell[1] + dy) for dx in (-1, 0, 1) for dy in (-1, 0, 1) if dx or dy]
+        here, around = self.near_times([cell], time), self.near_times(neighbours, time)
         far, known = self.layout.steps + 1, [self.diagnosis.local(module) for module in modules]
         return sorted(wires, key=lambda name: (here.get(name, far), -sum(name in local for local in known),
                                                around.get(name, far)))

@@ -15,7 +15,7 @@ from ..texts.refusals import Explained, explain_code, explain_refusal, listed
 from ..texts.reports import RUN_ANSWER, ReportLine, ReportOrRefusal, ReportError, parse_report
 from .diagnosis import MAX_STEPS, Diagnosis, Truth
 from .edits import Edit
-from .faults import Entry, assignment_words, explain_border, explain_keep, explain_local, shown
+from .faults import Entry, assignment_words, explain_border, explain_keep, explain_local, cell_words
 from .fixing import Fix, Fixer, outcome_words
 from .trials import Trial
 
@@ -172,7 +172,7 @@ def mirror_words(diagnosis: Diagnosis) -> list[str]:
     fallen = falling_mirrors(diagnosis.layout)
     words = [f"The mirror of line {mirror.part.line} (`{diagnosis.document.line(mirror.part.line)}`) falls apart by "
              f"itself: step {mirror.step} "
-             f"moves its cell {shown(mirror.cell)}." for mirror in fallen[:MAX_MIRRORS]]
+             f"moves its cell {cell_words(mirror.cell)}." for mirror in fallen[:MAX_MIRRORS]]
     if len(fallen) > MAX_MIRRORS:
         words.append(f"{len(fallen) - MAX_MIRRORS} more mirrors do.")
     if fallen:
@@ -348,12 +348,6 @@ def explain_answer(text: str, command: str, output: str, file: str, trial: Trial
     if command in ("modules", "migrate"):
         return explain_listing(command, output, file)
     return explain_run(document, output, file) if command == "run" else explain_value(document, output, file)
-
-
-def own_refusal(text: str, command: str) -> str | None:
-    """Returns the refusal of the lab's own reader as the program writes it, or None where it takes the text."""
-    refusal = read_document(text, command).refusal
-    return f"refused {refusal.line} {refusal.code}\n" if refusal else None
 
 
 def as_json(explanation: ExplainedAnswer) -> str:

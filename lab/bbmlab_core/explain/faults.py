@@ -44,7 +44,7 @@ def assignment_words(values: dict[str, int]) -> str:
     return " ".join(f"{name}={value}" for name, value in values.items()) or "no cut wires"
 
 
-def shown(cell: Cell) -> str:
+def cell_words(cell: Cell) -> str:
     """Returns a cell as (x, y)."""
     return f"({cell[0]}, {cell[1]})"
 
@@ -122,7 +122,7 @@ def explain_local(diagnosis: Diagnosis, finding: ReportLine) -> Entry:
     last = ", the last time," if finding.values["kind"] == "end" else ""
     entry = Entry(finding.text, True, [
         f"Module {module.number} (line {module.line}, box {module.box.words}) was run by itself with {names}.",
-        f"At time {time}{last} the cell {shown(cell)} is {found} and should be {want}: {wanted.why}.",
+        f"At time {time}{last} the cell {cell_words(cell)} is {found} and should be {want}: {wanted.why}.",
         occurrence_words(diagnosis, occurrence, names)], line=wanted.line)
     entry.facts = {"module": module.number, "module_line": module.line, "kind": finding.values["kind"], "time": time,
                    "cell": list(cell),
@@ -135,7 +135,10 @@ def explain_local(diagnosis: Diagnosis, finding: ReportLine) -> Entry:
     box = module.box
     entry.picture = [f"Module {module.number} by itself at time {time} with {names}:",
                      *text_picture((box.x, box.y, box.width, box.height), live, diagnosis.mirrors, heard, cell)]
-    entry.what += mirror_note(diagnosis, cell)
+    part = diagnosis.layout.part_at(cell, ("mirror",))
+    if part and not stays(part):
+        entry.what.append(f"The cell is of the mirror of line {part.line} (`{diagnosis.document.line(part.line)}`), "
+                          "which by itself does not stay as it is.")
     if occurrence.occurs is Truth.NO:
         add_never_occurs(diagnosis, module, entry)
     elif occurrence.occurs is Truth.YES:
@@ -157,7 +160,7 @@ def add_never_occurs(diagnosis: Diagnosis, module: Module, entry: Entry) -> None
     last = ", the last time," if fault.kind == "end" else ""
     entry.what.append(f"Under values that do occur the module has a fault too: with {names}, at time "
                       f"{fault.time}{last} at the cell "
-                      f"{shown((fault.x, fault.y))}.")
+                      f"{cell_words((fault.x, fault.y))}.")
     entry.facts["fault_that_occurs"] = {"kind": fault.kind, "time": fault.time, "cell": [fault.x, fault.y],
                                         "assignment": module.assignment_names(fault.assignment)}
     finding = parse_finding(f"local {module.number} {fault.report_words()}")
@@ -193,9 +196,8 @@ def add_difference(diagnosis: Diagnosis, module: Module, entry: Entry, differenc
     entry.cause = "not_heard"
     entry.facts["differs"] = {"time": difference.time, "cell": list(difference.cell)}
     entry.what.append("In the run of the whole layout it is not so. The two runs first differ at time "
-                      f"{difference.time}, at "
-                      f"{shown(difference.cell)}: what comes in over the border is not told to the module, or told "
-                      "wrongly.")
+                      f"{difference.time}, at {cell_words(difference.cell)}: what comes in over the border is not told "
+                      "to the module, or told wrongly.")
     for cell, is_live in difference.unheard[:3]:
         entry.what += unheard_words(diagnosis, module, cell, difference.heard_time, is_live)
 
@@ -210,7 +212,8 @@ def unheard_words(diagnosis: Diagnosis, module: Module, cell: Cell, time: int, i
     state = "live" if is_live else "dead"
     against = (f"against line {teller.line_number(kind, line)} (`{line_words(kind, line)}`)" if line
                else f"and module {teller.number} has no `{kind}` line for it")
-    return [f"At time {time} the cell {shown(cell)} of module {owner.number} is {state} in the whole run, {against}.",
+    return [f"At time {time} the cell {cell_words(cell)} of module {owner.number} is {state} in the whole run, "
+            f"{against}.",
             *signal_words(diagnosis, diagnosis.signal_of(cell, time), "it")]
 
 
@@ -225,15 +228,6 @@ def signal_words(diagnosis: Diagnosis, signal: Signal, cell: str) -> list[str]:
     if signal.name in ("0", "1"):
         return [f"In the whole run {cell} is {'always' if signal.name == '1' else 'never'} live then{scope}."]
     return [f"In the whole run {cell} is live then if and only if `{signal.name}` is true{scope}."]
-
-
-def mirror_note(diagnosis: Diagnosis, cell: Cell) -> list[str]:
-    """Returns a note where the cell is of a mirror that by itself does not stay as it is."""
-    part = diagnosis.layout.part_at(cell, ("mirror",))
-    if part is None or stays(part):
-        return []
-    return [f"The cell is of the mirror of line {part.line} (`{diagnosis.document.line(part.line)}`), which by itself "
-            "does not stay as it is."]
 
 
 def explain_keep(diagnosis: Diagnosis, finding: ReportLine) -> Entry:
@@ -278,9 +272,9 @@ def explain_border(diagnosis: Diagnosis, finding: ReportLine) -> Entry:
     assert owner is not None
     halo, edge = module.line_at("halo", time, cell), owner.line_at("edge", time, cell)
     entry = Entry(finding.text, True, [
-        f"At time {time} modules {module.number} and {owner.number} say different things of the cell {shown(cell)} on "
-        "their border: "
-        f"{said_words(halo, 'halo', module)}, and {said_words(edge, 'edge', owner)}."],
+        f"At time {time} modules {module.number} and {owner.number} say different things of the cell "
+        f"{cell_words(cell)} on their border: {said_words(halo, 'halo', module)}, and "
+        f"{said_words(edge, 'edge', owner)}."],
         line=module.line_number("halo", halo) if halo else owner.line_number("edge", edge) if edge else None,
         cause="border")
     entry.facts = {"module": module.number, "owner": owner.number, "time": time, "cell": list(cell),

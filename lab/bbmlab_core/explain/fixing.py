@@ -146,7 +146,7 @@ class Fixer:
                 best = TriedText(text, report)
             elif report.refused and later is None and self.is_later(step, text, report):
                 later = TriedText(text, report)
-        return best or self.ported(step, document) or self.certified_step(step) or later
+        return best or self.with_ports(step, document) or self.certified_step(step) or later
 
     def is_later(self, step: TriedText, text: str, report: ReportOrRefusal) -> bool:
         """Whether a text is refused at a later line than that of a step, counted from the ends of both texts."""
@@ -183,7 +183,7 @@ class Fixer:
             return None
         return self.remade(head) or self.changed_design(step, head)
 
-    def ported(self, step: TriedText, document: Document) -> TriedText | None:
+    def with_ports(self, step: TriedText, document: Document) -> TriedText | None:
         """Returns a text with cells for inputs or outputs without one."""
         if document.refusal is None or document.refusal.cause != "port_without_cell":
             return None
@@ -258,7 +258,7 @@ class Fixer:
 
     # ---- the design
 
-    def near(self, report: ReportOrRefusal) -> Cell | None:
+    def first_fault_cell(self, report: ReportOrRefusal) -> Cell | None:
         """Returns the cell of the first fault of a report."""
         faults = [finding for finding in report.findings if finding.word == "local"]
         first = min(faults, key=lambda finding: finding.number("time"), default=None)
@@ -268,7 +268,7 @@ class Fixer:
         """Returns what changes of a design are tried on."""
         assert document.circuit and document.layout
         return Bench(step.text, document.circuit, document.layout, max(0.1, 0.8 * self.trial.seconds_left()),
-                     self.near(step.report))
+                     self.first_fault_cell(step.report))
 
     def changed_design(self, step: TriedText, document: Document) -> TriedText | None:
         """Returns a text with a changed layout or circuit that gets a yes, with its certificate or with one that the

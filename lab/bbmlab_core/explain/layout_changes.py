@@ -70,13 +70,13 @@ class Bench:
         self.all_values = self.values if self.values.is_all or len(circuit.inputs) > MAX_INPUTS else \
             evaluate_all(circuit)
         self.touched: dict[int, int] = {}
-        self.last = self.final(layout, self.values, notes=True)
+        self.last = self.last_state(layout, self.values, notes=True)
 
     def is_over(self) -> bool:
         """Whether the seconds are used up, or a run would be too long."""
         return processor_seconds() > self.end or self.layout.steps > MAX_STEPS
 
-    def final(self, layout: Layout, values: Valuation, notes: bool = False) -> dict[int, Table] | None:
+    def last_state(self, layout: Layout, values: Valuation, notes: bool = False) -> dict[int, Table] | None:
         """Returns the live cells after the last step, or None if a step leaves the rectangle or the seconds are used
         up."""
         run = WholeRun(layout, values.tables, values.full)
@@ -98,7 +98,7 @@ class Bench:
             else:
                 values = few_values(change.circuit) if not all_of_them or len(self.circuit.inputs) > MAX_INPUTS else \
                     evaluate_all(change.circuit)
-            live = self.final(change.layout, values)
+            live = self.last_state(change.layout, values)
             if live is None or wrong_cells(values, change.layout, live):
                 return False
             if self.values.is_all:
@@ -122,17 +122,17 @@ class Bench:
                    and part.y + part.height <= self.layout.height
                    for part in new)
 
-    def changed(self, swaps: dict[Part, Part], more: Iterable[Part] = (), gone: Iterable[Part] = ()) -> Change | None:
-        """Returns the change that moves parts, adds some and drops some; None if cells would be taken twice or lie
+    def changes(self, swaps: dict[Part, Part], more: Iterable[Part] = (), gone: Iterable[Part] = ()) -> list[Change]:
+        """Returns the change that moves parts, adds some and drops some, or none if cells would be taken twice or lie
         outside."""
         dropped, added = set(gone), list(more)
         if not self.is_possible([*swaps.values(), *added], dropped | swaps.keys()):
-            return None
+            return []
         parts = [swaps.get(part, part) for part in self.layout.parts if part not in dropped] + added
         edits = [replace(part.line, str(new)) for part, new in swaps.items()]
         edits += [delete(part.line) for part in dropped]
         edits += [add(place_in_section(self.lines, "layout", str(part)), str(part)) for part in added]
-        return Change(tuple(edits), self.circuit, self.layout.with_parts(parts))
+        return [Change(tuple(edits), self.circuit, self.layout.with_parts(parts))]
 
     @cached_property
     def places(self) -> list[Cell]:
@@ -212,9 +212,7 @@ def port_changes(bench: Bench, reach: int | None, is_exchange: bool = False) -> 
     wastes = [left_over(bench, cell, table) for cell, table in places if key_of(cell) in wrong
               and cell not in taken | covered]
     if len(swaps) + len(wastes) + len(freed) <= MAX_LINES and (swaps or wastes):
-        change = bench.changed(swaps, wastes, freed)
-        if change:
-            yield change
+        yield from bench.changes(swaps, wastes, freed)
 
 
 def left_over(bench: Bench, cell: Cell, table: Table) -> Part:
@@ -238,9 +236,7 @@ def missing_port_changes(bench: Bench) -> Iterator[Change]:
                  and bench.layout.has(cell_of(key))]
         new += [Part("out", name, *cell) for cell in cells if cell not in {part.cell for part in new}]
     if new and len(new) <= MAX_LINES:
-        change = bench.changed({}, new)
-        if change:
-            yield change
+        yield from bench.changes({}, new)
 
 
 def exchange_changes(bench: Bench) -> Iterator[Change]:
@@ -255,15 +251,11 @@ def exchange_changes(bench: Bench) -> Iterator[Change]:
             swaps = {part: part._replace(name=two if part.name == one else one) for part in outs
                      if part.name in (one, two)}
             if len(swaps) <= MAX_LINES:
-                change = bench.changed(swaps)
-                if change:
-                    yield change
+                yield from bench.changes(swaps)
     for one in names:
         for two in bench.circuit.outputs:
             for part in (part for part in outs if part.name == one and two != one):
-                change = bench.changed({part: part._replace(name=two)})
-                if change:
-                    yield change
+                yield from bench.changes({part: part._replace(name=two)})
 
 
 def step_changes(bench: Bench) -> Iterator[Change]:
@@ -333,9 +325,7 @@ def paired_changes(bench: Bench, gone: list[Part], new: list[Part]) -> Iterator[
             swaps[part] = shifted(part, other.x - part.x, other.y - part.y)
             gone.remove(part)
             new.remove(other)
-    change = bench.changed(swaps, new, gone)
-    if change and change.edits:
-        yield change
+    yield from (change for change in bench.changes(swaps, new, gone) if change.edits)
 
 
 def move_changes(bench: Bench, kinds: tuple[str, ...], reach: int = 2) -> Iterator[Change]:
@@ -351,9 +341,7 @@ def move_changes(bench: Bench, kinds: tuple[str, ...], reach: int = 2) -> Iterat
             for dx, dy in offsets:
                 if part.kind == "mirror" and has_mirror_parity(part) and not has_mirror_parity(shifted(part, dx, dy)):
                     continue
-                change = bench.changed({member: shifted(member, dx, dy) for member in group})
-                if change:
-                    yield change
+                yield from bench.changes({member: shifted(member, dx, dy) for member in group})
 
 
 def has_mirror_parity(part: Part) -> bool:
@@ -368,9 +356,7 @@ def drop_changes(bench: Bench) -> Iterator[Change]:
         is_port = part.kind in ("in", "out")
         if part.kind in ("ball", "mirror") or is_port and sum((other.kind, other.name) == (part.kind, part.name)
                                                               for other in ports) > 1:
-            change = bench.changed({}, (), [part])
-            if change:
-                yield change
+            yield from bench.changes({}, (), [part])
 
 
 def ball_changes(bench: Bench) -> Iterator[Change]:
@@ -381,9 +367,7 @@ def ball_changes(bench: Bench) -> Iterator[Change]:
     if bench.layout.width * bench.layout.height <= 1600:
         cells += [(x, y) for y in range(bench.layout.height) for x in range(bench.layout.width)]
     for cell in dict.fromkeys(cells):
-        change = bench.changed({}, [Part("ball", None, *cell)])
-        if change:
-            yield change
+        yield from bench.changes({}, [Part("ball", None, *cell)])
 
 
 def mirror_changes(bench: Bench, is_near: bool) -> Iterator[Change]:
@@ -404,6 +388,4 @@ def mirror_changes(bench: Bench, is_near: bool) -> Iterator[Change]:
                 part = Part("mirror", None, u, v, width, height)
                 if part not in seen and has_mirror_parity(part):
                     seen.add(part)
-                    change = bench.changed({}, [part])
-                    if change:
-                        yield change
+                    yield from bench.changes({}, [part])

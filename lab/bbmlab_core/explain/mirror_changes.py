@@ -20,12 +20,8 @@ def mirror_place_changes(bench: Bench) -> Iterator[Change]:
     if len(fallen) <= MAX_TOGETHER:
         count = 40 if len(fallen) == 1 else PLACES
         for places in product(*(legal_places(part)[:count] for part in fallen)):
-            change = bench.changed(dict(zip(fallen, places)))
-            if change:
-                yield change
+            yield from bench.changes(dict(zip(fallen, places)))
     for part in fallen:
         for place in [*legal_places(part)[:PLACES],
                       *(shifted(part, dx, dy) for dy in (-1, 0, 1) for dx in (-1, 0, 1) if dx or dy)]:
-            change = bench.changed({part: place})
-            if change:
-                yield change
+            yield from bench.changes({part: place})

@@ -83,12 +83,6 @@ def local_edits(lines: list[str], circuit: Circuit, module: Module, name: str) -
         yield add(place_in_module(lines, module.line, text), text)
 
 
-def module_line(document: Document, number: int) -> int:
-    """Returns the number of the `module` line to which a line belongs."""
-    lines = document.text.split("\n")
-    return next((at for at in range(min(number, len(lines)), 0, -1) if lines[at - 1].startswith("module ")), 0)
-
-
 def unknown_wire_edits(document: Document, number: int, facts: dict[str, Any]) -> Iterator[Edits]:
     """Yields edits for a line whose wire the module does not know."""
     assert document.circuit and document.certificate

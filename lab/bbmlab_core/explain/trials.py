@@ -100,7 +100,7 @@ def fault_times(report: ReportOrRefusal) -> dict[int, int]:
     return {finding.number("module"): finding.number("time") for finding in report.findings if finding.word == "local"}
 
 
-def others(report: ReportOrRefusal) -> set[str]:
+def other_findings(report: ReportOrRefusal) -> set[str]:
     """Returns the lines against the text that are not about a module's own run, without the numbers that later edits
     move."""
     return {finding.text for finding in report.faults if finding.word != "local"}
@@ -117,7 +117,8 @@ def removes(before: ReportOrRefusal, after: ReportOrRefusal | None, finding: Rep
     if after.verdict == "yes":
         return True
     was, now = fault_times(before), fault_times(after)
-    if any(module not in was or time < was[module] for module, time in now.items()) or others(after) - others(before):
+    if (any(module not in was or time < was[module] for module, time in now.items())
+            or other_findings(after) - other_findings(before)):
         return False
     left = {other.text for other in after.faults}
     if finding is None:

@@ -99,18 +99,18 @@ class ClusterChecker(Checker):
         """Yields the result of each file as soon as it is there, and None about each fifth of a second without one."""
         group = FileGroup()
         for file in files:
-            ready = (self.order.keeper.known_result(file) if self.order.keeper else None) or self.added(file, group)
+            ready = (self.order.keeper.known_result(file) if self.order.keeper else None) or self.add_file(file, group)
             if ready:
                 yield ready
             elif self.is_full(group):
                 self.send(group)
                 group = FileGroup()
                 while self.flying >= AHEAD * self.threads():
-                    yield from self.landed()
+                    yield from self.finished_results()
         if group.files:
             self.send(group)
         while self.flying:
-            yield from self.landed()
+            yield from self.finished_results()
 
     def threads(self) -> int:
         """Returns how many threads the workers have, or had a second ago."""
@@ -120,7 +120,7 @@ class ClusterChecker(Checker):
             self.counted_until = now + COUNT_SECONDS
         return self.thread_count
 
-    def added(self, file: str, group: FileGroup) -> Result | None:
+    def add_file(self, file: str, group: FileGroup) -> Result | None:
         """Adds a file to a group. Returns a result only if it can't be read."""
         text = text_or_why(file, self.order.timeout)
         if isinstance(text, Result):
@@ -142,7 +142,7 @@ class ClusterChecker(Checker):
         group.sent += 1
         self.flying += 1
 
-    def landed(self) -> Iterator[Result | None]:
+    def finished_results(self) -> Iterator[Result | None]:
         """Yields the results of a group that has come, or None after a fifth of a second."""
         try:
             group, future = self.done.get(timeout=LOOK_SECONDS)
@@ -160,9 +160,9 @@ class ClusterChecker(Checker):
         for (file, text), said in zip(group.files, answers):
             self.answered += 1
             self.worked += max(said[3], 0.001, self.order.timeout or 0 if said[4] == "timeout" else 0)
-            yield self.taken(file, text, said)
+            yield self.keep_answer(file, text, said)
 
-    def taken(self, file: str, text: bytes, said: remote.Said) -> Result:
+    def keep_answer(self, file: str, text: bytes, said: remote.Said) -> Result:
         """Returns the result that an answer stands for, and keeps it.
 
         Two answers to one text end the run, and so does another program.

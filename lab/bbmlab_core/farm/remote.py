@@ -23,11 +23,6 @@ def digest_of(path: str) -> str:
         return hashlib.sha256(file.read()).hexdigest()
 
 
-def own_program() -> str | None:
-    """Returns the worker's own program: $BBMCHECK, or bbmcheck on PATH."""
-    return shutil.which(os.environ.get("BBMCHECK") or "bbmcheck")
-
-
 def sent_program(digest: str) -> str:
     """Returns where a program that is sent is stored: under its digest, in the user's cache."""
     cache = os.environ.get("XDG_CACHE_HOME") or os.path.join(os.path.expanduser("~"), ".cache")
@@ -51,7 +46,8 @@ def program_with(digest: str) -> tuple[str, bytes, str]:
     """Returns the path and the bytes of the program with a digest that this worker has, and a sentence about what it
     has if it has none."""
     host = socket.gethostname()
-    own = own_program()
+    # The worker's own program: $BBMCHECK, or bbmcheck on PATH.
+    own = shutil.which(os.environ.get("BBMCHECK") or "bbmcheck")
     found = ""
     for place in (sent_program(digest), own):
         if place and os.path.isfile(place):

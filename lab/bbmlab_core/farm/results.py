@@ -27,7 +27,7 @@ class ResultWriter:
         if self.words is None or result.result in self.words:
             self.add(result)
         else:
-            self.leave(result)
+            self.count(result)
 
     def begin(self, files: list[str]) -> None:
         """Begins with the names of all files."""
@@ -35,7 +35,7 @@ class ResultWriter:
     def add(self, result: Result) -> None:
         """Lists one result."""
 
-    def leave(self, result: Result) -> None:
+    def count(self, result: Result) -> None:
         """Counts one result without listing it."""
 
     def end(self, stopped: str | None) -> None:
@@ -53,14 +53,14 @@ class TextWriter(ResultWriter):
 
     def add(self, result: Result) -> None:
         """Writes a line, unless the result is a yes that a receipt holds."""
-        self.leave(result)
+        self.count(result)
         if result.held and result.result == "yes":
             return
         word = painted(WORDS[result.result].ljust(8), COLOURS.get(result.result, "yellow"))
         name, detail = escape_controls(result.file).ljust(self.width), escape_controls(result.detail)
         print(f"{name}  {word}  {result.seconds:7.2f} s  {detail}".rstrip(), flush=True)
 
-    def leave(self, result: Result) -> None:
+    def count(self, result: Result) -> None:
         """Counts one result without listing it."""
         self.results[result.result] = self.results.get(result.result, 0) + 1
         self.held += result.held
@@ -134,7 +134,7 @@ class WholeWriter(ResultWriter):
         """Keeps a result."""
         self.results[result.file] = result
 
-    def leave(self, result: Result) -> None:
+    def count(self, result: Result) -> None:
         """Counts one result without listing it."""
         self.left[result.result] = self.left.get(result.result, 0) + 1
 

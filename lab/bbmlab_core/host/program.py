@@ -13,7 +13,7 @@ from pathlib import Path
 
 from .own_digest import foreign_report
 from .sealed import path_of, sealed_copy
-from .signals import held, let_in
+from .signals import stop_allowed, stop_delayed
 
 HERE = Path(__file__).resolve().parent.parent
 
@@ -181,18 +181,18 @@ def kill_session(process: "subprocess.Popen[bytes]") -> None:
         process.kill()
 
 
-def told(program: Executable, command: str, text: bytes, timeout: float | None, running: Running) -> Answer:
+def command_answer(program: Executable, command: str, text: bytes, timeout: float | None, running: Running) -> Answer:
     """Returns what a command of the program writes, whatever its status is.
 
     A signal is heard only when the program can be ended.
     """
-    with held():
+    with stop_delayed():
         try:
             process = running.start(program, command)
         except OSError as error:
             raise BadProgramError(f"{program} can't be run: {error.strerror or error}") from error
         try:
-            with let_in():
+            with stop_allowed():
                 output, written = process.communicate(text, timeout)
         except subprocess.TimeoutExpired as late:
             raise ProgramTimeout(f"no answer within {timeout:g} seconds") from late
@@ -205,7 +205,7 @@ def ask(program: Executable | str, command: str, text: bytes, timeout: float | N
         running: Running | None = None) -> Answer:
     """Runs a command of the program on a text. The program is opened already, or a path."""
     program = opened(program)
-    answer = told(program, command, text, timeout, running or SHARED or Running())
+    answer = command_answer(program, command, text, timeout, running or SHARED or Running())
     if answer.status not in (0, 1, 3, 4, 5):
         raise BadProgramError(f"{program} ended with status {answer.status}: "
                            f"{answer.errors.splitlines()[0] if answer.errors else 'no message'}")

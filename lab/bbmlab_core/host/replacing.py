@@ -30,11 +30,13 @@ def replace_file(name: str, data: bytes, before: bytes | None = None, follows: b
     if old and not stat.S_ISREG(old.st_mode):
         write_device(target, data, old)
         return
-    require_writable(target, old)
-    beside = written_beside(target, data, old)
+    # For a rename the folder alone would count, and for root nothing.
+    if old and (not old.st_mode & 0o222 or not os.access(target, os.W_OK)):
+        raise OSError(errno.EACCES, "the file is protected against writing")
+    beside = write_beside(target, data, old)
     try:
         if before is not None and bytes_of(target) != before:
-            raise ChangedFileError(name, kept_name(beside, target))
+            raise ChangedFileError(name, keep_beside(beside, target))
         if old and is_other_owner(beside, old):
             write_in_place(target, data)
         else:
@@ -69,14 +71,7 @@ def write_device(path: str, data: bytes, old: os.stat_result) -> None:
         device.write(data)
 
 
-def require_writable(target: str, old: os.stat_result | None) -> None:
-    """Raises OSError if a file is protected against writing: for a rename its folder alone would count, and for root
-    nothing."""
-    if old and (not old.st_mode & 0o222 or not os.access(target, os.W_OK)):
-        raise OSError(errno.EACCES, "the file is protected against writing")
-
-
-def written_beside(target: str, data: bytes, old: os.stat_result | None) -> str:
+def write_beside(target: str, data: bytes, old: os.stat_result | None) -> str:
     """Writes bytes to a new file in the folder of another one, through to the disk, and returns its name.
 
     It gets the other's owner and mode.
@@ -125,7 +120,7 @@ def write_in_place(target: str, data: bytes) -> None:
         os.fsync(file.fileno())
 
 
-def kept_name(beside: str, target: str) -> str:
+def keep_beside(beside: str, target: str) -> str:
     """Gives a file a name of its own beside another one, and returns the name. No file is replaced."""
     for number in range(1, MAX_NAMES):
         name = f"{target}.new{number if number > 1 else ''}"

@@ -5,8 +5,8 @@ Python runs a handler in the main thread, between two of its instructions. Two g
 
 - A signal that comes after the last instruction and before a system call does not interrupt the call, so the handler
   waits for its end. `beat` interrupts each call after half a second.
-- The exception may be raised where a program was started and nothing knows it yet, or in the middle of its end. `held`
-  delays it.
+- The exception may be raised where a program was started and nothing knows it yet, or in the middle of its end.
+  `stop_delayed` delays it.
 """
 
 import atexit
@@ -62,7 +62,7 @@ def raise_delayed() -> None:
 
 
 @contextmanager
-def held() -> Iterator[None]:
+def stop_delayed() -> Iterator[None]:
     """Delays `Stopped` in the main thread to the end of a block. Other threads never get it."""
     if threading.current_thread() is not threading.main_thread():
         yield
@@ -78,8 +78,9 @@ def held() -> Iterator[None]:
 
 
 @contextmanager
-def let_in() -> Iterator[None]:
-    """Raises `Stopped` in a block, also if the signal came before it, although the code around it is in `held`."""
+def stop_allowed() -> Iterator[None]:
+    """Raises `Stopped` in a block, also if the signal came before it, although the code around it is in
+    `stop_delayed`."""
     if threading.current_thread() is not threading.main_thread():
         yield
         return

@@ -12,15 +12,10 @@ COLOURS = ("#1f77b4", "#e07b00", "#2ca02c", "#9467bd")
 OPPOSITE = {(0, 0): (1, 1), (1, 1): (0, 0), (0, 1): (1, 0), (1, 0): (0, 1)}
 
 
-def corner_of(cell: Cell, time: int) -> Cell:
-    """Returns the upper left cell of the block that has the cell at a time (Margolus 1984)."""
-    odd = time % 2
-    return (cell[0] - odd) // 2 * 2 + odd, (cell[1] - odd) // 2 * 2 + odd
-
-
 def moved_cell(cell: Cell, live: Collection[Cell], time: int) -> Cell:
     """Returns where the content of a live cell is after a step. Of two on a diagonal each keeps its column."""
-    x, y = corner_of(cell, time)
+    odd = time % 2
+    x, y = (cell[0] - odd) // 2 * 2 + odd, (cell[1] - odd) // 2 * 2 + odd
     place = (cell[0] - x, cell[1] - y)
     over = OPPOSITE[place]
     others = [(x + 1 - place[0], y + place[1]), (x + place[0], y + 1 - place[1])]

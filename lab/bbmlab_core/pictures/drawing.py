@@ -149,20 +149,9 @@ def direction(cell: Cell, time: int) -> tuple[int, int]:
     return -1 if (cell[0] + time) % 2 else 1, -1 if (cell[1] + time) % 2 else 1
 
 
-def label_width(text: str, size: float) -> float:
-    """Estimates the width of bold letters of a size. An arrow is as wide as it is high."""
-    return size * (0.64 * len(text) + 0.5)
-
-
 def cell_rect(x: int, y: int, width: int = 1, height: int = 1) -> Rect:
     """Returns the place of some cells in the picture."""
     return Rect(MARGIN + x * CELL, MARGIN + y * CELL, width * CELL, height * CELL)
-
-
-def left_out_words(layout: Layout) -> str:
-    """Says that the names of ports are left out, if they are."""
-    count = len(labelled_cells(layout))
-    return f"; the names of {count} ports are left out" if count > MAX_NAMES else ""
 
 
 def port_labels(layout: Layout, view: Box, scale: float) -> list[str]:
@@ -175,7 +164,8 @@ def port_labels(layout: Layout, view: Box, scale: float) -> list[str]:
               for (cell, kind), names in labelled_cells(layout).items()]
     if len(labels) > MAX_NAMES:
         return []
-    names = [Name(cell, label_width(mark, size), size, kind == "in") for cell, kind, mark in labels]
+    # Bold letters are about 0.64 of their size wide, and an arrow is as wide as it is high.
+    names = [Name(cell, size * (0.64 * len(mark) + 0.5), size, kind == "in") for cell, kind, mark in labels]
     named = {(name.cell.x, name.cell.y) for name in names}
     # The second cell of a ball of two cells has no name of its own, and is a port too.
     ports = [cell_rect(*part.cell) for part in layout.parts if part.kind in ("in", "out")]
@@ -330,7 +320,7 @@ def legend(drawing: Drawing, wires: list[str], y: int, width: float) -> tuple[li
     return parts, top - y + 12 if parts else 0
 
 
-def shown_part(layout: Layout, drawing: Drawing) -> Layout:
+def clip_to_view(layout: Layout, drawing: Drawing) -> Layout:
     """Returns what a picture shows of a layout, and takes away what it does not show of the drawing."""
     view = drawing.view
     if view is None:
@@ -367,7 +357,7 @@ def svg(layout: Layout, drawing: Drawing, wires: list[str]) -> str:
 
     Above `PLAIN_SIDE` cells a side, letters and margins grow with the part of the layout that is shown.
     """
-    view, layout = drawing.view_of(layout), shown_part(layout, drawing)
+    view, layout = drawing.view_of(layout), clip_to_view(layout, drawing)
     side = max(view.width, view.height)
     scale = max(1.0, side / PLAIN_SIDE)
     widening, margin = min(scale, MAX_WIDENING) * max(1.0, side / LARGE_SIDE), MARGIN * (scale - 1)
@@ -384,7 +374,8 @@ def svg(layout: Layout, drawing: Drawing, wires: list[str]) -> str:
         parts.append(f'<circle class="fault" cx="{short(x)}" cy="{short(y)}" '
                      f'r="{CELL * max(0.75, ball):.1f}"><title>{escape(about)}</title></circle>')
     style = f"{STYLE}{LIGHT_WAYS}@media(prefers-color-scheme:dark){{{DARK_WAYS}}}{more_style(drawing, scale)}"
-    words = escape(drawing.title + left_out_words(layout))
+    count = len(labelled_cells(layout))
+    words = escape(drawing.title + (f"; the names of {count} ports are left out" if count > MAX_NAMES else ""))
     title = f'<g transform="scale({short(scale)})"><text x="{MARGIN}" y="12">{words}</text></g>'
     below = f'<g transform="translate(0 {short(bottom)}) scale({short(scale)})">' + "\n".join(keys) + "</g>"
     size = f"{short(width)} {short(height)}"
@@ -447,7 +438,7 @@ def ball_ways(document: Document, on: list[str] | None, until: int,
     return ways, {name: ", ".join(same) for name, same in equal.items()}
 
 
-def by_levels(drawing: Drawing, circuit: Circuit, most_wires: int = MAX_LEGEND) -> list[str]:
+def group_by_levels(drawing: Drawing, circuit: Circuit, most_wires: int = MAX_LEGEND) -> list[str]:
     """Gives the ways of more wires than some to groups of levels, and returns the groups.
 
     A level counts the gates from the inputs to a wire.

@@ -7,7 +7,7 @@ nothing until it can meet something (`flights`). All other blocks follow the blo
 from typing import Iterable, Iterator
 
 from ..physics.simulation import DIAGONAL, ROW, Table, cell_of, key_of
-from ..texts.layouts import Cell, Layout, cells_of
+from ..texts.layouts import Box, Cell, Layout
 from .flights import (BACK_FALLING, BACK_RISING, DIRECTIONS, FALLING, FLYING, RISING, ROW_BITS, SIDES, Flights, Walls,
                       are_firm, mirror_cells)
 
@@ -39,13 +39,15 @@ class WayRun:
         self.steady = mirror_cells(layout)
         # Whether no mirror ever changes.
         self.is_firm = are_firm(self.steady)
+        balls = dict.fromkeys([key_of(part.cell) for part in layout.of_kind("ball")], full)
+        ins = {key_of(part.cell): table for part in layout.of_kind("in") if (table := tables.get(part.name or "", 0))}
         # What does not fly.
-        self.live = dict.fromkeys(self.steady, full) | start_of_balls(layout, tables, full)
+        self.live = dict.fromkeys(self.steady, full) | balls | ins
         # The cells whose blocks the next step looks at: moving ones, and ones that were left in the last two steps, if
         # a mirror can change once they are gone.
         self.moving: list[int] = [key for key in self.live if not self.is_firm or key not in self.steady]
         self.left: tuple[list[int], list[int]] = ([] if self.is_firm else list(self.moving), [])
-        self.outside = {key_of(cell) for cell in border_of(layout)}
+        self.outside = {key_of(cell) for cell in Box(0, 0, layout.width, layout.height).halo()}
         self.flights = Flights(Walls(layout, self.steady))
         # The pieces of balls that fly, by their numbers, and cells that they left since the last step.
         self.flown: dict[int, Begun] = {}
@@ -92,12 +94,6 @@ class WayRun:
         self.keep_open(key * 8 + (number & 3), begun)
         return key
 
-    def land_in(self, corner: int) -> None:
-        """Puts the balls back that fly through a block."""
-        for offset in self.flights.offsets(self.time):
-            if corner * 4 + offset in self.flown:
-                self.land(corner * 4 + offset)
-
     def step(self) -> bool:
         """Makes a step of what does not fly, and returns whether everything stays in the rectangle."""
         get, flown, moving, left = self.live.get, self.flown, list[int](), self.vacated
@@ -108,7 +104,9 @@ class WayRun:
             first = corner * 4
             if (first + a_number in flown or first + b_number in flown or first + c_number in flown
                     or first + d_number in flown):
-                self.land_in(corner)
+                for offset in self.flights.offsets(self.time):
+                    if corner * 4 + offset in flown:
+                        self.land(corner * 4 + offset)
             a, d = get(corner, 0), get(corner + DIAGONAL, 0)
             b, c = get(corner + 1, 0), get(corner + ROW, 0)
             if (b or c) and (a or d or b and c) or a and d:
@@ -188,20 +186,6 @@ class WayRun:
             end, direction = divmod(number, 8)
             yield start, end - DIRECTIONS[direction] if end in self.outside else end, table, time
         yield from self.ended
-
-
-def start_of_balls(layout: Layout, tables: dict[str, Table], full: Table) -> dict[int, Table]:
-    """Returns the balls at the start, with their tables."""
-    balls = dict.fromkeys([key_of(part.cell) for part in layout.of_kind("ball")], full)
-    ins = {key_of(part.cell): table for part in layout.of_kind("in") if (table := tables.get(part.name or "", 0))}
-    return balls | ins
-
-
-def border_of(layout: Layout) -> Iterable[Cell]:
-    """Returns the cells next to the rectangle."""
-    wide, high = layout.width + 2, layout.height + 2
-    return [*cells_of(-1, -1, wide, 1), *cells_of(-1, layout.height, wide, 1), *cells_of(-1, -1, 1, high),
-            *cells_of(layout.width, -1, 1, high)]
 
 
 def joined_pieces(pieces: Iterable[Piece]) -> list[Piece]:

@@ -151,18 +151,16 @@ class Answers:
 
     def route(self, body: Answer) -> Answer:
         """Begins a search for a layout of the circuit of a text."""
-        return self.begun(body, None)
+        return self.begin_search(body, None)
 
     def connect(self, body: Answer) -> Answer:
         """Begins to lead the ball of an output of a text to an input."""
-        return self.begun(body, (word(body, "output"), word(body, "input")))
+        return self.begin_search(body, (word(body, "output"), word(body, "input")))
 
-    def begun(self, body: Answer, ports: tuple[str, str] | None) -> Answer:
+    def begin_search(self, body: Answer, ports: tuple[str, str] | None) -> Answer:
         """Begins a search."""
         seconds, seed = body.get("seconds"), body.get("seed")
-        if isinstance(seconds, bool) or not isinstance(seconds,
-                                                       (int, float)) or isinstance(seed,
-                                                                                   bool) or not isinstance(seed, int):
+        if not isinstance(seconds, (int, float)) or not isinstance(seed, int) or bool in (type(seconds), type(seed)):
             raise Denied(400, "the request has no numbers `seconds` and `seed`")
         text, tab = word(body, "text"), word(body, "tab")
         return self.routes.begin(tab, text, seconds, seed, ports) if self.routes else NO_PROGRAM

@@ -236,7 +236,7 @@ class ConnectedText:
                 yield end.kind, end.name and own.wire(end.name), self.moved(cell)
 
 
-def led(connection: PortConnection, deadline: float, seed: int) -> ConnectedText:
+def lead_all(connection: PortConnection, deadline: float, seed: int) -> ConnectedText:
     """Leads all balls, on ever larger planes. Raises LabError if that was not done in time."""
     why = ""
     for room in ROOMS:
@@ -261,7 +261,7 @@ def connect(text: str, ports: tuple[str, str], deadline: float, seed: int) -> Co
     document = read_document(head, "design")
     if document.refusal or not document.circuit or not document.layout:
         raise LabError("The circuit and the layout cannot be read: fix this first.")
-    return led(PortConnection(document, *ports), deadline, seed)
+    return lead_all(PortConnection(document, *ports), deadline, seed)
 
 
 def main() -> int:

@@ -122,17 +122,10 @@ class Files {
     notice(`There is a draft of ${name} from ${new Date(draft.at).toLocaleString()} ${what}. `, [
       ["take the draft", () => {
         forget();
-        this.takeDraft(draft);
+        // It goes on from the version of the file from which it began, so that saving it asks about a newer one.
+        this.digest = draft.digest;
+        this.desk.model.setText(draft.text, "draft");
       }], ["throw it away", forget]]);
-  }
-
-  /**
-   * Takes the text of a draft. It goes on from the version of the file from which the draft began, so that saving it
-   * asks about a newer one.
-   */
-  takeDraft({ text, digest }) {
-    this.digest = digest;
-    this.desk.model.setText(text, "draft");
   }
 
   // ---- save

@@ -117,11 +117,11 @@ class Jobs:
                 if self.newest[tab] != ticket or self.is_closed:
                     return {"replaced": True}
                 self.running = tab
-                worker = self.worker = self.worker if self.worker and not self.worker.is_ended else self.started()
+                worker = self.worker = self.worker if self.worker and not self.worker.is_ended else self.start_worker()
             try:
                 found = worker.answer(job, self.seconds + MORE_SECONDS)
                 is_good = found is not None and not worker.is_ended and self.newest[tab] == ticket
-                return found if found is not None and is_good else self.ended(worker, tab, ticket)
+                return found if found is not None and is_good else self.end_worker(worker, tab, ticket)
             finally:
                 with self.lock:
                     self.running = None
@@ -130,13 +130,13 @@ class Jobs:
         """Starts the process, so that the first job need not wait for it."""
         with self.turn, self.lock:
             if self.worker is None and not self.is_closed:
-                self.worker = self.started()
+                self.worker = self.start_worker()
 
-    def started(self) -> JobWorker:
+    def start_worker(self) -> JobWorker:
         """Returns a new process."""
         return JobWorker(self.program, self.seconds, self.memory)
 
-    def ended(self, worker: JobWorker, tab: str, ticket: int) -> dict[str, Any]:
+    def end_worker(self, worker: JobWorker, tab: str, ticket: int) -> dict[str, Any]:
         """Ends a process that gave no answer, and says why there is none."""
         was_replaced = worker.is_ended or self.newest[tab] != ticket
         ended = "" if was_replaced or worker.is_late else worker.how_ended()

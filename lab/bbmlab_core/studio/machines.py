@@ -9,7 +9,7 @@ from dataclasses import dataclass
 
 from ..host.terminal import LabError
 from ..joining.lone_ways import balls_of
-from ..joining.parts import PartPort, start_ports
+from ..joining.parts import start_ports
 from ..pictures.drawing import wire_tables
 from ..route.balls import Ball, block_corner, start_state, stepped
 from ..route.world import ROW, STEP, Item, cell_number
@@ -53,13 +53,10 @@ class MachineRun:
             self.root[number] = number = self.root[self.root[number]]
         return number
 
-    def start_table(self, port: PartPort) -> int:
-        """Returns under which choices a ball is there at the start."""
-        return self.full if port.wire == "1" else self.tables.get(port.wire, 0)
-
     def run(self) -> None:
         """Runs the layout. Raises LabError if a mirror breaks or a ball leaves."""
-        live, moves = start_state([(port.ball, self.start_table(port)) for port in self.starts]), 0
+        live, moves = start_state([(port.ball, self.full if port.wire == "1" else self.tables.get(port.wire, 0))
+                                   for port in self.starts]), 0
         for time in range(self.layout.steps):
             blocks: dict[Cell, int] = {}
             for cell in live:

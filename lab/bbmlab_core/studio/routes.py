@@ -84,11 +84,11 @@ class Routes:
             if any(route.process.poll() is None for route in self.found.values()) or self.is_closed:
                 raise LabError("Another search is running. It can be cancelled in its tab.")
             self.drop(tab)
-            route = self.found[tab] = self.started(bytes_of(text), words, seconds)
+            route = self.found[tab] = self.start_search(bytes_of(text), words, seconds)
         threading.Thread(target=self.watch, args=(route,), daemon=True).start()
         return {"state": "runs", "seconds": 0.0, "said": []}
 
-    def started(self, text: bytes, words: list[str], seconds: float) -> Route:
+    def start_search(self, text: bytes, words: list[str], seconds: float) -> Route:
         """Returns a new search: Python with some words, in a folder with the text."""
         room = tempfile.TemporaryDirectory(prefix="bbmlab-route-")
         Path(room.name, "text.txt").write_bytes(text)

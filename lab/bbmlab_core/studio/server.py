@@ -95,7 +95,7 @@ class Handler(BaseHTTPRequestHandler):
             if name != ENTER:
                 guard.require_key(self.headers)
             body = self.read_body(MAX_TOKEN_BYTES if name == ENTER else MAX_REQUEST_BYTES)
-            answer = self.entered(word(body,
+            answer = self.enter(word(body,
                                        "token")) if name == ENTER else self.server.answers.answer("" if name
                                                                                                   == self.path
                                                                                                   else name, body)
@@ -116,7 +116,7 @@ class Handler(BaseHTTPRequestHandler):
             raise Denied(400, "a request is a JSON object")
         return body
 
-    def entered(self, token: str) -> dict[str, str]:
+    def enter(self, token: str) -> dict[str, str]:
         """Lets a browser in."""
         key = self.server.guard.key_for(token)
         self.server.on_entry()

@@ -1,5 +1,5 @@
 /** The panels beside the picture: size, inputs, the circuit with its refusal, and the truth table. */
-import { fillBox } from "../view/boxes.js";
+import { fillBox, inputSwitch } from "../view/boxes.js";
 import { Model, refusalOf } from "./model.js";
 import { appendWords, ask, delayed, element, made } from "./page_parts.js";
 import { server } from "./server_link.js";
@@ -170,19 +170,9 @@ class SidePanels {
     const key = `${names.join(" ")} but ${[...this.desk.off].join(" ")}`;
     if (this.inputsKey === key) return;
     this.inputsKey = key;
-    fillBox(box, names, (name) => this.inputSwitch(name));
+    fillBox(box, names,
+      (name) => inputSwitch(name, this.desk.player.on.has(name), (isOn) => this.desk.setInput(name, isOn)));
     if (names.length === 0) box.textContent = "The circuit has no inputs yet.";
-  }
-
-  /** Returns the switch of an input. */
-  inputSwitch(name) {
-    const label = made("label"), box = made("input");
-    box.type = "checkbox";
-    box.value = name;
-    box.checked = this.desk.player.on.has(name);
-    box.addEventListener("change", () => this.desk.setInput(name, box.checked));
-    label.append(box, name);
-    return label;
   }
 
   /** Shows which colours the wires' ways have. */

@@ -161,7 +161,7 @@ class Survey {
     this.now = this.next;
     this.nowCount = this.nextCount;
     this.next = now;
-    if (this.time <= this.layout.steps) this.drop();
+    if (this.time <= this.layout.steps) this.dropOutside();
   }
 
   /**
@@ -272,7 +272,7 @@ class Survey {
   }
 
   /** Takes away what left the rectangle, and notes the first time. */
-  drop() {
+  dropOutside() {
     const { width, height } = this.layout, { live, now, nowCount, grid } = this;
     for (let index = 0; index < nowCount; index += 1) {
       const key = now[index], x = grid.xOf(key), y = grid.yOf(key);
@@ -289,7 +289,7 @@ class Survey {
   /**
    * Returns the ways as lines: x, y, x, y and a colour for each. The ways of one colour that lie in a row are one line.
    */
-  lines() {
+  wayLines() {
     const { blocks, sides, down, up, grid } = this, { row } = grid, lines = [];
     for (const [colours, on, dx] of [[down, row + 1, 1], [up, row - 1, -1]]) {
       for (const block of blocks) {
@@ -312,27 +312,23 @@ class Survey {
    * Returns what the page shows of the run, in a form that a worker can send: the names of the wires that have ways, by
    * their colours.
    */
-  shown() {
-    const { live, isMirror, marks, leftAt, tables, inputs, choices } = this, ways = Int16Array.from(this.lines());
-    const wires = new Map();
-    for (let index = 4; index < ways.length; index += 5) if (!wires.has(ways[index])) wires.set(ways[index],
-        this.wireOf(ways[index]));
+  result() {
+    const { live, isMirror, marks, leftAt, tables, inputs, choices } = this, ways = Int16Array.from(this.wayLines());
+    const names = [...tables.keys()], wires = new Map();
+    for (let index = 4; index < ways.length; index += 5) {
+      const colour = ways[index];
+      wires.set(colour, colour === CONSTANT ? "1" : colour === OTHER ? null : names[colour - 1]);
+    }
     return { ways, marks, live, isMirror, leftAt, tables, wires, inputCount: inputs.length,
       choiceCount: choices.length };
   }
 
   /** Returns the colour of the wire that has a table, or that of a constant, or that of no wire. */
   colourOf(table) { return table === this.full ? CONSTANT : this.colours.get(table) || OTHER; }
-
-  /** Returns the name of the wire of a colour. */
-  wireOf(colour) {
-    if (colour === CONSTANT || colour === OTHER) return colour === CONSTANT ? "1" : null;
-    return [...this.tables.keys()][colour - 1];
-  }
 }
 
 /** What the outputs should be and what they are, for all choices of up to eight inputs. */
-class TruthTable {
+class TruthTableRun {
   layout;
   circuit;
   choices;
@@ -341,11 +337,10 @@ class TruthTable {
 
   /** @param {Layout} layout @param {Circuit} circuit */
   constructor(layout, circuit) {
-    const choices = allChoices(circuit.inputs);
     // The run of the next choices, and what those before it found: one run takes the memory of a whole layout.
     this.layout = layout;
     this.circuit = circuit;
-    this.choices = choices;
+    this.choices = allChoices(circuit.inputs);
   }
 
   /** Runs for some milliseconds, and returns whether all choices were run. */
@@ -442,4 +437,4 @@ function endsOf(layout, circuit, milliseconds) {
   return run.isEnded && run.leftAt === null ? endParts(run, circuit.outputs, layout) : null;
 }
 
-export { Survey, TruthTable, endsOf, allChoices, sampledChoices, endParts, CONSTANT, OTHER, LANES };
+export { Survey, TruthTableRun, endsOf, allChoices, sampledChoices, endParts, CONSTANT, OTHER, LANES };

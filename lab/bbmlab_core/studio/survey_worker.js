@@ -3,7 +3,7 @@
  * finds. While it runs it looks for newer ones.
  */
 import * as surveys from "./survey.js";
-import { Survey, TruthTable } from "./survey.js";
+import { Survey, TruthTableRun } from "./survey.js";
 
 // How long a run may take before newer messages are looked at, in milliseconds.
 const SLICE = 12;
@@ -16,19 +16,15 @@ function choicesOf({ on, isExact }, layout, circuit) {
   return isExact ? surveys.allChoices(inputs) : surveys.sampledChoices(inputs);
 }
 
-/** Sends the ways. Its large arrays are handed over. */
-function sendWays(number, survey) {
-  const ways = survey.shown();
-  postMessage({ number, ways }, [ways.ways.buffer, ways.live.buffer, ways.isMirror.buffer]);
-}
-
 /** Runs for a while, first for the ways and then for the table, and goes on later if there is more to do. */
 function advance() {
   const { number, survey, table } = work;
   if (survey) {
     if (survey.advance(SLICE)) {
       work.survey = null;
-      sendWays(number, survey);
+      const found = survey.result();
+      // The large arrays are handed over.
+      postMessage({ number, ways: found }, [found.ways.buffer, found.live.buffer, found.isMirror.buffer]);
     }
   } else if (table && table.advance(SLICE)) {
     work.table = null;
@@ -44,7 +40,7 @@ onmessage = ({ data: { number, layout, ways, hasTable, circuit = work.circuit } 
   work.number = number;
   work.circuit = circuit;
   work.survey = survey;
-  work.table = hasTable ? new TruthTable(layout, circuit) : null;
+  work.table = hasTable ? new TruthTableRun(layout, circuit) : null;
   if (isIdle && (work.survey || work.table)) turns.port2.postMessage(null);
 };
 

@@ -101,7 +101,9 @@ class Judge:
         own = self.judged(self.text, "own") if self.head != self.text else None
         if own and own.verdict == "yes":
             return own
-        plain = None if has_delay(design.circuit) else plain_certificate(design.circuit, design.layout)
+        # The steps of a `delay` gate are shown by stops alone.
+        has_delay = any(gate.kind == "delay" for gate in design.circuit.gates)
+        plain = None if has_delay else plain_certificate(design.circuit, design.layout)
         if plain:
             return self.judged(self.head + plain, "plain")
         earlier = self.judged(self.head + self.earlier, "earlier") if self.earlier else None
@@ -201,11 +203,6 @@ def wrong_cell(circuit: Circuit, layout: Layout, on: set[str], live: set[Cell]) 
     return min((wanted | layout.mirror_cells() - free) ^ (live - free), default=None)
 
 
-def has_delay(circuit: Circuit) -> bool:
-    """Whether a circuit has a gate whose steps only stops can show."""
-    return any(gate.kind == "delay" for gate in circuit.gates)
-
-
 def plain_certificate(circuit: Circuit, layout: Layout) -> str | None:
     """Returns a certificate of one module for the whole layout that cuts all inputs and uses all gates, or None if it
     is too large.
@@ -248,24 +245,15 @@ def explained(text: str, bundle: str, output: str, program: Executable, seconds:
                                      for entry in made.entries if entry.is_against][:MAX_LINES]
     whole = fixer.find()
     forms = {entry["line"]: entry for entry in entries}
-    if not report.refused and document.certificate:
-        add_line_fixes(forms, fixer, Diagnosis(document), report, has_own)
+    # Without a certificate of its own a text has no lines that fixes of single lines could change.
+    if has_own and not report.refused and document.certificate:
+        diagnosis = Diagnosis(document)
+        for finding in report.faults[:MAX_FIXED]:
+            fix = fixer.find_for(diagnosis, finding)
+            if fix and finding.text in forms:
+                forms[finding.text]["fix"] = fix_form(fix, report, has_own)
     return {"headline": made.headline[1:], "entries": entries, "fix": fix_form(whole, report, has_own),
             "tried": [] if whole else tried_words(fixer, trial)}
-
-
-def add_line_fixes(forms: dict[str, dict[str, Any]], fixer: Fixer, diagnosis: Diagnosis, report: ReportOrRefusal,
-                   has_own: bool) -> None:
-    """Adds fixes of single lines of a report.
-
-    Without a certificate of its own a text has no lines that these fixes could change.
-    """
-    if not has_own:
-        return
-    for finding in report.faults[:MAX_FIXED]:
-        fix = fixer.find_for(diagnosis, finding)
-        if fix and finding.text in forms:
-            forms[finding.text]["fix"] = fix_form(fix, report, has_own)
 
 
 def fix_form(fix: Fix | None, report: ReportOrRefusal, has_own: bool) -> dict[str, Any] | None:

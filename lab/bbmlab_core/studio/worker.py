@@ -86,7 +86,8 @@ def picture(document: Document, layout: Layout, name: str) -> str:
     shown.ways, shown.labels = drawing.ball_ways(document, None, layout.steps)
     shown.title = f"{name}: ways of the balls{drawing.sampled_words(document)}"
     most = len(drawing.COLOURS) if max(layout.width, layout.height) > drawing.LARGE_SIDE else drawing.MAX_LEGEND
-    return drawing.svg(layout, shown, drawing.by_levels(shown, document.circuit, most) if document.circuit else on)
+    wires = drawing.group_by_levels(shown, document.circuit, most) if document.circuit else on
+    return drawing.svg(layout, shown, wires)
 
 
 JOBS = {"verdict": verdict, "explain": explain, "export": export}
@@ -115,19 +116,14 @@ def stop(_number: int, _frame: FrameType | None) -> None:
     signal.setitimer(signal.ITIMER_REAL, 0.1)
 
 
-def limit_memory(memory: int) -> None:
-    """Limits the memory of this process and of the program, to less than is asked for if this user may not have as
-    much."""
-    _, most = resource.getrlimit(resource.RLIMIT_AS)
-    limit = memory if most == resource.RLIM_INFINITY else min(memory, most)
-    resource.setrlimit(resource.RLIMIT_AS, (limit, limit))
-
-
 def main() -> int:
     """Answers jobs until the input ends."""
     asked, seconds, memory = Executable(sys.argv[1], int(sys.argv[2]),
                                         sys.argv[3]), float(sys.argv[4]), int(sys.argv[5]) * 2 ** 20
-    limit_memory(memory)
+    # This user may not be allowed as much memory as is asked for.
+    _, most = resource.getrlimit(resource.RLIMIT_AS)
+    limit = memory if most == resource.RLIM_INFINITY else min(memory, most)
+    resource.setrlimit(resource.RLIMIT_AS, (limit, limit))
     resource.setrlimit(resource.RLIMIT_CORE, (0, 0))
     program.SHARED = program.Running()
     signal.signal(signal.SIGTERM, stop)

@@ -16,48 +16,21 @@ Table = int
 Row = tuple[list[Table], Table]
 
 
-def _fredkin(full: Table, c: Table, x: Table, y: Table) -> Row:
-    """Returns the outputs of `fredkin`, and where it has a row."""
-    n = full ^ c
-    return [c, c & x | n & y, c & y | n & x], full
-
-
-def _cswap(full: Table, c: Table, x: Table, y: Table) -> Row:
-    """Returns the outputs of `cswap`, and where it has a row."""
-    n = full ^ c
-    return [c, c & y | n & x, c & x | n & y], full
-
-
-def _interact(full: Table, p: Table, q: Table) -> Row:
-    """Returns the outputs of `interact`, and where it has a row."""
-    return [p & q, q & ~p, p & ~q, p & q], full
-
-
-def _switch(full: Table, c: Table, x: Table) -> Row:
-    """Returns the outputs of `switch`, and where it has a row."""
-    return [c, c & x, x & ~c], full
-
-
-def _delay(full: Table, a: Table) -> Row:
-    """Returns the output of `delay`, and where it has a row."""
-    return [a], full
-
-
-def _unswitch(full: Table, c: Table, y: Table, z: Table) -> Row:
-    """Returns the outputs of `unswitch`, and where it has a row."""
-    return [c, y | z], full & ~(c & z | y & ~c)
-
-
-def _uninteract(full: Table, a: Table, b: Table, c: Table, d: Table) -> Row:
+def uninteract_row(full: Table, a: Table, b: Table, c: Table, d: Table) -> Row:
     """Returns the outputs of `uninteract`, and where it has a row."""
-    none = ~(a | b | c | d)
     alone = b & ~(a | c | d) | c & ~(a | b | d)
-    return [a | c, a | b], full & (none | alone | a & d & ~(b | c))
+    return [a | c, a | b], full & (~(a | b | c | d) | alone | a & d & ~(b | c))
 
 
+# The outputs of each gate, and where it has a row.
 RULES: dict[str, Callable[..., Row]] = {
-    "fredkin": _fredkin, "cswap": _cswap, "interact": _interact, "switch": _switch, "delay": _delay,
-    "unswitch": _unswitch, "uninteract": _uninteract,
+    "fredkin": lambda full, c, x, y: ([c, c & x | (full ^ c) & y, c & y | (full ^ c) & x], full),
+    "cswap": lambda full, c, x, y: ([c, c & y | (full ^ c) & x, c & x | (full ^ c) & y], full),
+    "interact": lambda full, p, q: ([p & q, q & ~p, p & ~q, p & q], full),
+    "switch": lambda full, c, x: ([c, c & x, x & ~c], full),
+    "delay": lambda full, a: ([a], full),
+    "unswitch": lambda full, c, y, z: ([c, y | z], full & ~(c & z | y & ~c)),
+    "uninteract": uninteract_row,
 }
 
 

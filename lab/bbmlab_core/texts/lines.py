@@ -79,15 +79,10 @@ def value_pattern(place: str) -> str:
     return other.get(place) or re.escape(place)
 
 
-def time_of(word: str) -> int | None:
-    """Returns the time of a word, and None for `*`."""
-    return None if word == "*" else int(word)
-
-
 def value_reader(place: str) -> Callable[[str], Any]:
     """Returns what makes a value of a word in the place of a placeholder."""
     if place == "TIME":
-        return time_of
+        return lambda word: None if word == "*" else int(word)
     return int if place in NUMBERS or place == "BIT" else str
 
 

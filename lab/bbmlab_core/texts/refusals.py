@@ -42,17 +42,6 @@ class Explained:
 
 
 Facts = dict[str, Any]
-Teller = Callable[[Facts], Explained]
-TELLERS: dict[str, Teller] = {}
-
-
-def tells(cause: str) -> Callable[[Teller], Teller]:
-    """Registers the function that explains a cause."""
-    def register(teller: Teller) -> Teller:
-        """Notes the function as the one that explains these causes."""
-        TELLERS[cause] = teller
-        return teller
-    return register
 
 
 def listed(names: Sequence[str], most: int = 8) -> str:
@@ -162,6 +151,10 @@ SENTENCES = {
         "Remove the line, or give the number of an `unswitch` or `uninteract`.", "number", "gate.line"),
     "on_unknown": Sentences("`{name}` can't be turned on: {why_not_on}.{near}", "{names_to_turn_on}", "name"),
     "on_twice": Sentences("`{name}` is on already (line {at}).", "Remove one of the two lines.", "name", "at"),
+    "gate_not_rising": Sentences(
+        "`{kind} {number}` has {same_or_lower} `{kind} {last}` on line {at}; the gate numbers of a module rise.",
+        "{sort_or_remove}", lines="at"),
+    "port_unknown": Sentences("`{name}` is no {side} of the circuit.{near_port}", "{names_of_side}", "name"),
     "wire_defined": Sentences("The wire `{name}` is defined already ({earlier}).",
                               "Give one of the two another name.", "name", "at"),
     "wire_consumed": Sentences(
@@ -222,6 +215,15 @@ DERIVED: dict[str, Callable[[Facts], str]] = {
     "is_or_are": lambda facts: "are" if len(facts["names"]) > 1 else "is",
     "local_words": lambda facts: (f"Local there: {listed(facts['local'])}." if facts["local"]
                                   else "No wire is local there."),
+    "same_or_lower": lambda facts: ("the same number as" if facts["number"] == facts["last"]
+                                    else "a lower number than"),
+    "sort_or_remove": lambda facts: ("Remove the line." if facts["number"] == facts["last"]
+                                     else "Sort these lines by number. `bbmlab fmt` does."),
+    "side": lambda facts: "input" if facts["kind"] == "in" else "output",
+    "near_port": lambda facts: (f" It is a wire, and no {facts['side']}." if facts["is_wire"]
+                                else near(facts["name"], facts["known"])),
+    "names_of_side": lambda facts: (f"Name one of the {facts['side']}s: {listed(facts['known'])}." if facts["known"]
+                                    else f"The circuit has no {facts['side']}."),
     "make_local": lambda facts: make_local(facts["name"], facts["gate"]),
     "wires_of_gate": lambda facts: listed(facts["gate"].ins),
 }
@@ -249,8 +251,7 @@ def told(sentences: Sentences, facts: Facts) -> Explained:
 
 # ---- code 12
 
-@tells("text_ended")
-def _text_ended(facts: Facts) -> Explained:
+def explain_text_ended(facts: Facts) -> Explained:
     """Explains a text that ends before its last section does."""
     section = facts["section"]
     return Explained([f"The text ends before the {section} section is complete: no line is left."],
@@ -260,19 +261,7 @@ def _text_ended(facts: Facts) -> Explained:
 
 # ---- code 6
 
-@tells("gate_not_rising")
-def _gate_not_rising(facts: Facts) -> Explained:
-    """Explains a `use` or `keep` line whose gate number does not rise."""
-    kind, number, last = facts["kind"], facts["number"], facts["last"]
-    how = "the same number as" if number == last else "a lower number than"
-    return Explained([f"`{kind} {number}` has {how} `{kind} {last}` on line {facts['at']}; the gate numbers of a "
-                      "module rise."],
-                     ["Remove the line." if number == last else "Sort these lines by number. `bbmlab fmt` does."],
-                     lines=[facts["at"]])
-
-
-@tells("border_not_rising")
-def _border_not_rising(facts: Facts) -> Explained:
+def explain_border_not_rising(facts: Facts) -> Explained:
     """Explains an `edge`, `halo` or `stop` line that is out of order."""
     kind, new, last = facts["kind"], facts["new"], facts["last"]
     if new.place == last.place:
@@ -289,8 +278,7 @@ def _border_not_rising(facts: Facts) -> Explained:
 
 # ---- code 11
 
-@tells("wire_not_consumed")
-def _wire_not_consumed(facts: Facts) -> Explained:
+def explain_wire_not_consumed(facts: Facts) -> Explained:
     """Explains wires that nothing consumes at the end of a circuit."""
     names = facts["names"]
     lines = [facts["defined"][name] for name in names]
@@ -301,8 +289,7 @@ def _wire_not_consumed(facts: Facts) -> Explained:
                      lines=lines)
 
 
-@tells("port_without_cell")
-def _port_without_cell(facts: Facts) -> Explained:
+def explain_port_without_cell(facts: Facts) -> Explained:
     """Explains inputs or outputs without a cell at the end of a layout."""
     what, hints = [], []
     for kind, side in (("in", "inputs"), ("out", "outputs")):
@@ -314,8 +301,7 @@ def _port_without_cell(facts: Facts) -> Explained:
     return Explained(what, hints, names=facts["inputs"] + facts["outputs"])
 
 
-@tells("port_not_local")
-def _port_not_local(facts: Facts) -> Explained:
+def explain_port_not_local(facts: Facts) -> Explained:
     """Explains a port in a box whose wire the module does not know."""
     what = [f"Module {facts['module']} (line {facts['at']}) has the cell of `{port.kind} {port.name} {port.x} "
             f"{port.y}` (line {port.line}) "
@@ -337,8 +323,7 @@ def make_local(name: str, gate: Any) -> str:
             f"Or add `cut {name}` if the module lies away from that gate.")
 
 
-@tells("gap")
-def _gap(facts: Facts) -> Explained:
+def explain_gap(facts: Facts) -> Explained:
     """Explains cells that are in no box."""
     gaps = facts["gaps"]
     shown = "; ".join(box_words(gap) for gap in gaps[:4]) + (f"; and {len(gaps) - 4} more" if len(gaps) > 4 else "")
@@ -350,8 +335,7 @@ def _gap(facts: Facts) -> Explained:
                       "or make a neighbour larger."])
 
 
-@tells("heard_not_local")
-def _heard_not_local(facts: Facts) -> Explained:
+def explain_heard_not_local(facts: Facts) -> Explained:
     """Explains an edge line beside a module that does not know its wire."""
     missing = facts["missing"]
     what = [f"Module {module} does not know the wire `{line.signal}`: line {at} (`{line_words('edge', line)}`, of "
@@ -366,8 +350,7 @@ def _heard_not_local(facts: Facts) -> Explained:
 
 # ---- code 2
 
-@tells("layout_side")
-def _layout_side(facts: Facts) -> Explained:
+def explain_layout_side(facts: Facts) -> Explained:
     """Explains a side of a layout that is odd or outside its limits."""
     number, limits = facts["number"], facts["limits"]
     most = limits.max_side
@@ -379,26 +362,12 @@ def _layout_side(facts: Facts) -> Explained:
                       + (needs_line(f"A layout {size} than {most}", limits) if number > most else "")])
 
 
-@tells("mirror_side")
-def _mirror_side(facts: Facts) -> Explained:
+def explain_mirror_side(facts: Facts) -> Explained:
     """Explains a side of a mirror outside its limits."""
     most = facts["limits"].max_side
     more = needs_line(f"A side of more than {most}", facts["limits"]) if facts["number"] > most else ""
     return Explained([f"The {facts['what']} of the mirror is {facts['number']}; it is 1 to {most}."],
                      [f"A `mirror` line is `mirror X Y W H`: the cell, then width and height.{more}"])
-
-
-# ---- codes 3, 4 and 5
-
-@tells("port_unknown")
-def _port_unknown(facts: Facts) -> Explained:
-    """Explains a port whose name is no input or output of the circuit."""
-    kind, name = facts["kind"], facts["name"]
-    side = "input" if kind == "in" else "output"
-    extra = f" It is a wire, and no {side}." if facts["is_wire"] else near(name, facts["known"])
-    return Explained([f"`{name}` is no {side} of the circuit.{extra}"],
-                     [f"Name one of the {side}s: {listed(facts['known'])}." if facts["known"]
-                      else f"The circuit has no {side}."], names=[name])
 
 
 # ---- code 10
@@ -439,15 +408,20 @@ def place_words(fault: str, facts: Facts) -> tuple[str, str]:
     }[fault]
 
 
-@tells("border_place")
-def _border_place(facts: Facts) -> Explained:
+def explain_border_place(facts: Facts) -> Explained:
     """Explains a time or a cell at which no line may be."""
     told = [place_words(fault, facts) for fault in facts["faults"]]
     star = [facts["star"]] if facts["star"] else []
     return Explained([what for what, _ in told], [hint for _, hint in told], lines=star)
 
 
-# ---- all
+# The causes that more than their facts decide.
+TELLERS: dict[str, Callable[[Facts], Explained]] = {
+    "text_ended": explain_text_ended, "border_not_rising": explain_border_not_rising,
+    "wire_not_consumed": explain_wire_not_consumed, "port_without_cell": explain_port_without_cell,
+    "port_not_local": explain_port_not_local, "gap": explain_gap, "heard_not_local": explain_heard_not_local,
+    "layout_side": explain_layout_side, "mirror_side": explain_mirror_side, "border_place": explain_border_place}
+
 
 def explain_refusal(document: Document, refusal: Refusal) -> Explained:
     """Returns a refusal of the lab's reader in words."""

@@ -34,7 +34,8 @@ def free_words(line: str) -> list[str]:
     must be the text that the program reads.
     """
     code = line.partition("#")[0].rstrip(" \t\r").replace("->", " -> ").replace("\t", " ")
-    return [plain_number(word) for word in code.split(" ") if word]
+    return [(word.lstrip("0") or "0") if word.isdecimal() and word.isascii() else word for word in code.split(" ")
+            if word]
 
 
 def mark_length(text: str) -> int:
@@ -58,11 +59,6 @@ def free_lines(text: str, spelling: Spelling) -> Iterator[str]:
         words = free_words(line)
         if words:
             yield " ".join(words)
-
-
-def plain_number(word: str) -> str:
-    """Returns a number without leading zeros; other words stay."""
-    return (word.lstrip("0") or "0") if word.isdecimal() and word.isascii() else word
 
 
 def number_at(words: list[str], index: int) -> int:

@@ -224,9 +224,9 @@ class WholeRun {
     this.every = snapshotStep(layout.steps);
     // Snapshots are the cells that differ from the mirrors.
     this.snapshots = new Map([[0, Int32Array.from(new Set(keys.filter((key) => !cells.has(key))))]]);
-    this.know(this.snapshots.get(0));
+    this.noteDifferent(this.snapshots.get(0));
     this.leftAt = null;
-    // The moves of some steps, which `trail` notes.
+    // The moves of some steps, which `lastMoves` notes.
     this.moves = new Map();
   }
 
@@ -240,7 +240,7 @@ class WholeRun {
    * Takes the cells that differ from the mirrors now, without the steps before: balls, and cells of mirrors that fell
    * apart, are among them.
    */
-  know(keys) {
+  noteDifferent(keys) {
     const first = [...keys, ...this.restless];
     this.recent = [first, first];
     this.differ = new Set(keys);
@@ -316,7 +316,7 @@ class WholeRun {
     for (const key of now) if (!then.has(key)) this.live.bytes[key] ^= 1;
     for (const key of then) if (!now.has(key)) this.live.bytes[key] ^= 1;
     this.time = near;
-    this.know(then);
+    this.noteDifferent(then);
   }
 
   /** Goes to a time, or to the last time before a ball leaves the rectangle. */
@@ -375,7 +375,7 @@ function movesNow(run) {
  * Returns the moves of the last steps up to the present, the latest step first.
  * @type {(run: WholeRun, length: number) => number[][]}
  */
-function trail(run, length) {
+function lastMoves(run, length) {
   noteMoves(run, length);
   return [...Array(Math.min(length, run.time)).keys()].map((age) => run.moves.get(run.time - 1 - age));
 }
@@ -513,4 +513,4 @@ class ModuleRun {
   }
 }
 
-export { Grid, Cells, WholeRun, ModuleRun, circuitValues, startKeys, mirrorsOf, trail, movesNow };
+export { Grid, Cells, WholeRun, ModuleRun, circuitValues, startKeys, mirrorsOf, lastMoves, movesNow };

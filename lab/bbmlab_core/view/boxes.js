@@ -32,4 +32,12 @@ function fillBox(box, items, itemOf) {
   box.onscroll = () => { if (count < items.length && box.scrollTop + 2 * box.clientHeight > box.scrollHeight) more(); };
 }
 
-export { element, fillBox, made };
+/** Returns the switch of an input. `take` gets each new value. */
+function inputSwitch(name, isOn, take) {
+  const label = made("label"), box = Object.assign(made("input"), { type: "checkbox", value: name, checked: isOn });
+  box.addEventListener("change", () => take(box.checked));
+  label.append(box, name);
+  return label;
+}
+
+export { element, fillBox, inputSwitch, made };

@@ -89,13 +89,6 @@ function showPlay() {
   }
 }
 
-/** Shows the outputs and what depends on the run's end. */
-function showRunResults() {
-  panels.showResults(player, goToCell);
-  showTime();
-  stage.takeResults();
-}
-
 /** Shows the cell under the pointer with what there is. */
 function showCell() {
   stage.pointed = pageState.place ? stage.cellAt(...pageState.place) : stage.mark;
@@ -178,14 +171,14 @@ function closeOwn() {
 }
 
 /** Notes which line of the report is shown: its button is pressed. */
-function press(number) {
+function markEntry(number) {
   pageState.entry = number;
   pageState.buttons.forEach((button, index) => button.setAttribute("aria-pressed", String(index === number)));
 }
 
 /** Shows no line of the report. */
 function closeEntry() {
-  press(null);
+  markEntry(null);
   stage.fault = null;
   stage.module = null;
   stage.mark = null;
@@ -195,7 +188,7 @@ function closeEntry() {
 /** Goes to the module, time, assignment and cell of a line of the report. */
 function showEntry(number) {
   const { facts } = entries[number], stop = facts.cell || facts.assignment ? undefined : stopOf(facts);
-  press(number);
+  markEntry(number);
   player.play(0);
   stage.fault = facts.cell || (stop ? stop.cell : null);
   stage.mark = null;
@@ -208,12 +201,6 @@ function showEntry(number) {
   const centre = stage.fault ? stage.fault.map((part) => part + 0.5)
     : box ? [box[0] + box[2] / 2, box[1] + box[3] / 2] : null;
   if (centre) stage.lookAt(centre, box);
-}
-
-/** Goes to a line of the report that somebody chose, and brings the picture into sight. */
-function chooseEntry(number) {
-  showEntry(number);
-  if (innerWidth <= 800) element("whole").scrollIntoView({ block: "nearest" });
 }
 
 /** Goes to the next (1) or previous (-1) line of the report that is against the design. */
@@ -393,7 +380,9 @@ function listenToChanges() {
     stage.paintWave();
   });
   player.listen("end", () => {
-    showRunResults();
+    panels.showResults(player, goToCell);
+    showTime();
+    stage.takeResults();
     speakSoon();
   });
   player.listen("play", () => {
@@ -422,6 +411,8 @@ listenToChanges();
 showRate();
 showPlay();
 if (panels.showVerdict(data.explanation, player.modules.length > 0))
-    pageState.buttons = panels.showReport(data.explanation,
-    chooseEntry, goToCell);
+    pageState.buttons = panels.showReport(data.explanation, (number) => {
+      showEntry(number);
+      if (innerWidth <= 800) element("whole").scrollIntoView({ block: "nearest" });
+    }, goToCell);
 readAddress();

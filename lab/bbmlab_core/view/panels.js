@@ -1,5 +1,5 @@
 /** Fills the panels beside the picture: inputs, outputs, the report, the lines of the certificate. */
-import { element, fillBox, made } from "./boxes.js";
+import { element, fillBox, inputSwitch, made } from "./boxes.js";
 import { counted } from "./stage.js";
 
 const MAX_LINES_SHOWN = 200;
@@ -42,23 +42,12 @@ function appendCells(parent, text, action) {
   });
 }
 
-/** Returns the switch of an input. */
-function inputSwitch(player, name) {
-  const label = made("label", ""), box = made("input", "");
-  box.type = "checkbox";
-  box.value = name;
-  box.checked = player.on.has(name);
-  box.addEventListener("change", () => {
-    player.setInputs({ [name]: box.checked });
-    player.restart();
-  });
-  label.append(box, name);
-  return label;
-}
-
 /** Makes a switch for each input. */
 function makeInputs(player) {
-  fillBox(element("inputs"), player.names, (name) => inputSwitch(player, name));
+  fillBox(element("inputs"), player.names, (name) => inputSwitch(name, player.on.has(name), (isOn) => {
+    player.setInputs({ [name]: isOn });
+    player.restart();
+  }));
   if (player.names.length === 0) element("inputs").textContent = "The layout has no inputs.";
   element("choices").hidden = player.names.length < 2;
   for (const [id, value] of [["all", true], ["none", false]]) {

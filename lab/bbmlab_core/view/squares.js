@@ -21,14 +21,6 @@ function boardOf({ width, height }) {
   return board;
 }
 
-/** Returns the word of an image for a colour without opacity: red is its lowest byte. */
-function wordOf(pen, ink) {
-  pen.fillStyle = ink;
-  // A pen returns its colour as #rrggbb.
-  const value = Number.parseInt(pen.fillStyle.slice(1), 16);
-  return value >> 16 & 0xff | value & 0xff00 | (value & 0xff) << 16;
-}
-
 /** Adds a square of some pixels to an image. */
 function addSquare({ bytes, canvas: { width, height } }, x, y, side) {
   const right = Math.min(width, Math.ceil(x + side)), bottom = Math.min(height, Math.ceil(y + side));
@@ -51,7 +43,10 @@ function addSquare({ bytes, canvas: { width, height } }, x, y, side) {
  */
 function paintSquares({ pen, scale, left, top }, cells, ink, { side, shift = 0, isWhole = false }) {
   const found = boardOf(pen.canvas), ratio = pen.getTransform().a, unit = scale * ratio, off = shift * ratio;
-  found.words.fill(wordOf(found.pen, ink));
+  found.pen.fillStyle = ink;
+  // A pen returns its colour as #rrggbb. In a word of an image red is the lowest byte, and there is no opacity yet.
+  const value = Number.parseInt(found.pen.fillStyle.slice(1), 16);
+  found.words.fill(value >> 16 & 0xff | value & 0xff00 | (value & 0xff) << 16);
   for (let index = 0; index < cells.length; index += 2) {
     const x = (cells[index] - left) * unit + off, y = (cells[index + 1] - top) * unit + off;
     addSquare(found, isWhole ? Math.floor(x) : x, isWhole ? Math.floor(y) : y, side * ratio);

@@ -1,6 +1,6 @@
 /** Shows the runs of a player on canvases: the layout, a module by itself, and the waveform. */
 import * as address from "./address.js";
-import { mirrorsOf, trail } from "./automaton.js";
+import { mirrorsOf, lastMoves } from "./automaton.js";
 import * as painting from "./painting.js";
 import { SvgPen } from "./svg_pen.js";
 import { Buckets, changedPlaces, Tiles, visitModules, visitPorts } from "./tiles.js";
@@ -293,7 +293,7 @@ class Stage {
   trails() {
     if (!this.hasTrails) return [];
     let room = MAX_MOVES;
-    return trail(this.player.run, TRAIL_STEPS).filter((moves) => {
+    return lastMoves(this.player.run, TRAIL_STEPS).filter((moves) => {
       room -= moves.length / 2;
       return room >= 0;
     });
@@ -309,7 +309,7 @@ class Stage {
       good: run.time === layout.steps ? this.good : null, pointed,
       ways: (where, range) => this.drawWays(where, range), still: place.pen instanceof SvgPen ? null
         : (where) => this.drawStill(where),
-      different: () => run.different(), over: wire ? (where) => this.wires.bring(where, wire) : null });
+      different: () => run.different(), over: wire ? (where) => this.wires.drawInFront(where, wire) : null });
   }
 
   /** Draws what is still from tiles. */

@@ -68,17 +68,14 @@ def source_word(text: str) -> str:
     return f"'sha256-{base64.b64encode(hashlib.sha256(text.encode()).digest()).decode()}'"
 
 
-def policy(style: str, script: str) -> str:
-    """Returns the page's Content-Security-Policy: its own style and script, and nothing else from anywhere."""
-    return (f"default-src 'none'; style-src {source_word(style)}; script-src {source_word(script)}; "
-            "base-uri 'none'; form-action 'none'")
-
-
 def page(document: Document, explanation: ExplainedAnswer | None, title: str) -> str:
     """Writes the page: the template with its style, its script and its data in place."""
     assert document.layout
     before, after = source("page.html").split("DATA")
     style, script = source("page.css"), f"\n{joined(ENTRY)}"
-    for mark, text in (("POLICY", policy(style, script)), ("STYLE", style), ("TITLE", escape(escape_controls(title)))):
+    # The page takes its own style and script, and nothing else from anywhere.
+    policy = (f"default-src 'none'; style-src {source_word(style)}; script-src {source_word(script)}; "
+              "base-uri 'none'; form-action 'none'")
+    for mark, text in (("POLICY", policy), ("STYLE", style), ("TITLE", escape(escape_controls(title)))):
         before = before.replace(mark, text)
     return before + page_data(document, explanation) + after.replace("SCRIPT", script)

@@ -151,7 +151,7 @@ class Wires {
   }
 
   /** Draws all ways of a wire, so that they stand out. */
-  bring({ pen, scale, left, top, inks }, wire) {
+  drawInFront({ pen, scale, left, top, inks }, wire) {
     for (const [ink, width] of [[inks.plane, 6], [inks.ink, 3]]) {
       pen.strokeStyle = ink;
       pen.lineWidth = Math.max(width, width / 10 * scale);

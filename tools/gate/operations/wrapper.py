@@ -149,6 +149,11 @@ class Tree:
         same(ended.returncode, 3, "the status of the program")
         return found[1] if found[2] == self.sum() else f"an outdated program ({found[1]})"
 
+    def program_after(self, text):
+        """Writes a text in a source, and returns which kind of program the wrapper runs then."""
+        self.file().write_text(text)
+        return self.program()
+
     def calls(self, verb):
         calls = self.kit / "calls"
         return sum(line.startswith(verb) for line in calls.read_text().splitlines()) if calls.exists() else 0
@@ -217,16 +222,14 @@ def wrapper_older_checkout(tree):
             continue
         subprocess.run(["sh", "-c", way], check=True)
         same(tree.program(), "built", name)
-        tree.file().write_text("low src 0\n")
-        same(tree.program(), "released", f"after {name}")
+        same(tree.program_after("low src 0\n"), "released", f"after {name}")
         shutil.rmtree(tree.file(ROOM))
 
 
 @in_tree
 def wrapper_kept_program_of_older_sources(tree):
     """What was built here is never run for other sources, whatever its times are."""
-    tree.file().write_text("low src 1\n")
-    same(tree.program(), "built")
+    same(tree.program_after("low src 1\n"), "built")
     tree.file().write_text("low src 2\n")
     os.utime(tree.file(), (0, 0))
     os.utime(tree.file(f"{ROOM}/bbmcheck"), (4e9, 4e9))
@@ -328,8 +331,7 @@ def wrapper_other_rt(tree):
 @in_tree
 def wrapper_other_kit(tree):
     """With another kit what was built is proved again."""
-    tree.file().write_text("low src 1\n")
-    same(tree.program(), "built")
+    same(tree.program_after("low src 1\n"), "built")
     calls = tree.calls("run")
     same((tree.program(), tree.calls("run")), ("built", calls))
     (tree.kit / "KIT-ID").write_text(KIT_LINE.replace("fake", "fake2") + "\n")
@@ -348,8 +350,7 @@ def wrapper_other_kit(tree):
 @in_tree
 def wrapper_moved_and_copied(tree):
     """A checkout that is moved or copied, with what the wrapper kept; and edits of the copy."""
-    tree.file().write_text("low src 1\n")
-    same(tree.program(), "built")
+    same(tree.program_after("low src 1\n"), "built")
     tree.top.rename(tree.room / "moved")
     tree.top = tree.room / "moved"
     calls = tree.calls("run")
@@ -359,7 +360,7 @@ def wrapper_moved_and_copied(tree):
     same((tree.program(), tree.calls("run")), ("built", calls), "copied")
     tree.file().write_text("low src 2\n")
     os.utime(tree.file(), (1e9, 1e9))
-    same(tree.program(), "built", "copied and edited")
+    same(tree.program(), "built", "copied and program_after")
 
 
 @in_tree
@@ -370,8 +371,7 @@ def wrapper_times_in_the_future(tree):
     calls = tree.calls("run")
     for _ in range(2):
         same((tree.program(), tree.calls("run")), ("built", calls), "a source from the future")
-    tree.file().write_text("low src 2\n")
-    same(tree.program(), "built", "after an edit")
+    same(tree.program_after("low src 2\n"), "built", "after an edit")
 
 
 @in_tree
@@ -557,15 +557,13 @@ def wrapper_failed_proof(tree):
 @in_tree
 def wrapper_without_kit(tree):
     """No kit: the release runs, other sources end with 70, and what was built here runs on."""
-    tree.file().write_text("low src 1\n")
-    same(tree.program(), "built")
+    same(tree.program_after("low src 1\n"), "built")
     tree.environment["PATH"] = path_without(tree.room, "rt")
     same(tree.program(), "built", "what was built, without the kit")
     tree.file().write_text("low src 2\n")
     said = tree.fails()
     holds("needs the Rattle kit" in said, said)
-    tree.file().write_text("low src 0\n")
-    same(tree.program(), "released")
+    same(tree.program_after("low src 0\n"), "released")
 
 
 @in_tree
@@ -579,10 +577,8 @@ def wrapper_paths(tree):
         for words in ({}, {"cwd": tree.top, "path": "./bbmcheck"}, {"cwd": tree.top, "shell": ["sh"]},
                       {"cwd": tree.top / "crates", "path": "../bbmcheck"}):
             same(tree.program(**words), "released", f"in {name!r}")
-        tree.file().write_text("low src 1\n")
-        same(tree.program(), "built", f"proved in {name!r}")
-        tree.file().write_text("low src 0\n")
-        same(tree.program(), "released", f"again in {name!r}")
+        same(tree.program_after("low src 1\n"), "built", f"proved in {name!r}")
+        same(tree.program_after("low src 0\n"), "released", f"again in {name!r}")
         shutil.rmtree(tree.file(ROOM))
         tree.top.rename(plain)
     tree.top = plain

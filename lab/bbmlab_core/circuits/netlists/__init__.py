@@ -16,7 +16,7 @@ from ...texts.sections import text_of
 from .aiger import read_aiger
 from .blif import read_blif
 from .circuit_text import NamedCircuit
-from .comparing import compared, netlist_tables
+from .comparing import agreement_words, netlist_tables
 from .exchanging import map_exchanges
 from .gate_text import is_gate_text, read_gates
 from .graph import MAX_TABLE_INPUTS, Graph, graph_of, table_literal
@@ -140,7 +140,7 @@ def map_read_netlist(netlist: LogicNetlist, reading: Reading = Reading()) -> Map
     document = read_document(text, "circuit")
     if document.circuit is None or document.refusal is not None:
         raise NetlistError(f"The mapped circuit is wrong: {document.refusal}.")
-    scope = compared(netlist, document.circuit)
+    scope = agreement_words(netlist, document.circuit)
     notes = [*netlist.notes, *found.notes, f"The circuit has the outputs of the netlist in {scope}."]
     return MappedNetlist(text, notes, document.circuit)
 

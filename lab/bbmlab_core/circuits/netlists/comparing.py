@@ -45,7 +45,7 @@ def netlist_tables(netlist: LogicNetlist, tables: dict[str, Table], full: Table)
     return found
 
 
-def compared(netlist: LogicNetlist, circuit: Circuit) -> str:
+def agreement_words(netlist: LogicNetlist, circuit: Circuit) -> str:
     """Returns in which inputs the circuit has the outputs of the netlist, in words.
 
     Raises NetlistError where it has others.

@@ -113,7 +113,7 @@ class Mapper:
                 self.map_node(number)
         for _, literal in self.graph.outputs:
             self.uses[literal >> 1] -= 1
-            self.wiring.outputs.append(self.source(literal) if literal in (FALSE, TRUE) else self.take(literal))
+            self.wiring.outputs.append(self.add_constant(literal) if literal in (FALSE, TRUE) else self.take(literal))
         self.wiring.garbage += [wire for wires in self.pool.values() for wire in wires]
         return self.wiring
 
@@ -140,7 +140,7 @@ class Mapper:
 
     # ---- pools of wires
 
-    def gate(self, word: str, parameter: int | None, ins: list[Wire], count: int,
+    def add_gate(self, word: str, parameter: int | None, ins: list[Wire], count: int,
              node: int | None = None) -> list[Wire]:
         """Adds a gate with `count` outputs, and returns these."""
         outs = list(range(self.wire_count, self.wire_count + count))
@@ -148,39 +148,39 @@ class Mapper:
         self.wiring.gates.append(MappedGate(word, parameter, ins, outs, node))
         return outs
 
-    def source(self, literal: Literal) -> Wire:
+    def add_constant(self, literal: Literal) -> Wire:
         """Adds a constant."""
-        return self.gate("source", int(literal == TRUE), [], 1)[0]
+        return self.add_gate("source", int(literal == TRUE), [], 1)[0]
 
     def wires(self, literal: Literal) -> list[Wire]:
         """Returns the pool of a literal."""
         return self.pool.setdefault(literal, [])
 
-    def total(self, literal: Literal) -> int:
+    def carrier_count(self, literal: Literal) -> int:
         """Returns how many wires carry a literal or its inverse."""
         return len(self.wires(literal)) + len(self.wires(literal ^ 1))
 
-    def copy(self, literal: Literal) -> None:
+    def duplicate(self, literal: Literal) -> None:
         """Turns a wire of a literal into two, and one of its inverse."""
-        first, second, inverse = self.gate("switch", None, [self.wires(literal).pop(), self.source(TRUE)], 3)
+        first, second, inverse = self.add_gate("switch", None, [self.wires(literal).pop(), self.add_constant(TRUE)], 3)
         self.pool[literal] += [first, second]
         self.wires(literal ^ 1).append(inverse)
 
     def take(self, literal: Literal) -> Wire:
         """Takes a wire of a literal out of its pool. One of it or of its inverse stays while there are uses."""
         if not self.wires(literal):
-            self.copy(literal ^ 1)
-        elif self.total(literal) == 1 and self.uses[literal >> 1] > 0:
-            self.copy(literal)
+            self.duplicate(literal ^ 1)
+        elif self.carrier_count(literal) == 1 and self.uses[literal >> 1] > 0:
+            self.duplicate(literal)
         return self.pool[literal].pop()
 
     def take_cost(self, literal: Literal, made: int = 0) -> float:
         """Returns what `take` costs if `made` uses of the literal go, since their products are made by the same gate.
         """
-        is_free = self.wires(literal) and (self.total(literal) > 1 or self.uses[literal >> 1] <= made)
+        is_free = self.wires(literal) and (self.carrier_count(literal) > 1 or self.uses[literal >> 1] <= made)
         return 0 if is_free else COPY_COST
 
-    def read(self, literal: Literal) -> tuple[Literal, Wire]:
+    def borrow(self, literal: Literal) -> tuple[Literal, Wire]:
         """Takes a wire of a literal or of its inverse, and says which. The caller gives it back."""
         found = literal if self.wires(literal) else literal ^ 1
         return found, self.pool[found].pop()
@@ -208,7 +208,7 @@ class Mapper:
         """Whether a literal is that of a needed node that is not mapped yet."""
         return literal is not None and literal >> 1 not in self.mapped and self.uses.get(literal >> 1, 0) > 0
 
-    def gain(self, left: Literal, right: Literal) -> int:
+    def product_worth(self, left: Literal, right: Literal) -> int:
         """Returns what a product that comes for nothing is worth: the cost of a `switch`, 1, if it is wanted, else 0.
         """
         return int(self.is_wanted(self.graph.known_and(left, right)))
@@ -220,13 +220,13 @@ class Mapper:
         ways: list[Way] = []
         for control, other in (inputs, inputs[::-1]):
             inversion = COPY_COST if not self.true_uses.get(number, 0) else 0.0
-            gain = self.gain(control ^ 1, other)
+            gain = self.product_worth(control ^ 1, other)
             ways.append((1 + inversion + self.take_cost(other, gain) - gain, "product", (control, other)))
             if inversion and number not in self.separate:
-                second = 0.0 if self.total(control) > 1 else COPY_COST
+                second = 0.0 if self.carrier_count(control) > 1 else COPY_COST
                 ways.append((2 + second + self.take_cost(other ^ 1), "sum", (control ^ 1, other ^ 1)))
         left, right = inputs
-        gain = self.gain(left ^ 1, right) + self.gain(left, right ^ 1)
+        gain = self.product_worth(left ^ 1, right) + self.product_worth(left, right ^ 1)
         saved = gain + (COPY_COST if self.uses[number] > 1 else 0.0)
         if saved:
             takes = self.take_cost(left, gain) + self.take_cost(right, gain)
@@ -237,8 +237,8 @@ class Mapper:
         """Maps "control and other" by a switch. The control may be inverted."""
         second = self.claim_product(control ^ 1, other)
         wire = self.take(other)
-        found, select = self.read(control)
-        again, high, low = self.gate("switch", None, [select, wire], 3)
+        found, select = self.borrow(control)
+        again, high, low = self.add_gate("switch", None, [select, wire], 3)
         product, rest = (high, low) if found == control else (low, high)
         self.wires(found).append(again)
         self.wires(2 * number).append(product)
@@ -247,7 +247,7 @@ class Mapper:
     def map_meeting(self, number: int, left: Literal, right: Literal) -> None:
         """Maps "left and right" by an interaction, which makes it twice."""
         second, third = self.claim_product(left ^ 1, right), self.claim_product(left, right ^ 1)
-        both, right_alone, left_alone, again = self.gate("interact", None, [self.take(left), self.take(right)], 4)
+        both, right_alone, left_alone, again = self.add_gate("interact", None, [self.take(left), self.take(right)], 4)
         self.wires(2 * number).extend((both, again))
         self.give(second, right_alone)
         self.give(third, left_alone)
@@ -255,14 +255,14 @@ class Mapper:
     def map_sum(self, number: int, control: Literal, other: Literal) -> None:
         """Maps the inverse of an AND node, "control or other", by a switch and a join."""
         product = self.claim_product(control, other)
-        if self.total(control) < 2 or not self.wires(control):
-            self.copy(control if self.wires(control) else control ^ 1)
+        if self.carrier_count(control) < 2 or not self.wires(control):
+            self.duplicate(control if self.wires(control) else control ^ 1)
         wire, first = self.take(other), self.pool[control].pop()
-        found, select = self.read(control)
-        again, high, low = self.gate("switch", None, [select, wire], 3)
+        found, select = self.borrow(control)
+        again, high, low = self.add_gate("switch", None, [select, wire], 3)
         rest, without = (high, low) if found == control else (low, high)
         parts = [first, without] if found == control else [without, first]
-        again, result = self.gate("unswitch", None, [again, *parts], 2, number)
+        again, result = self.add_gate("unswitch", None, [again, *parts], 2, number)
         self.wires(found).append(again)
         self.wires(2 * number + 1).append(result)
         self.give(product, rest)
@@ -278,13 +278,14 @@ class Mapper:
             for one in (first, first ^ 1):
                 for two in (second, second ^ 1):
                     if self.wires(one) and self.wires(two):
-                        gain = self.gain(one, two)
-                        copies = (self.total(first) < 2) + (self.total(second) < 2 and self.uses[second >> 1] > gain)
+                        gain = self.product_worth(one, two)
+                        copies = (self.carrier_count(first) < 2) + (self.carrier_count(second) < 2
+                                                                    and self.uses[second >> 1] > gain)
                         ways.append((1.8 + COPY_COST * copies - gain, "meeting_join", (one, two)))
-            spare = self.wires(second) and self.wires(second ^ 1) and (self.total(second) > 2
+            spare = self.wires(second) and self.wires(second ^ 1) and (self.carrier_count(second) > 2
                                                                        or not self.uses[second >> 1])
             if spare:
-                gains = sum(self.gain(one, two) for one in (first, first ^ 1) for two in (second, second ^ 1))
+                gains = sum(self.product_worth(one, two) for one in (first, first ^ 1) for two in (second, second ^ 1))
                 ways.append((3 - gains, "switch_join", (first, second)))
         return ways
 
@@ -292,25 +293,25 @@ class Mapper:
         """Maps a XOR node by an interaction and a join. A wire of `left` is consumed, and another one is the control.
         """
         product = self.claim_product(left, right)
-        if self.total(left) < 2:
-            self.copy(left)
+        if self.carrier_count(left) < 2:
+            self.duplicate(left)
         wire, other = self.pool[left].pop(), self.take(right)
-        both, right_alone, left_alone, again = self.gate("interact", None, [wire, other], 4)
+        both, right_alone, left_alone, again = self.add_gate("interact", None, [wire, other], 4)
         self.give(product, both)
         self.give(product, again)
-        found, select = self.read(left)
+        found, select = self.borrow(left)
         parts = [left_alone, right_alone] if found == left else [right_alone, left_alone]
-        select, result = self.gate("unswitch", None, [select, *parts], 2, number)
+        select, result = self.add_gate("unswitch", None, [select, *parts], 2, number)
         self.wires(found).append(select)
         self.wires(2 * number ^ (left & 1) ^ (right & 1)).append(result)
 
     def map_switch_join(self, number: int, left: Literal, right: Literal) -> None:
         """Maps a XOR node by two switches, over a wire and its inverse, and a join."""
-        found, select = self.read(left)
+        found, select = self.borrow(left)
         product, second = self.claim_product(found, right), self.claim_product(found ^ 1, right ^ 1)
-        select, both, right_alone = self.gate("switch", None, [select, self.pool[right].pop()], 3)
-        select, left_alone, neither = self.gate("switch", None, [select, self.pool[right ^ 1].pop()], 3)
-        select, result = self.gate("unswitch", None, [select, left_alone, right_alone], 2, number)
+        select, both, right_alone = self.add_gate("switch", None, [select, self.pool[right].pop()], 3)
+        select, left_alone, neither = self.add_gate("switch", None, [select, self.pool[right ^ 1].pop()], 3)
+        select, result = self.add_gate("unswitch", None, [select, left_alone, right_alone], 2, number)
         self.wires(found).append(select)
         self.wires(2 * number ^ (found & 1)).append(result)
         self.give(product, both)
@@ -319,11 +320,11 @@ class Mapper:
     def map_fredkin(self, number: int, left: Literal, right: Literal) -> None:
         """Maps a XOR node by a Fredkin gate over a wire and its inverse."""
         while not (self.wires(right) and self.wires(right ^ 1)
-                   and (self.total(right) > 2 or not self.uses[right >> 1])):
-            self.copy(right if self.wires(right) else right ^ 1)
-        found, select = self.read(left)
+                   and (self.carrier_count(right) > 2 or not self.uses[right >> 1])):
+            self.duplicate(right if self.wires(right) else right ^ 1)
+        found, select = self.borrow(left)
         ins = [select, self.pool[right ^ 1].pop(), self.pool[right].pop()]
-        select, result, inverse = self.gate("fredkin", None, ins, 3)
+        select, result, inverse = self.add_gate("fredkin", None, ins, 3)
         self.wires(found).append(select)
         self.wires(2 * number ^ (found & 1)).append(result)
         self.wires(2 * number + 1 ^ (found & 1)).append(inverse)
@@ -340,8 +341,8 @@ class Mapper:
         self.uses[select >> 1] += 1
         parts = [self.take(high), self.take(low)]
         self.uses[select >> 1] -= 1
-        found, control = self.read(select)
-        control, result = self.gate("unswitch", None, [control, *(parts if found == select else parts[::-1])], 2,
+        found, control = self.borrow(select)
+        control, result = self.add_gate("unswitch", None, [control, *(parts if found == select else parts[::-1])], 2,
                                     number)
         self.wires(found).append(control)
         self.wires(2 * number).append(result)
@@ -350,8 +351,8 @@ class Mapper:
         """Maps a join as "not (not high and not low)"."""
         second = self.claim_product(high, low ^ 1)
         wire = self.take(low ^ 1)
-        found, control = self.read(high)
-        control, one, two = self.gate("switch", None, [control, wire], 3)
+        found, control = self.borrow(high)
+        control, one, two = self.add_gate("switch", None, [control, wire], 3)
         product, rest = (two, one) if found == high else (one, two)
         self.wires(found).append(control)
         self.wires(2 * number + 1).append(product)

@@ -14,9 +14,9 @@ class NameBook:
         self.changed: list[tuple[str, str]] = []
         self.last: dict[str, int] = {}
 
-    def port(self, wanted: str) -> str:
+    def port_name(self, wanted: str) -> str:
         """Returns the name for a port, and remembers it if it is another one than the netlist has."""
-        name = self.fresh(legal(wanted))
+        name = self.fresh_name(legal(wanted))
         if name != wanted:
             self.changed.append((wanted, name))
         return name
@@ -26,7 +26,7 @@ class NameBook:
         pairs = ", ".join(f"`{wanted}` is `{name}`" for wanted, name in self.changed)
         return [f"These ports of the netlist have other names in the circuit: {pairs}."] if pairs else []
 
-    def fresh(self, stem: str) -> str:
+    def fresh_name(self, stem: str) -> str:
         """Returns `stem`, or `stem` with a number if it is taken."""
         name = stem
         while name in self.taken:
@@ -36,7 +36,7 @@ class NameBook:
         self.taken.add(name)
         return name
 
-    def numbered(self, stem: str) -> str:
+    def numbered_name(self, stem: str) -> str:
         """Returns `stem` with the first number from 0 that makes a new name."""
         number = self.last.get(f"{stem} number", -1) + 1
         while f"{stem}{number}" in self.taken:

@@ -42,7 +42,7 @@ class LineBuilder:
         self.nets: dict[str, str] = {}
         self.made = 0
 
-    def fresh(self) -> str:
+    def fresh_net(self) -> str:
         """Returns the name of a new net, which no line can have."""
         self.made += 1
         if self.made > MAX_NODES:
@@ -57,7 +57,7 @@ class LineBuilder:
 
     def add_constant(self, line: str, bit: bool) -> None:
         """Adds a line that begins with a constant."""
-        net = self.fresh()
+        net = self.fresh_net()
         self.netlist.add(TableNode(net, (), ("",) if bit else (), True))
         self.netlist.lines.append(line)
         self.netlist.constants[line] = bit
@@ -65,7 +65,7 @@ class LineBuilder:
 
     def cell(self, cell: Cell, *inputs: str) -> str:
         """Adds a cell, and returns its net."""
-        net = self.fresh()
+        net = self.fresh_net()
         self.netlist.add(CellNode(net, cell, inputs))
         return net
 

@@ -3,7 +3,6 @@
 
 import random
 
-from ...texts.circuits import Circuit
 from ...texts.limits import SECOND
 from ..cones import keeping_cone
 from .circuit_text import NamedCircuit, named
@@ -49,12 +48,6 @@ def cheapest(graph: Graph, separate: frozenset[int], size: int) -> MappedGates:
     return wiring
 
 
-def nodes_not_kept(circuit: Circuit, wiring: MappedGates) -> frozenset[int]:
-    """Returns the nodes whose inverse gate has no cone that shows that it always has a row."""
-    return frozenset(gate.node for number, gate in enumerate(wiring.gates)
-                     if gate.word == "unswitch" and gate.node is not None and keeping_cone(circuit, number) is None)
-
-
 def map_graph(graph: Graph) -> NamedCircuit:
     """Maps a graph. Raises NetlistError if the circuit does not fit the limits of a circuit section."""
     needed = graph.needed()
@@ -67,7 +60,10 @@ def map_graph(graph: Graph) -> NamedCircuit:
         wiring = cheapest(graph, separate, len(needed) + len(graph.outputs))
         found = named(graph, wiring)
         require_room(len(found.circuit.gates), len(found.circuit.wires))
-        failed = nodes_not_kept(found.circuit, wiring)
+        # The nodes whose inverse gate has no cone that shows that it always has a row.
+        failed = frozenset(gate.node for number, gate in enumerate(wiring.gates)
+                           if gate.word == "unswitch" and gate.node is not None
+                           and keeping_cone(found.circuit, number) is None)
         if not failed:
             return found
         separate |= failed

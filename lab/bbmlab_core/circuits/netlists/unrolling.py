@@ -27,7 +27,7 @@ def unrolled(netlist: LogicNetlist, cycles: int | None, has_state_ports: bool) -
                    inputs=[name for name in netlist.inputs if name != clock]
                    + [latch.output for latch in netlist.latches], latches=[],
                    outputs=netlist.outputs + [(latch.name, latch.data) for latch in netlist.latches])
-    order = ordered(core, clock)
+    order = nodes_in_order(core, clock)
     if cycles * max(1, len(order), len(core.inputs), len(core.outputs)) > MAX_NODES:
         raise NetlistError(f"{cycles} cycles of {len(order)} nodes of logic and {len(netlist.latches)} stored bits are "
                            "too many: all together "
@@ -36,7 +36,7 @@ def unrolled(netlist: LogicNetlist, cycles: int | None, has_state_ports: bool) -
                     order).run(cycles, has_state_ports)
 
 
-def ordered(core: LogicNetlist, clock: str | None) -> list[Node]:
+def nodes_in_order(core: LogicNetlist, clock: str | None) -> list[Node]:
     """Returns the nodes of one cycle in order. Raises NetlistError if the clock is used as a bit."""
     driven = next((name for name in core.inputs if name in core.nodes), None)
     if driven is not None:
