@@ -45,7 +45,7 @@ function commandsOf(model, draw, cells) {
     () => model.remove(lines()), () => model.move(lines(), draw(9) - 4, draw(9) - 4),
       () => model.turn(lines(), ["rotate", "flip-x", "flip-y"][draw(3)]),
     () => model.rename(lines(), names()),
-      () => model.add(geometry.shifted(model.partsAt(lines()).slice(0, 6), 2 * draw(9), 2 * draw(9)), "paste"),
+      () => model.add(geometry.shifted(model.partsOfLines(lines()).slice(0, 6), 2 * draw(9), 2 * draw(9)), "paste"),
     () => model.resize(model.header.width + 2 * draw(3) - 2, model.header.height + 2 * draw(3) - 2,
       Math.max(0, model.header.steps + draw(7) - 3), draw(2) === 1),
     () => model.insertCell(cells[draw(cells.length)], 2 * draw(10), 2 * draw(10), draw(2) === 1),

@@ -9,7 +9,7 @@ program decides.
 from dataclasses import dataclass, field
 from typing import Iterable
 
-from ..circuits.cones import fewest_cuts, keeping_cone
+from ..circuits.cones import few_cuts_and_uses, keeping_cone
 from ..host.processor import processor_seconds
 from ..host.terminal import LabError
 from ..physics.simulation import Fault, ModuleRun, Table, cell_of, key_of, keys_of
@@ -234,7 +234,7 @@ class CertificateMaker:
         made = {name for number in uses for name in self.circuit.gates[number].outs}
         if not set(cuts) & made:
             yield CutsAndUses(cuts, uses)
-        fewer, more = fewest_cuts(self.circuit, needed | set(cuts), uses)
+        fewer, more = few_cuts_and_uses(self.circuit, needed | set(cuts), uses)
         yield CutsAndUses(sorted(fewer, key=self.circuit.rank), sorted(more))
 
     # ---- inverse gates

@@ -14,7 +14,7 @@ from .netlists.naming import MAX_NAME, NameBook
 # So many gates at most are undone by inverse gates, each of which is searched for a cone that keeps it. Fredkin gates
 # undo those of larger circuits.
 MAX_SEARCHED = 1000
-REPLACED = ("switch", "interact")
+REPLACEABLE_KINDS = ("switch", "interact")
 
 
 class Cleaner:
@@ -99,7 +99,7 @@ def clean(circuit: Circuit) -> Circuit:
     becomes too large.
     """
     require_rows(circuit, "the circuit")
-    replaceable = frozenset(gate.number for gate in circuit.gates if gate.kind in REPLACED)
+    replaceable = frozenset(gate.number for gate in circuit.gates if gate.kind in REPLACEABLE_KINDS)
     separate = replaceable if len(replaceable) > MAX_SEARCHED else frozenset[int]()
     while True:
         cleaner = Cleaner(circuit, separate)

@@ -6,7 +6,7 @@ from ..texts.certificates import MAX_CUTS, MAX_USES
 from ..texts.circuits import Circuit, evaluate
 
 
-def fewest_cuts(circuit: Circuit, wires: Iterable[str], used: Iterable[int]) -> tuple[set[str], set[int]]:
+def few_cuts_and_uses(circuit: Circuit, wires: Iterable[str], used: Iterable[int]) -> tuple[set[str], set[int]]:
     """Returns wires to cut and gates to use so that all given wires are local; `used` are gates that must be used.
 
     A gate with more outputs among the wires than inputs that are not is used in place of cutting its outputs. Delays

@@ -10,7 +10,7 @@ from typing import Iterable, Iterator
 
 from ..texts.certificates import MAX_CUTS, MAX_USES
 from ..texts.circuits import Circuit, evaluate, evaluate_under
-from .cones import fewest_cuts, keeping_cone
+from .cones import few_cuts_and_uses, keeping_cone
 
 # The assignments that are sampled, the sets of gates of one size that are looked at further, and the gates that are run
 # at most to add gates, and to leave gates out: less than a second each.
@@ -80,7 +80,7 @@ class KeepSearch:
         values = evaluate(self.circuit, cuts, order)
         if values.rows[self.number] != (values.rows[order[-2]] if len(order) > 1 else values.full):
             return None
-        least, uses = fewest_cuts(self.circuit, cuts, order)
+        least, uses = few_cuts_and_uses(self.circuit, cuts, order)
         return (cuts, order) if len(least) <= MAX_CUTS and len(uses) <= MAX_USES else None
 
     def necessary(self) -> list[int]:

@@ -123,5 +123,5 @@ def difference(one: Circuit, other: Circuit, is_of_common: bool = False) -> tupl
         if unequal:
             column = (unequal & -unequal).bit_length() - 1
             on = " ".join(mine.names_of(column)) or "no input"
-            return f"with {on} on, {name} differs", mine.scope
-    return "", mine.scope if len(one.inputs) <= MAX_ALL else f"in {SAMPLES} sampled choices of the inputs"
+            return f"with {on} on, {name} differs", mine.choices_words
+    return "", mine.choices_words if len(one.inputs) <= MAX_ALL else f"in {SAMPLES} sampled choices of the inputs"

@@ -61,7 +61,7 @@ def returns_inputs(before: Circuit, after: Circuit) -> tuple[str, str]:
     back = evaluate_under(after, {name: values.tables[name] for name in after.inputs}, values.full,
                           range(len(after.gates)))
     wrong = next((name for name in before.inputs if back.tables[name] != values.tables[name]), None)
-    return ("" if wrong is None else f"it does not give `{wrong}` back"), values.scope
+    return ("" if wrong is None else f"it does not give `{wrong}` back"), values.choices_words
 
 
 def changes(options: argparse.Namespace) -> list[Callable[[Circuit], Circuit]]:

@@ -151,9 +151,9 @@ class Diagnosis:
         return evaluate_choices(self.circuit, MAX_INPUTS, SAMPLES)
 
     @property
-    def scope(self) -> str:
+    def choices_words(self) -> str:
         """In how many choices of the inputs the whole run was tried, in words."""
-        return self.values.scope
+        return self.values.choices_words
 
     def occurrence(self, module: Module, assignment: int) -> Occurrence:
         """Returns whether the circuit gives the module's cuts these values, and for which inputs."""

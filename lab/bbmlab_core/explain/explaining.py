@@ -228,9 +228,9 @@ def whole_run_words(diagnosis: Diagnosis, faults: list[ReportLine]) -> list[str]
         return [f"The whole run was not tried to its end here: {why}."]
     if values.defined != values.full:
         return ["The circuit has no values under some choices of its inputs. Under the others that were tried "
-                f"({diagnosis.scope}) the whole run "
+                f"({diagnosis.choices_words}) the whole run "
                 "ends as the layout asks."]
-    tried = f"The whole run was tried here {diagnosis.scope}: it ends as the layout asks"
+    tried = f"The whole run was tried here {diagnosis.choices_words}: it ends as the layout asks"
     if outcome.is_right is Truth.UNKNOWN:
         return [f"{tried}. The other choices were not tried."]
     is_certificate = any(finding.word in ("local", "border") for finding in faults)

@@ -100,7 +100,7 @@ def wanted_at_end(diagnosis: Diagnosis, module: Module, cell: Cell, assignment: 
 def occurrence_words(diagnosis: Diagnosis, occurrence: Occurrence, names: str) -> str:
     """Returns whether an assignment occurs, in words."""
     if occurrence.occurs is Truth.UNKNOWN:
-        return f"No choice that gives these values was found {diagnosis.scope}; the others were not tried."
+        return f"No choice that gives these values was found {diagnosis.choices_words}; the others were not tried."
     if occurrence.occurs is Truth.NO:
         return f"The circuit never gives {names}: no choice of its inputs does."
     if not occurrence.inputs:
@@ -222,7 +222,7 @@ def signal_words(diagnosis: Diagnosis, signal: Signal, cell: str) -> list[str]:
     if signal.known is Truth.UNKNOWN:
         return [
             f"Which wire {cell} carries then was not found out: the whole run is too long, or leaves the rectangle."]
-    scope = "" if diagnosis.values.is_all else f" {diagnosis.scope}"
+    scope = "" if diagnosis.values.is_all else f" {diagnosis.choices_words}"
     if signal.known is Truth.NO:
         return [f"No wire of the circuit is true in just the choices of the inputs in which {cell} is live then."]
     if signal.name in ("0", "1"):

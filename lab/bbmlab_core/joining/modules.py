@@ -8,7 +8,7 @@ from array import array
 from collections import Counter, defaultdict
 from typing import Callable, Iterable, Iterator
 
-from ..circuits.cones import fewest_cuts
+from ..circuits.cones import few_cuts_and_uses
 from ..host.terminal import LabError
 from ..route.balls import moving_cells
 from ..route.board import Bound, NoRouteError
@@ -177,7 +177,7 @@ class JoinedModules:
         plain = [wire for wire in extra if wire not in constants]
         if len(own) + len(plain) <= MAX_CUTS and not any(self.follows(wire, number) for wire in plain):
             return [*own, *plain], sorted(used)
-        cuts, uses = fewest_cuts(self.circuit, {*own, *extra}, used)
+        cuts, uses = few_cuts_and_uses(self.circuit, {*own, *extra}, used)
         return sorted(cuts, key=self.circuit.rank), sorted(uses)
 
     def follows(self, wire: str, number: int) -> bool:

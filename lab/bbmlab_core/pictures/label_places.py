@@ -8,9 +8,9 @@ from typing import Iterator
 
 # A place that covers a port or another name costs so many times its covered area; other signs cost their area once.
 COVERING_COST = 100.0
-# How many lines of text a name may be away from its cell. Further than `MAX_BARE` it gets a line to its cell.
+# How many lines of text a name may be away from its cell. From `MIN_LEADER_AWAY` on it gets a line to its cell.
 MAX_AWAY = 6
-MAX_BARE = 1
+MIN_LEADER_AWAY = 1
 # The least side of the squares in which rectangles are filed. Higher names get larger squares: each touches few.
 BUCKET = 64.0
 
@@ -122,7 +122,7 @@ def place_names(names: list[Name], signs: list[Rect], ports: list[Rect], bounds:
 
 def leader(place: Place, cell: Rect) -> tuple[Point, Point] | None:
     """Returns a line from a name to its cell, if the name is so far away that it needs one."""
-    if place.away < MAX_BARE:
+    if place.away < MIN_LEADER_AWAY:
         return None
     box = place.box
     x, y = cell.x + cell.width / 2, cell.y + cell.height / 2

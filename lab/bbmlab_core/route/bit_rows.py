@@ -16,7 +16,7 @@ from .settings import Settings
 from .world import ROW, World
 
 # The cells of a mirror as seen from the cell of the ball that it turns.
-OFFSETS = {(turn, dx, dy): bounce(Ball(0, 0, dx, dy, 0), turn)[1].cells() for turn in Turn for dx in (1, -1)
+MIRROR_OFFSETS = {(turn, dx, dy): bounce(Ball(0, 0, dx, dy, 0), turn)[1].cells() for turn in Turn for dx in (1, -1)
            for dy in (1, -1)}
 # The most paths that are yielded for one last bounce.
 MOST_FOUND = 3
@@ -81,7 +81,7 @@ class BitJoiner:
         key = line, is_falling, turn, ball.dx, ball.dy
         if key not in self.known:
             lines, bits = self.world.blocked_falling if is_falling else self.world.blocked_rising, 0
-            for i, j in OFFSETS[turn, ball.dx, ball.dy]:
+            for i, j in MIRROR_OFFSETS[turn, ball.dx, ball.dy]:
                 row = lines[line + j - i if is_falling else line + i + j]
                 bits |= row >> i if i > 0 else row << -i
             self.known[key] = bits

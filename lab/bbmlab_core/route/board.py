@@ -5,7 +5,7 @@ from dataclasses import dataclass, field, replace
 from enum import Enum
 from typing import Iterable
 
-from ..circuits.cones import fewest_cuts
+from ..circuits.cones import few_cuts_and_uses
 from ..texts.certificates import MAX_CUTS
 from .balls import Ball, Leg
 from .cells import GateCell
@@ -170,14 +170,14 @@ class Board:
         for tile in tiles:
             names = self.names.get(tile)
             if names and tile not in self.owners and len(names) + len(wires) > MAX_CUTS:
-                if len(fewest_cuts(self.netlist.circuit, {*names, *wires}, ())[0]) > MAX_CUTS:
+                if len(few_cuts_and_uses(self.netlist.circuit, {*names, *wires}, ())[0]) > MAX_CUTS:
                     return False
         return all(self.box_has_room(box, [gate.number], wires) for box, gate in boxes.items())
 
     def box_has_room(self, box: TileBox, used: list[int], wires: Iterable[str], spare: int = 0) -> bool:
         """Whether a box that uses gates has room for more wires, and then for `spare` others."""
         names = self.names_in(tiles_in(box)) | set(wires)
-        return len(fewest_cuts(self.netlist.circuit, names, used)[0]) <= MAX_CUTS - spare
+        return len(few_cuts_and_uses(self.netlist.circuit, names, used)[0]) <= MAX_CUTS - spare
 
     # --- waiting balls ------------------------------------------------------------------------------------------------
 

@@ -55,7 +55,7 @@ class Tools {
   /** Selects the parts of some lines. */
   select(lines) {
     this.selection = new Set(lines);
-    this.sketch.selected = this.model.partsAt(this.selection);
+    this.sketch.selected = this.model.partsOfLines(this.selection);
     this.sketch.requestOver();
     if (this.onSelect) this.onSelect();
   }
@@ -66,7 +66,7 @@ class Tools {
   follow() {
     const { model } = this, lines = model.movedLines(model === this.followed ? this.selection : []);
     this.followed = model;
-    this.select(model.partsAt(lines).map(({ line }) => line));
+    this.select(model.partsOfLines(lines).map(({ line }) => line));
   }
 
   /** Ends what was begun, without a change. */
@@ -306,7 +306,7 @@ class Tools {
 
   /** Shows the selection where it would be moved, and why it snapped to another place. */
   showMove([x, y]) {
-    const { start: [u, v] } = this.pressed, parts = this.model.partsAt(this.selection);
+    const { start: [u, v] } = this.pressed, parts = this.model.partsOfLines(this.selection);
     const [dx, dy] = geometry.snapMove(parts, x - u, y - v);
     const moved = geometry.shifted(parts, dx, dy), isSnapped = dx !== x - u || dy !== y - v;
     const [wanted] = geometry.shifted(parts, x - u, y - v);
@@ -340,7 +340,8 @@ class Tools {
 
   /** Moves the selection one place on in a direction: by the least move that keeps its behaviour. */
   nudgeOne(dx, dy) {
-    const parts = this.model.partsAt(this.selection), far = parts.length === 1 && parts[0].kind !== "mirror" ? 1 : 2;
+    const parts = this.model.partsOfLines(this.selection);
+    const far = parts.length === 1 && parts[0].kind !== "mirror" ? 1 : 2;
     this.nudge(dx * far, dy * far);
   }
 
@@ -355,7 +356,7 @@ class Tools {
       this.say("Nothing is selected.", true);
       return;
     }
-    this.clipboard = this.model.partsAt(this.selection).map((part) => ({ ...part, line: -1 }));
+    this.clipboard = this.model.partsOfLines(this.selection).map((part) => ({ ...part, line: -1 }));
     this.say(`Copied ${counted(this.clipboard.length, "part", "parts")}.`);
   }
 

@@ -223,7 +223,7 @@ class Model {
   get tailText() { return this.lines.slice(this.after).join("\n"); }
 
   /** Returns the parts of some lines. @param {Iterable<number>} lines */
-  partsAt(lines) {
+  partsOfLines(lines) {
     const wanted = new Set(lines);
     return this.parts.filter(({ line }) => wanted.has(line));
   }
@@ -403,7 +403,7 @@ class Model {
 
   /** Removes the parts of some lines. */
   remove(lines) {
-    const gone = new Set(this.partsAt(lines).map(({ line }) => line));
+    const gone = new Set(this.partsOfLines(lines).map(({ line }) => line));
     this.edit("remove", (rows) => {
       rows.splice(0, rows.length, ...rows.filter((_, line) => !gone.has(line)));
       return [];
@@ -423,15 +423,16 @@ class Model {
   }
 
   /** Moves the parts of some lines. */
-  move(lines, dx, dy) { return this.replace(geometry.shifted(this.partsAt(lines), dx, dy), "move"); }
+  move(lines, dx, dy) { return this.replace(geometry.shifted(this.partsOfLines(lines), dx, dy), "move"); }
 
   /** Turns or reflects the parts of some lines about their frame. */
-  turn(lines, how) { return this.replace(geometry.turned(this.partsAt(lines), how), how); }
+  turn(lines, how) { return this.replace(geometry.turned(this.partsOfLines(lines), how), how); }
 
   /** Gives the ports of some lines another wire. */
   rename(lines, name) {
     if (!NAME.test(name)) throw new ModelRefusal(`\`${name}\` is no name of a wire.`);
-    return this.replace(this.partsAt(lines).map((part) => (part.name === null ? part : { ...part, name })), "rename");
+    const renamed = (part) => (part.name === null ? part : { ...part, name });
+    return this.replace(this.partsOfLines(lines).map(renamed), "rename");
   }
 
   // ---- the layout as a whole

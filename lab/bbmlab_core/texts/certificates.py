@@ -436,9 +436,9 @@ class CertificateReader(SectionReader):
         if self.owners.owned_count < blocks:
             self.lines.refuse(11, "gap", gaps=self.owners.gaps(), modules=len(self.modules))
         if self.version == 2 and self.layout.steps >= 2:
-            self.require_heard_wires()
+            self.require_neighbour_wires()
 
-    def require_heard_wires(self) -> None:
+    def require_neighbour_wires(self) -> None:
         """Refuses a module that does not know the wire of an edge line beside it."""
         missing: list[tuple[int, Border, int, int]] = []
         certificate = self.section()

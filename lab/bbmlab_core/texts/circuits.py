@@ -144,7 +144,7 @@ class Valuation:
         return defined
 
     @property
-    def scope(self) -> str:
+    def choices_words(self) -> str:
         """In how many choices of the inputs something was tried, in words."""
         count = self.full.bit_length()
         if self.is_all:

@@ -465,7 +465,7 @@ function ring(place, [x, y], ink = place.inks.bad) {
 }
 
 /** Marks cells that differ: a cross where only this run has the cell live, an empty square where only the other has. */
-function differences(place, more, less) {
+function markDifferences(place, more, less) {
   for (const cell of less) outline(place, [...cell, 1, 1], place.inks.bad, [], 2, 2.5);
   for (const cell of more) outline(place, [...cell, 1, 1], place.inks.bad, [], 0, 2.5);
   wastes(place, more, place.inks.bad);
@@ -557,7 +557,7 @@ function scene(place, shown) {
 }
 
 export {
-  clearCanvas, inksNow, scene, outline, grid, cells, ports, modules, lines, ring, differences, rulers, rulerStep,
+  clearCanvas, inksNow, scene, outline, grid, cells, ports, modules, lines, ring, markDifferences, rulers, rulerStep,
     trails,
   bars, wireInks, seenRange, RULER, LINES_SCALE,
 };

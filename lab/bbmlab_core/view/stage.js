@@ -354,7 +354,7 @@ class Stage {
     painting.outline(place, own.module.box, place.inks.box, [6, 4], 0, 1.5);
     painting.cells(place, own.live, this.mirrors);
     for (const cell of heard) painting.outline(place, [...cell, 1, 1], place.inks.halo, [2, 2], 3, 2.5);
-    painting.differences(place, more, less);
+    painting.markDifferences(place, more, less);
     if (this.fault) painting.ring(place, this.fault);
     const told = heard.length ? ` Dotted: ${heard.length} live around the box, as the module is told.` : "";
     this.parts.note.textContent = own.time === run.time ? this.differenceWords() + told : "";

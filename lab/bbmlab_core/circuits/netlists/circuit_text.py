@@ -5,7 +5,7 @@ from dataclasses import dataclass
 
 from ...texts.circuits import Circuit, Gate
 from .graph import Graph
-from .mapping import GARBAGE_COST, GATE_COSTS, MappedGate, Wire, MappedGates
+from .mapping import GARBAGE_COST, GATE_COSTS, NumberedGate, Wire, MappedGates
 from .naming import NameBook
 
 
@@ -33,7 +33,7 @@ def named(graph: Graph, wiring: MappedGates) -> NamedCircuit:
     for (wanted, _), wire in zip(graph.outputs, wiring.outputs):
         if wire < len(inputs):
             # An input that goes straight to an output: a delay gives it the name of the output.
-            gates.append(MappedGate("delay", 1, [wire], [next_wire]))
+            gates.append(NumberedGate("delay", 1, [wire], [next_wire]))
             wire, next_wire = next_wire, next_wire + 1
         names[wire] = book.port_name(wanted)
         outputs.append(names[wire])

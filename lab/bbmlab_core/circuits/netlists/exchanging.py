@@ -2,7 +2,7 @@
 
 from .circuit_text import NamedCircuit, named
 from .graph import Graph
-from .mapping import MappedGate, Wire, MappedGates
+from .mapping import NumberedGate, Wire, MappedGates
 from .reversible import LineNetlist
 
 
@@ -19,14 +19,14 @@ def map_exchanges(netlist: LineNetlist) -> NamedCircuit:
         if line not in netlist.constants:
             wires[line], made = made, made + 1
     for line, bit in netlist.constants.items():
-        wiring.gates.append(MappedGate("source", int(bit), [], [made]))
+        wiring.gates.append(NumberedGate("source", int(bit), [], [made]))
         wires[line], made = made, made + 1
     for it in netlist.exchanges or []:
         if it.control is None:
             wires[it.first], wires[it.second] = wires[it.second], wires[it.first]
             continue
         ins = [wires[line] for line in (it.control, it.second, it.first)]
-        wiring.gates.append(MappedGate("fredkin", None, ins, [made, made + 1, made + 2]))
+        wiring.gates.append(NumberedGate("fredkin", None, ins, [made, made + 1, made + 2]))
         wires.update({it.control: made, it.first: made + 1, it.second: made + 2})
         made += 3
     graph = Graph(netlist.inputs)

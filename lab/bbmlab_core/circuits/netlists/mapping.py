@@ -29,7 +29,7 @@ Way = tuple[float, str, tuple[Literal, ...]]
 
 
 @dataclass
-class MappedGate:
+class NumberedGate:
     """A gate with numbers of wires. `node` is the node that an inverse gate joins."""
 
     word: str
@@ -43,7 +43,7 @@ class MappedGate:
 class MappedGates:
     """Gates in order, the wires of the outputs, and the wires that nothing uses."""
 
-    gates: list[MappedGate] = field(default_factory=list)
+    gates: list[NumberedGate] = field(default_factory=list)
     outputs: list[Wire] = field(default_factory=list)
     garbage: list[Wire] = field(default_factory=list)
 
@@ -145,7 +145,7 @@ class Mapper:
         """Adds a gate with `count` outputs, and returns these."""
         outs = list(range(self.wire_count, self.wire_count + count))
         self.wire_count += count
-        self.wiring.gates.append(MappedGate(word, parameter, ins, outs, node))
+        self.wiring.gates.append(NumberedGate(word, parameter, ins, outs, node))
         return outs
 
     def add_constant(self, literal: Literal) -> Wire:
