@@ -14,7 +14,7 @@ from ..route.balls import moving_cells
 from ..route.board import Bound, NoRouteError
 from ..route.netlist import RouterNetlist
 from ..route.paths import Path
-from ..route.world import ROW, STEP, TILE, Item, number_cell, tiles_of
+from ..route.world import ROW, STEP, TILE, Item, entering, number_cell, tiles_of
 from ..texts.certificates import MAX_CUTS, MAX_USES, Border, Module, ModuleDraft, Stop, local_wires
 from ..texts.layouts import Box, Cell
 from ..texts.limits import SECOND
@@ -30,6 +30,8 @@ QUIET_TILES = 4
 PATHS = 1 << 14
 NO_PATH = PATHS - 1
 NO_WIRES: frozenset[str] = frozenset()
+# How far the cells at the corners of a cell's surroundings are from it.
+CORNERS = (ROW + 1, ROW - 1, 1 - ROW, -ROW - 1)
 
 
 class JoinedModules:
@@ -151,8 +153,8 @@ class JoinedModules:
 
         def has_room(item: Item) -> bool:
             """Whether the modules have room."""
-            corners = (ROW + 1, ROW - 1, 1 - ROW, -ROW - 1)
-            for tile in tiles_of(number + own for part in item.touched_parts for number in part for own in corners):
+            cells = (number for part in item.touched_parts for own in CORNERS for number in entering(part, own))
+            for tile in tiles_of(cells):
                 if tile not in known:
                     number = self.owners.owner_at((tile % ROW * TILE, tile // ROW * TILE))
                     known[tile] = number == NOBODY or self.has_room_for(wire, [number])

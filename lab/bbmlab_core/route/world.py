@@ -13,7 +13,7 @@ from array import array
 from dataclasses import dataclass
 from functools import cache, cached_property
 from itertools import chain
-from typing import Iterable
+from typing import Iterable, Iterator
 
 from ..texts.layouts import Cell
 from .balls import BOUNCE_STEPS, Ball, Leg, Mirror, Turn, block_cells, bounce, mirror_cells, path_run
@@ -48,6 +48,17 @@ def number_cell(number: int) -> Cell:
 def tiles_of(cells: Iterable[int]) -> set[int]:
     """Returns the tiles of cells: the tile (i, j) is ROW times j plus i."""
     return {(number >> ROW_BITS + TILE_BITS) * ROW + ((number & ROW - 1) >> TILE_BITS) for number in cells}
+
+
+def entering(cells: Iterable[int], ahead: int) -> Iterator[int]:
+    """Yields cells that lie some numbers ahead of others: of a flight the first one, and each that enters a tile."""
+    if not isinstance(cells, range):
+        yield from (number + ahead for number in cells)
+        return
+    (x, y), to_right, down = number_cell(cells.start + ahead), cells.step % ROW == 1, cells.step > 0
+    columns = range((-x if to_right else x + 1) % TILE, len(cells), TILE)
+    rows = range((-y if down else y + 1) % TILE, len(cells), TILE)
+    yield from (cells[index] + ahead for index in {*range(min(1, len(cells))), *columns, *rows})
 
 
 # Numbers, as parts that are ranges or lists. Parts may share numbers.
