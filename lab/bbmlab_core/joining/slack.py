@@ -11,7 +11,7 @@ from ..route.balls import Ball
 from .composing import Composed, Connection, NamedPart
 from .lone_ways import LoneRun
 from .parts import PartPort
-from .planning import JoinPlan, PlacedPart, Spares, end_ball, jobs_of, start_ball, steps_needed
+from .planning import JoinPlan, Spares, end_ball, jobs_of, start_ball, steps_needed
 
 # A ball with at most so many more steps than it needs is led as it is. Others keep at least the spare steps of this
 # place.
