@@ -5,13 +5,13 @@ as late as it can, and then an input comes to its part as early as it can.
 """
 
 from dataclasses import replace
-from typing import Collection, Iterable, NamedTuple
+from typing import Callable, Collection, Iterable, NamedTuple
 
 from ..route.balls import Ball
 from .composing import Composed, Connection, NamedPart
 from .lone_ways import LoneRun
 from .parts import PartPort
-from .planning import JoinPlan, Spares, end_ball, jobs_of, start_ball, steps_needed
+from .planning import JoinPlan, PlacedPart, Spares, end_ball, jobs_of, start_ball, steps_needed
 
 # A ball with at most so many more steps than it needs is led as it is. Others keep at least the spare steps of this
 # place.
@@ -55,21 +55,26 @@ class Slack:
         """Cuts the ways of a connection if its ball has much time to spare."""
         source, target, spare = self.placed[own.source], self.placed[own.target], max(SPARE, self.spares[index])
         first, last = end_ball(source, own.output), start_ball(target, own.input)
-        if last.time - first.time - steps_needed(target, first, last, spare) <= LEAST_SLACK:
+
+        def has_time(begin: Ball, end: Ball, slack: int = 0) -> bool:
+            """Whether a ball has time from one ball to another one, and so many steps more."""
+            return steps_needed(target, begin, end, spare) <= end.time - begin.time - slack
+
+        if not has_time(first, last, LEAST_SLACK + 1):
             return
-        run = run_of(source.part, source.part.text.ends, own.output)
+        moved = self.moved_ball(index, source, source.part.text.ends, own.output, lambda ball: has_time(ball, last))
+        first = moved or first
+        self.moved_ball(index, target, target.part.text.starts, own.input, lambda ball: has_time(first, ball))
+
+    def moved_ball(self, index: int, placed: PlacedPart, ports: list[PartPort], wire: str,
+                   has_time: Callable[[Ball], bool]) -> Ball | None:
+        """Cuts the lone way of a port at the last ball that has time enough and can leave. Returns that ball, or None.
+        """
+        run = run_of(placed.part, ports, wire)
         for ball in reversed(run.balls) if run else ():
-            placed = source.ball(ball)
-            if steps_needed(target, placed, last, spare) <= last.time - placed.time:
-                if self.move(index, (own.source, own.output), run, ball):
-                    first = placed
-                    break
-        run = run_of(target.part, target.part.text.starts, own.input)
-        for ball in reversed(run.balls) if run else ():
-            placed = target.ball(ball)
-            if steps_needed(target, first, placed, spare) <= placed.time - first.time:
-                if self.move(index, (own.target, own.input), run, ball):
-                    break
+            if has_time(placed.ball(ball)) and self.move(index, (placed.part.name, wire), run, ball):
+                return placed.ball(ball)
+        return None
 
     def move(self, index: int, port: tuple[str, str], run: LoneRun | None, ball: Ball) -> bool:
         """Cuts the lone way of a port at a ball, if a ball can leave there; returns whether that is so."""
