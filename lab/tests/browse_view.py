@@ -147,9 +147,10 @@ const next = () => {
 };
 requestAnimationFrame(next);"""
 # Counts the steps of runs that go to a time. The run to the end, which goes on meanwhile, never does.
-COUNT = """const run = bbmlab.automaton.WholeRun.prototype, { jump, forward, backward } = run, sought = new Set();
+COUNT = """const run = bbmlab.automaton.WholeRun.prototype, sought = new Set();
+const { jumpToSnapshot, forward, backward } = run;
 window.stepCount = 0;
-run.jump = function (time) { sought.add(this); jump.call(this, time); };
+run.jumpToSnapshot = function (time) { sought.add(this); jumpToSnapshot.call(this, time); };
 run.forward = function () { window.stepCount += Number(sought.has(this)); return forward.call(this); };
 run.backward = function () { window.stepCount += Number(sought.has(this)); return backward.call(this); };"""
 # From the nearest snapshot no time of 65,536 is more than 512 steps away.

@@ -62,7 +62,7 @@ function scene(data, on, time, { scale, left, top, pointed }) {
   const mirrors = new Cells(startKeys({ mirrors: data.layout.mirrors, balls: [], ins: [] }, () => false, run.grid),
     run.grid);
   const good = new Map(data.layout.outs.map((port) => [String(port.cell), true]));
-  painting.scene({ pen, scale, left, top, wide: 900, high: 600, inks },
+  painting.paintScene({ pen, scale, left, top, wide: 900, high: 600, inks },
     { layout: data.layout, modules: [], live: run.live, mirrors,
     odd: time % 2, trail: lastMoves(run, 8), chosen: null, lines: [], fault: null, mark: null, good, pointed });
   return pen.text("#fff", "a <title> & \"more\"");
@@ -97,7 +97,7 @@ function filed(boxes, pieces, range) {
 
 /** Returns what is said of the wire at a place, and the time there, or null. */
 function wireAt(ways, circuit, [x, y], most) {
-  const wires = new Wires(ways, circuit), found = wires.at(x, y, most);
+  const wires = new Wires(ways, circuit), found = wires.wireAt(x, y, most);
   return found && [wires.wordsOf(found.wire), found.times, wires.boxOf(found.wire), wires.groupOf(found.wire)];
 }
 
@@ -116,7 +116,7 @@ function tiles(size, place, milliseconds) {
   let copies = 0, frames = 1;
   const isFirst = made.paint(shown), first = drawn.length, firstCopies = copies;
   while (!made.paint(shown)) frames += 1;
-  return { level: made.levelOf(place.scale), wanted: made.shown(place, made.levelOf(place.scale)).length, isFirst,
+  return { level: made.levelOf(place.scale), wanted: made.shownTiles(place, made.levelOf(place.scale)).length, isFirst,
     first, firstCopies, drawn: drawn.length, frames };
 }
 

@@ -45,7 +45,8 @@ function commandsOf(model, draw, cells) {
     () => model.remove(lines()), () => model.move(lines(), draw(9) - 4, draw(9) - 4),
       () => model.turn(lines(), ["rotate", "flip-x", "flip-y"][draw(3)]),
     () => model.rename(lines(), names()),
-      () => model.add(geometry.shifted(model.partsOfLines(lines()).slice(0, 6), 2 * draw(9), 2 * draw(9)), "paste"),
+      () => model.add(geometry.shiftedParts(model.partsOfLines(lines()).slice(0, 6), 2 * draw(9), 2 * draw(9)),
+        "paste"),
     () => model.resize(model.header.width + 2 * draw(3) - 2, model.header.height + 2 * draw(3) - 2,
       Math.max(0, model.header.steps + draw(7) - 3), draw(2) === 1),
     () => model.insertCell(cells[draw(cells.length)], 2 * draw(10), 2 * draw(10), draw(2) === 1),
@@ -112,7 +113,7 @@ function ends(text) {
 /** Returns the size, whether the circuit is whole, and the kinds and places of the parts. */
 function parts(text) {
   const model = new Model(text), { width, height, steps } = model.header;
-  return { size: [width, height, steps], isWhole: circuitText.read(model.headText).isWhole,
+  return { size: [width, height, steps], isWhole: circuitText.readCircuit(model.headText).isWhole,
     parts: model.parts.map(({ kind, box }) => [kind, box[0], box[1]]).sort() };
 }
 
@@ -140,13 +141,14 @@ function timed(text, count) {
 const fallen = (mirrors) => geometry.fallingMirrors(mirrors).map(({ box }) => box);
 const snapped = (boxes, width, height) => boxes.map((box) => geometry.snapMirror(box, width, height));
 const circuit = (text) => {
-  const { isWhole, inputs, outputs, spills, gates } = circuitText.read(text);
+  const { isWhole, inputs, outputs, spills, gates } = circuitText.readCircuit(text);
   return { isWhole, inputs, outputs, spills, gates };
 };
 
 /** Returns the words of the lines that contain one, for each text. */
 const words = (texts) =>
-  texts.map((text) => circuitText.unmarked(text).split("\n").map(circuitText.wordsOf).filter((found) => found.length));
+  texts.map((text) => circuitText.withoutMark(text).split("\n").map(circuitText.wordsOf)
+    .filter((found) => found.length));
 
 /** Returns the text that is drawn, for each text. */
 const drawn = (texts) => texts.map((text) => new Model(text).drawnText);

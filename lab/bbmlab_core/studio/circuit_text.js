@@ -3,13 +3,14 @@ import * as limits from "../view/limits.js";
 
 const NAME = /^[a-z][a-z0-9_]{0,31}$/;
 // The numbers of wires that a gate uses and defines (docs/FORMATS.md).
-const SIZES = { source: [0, 1], fredkin: [3, 3], cswap: [3, 3], interact: [2, 4], switch: [2, 3], delay: [1, 1],
+const GATE_SIZES = { source: [0, 1], fredkin: [3, 3], cswap: [3, 3], interact: [2, 4], switch: [2, 3], delay: [1, 1],
   unswitch: [3, 2], uninteract: [4, 2] };
-const ORDER = ["circuit", "input", "gate", "output", "spill", "end"];
+const KIND_ORDER = ["circuit", "input", "gate", "output", "spill", "end"];
 
 /**
- * Returns the words of a line, without a comment and leading zeros, by the rules of `free_words` in `spelling.py`: a
- * line ends with LF, words are parted by spaces and tabs, and carriage returns behind the last word are dropped.
+ * Returns the words of a line, without a comment and leading zeros, by the rules of `words_without_comment` in
+ * `spelling.py`: a line ends with LF, words are parted by spaces and tabs, and carriage returns behind the last word
+ * are dropped.
  */
 const wordsOf = (line) => {
   const code = line.split("#")[0].replace(/[ \t\r]+$/, "");
@@ -18,21 +19,21 @@ const wordsOf = (line) => {
 };
 
 /** Returns a text without the byte order mark with which it begins. */
-const unmarked = (text) => (text.startsWith("\ufeff") ? text.slice(1) : text);
+const withoutMark = (text) => (text.startsWith("\ufeff") ? text.slice(1) : text);
 
 /**
  * Returns the words of each line of a text that has any, and the limits by the first of them, which is left out if it
  * is a line of limits.
  */
 function textLines(text) {
-  const lines = unmarked(text).split("\n").map(wordsOf).filter((words) => words.length);
+  const lines = withoutMark(text).split("\n").map(wordsOf).filter((words) => words.length);
   const own = limits.limitsOf(lines[0] || []);
   return { lines: own.line ? lines.slice(1) : lines, limits: own };
 }
 
 /** Returns the gate that words name, or null. */
 function gateOf(words) {
-  const size = Object.hasOwn(SIZES, words[0]) ? SIZES[words[0]] : null;
+  const size = Object.hasOwn(GATE_SIZES, words[0]) ? GATE_SIZES[words[0]] : null;
   if (size === null) return null;
   const hasNumber = words[0] === "source" || words[0] === "delay", rest = words.slice(hasNumber ? 2 : 1);
   const arrow = rest.indexOf("->");
@@ -64,7 +65,7 @@ function addLine(circuit, known, words) {
  * @returns {{inputs: string[], gates: Gate[], outputs: string[], spills: string[], names: Set<string>, isWhole:
  * boolean}}
  */
-function read(text) {
+function readCircuit(text) {
   const circuit = { inputs: [], gates: [], outputs: [], spills: [] }, known = new Set(), { lines } = textLines(text);
   const isWhole = lines.length > 0 && lines[0][0] === "circuit"
     && lines.map((words) => addLine(circuit, known, words)).every(Boolean);
@@ -76,7 +77,7 @@ const gateLine = ({ gate, parameter, ins, outs }) =>
   [gate, ...(parameter === null ? [] : [parameter]), ...ins, "->", ...outs].join(" ");
 
 /** Returns the lines of a circuit in the one spelling. */
-function linesOf({ inputs, gates, outputs, spills }) {
+function circuitLines({ inputs, gates, outputs, spills }) {
   return ["circuit", ...inputs.map((name) => `input ${name}`), ...gates.map(gateLine),
     ...outputs.map((name) => `output ${name}`),
     ...spills.map((name) => `spill ${name}`), "end"];
@@ -85,7 +86,7 @@ function linesOf({ inputs, gates, outputs, spills }) {
 /** Returns a new name for each wire of some lines: its own, unless it is taken. */
 function freshNames(lines, taken) {
   const names = new Map(), used = new Set(taken);
-  for (const name of read(lines.join("\n")).names) {
+  for (const name of readCircuit(lines.join("\n")).names) {
     let fresh = name;
     for (let number = 2; used.has(fresh); number += 1) fresh = `${name}_${number}`;
     used.add(fresh);
@@ -97,24 +98,24 @@ function freshNames(lines, taken) {
 /** Returns the rank of a line of a circuit. */
 function rankOf(text) {
   const word = wordsOf(text)[0];
-  return ORDER.indexOf(Object.hasOwn(SIZES, word || "") ? "gate" : word);
+  return KIND_ORDER.indexOf(Object.hasOwn(GATE_SIZES, word || "") ? "gate" : word);
 }
 
 /**
  * Puts the lines of a circuit among the first `count` rows, each behind the last of its kind. Wires get their new
  * names.
  */
-function join(rows, count, lines, names) {
+function joinCircuit(rows, count, lines, names) {
   if (lines.length === 0) return;
   const head = rows.slice(0, count);
   if (!head.some(({ text }) => wordsOf(text)[0] === "circuit")) head.push({ text: "circuit" }, { text: "end" });
   for (const line of lines.filter((text) => !["circuit", "end"].includes(wordsOf(text)[0]))) {
     const rank = rankOf(line), words = wordsOf(line).map((word, index) => (index > 0 && names.get(word)) || word);
     const place = head.findLastIndex(({ text }) =>
-      rankOf(text) >= 0 && rankOf(text) <= rank && rankOf(text) < ORDER.length - 1);
+      rankOf(text) >= 0 && rankOf(text) <= rank && rankOf(text) < KIND_ORDER.length - 1);
     head.splice(place + 1, 0, { text: words.join(" ") });
   }
   rows.splice(0, count, ...head);
 }
 
-export { read, freshNames, join, wordsOf, unmarked, linesOf, textLines };
+export { readCircuit, freshNames, joinCircuit, wordsOf, withoutMark, circuitLines, textLines };

@@ -9,8 +9,8 @@ import * as surveys from "./survey.js";
 
 const MAX_TABLE_INPUTS = 8, MAX_EXACT_INPUTS = 5;
 // How long the run to the end may take of each turn, in milliseconds: a frame takes 16, and painting comes first.
-const SLICE = 4;
-const BLANK = { width: 48, height: 48, steps: 0, mirrors: [], balls: [], ins: [], outs: [], wastes: [] };
+const SLICE_MILLISECONDS = 4;
+const BLANK_LAYOUT = { width: 48, height: 48, steps: 0, mirrors: [], balls: [], ins: [], outs: [], wastes: [] };
 
 class Desk {
   worker;
@@ -35,8 +35,8 @@ class Desk {
   constructor(text, worker) {
     this.worker = worker;
     // The number of the last order to the worker, and what came of it; `askedAt` is when the order was given.
-    this.layout = BLANK;
-    worker.addEventListener("message", ({ data }) => this.receive(data));
+    this.layout = BLANK_LAYOUT;
+    worker.addEventListener("message", ({ data }) => this.takeWorkerAnswer(data));
     this.open(text);
   }
 
@@ -71,7 +71,7 @@ class Desk {
     const player = new Player({ layout: this.layout, circuit: this.circuit, certificate: null, isQuiet: !this.hasWave,
       assign: { on: names.filter((name) => !this.off.has(name)) } });
     this.player = player;
-    player.slice = SLICE;
+    player.slice = SLICE_MILLISECONDS;
     this.askWorker();
     player.restart(old ? Math.min(old.target, this.layout.steps) : 0);
     for (const what of ["time", "end", "play"]) player.listen(what, () => this.notify(what));
@@ -123,7 +123,7 @@ class Desk {
   }
 
   /** Takes an answer of the worker, unless it is about an older layout. */
-  receive({ number, ways, rows }) {
+  takeWorkerAnswer({ number, ways, rows }) {
     if (number !== this.order) return;
     if (rows) {
       this.rows = rows;

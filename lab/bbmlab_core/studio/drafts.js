@@ -8,7 +8,7 @@ const PREFIX = "bbmlab draft ";
 const keyOf = (folder, name, tab) => `${PREFIX}${JSON.stringify([folder, name, tab])}`;
 
 /** Keeps a draft. Returns false if the browser has no room. */
-function keep(folder, name, text, digest) {
+function keepDraft(folder, name, text, digest) {
   try {
     localStorage.setItem(keyOf(folder, name, server.tab), JSON.stringify({ text, digest, at: Date.now() }));
     return true;
@@ -16,13 +16,13 @@ function keep(folder, name, text, digest) {
 }
 
 /** Forgets this tab's draft of a file. */
-function forget(folder, name, tab = server.tab) { localStorage.removeItem(keyOf(folder, name, tab)); }
+function forgetDraft(folder, name, tab = server.tab) { localStorage.removeItem(keyOf(folder, name, tab)); }
 
 /**
  * Puts this tab's draft of a file, from before the file was opened, under another name. It stays there until the user
  * takes it or throws it away: the tab's next draft of the file does not replace it.
  */
-function setAside(folder, name, saved) {
+function setDraftAside(folder, name, saved) {
   const key = keyOf(folder, name, server.tab), draft = localStorage.getItem(key);
   if (draft === null) return;
   localStorage.removeItem(key);
@@ -33,12 +33,12 @@ function setAside(folder, name, saved) {
  * Forgets the drafts that began from the file with a digest, which was written over. Those of other open tabs stay, for
  * them to ask about.
  */
-async function forgetReplaced(folder, name, digest) {
-  for (const draft of await found(folder, name)) if (draft.digest === digest) forget(folder, name, draft.tab);
+async function forgetReplacedDrafts(folder, name, digest) {
+  for (const draft of await findDrafts(folder, name)) if (draft.digest === digest) forgetDraft(folder, name, draft.tab);
 }
 
 /** Returns the drafts of a file that no other open tab is working on, the newest first. */
-async function found(folder, name) {
+async function findDrafts(folder, name) {
   const held = navigator.locks ? (await navigator.locks.query()).held.map((lock) => lock.name) : [];
   const drafts = [];
   for (let index = 0; index < localStorage.length; index += 1) {
@@ -54,4 +54,4 @@ async function found(folder, name) {
   return drafts.sort((one, other) => other.at - one.at);
 }
 
-export { keep, forget, forgetReplaced, setAside, found };
+export { keepDraft, forgetDraft, forgetReplacedDrafts, setDraftAside, findDrafts };

@@ -2,7 +2,7 @@
  * The tools: what pressing, dragging and letting go at cells does, by mouse, finger or keyboard. It knows the model,
  * and of the page only the sketch, to which it gives what a tool would do.
  */
-import { counted } from "../view/stage.js";
+import { plural } from "../view/stage.js";
 import * as geometry from "./geometry.js";
 import { cellParts, refusalOf } from "./model.js";
 
@@ -10,7 +10,7 @@ const CELL_KINDS = ["ball", "in", "out", "waste"];
 const CLICK_MIRROR = [4, 2];
 
 /** Returns the box of cells between two cells. */
-const between = ([x, y], [u, v]) => [Math.min(x, u), Math.min(y, v), Math.abs(x - u) + 1, Math.abs(y - v) + 1];
+const boxBetween = ([x, y], [u, v]) => [Math.min(x, u), Math.min(y, v), Math.abs(x - u) + 1, Math.abs(y - v) + 1];
 
 class Tools {
   desk;
@@ -63,7 +63,7 @@ class Tools {
   /**
    * Keeps the selection on its parts after a change, since their lines may have moved. Another file begins without one.
    */
-  follow() {
+  followLines() {
     const { model } = this, lines = model.movedLines(model === this.followed ? this.selection : []);
     this.followed = model;
     this.select(model.partsOfLines(lines).map(({ line }) => line));
@@ -78,7 +78,7 @@ class Tools {
   }
 
   /** Does a command, and says why if it cannot be done. Returns whether it was done. */
-  attempt(action) {
+  tryCommand(action) {
     const reason = refusalOf(action);
     if (reason !== null) this.say(reason, true);
     return reason === null;
@@ -98,7 +98,7 @@ class Tools {
   /** Returns the mirror for a box that was dragged: the nearest one that stays. A click makes one of 4 by 2 cells. */
   mirrorFor(start, end) {
     const { width, height } = this.desk.layout, isClick = start[0] === end[0] && start[1] === end[1];
-    const wanted = isClick ? [...start, ...CLICK_MIRROR] : between(start, end);
+    const wanted = isClick ? [...start, ...CLICK_MIRROR] : boxBetween(start, end);
     const box = geometry.snapMirror(wanted, width, height);
     return { wanted, parts: box ? [{ kind: "mirror", name: null, box, line: -1 }] : [] };
   }
@@ -122,18 +122,18 @@ class Tools {
     }
     if (this.name === "mirror") this.showMirror(cell, cell);
     else if (this.name === "cell" && this.cell) this.showCell(cell);
-    else if (this.name === "paste") this.show(this.pasteAt(cell));
+    else if (this.name === "paste") this.show(this.pasteGhost(cell));
     else if (this.name === "connect") this.showConnection(cell);
     else {
       const parts = this.partsFor(cell);
-      this.show(parts && { parts, reason: this.model.whyNot(parts), time: this.steps, words: this.wordsFor(parts) });
+      this.show(parts && { parts, reason: this.model.whyNot(parts), time: this.steps, words: this.flightWords(parts) });
     }
   }
 
   /** Says where a ball would fly. */
-  wordsFor(parts) {
+  flightWords(parts) {
     const { kind, box: [x, y] } = parts[0], isLate = kind === "out" || kind === "waste";
-    const [dx, dy] = geometry.direction(x, y, isLate ? this.steps : 0);
+    const [dx, dy] = geometry.flightDirection(x, y, isLate ? this.steps : 0);
     const ball = isLate ? "At the last time a ball here flies" : "This ball flies";
     return `${ball} ${dx > 0 ? "right" : "left"} and ${dy > 0 ? "down" : "up"}.`;
   }
@@ -203,11 +203,11 @@ class Tools {
   }
 
   /** Returns the ghost of the copied parts with their frame near a cell. */
-  pasteAt([x, y]) {
+  pasteGhost([x, y]) {
     if (this.clipboard.length === 0) return null;
     const [left, top] = geometry.evenFrame(this.clipboard.map(({ box }) => box));
     const [dx, dy] = [x - x % 2 - left, y - y % 2 - top];
-    const parts = geometry.shifted(this.clipboard, dx, dy);
+    const parts = geometry.shiftedParts(this.clipboard, dx, dy);
     return { parts, reason: this.model.whyNot(parts), words: "Press to paste here." };
   }
 
@@ -224,7 +224,7 @@ class Tools {
   }
 
   /** Goes on to a cell. */
-  drag(cell) {
+  dragTo(cell) {
     if (!this.pressed || cell === null) return;
     const { start, mode } = this.pressed;
     this.at = cell;
@@ -232,25 +232,25 @@ class Tools {
     else if (mode === "erase") this.erase(cell);
     else if (mode === "move") this.showMove(cell);
     else if (mode === "frame") {
-      this.sketch.frame2 = between(start, cell);
+      this.sketch.frame2 = boxBetween(start, cell);
       this.sketch.requestOver();
     }
   }
 
   /** Ends at a cell. */
-  up(cell) {
+  release(cell) {
     if (!this.pressed) return;
     const { start, mode, isMore, move } = this.pressed, end = cell || this.at;
     this.pressed = null;
-    if (mode === "mirror") this.attempt(() => this.model.add(this.mirrorFor(start, end).parts, "mirror"));
+    if (mode === "mirror") this.tryCommand(() => this.model.add(this.mirrorFor(start, end).parts, "mirror"));
     else if (mode === "move") this.endMove(move);
-    else if (mode === "frame") this.endFrame(between(start, end), isMore);
+    else if (mode === "frame") this.endFrame(boxBetween(start, end), isMore);
     else if (mode === "cell") this.placeCell(end);
     else if (mode === "paste") this.placeCopies(end);
     else if (mode === "connect") {
       this.connectAt(end);
       return;
-    } else if (CELL_KINDS.includes(mode)) this.attempt(() => this.model.addCells(this.partsFor(end)));
+    } else if (CELL_KINDS.includes(mode)) this.tryCommand(() => this.model.addCells(this.partsFor(end)));
     this.sketch.ghost = null;
     this.sketch.frame2 = null;
     this.sketch.requestOver();
@@ -267,17 +267,18 @@ class Tools {
       const isLarger = await this.askLarger(
         `The cell ${name} takes ${layout.width} by ${layout.height} cells, and the layout has ${width} by ${height}.`,
         size);
-      if (!isLarger || !this.attempt(() => this.model.resize(...size, steps))) return;
+      if (!isLarger || !this.tryCommand(() => this.model.resize(...size, steps))) return;
     }
-    this.attempt(() => this.model.insertCell({ layout, circuit }, ...this.cornerFor(cell, this.cell), this.hasWires));
+    this.tryCommand(
+      () => this.model.insertCell({ layout, circuit }, ...this.cornerFor(cell, this.cell), this.hasWires));
   }
 
   /** Puts the copied parts at a place, and selects them. */
   placeCopies(cell) {
-    const ghost = this.pasteAt(cell);
+    const ghost = this.pasteGhost(cell);
     if (!ghost) return;
     let lines = [];
-    if (!this.attempt(() => { lines = this.model.add(ghost.parts, "paste"); })) return;
+    if (!this.tryCommand(() => { lines = this.model.add(ghost.parts, "paste"); })) return;
     this.choose("select");
     this.select(lines);
     if (this.onTool) this.onTool();
@@ -308,8 +309,8 @@ class Tools {
   showMove([x, y]) {
     const { start: [u, v] } = this.pressed, parts = this.model.partsOfLines(this.selection);
     const [dx, dy] = geometry.snapMove(parts, x - u, y - v);
-    const moved = geometry.shifted(parts, dx, dy), isSnapped = dx !== x - u || dy !== y - v;
-    const [wanted] = geometry.shifted(parts, x - u, y - v);
+    const moved = geometry.shiftedParts(parts, dx, dy), isSnapped = dx !== x - u || dy !== y - v;
+    const [wanted] = geometry.shiftedParts(parts, x - u, y - v);
     const why = isSnapped && parts.length === 1 ? geometry.fallReason(wanted.box) : null;
     this.pressed.move = [dx, dy];
     const words = why
@@ -335,7 +336,7 @@ class Tools {
   nudge(dx, dy) {
     let lines = [...this.selection];
     if (lines.length === 0) return;
-    if (this.attempt(() => { lines = this.model.move(lines, dx, dy); })) this.select(lines);
+    if (this.tryCommand(() => { lines = this.model.move(lines, dx, dy); })) this.select(lines);
   }
 
   /** Moves the selection one place on in a direction: by the least move that keeps its behaviour. */
@@ -348,7 +349,7 @@ class Tools {
   /** Rotates or reflects the selection. */
   turn(how) {
     let lines = [...this.selection];
-    if (lines.length && this.attempt(() => { lines = this.model.turn(lines, how); })) this.select(lines);
+    if (lines.length && this.tryCommand(() => { lines = this.model.turn(lines, how); })) this.select(lines);
   }
 
   copy() {
@@ -357,7 +358,7 @@ class Tools {
       return;
     }
     this.clipboard = this.model.partsOfLines(this.selection).map((part) => ({ ...part, line: -1 }));
-    this.say(`Copied ${counted(this.clipboard.length, "part", "parts")}.`);
+    this.say(`Copied ${plural(this.clipboard.length, "part", "parts")}.`);
   }
 
   /** Begins to paste. */
@@ -384,7 +385,7 @@ class Tools {
       this.say("This needs ways under all inputs, at most five inputs, and a circuit that can be read.", true);
       return;
     }
-    this.attempt(() => this.model.replaceEnds(parts));
+    this.tryCommand(() => this.model.replaceEnds(parts));
   }
 }
 

@@ -1,7 +1,7 @@
 /** Opens, saves and exports texts, and keeps and offers drafts. */
-import { counted } from "../view/stage.js";
+import { plural } from "../view/stage.js";
 import * as drafts from "./drafts.js";
-import { ask, delayed, element, made, notice } from "./page_parts.js";
+import { ask, debounced, element, newElement, showNotice } from "./page_parts.js";
 import { server } from "./server_link.js";
 
 const DRAFT_DELAY = 250;
@@ -9,12 +9,12 @@ const EXPORTS = { svg: ["SVG picture", "svg", "image/svg+xml"], golly: ["Golly p
   page: ["page for a browser", "html", "text/html"] };
 
 /** Returns a list in which one can be chosen, with a name. */
-function chooser(label, groups) {
-  const list = made("select"), frame = made("label", `${label} `);
+function choiceList(label, groups) {
+  const list = newElement("select"), frame = newElement("label", `${label} `);
   for (const [title, options] of groups) {
-    const group = made("optgroup");
+    const group = newElement("optgroup");
     group.label = title;
-    for (const [value, text] of options) group.append(Object.assign(made("option", text), { value }));
+    for (const [value, text] of options) group.append(Object.assign(newElement("option", text), { value }));
     list.append(group);
   }
   frame.append(list);
@@ -39,7 +39,7 @@ class Files {
     this.desk = desk;
     this.verdicts = verdicts;
     this.say = say;
-    this.keepSoon = delayed(DRAFT_DELAY, () => this.keepDraft());
+    this.keepSoon = debounced(DRAFT_DELAY, () => this.keepDraft());
     desk.listen("change", () => {
       this.showName();
       this.keepSoon();
@@ -68,7 +68,7 @@ class Files {
   }
 
   /** Takes a file that the server read. */
-  take({ name, text, digest }) {
+  takeFile({ name, text, digest }) {
     this.name = name;
     this.digest = digest;
     this.saved = text;
@@ -76,9 +76,9 @@ class Files {
     this.opened = this.opened + 1;
     this.verdicts.earlier = "";
     this.say("");
-    drafts.setAside(this.folder, name, text);
+    drafts.setDraftAside(this.folder, name, text);
     // The draft that is offered is one of the file that was open.
-    if (this.hasOffer) notice("");
+    if (this.hasOffer) showNotice("");
     this.hasOffer = false;
     this.desk.open(text);
     this.showName();
@@ -91,10 +91,10 @@ class Files {
   keepDraft() {
     if (this.saved === null) return false;
     if (!this.isChanged) {
-      drafts.forget(this.folder, this.name);
+      drafts.forgetDraft(this.folder, this.name);
       return false;
     }
-    if (drafts.keep(this.folder, this.name, this.desk.model.text, this.digest)) return true;
+    if (drafts.keepDraft(this.folder, this.name, this.desk.model.text, this.digest)) return true;
     this.say("The browser has no room for a draft: save the file.", true);
     return false;
   }
@@ -110,16 +110,16 @@ class Files {
   /** Offers the newest draft that differs from the file. */
   async offerDraft() {
     const { name, folder, opened } = this;
-    const draft = (await drafts.found(folder, name)).find(({ text }) => text !== this.saved);
+    const draft = (await drafts.findDrafts(folder, name)).find(({ text }) => text !== this.saved);
     if (!draft || opened !== this.opened) return;
     this.hasOffer = true;
     const forget = () => {
       this.hasOffer = false;
-      drafts.forget(folder, name, draft.tab);
+      drafts.forgetDraft(folder, name, draft.tab);
     };
     const what = draft.digest === this.digest ? "that was not saved"
       : "that began from another version of the file, which was written since";
-    notice(`There is a draft of ${name} from ${new Date(draft.at).toLocaleString()} ${what}. `, [
+    showNotice(`There is a draft of ${name} from ${new Date(draft.at).toLocaleString()} ${what}. `, [
       ["take the draft", () => {
         forget();
         // It goes on from the version of the file from which it began, so that saving it asks about a newer one.
@@ -145,9 +145,9 @@ class Files {
   async chooseSpelling() {
     const { model } = this.desk, { text, comments } = await server.request("spelling", { text: model.text });
     if (text === undefined || text === model.text || this.isFree) return true;
-    const more = comments ? `, with ${counted(comments, "comment", "comments")}` : "";
+    const more = comments ? `, with ${plural(comments, "comment", "comments")}` : "";
     const words = `The program reads texts of one spelling, and this is another one${more}.`;
-    const what = await ask("How to write the text", [made("p", words)], [
+    const what = await ask("How to write the text", [newElement("p", words)], [
       ["write it as it is", () => "free"],
       [comments ? "write the one spelling, without comments" : "write the one spelling", () => "one"],
       ["cancel", () => null]]);
@@ -178,11 +178,11 @@ class Files {
     this.name = name;
     this.digest = answer.digest;
     this.saved = text;
-    drafts.forget(this.folder, old);
+    drafts.forgetDraft(this.folder, old);
     if (old === name) {
-      if (this.hasOffer) notice("");
+      if (this.hasOffer) showNotice("");
       this.hasOffer = false;
-      await drafts.forgetReplaced(this.folder, name, digest);
+      await drafts.forgetReplacedDrafts(this.folder, name, digest);
       if (opened !== this.opened) return;
     }
     this.keepDraft();
@@ -192,9 +192,9 @@ class Files {
 
   /** Asks what to do with a file that changed since the page read it. */
   async askAboutChange(name, { error }) {
-    const field = Object.assign(made("input"), { type: "text", value: name.replace(/(_\d+)?\.txt$/, "_2.txt"),
+    const field = Object.assign(newElement("input"), { type: "text", value: name.replace(/(_\d+)?\.txt$/, "_2.txt"),
       ariaLabel: "Another name" });
-    const what = await ask("The file is another one now", [made("p", `${error}. Nothing was written.`), field],
+    const what = await ask("The file is another one now", [newElement("p", `${error}. Nothing was written.`), field],
       [["write over it", () => "over"], ["save under this name", () => field.value],
         ["open the file again", () => "again"], ["cancel", () => null]]);
     if (what === "over") this.save(name, true);
@@ -210,7 +210,7 @@ class Files {
     this.keepDraft();
     const answer = await server.request("open", { name });
     if (answer.error) this.say(answer.error, true);
-    else if (opened === this.opened) this.take(answer);
+    else if (opened === this.opened) this.takeFile(answer);
   }
 
   /** Asks which file to open. */
@@ -220,19 +220,20 @@ class Files {
       this.say(error, true);
       return;
     }
-    const { list, frame } = chooser("File", [[this.folder, files.map((name) => [name, name])]]);
+    const { list, frame } = choiceList("File", [[this.folder, files.map((name) => [name, name])]]);
     const name = await ask("Open a file of this folder",
-      files.length ? [frame] : [made("p", "The folder has no .txt files.")],
+      files.length ? [frame] : [newElement("p", "The folder has no .txt files.")],
       [...(files.length ? [["open", () => list.value]] : []), ["cancel", () => null]]);
     if (name) this.openFile(name);
   }
 
   /** Asks for a template and a name. */
   async chooseTemplate() {
-    const { list, frame } = chooser("Begin with", [["Empty", [["empty", "an empty layout"]]],
+    const { list, frame } = choiceList("Begin with", [["Empty", [["empty", "an empty layout"]]],
       ["Standard cells", this.templates.filter((name) => name !== "empty").map((name) => [name, name])],
       ["Examples", this.examples.map((name) => [`example ${name}`, name])]]);
-    const field = Object.assign(made("input"), { type: "text", value: "new.txt" }), label = made("label", "File ");
+    const field = Object.assign(newElement("input"), { type: "text", value: "new.txt" });
+    const label = newElement("label", "File ");
     label.append(field);
     const chosen = await ask("New layout", [frame, label],
       [["make", () => [list.value, field.value]], ["cancel", () => null]]);
@@ -252,12 +253,13 @@ class Files {
       return;
     }
     this.keepDraft();
-    this.take({ name: chosen[1], text: answer.text, digest: null });
+    this.takeFile({ name: chosen[1], text: answer.text, digest: null });
   }
 
   /** Asks for a form, and downloads the text in it. */
   async chooseExport() {
-    const { list, frame } = chooser("As", [["Forms", Object.entries(EXPORTS).map(([form, [title]]) => [form, title])]]);
+    const forms = Object.entries(EXPORTS).map(([form, [title]]) => [form, title]);
+    const { list, frame } = choiceList("As", [["Forms", forms]]);
     const form = await ask("Export", [frame], [["export", () => list.value], ["cancel", () => null]]);
     if (!form) return;
     const { verdicts, desk } = this, { verdict } = verdicts;
@@ -268,7 +270,7 @@ class Files {
       this.say(answer.error || "Nothing was exported: another export was begun.", true);
       return;
     }
-    const [, ending, type] = EXPORTS[form], link = made("a");
+    const [, ending, type] = EXPORTS[form], link = newElement("a");
     link.href = URL.createObjectURL(new Blob([answer.text], { type }));
     link.download = this.name.replace(/\.txt$/, "") + `.${ending}`;
     link.click();

@@ -12,7 +12,7 @@ const keyOf = (x, y) => (y + 2) * 8192 + x + 2;
  * Whether a mirror by itself stays as it is: its sides are even, and its upper left cell has exactly one odd
  * coordinate.
  */
-const stays = ([x, y, w, h]) => w % 2 === 0 && h % 2 === 0 && (x + y) % 2 === 1;
+const isStable = ([x, y, w, h]) => w % 2 === 0 && h % 2 === 0 && (x + y) % 2 === 1;
 
 /** Says why a mirror by itself falls apart, or returns null. */
 function fallReason([x, y, w, h]) {
@@ -26,16 +26,16 @@ function snapMirror([x, y, w, h], width, height) {
   const wide = Math.min(w + w % 2, width), high = Math.min(h + h % 2, height);
   const left = Math.max(0, Math.min(x, width - wide)), top = Math.max(0, Math.min(y, height - high));
   const places = [[0, 0], [1, 0], [-1, 0], [0, 1], [0, -1]].map(([dx, dy]) => [left + dx, top + dy, wide, high]);
-  return places.find((box) => stays(box) && box[0] >= 0 && box[1] >= 0 && box[0] + wide <= width
+  return places.find((box) => isStable(box) && box[0] >= 0 && box[1] >= 0 && box[0] + wide <= width
     && box[1] + high <= height) || null;
 }
 
 /** Returns the directions in which a ball cell flies at a time: 1 is right or down (Margolus 1984, block rule). */
-const direction = (x, y, time) => [(x + time) % 2 === 0 ? 1 : -1, (y + time) % 2 === 0 ? 1 : -1];
+const flightDirection = (x, y, time) => [(x + time) % 2 === 0 ? 1 : -1, (y + time) % 2 === 0 ? 1 : -1];
 
 /** Returns the two cells of a ball whose lead is at a cell at a time. */
 function pairCells([x, y], time) {
-  const [dx, dy] = direction(x, y, time);
+  const [dx, dy] = flightDirection(x, y, time);
   return [[x, y], [x - 2 * dx, y - 2 * dy]];
 }
 
@@ -68,9 +68,9 @@ function movedCorner([x, y, w, h], keys) {
  * Returns the mirrors that fall apart, each with a cell that moves. Mirrors that touch others are looked at with them.
  */
 function fallingMirrors(mirrors) {
-  if (mirrors.every(stays)) return [];
+  if (mirrors.every(isStable)) return [];
   const keys = mirrorKeys(mirrors);
-  return mirrors.filter((box) => !stays(box)).map((box) => ({ box, cell: movedCorner(box, keys) }))
+  return mirrors.filter((box) => !isStable(box)).map((box) => ({ box, cell: movedCorner(box, keys) }))
     .filter(({ cell }) => cell !== null);
 }
 
@@ -89,13 +89,13 @@ const TURNS = {
 };
 
 /** Returns parts turned by a quarter to the right ("rotate") or reflected ("flip-x", "flip-y") about their frame. */
-function turned(parts, how) {
+function turnedParts(parts, how) {
   const frame = evenFrame(parts.map(({ box }) => box));
   return parts.map((part) => ({ ...part, box: TURNS[how](part.box, frame) }));
 }
 
 /** Returns parts that are moved by some cells. */
-const shifted = (parts, dx, dy) =>
+const shiftedParts = (parts, dx, dy) =>
   parts.map((part) => ({ ...part, box: [part.box[0] + dx, part.box[1] + dy, part.box[2], part.box[3]] }));
 
 /**
@@ -105,18 +105,19 @@ const shifted = (parts, dx, dy) =>
 function snapMove(parts, dx, dy) {
   const even = (value) => 2 * Math.round(value / 2);
   if (parts.length !== 1) return [even(dx), even(dy)];
-  if (parts[0].kind !== "mirror" || !stays(parts[0].box) || (dx + dy) % 2 === 0) return [dx, dy];
+  if (parts[0].kind !== "mirror" || !isStable(parts[0].box) || (dx + dy) % 2 === 0) return [dx, dy];
   return Math.abs(dx) >= Math.abs(dy) ? [dx, even(dy) + (dx % 2 ? 1 : 0)] : [even(dx) + (dy % 2 ? 1 : 0), dy];
 }
 
 /** Returns output and waste cells as they fly on by some steps from a time, without mirrors. */
-function flyOn(parts, time, steps) {
+function flownParts(parts, time, steps) {
   return parts.map((part) => {
-    const [x, y] = part.box, [dx, dy] = direction(x, y, time);
+    const [x, y] = part.box, [dx, dy] = flightDirection(x, y, time);
     return { ...part, box: [x + dx * steps, y + dy * steps, 1, 1] };
   });
 }
 
 export {
-  stays, fallReason, snapMirror, direction, pairCells, fallingMirrors, evenFrame, turned, shifted, snapMove, flyOn,
+  isStable, fallReason, snapMirror, flightDirection, pairCells, fallingMirrors, evenFrame, turnedParts, shiftedParts,
+  snapMove, flownParts,
 };

@@ -8,9 +8,9 @@ import * as limits from "../view/limits.js";
 import * as circuitText from "./circuit_text.js";
 import * as geometry from "./geometry.js";
 
-const { wordsOf, unmarked } = circuitText;
+const { wordsOf, withoutMark } = circuitText;
 const KINDS = ["mirror", "ball", "in", "out", "waste"];
-const FORMS = { mirror: 4, ball: 2, in: 2, out: 2, waste: 2 };
+const NUMBER_COUNTS = { mirror: 4, ball: 2, in: 2, out: 2, waste: 2 };
 const NAME = /^[a-z][a-z0-9_]{0,31}$/, NUMBER = /^(0|[1-9][0-9]{0,8})$/;
 const LINE = /^(\ufeff?[ \t]*)([^#]*?)([ \t\r]*(?:#.*)?)$/s;
 
@@ -48,7 +48,7 @@ function partAt(text, line) {
 /** Returns the part that a line names, without its place, or null. */
 function partOf(text) {
   const words = wordsOf(text), kind = words[0], hasName = kind === "in" || kind === "out";
-  if (!KINDS.includes(kind) || words.length !== 1 + FORMS[kind] + Number(hasName)) return null;
+  if (!KINDS.includes(kind) || words.length !== 1 + NUMBER_COUNTS[kind] + Number(hasName)) return null;
   const numbers = words.slice(hasName ? 2 : 1);
   if (!numbers.every((word) => NUMBER.test(word)) || hasName && !NAME.test(words[1])) return null;
   const [x, y, w = 1, h = 1] = numbers.map(Number);
@@ -62,7 +62,7 @@ function lineOf({ kind, name, box }) {
 }
 
 /** Returns a line with other words; its indentation and comment stay. */
-function reworded(text, words) {
+function withOtherWords(text, words) {
   const [, before, , after] = LINE.exec(text);
   return before + words + after;
 }
@@ -77,7 +77,7 @@ function spliceBetween(old, fresh) {
 }
 
 /** Returns how a part is called in messages. */
-const titleOf = ({ kind, name, box }) => `${kind}${name ? ` ${name}` : ""} at (${box[0]}, ${box[1]})`;
+const partTitle = ({ kind, name, box }) => `${kind}${name ? ` ${name}` : ""} at (${box[0]}, ${box[1]})`;
 
 /** Files a part under each of its rows. */
 function fileByRows(rows, part) {
@@ -152,7 +152,7 @@ class Model {
    */
   read() {
     const start = this.lines.findIndex((line, index) =>
-      line.includes("layout") && firstWord(index ? line : unmarked(line)) === "layout");
+      line.includes("layout") && firstWord(index ? line : withoutMark(line)) === "layout");
     const end = start < 0 ? -1
       : this.lines.findIndex((line, index) => index > start && /end|certificate/.test(line)
       && ["end", "certificate"].includes(firstWord(line)));
@@ -163,7 +163,7 @@ class Model {
     this.after = this.end + Number(isClosed);
     // The first lines of a long text are those of its circuit, so the first line with words is near.
     this.limits = limits.limitsOf(
-      wordsOf(unmarked(this.lines.find((line) => wordsOf(unmarked(line)).length > 0) || "")));
+      wordsOf(withoutMark(this.lines.find((line) => wordsOf(withoutMark(line)).length > 0) || "")));
     this.parts = [];
     this.filed = null;
     for (let line = start + 1; start >= 0 && line < this.end; line += 1) {
@@ -175,13 +175,13 @@ class Model {
     const head = this.headText;
     if (head !== this.readHead) {
       this.readHead = head;
-      this.circuit = circuitText.read(head);
+      this.circuit = circuitText.readCircuit(head);
     }
   }
 
   /** Returns the size and the steps of the layout, or null if they are no numbers within the limits. */
   readHeader() {
-    const words = this.start < 0 ? [] : wordsOf(this.start ? this.lines[this.start] : unmarked(this.lines[0]));
+    const words = this.start < 0 ? [] : wordsOf(this.start ? this.lines[this.start] : withoutMark(this.lines[0]));
     if (words.length !== 4 || !words.slice(1).every((word) => NUMBER.test(word))) return null;
     const [width, height, steps] = words.slice(1).map(Number);
     const isSide = (side) => side % 2 === 0 && side >= 2 && side <= this.limits.maxSide;
@@ -211,7 +211,7 @@ class Model {
       ...layout.ins.map(({ name, cell }) => ["in", name, ...cell]),
       ...layout.outs.map(({ name, cell }) => ["out", name, ...cell]),
         ...layout.wastes.map((cell) => ["waste", ...cell])];
-    return [...(this.limits.line ? [this.limits.line] : []), ...circuitText.linesOf(circuit),
+    return [...(this.limits.line ? [this.limits.line] : []), ...circuitText.circuitLines(circuit),
       `layout ${layout.width} ${layout.height} ${layout.steps}`, ...parts.map((words) => words.join(" ")), "end",
       ""].join("\n");
   }
@@ -248,7 +248,7 @@ class Model {
   // ---- history
 
   /** Puts other lines in the place of some. */
-  put({ at, removed, added }) {
+  applySplice({ at, removed, added }) {
     this.shift = { at, removed: removed.length, added: added.length };
     this.lines = [...this.lines.slice(0, at), ...added, ...this.lines.slice(at + removed.length)];
     this.read();
@@ -267,7 +267,7 @@ class Model {
       this.past.push({ ...splice, label, merge });
     }
     this.future = [];
-    this.put(splice);
+    this.applySplice(splice);
     this.notify();
   }
 
@@ -278,7 +278,7 @@ class Model {
     const last = this.past.pop();
     if (!last) return null;
     this.future.push(last);
-    this.put({ at: last.at, removed: last.added, added: last.removed });
+    this.applySplice({ at: last.at, removed: last.added, added: last.removed });
     this.notify();
     return last.label;
   }
@@ -288,7 +288,7 @@ class Model {
     const next = this.future.pop();
     if (!next) return null;
     this.past.push(next);
-    this.put(next);
+    this.applySplice(next);
     this.notify();
     return next.label;
   }
@@ -320,14 +320,14 @@ class Model {
     for (const part of parts) {
       const [x, y, w, h] = part.box;
       if (x < 0 || y < 0 || x + w > width || y + h > height)
-          return `${titleOf(part)} is outside the layout of ${width} by ${height} cells.`;
+          return `${partTitle(part)} is outside the layout of ${width} by ${height} cells.`;
       if (part.name !== null && part.name !== undefined
           && !NAME.test(part.name)) return `\`${part.name}\` is no name of a wire.`;
     }
     const fresh = new Map();
     for (const part of parts) {
       const other = takerOf(part, this.rows(), gone);
-      if (other) return `Cell (${sharedCell(part, other).join(", ")}) is taken by the ${titleOf(other)}.`;
+      if (other) return `Cell (${sharedCell(part, other).join(", ")}) is taken by the ${partTitle(other)}.`;
       const twin = takerOf(part, fresh, new Set());
       if (twin) return `Two of the parts take cell (${sharedCell(part, twin).join(", ")}).`;
       fileByRows(fresh, part);
@@ -353,7 +353,7 @@ class Model {
   /** Adds parts, each behind the last part of its kind, and returns the numbers of their lines. */
   add(parts, label = "add") {
     this.require(parts);
-    return this.edit(label, (rows) => this.insert(rows, parts));
+    return this.edit(label, (rows) => this.insertRows(rows, parts));
   }
 
   /**
@@ -370,8 +370,8 @@ class Model {
     if (isRead && kind === "in" && names.has(name)
         && !inputs.includes(name)) throw new ModelRefusal(`\`${name}\` is no input of the circuit.`);
     return this.edit(kind, (rows) => {
-      const added = this.insert(rows, parts);
-      circuitText.join(rows, this.start, lines, new Map());
+      const added = this.insertRows(rows, parts);
+      circuitText.joinCircuit(rows, this.start, lines, new Map());
       return added;
     });
   }
@@ -382,14 +382,14 @@ class Model {
     this.require(parts, old);
     this.edit("outputs", (rows) => {
       const gone = new Set([...old].map((line) => rows[line]));
-      this.insert(rows, parts);
+      this.insertRows(rows, parts);
       rows.splice(0, rows.length, ...rows.filter((row) => !gone.has(row)));
       return [];
     });
   }
 
   /** Puts rows for parts behind the last part of their kind, or of a kind that comes before it. */
-  insert(rows, parts) {
+  insertRows(rows, parts) {
     const end = wordsOf(this.lines[this.start]).length && this.lines[this.start].endsWith("\r") ? "\r" : "", added = [];
     for (const kind of [...KINDS].reverse()) {
       const fresh = parts.filter((part) => part.kind === kind).map((part) => ({ text: lineOf(part) + end }));
@@ -417,16 +417,16 @@ class Model {
   replace(parts, label = "change") {
     this.require(parts, parts.map(({ line }) => line));
     return this.edit(label, (rows) => parts.map((part) => {
-      rows[part.line].text = reworded(rows[part.line].text, lineOf(part));
+      rows[part.line].text = withOtherWords(rows[part.line].text, lineOf(part));
       return rows[part.line];
     }));
   }
 
   /** Moves the parts of some lines. */
-  move(lines, dx, dy) { return this.replace(geometry.shifted(this.partsOfLines(lines), dx, dy), "move"); }
+  move(lines, dx, dy) { return this.replace(geometry.shiftedParts(this.partsOfLines(lines), dx, dy), "move"); }
 
   /** Turns or reflects the parts of some lines about their frame. */
-  turn(lines, how) { return this.replace(geometry.turned(this.partsOfLines(lines), how), how); }
+  turn(lines, how) { return this.replace(geometry.turnedParts(this.partsOfLines(lines), how), how); }
 
   /** Gives the ports of some lines another wire. */
   rename(lines, name) {
@@ -443,20 +443,21 @@ class Model {
     const isSide = (side) => Number.isInteger(side) && side % 2 === 0 && side >= 2 && side <= maxSide;
     if (this.start < 0) throw new ModelRefusal("The text has no line `layout W H STEPS`.");
     if (!isSide(width) || !isSide(height)) throw new ModelRefusal(
-        `Width and height are even numbers from 2 to ${maxSide}.${this.needsLine(Math.max(width, height) > maxSide)}`);
+        `Width and height are even numbers from 2 to ${maxSide}.`
+          + this.limitsLineHint(Math.max(width, height) > maxSide));
     if (!Number.isInteger(steps) || steps < 0 || steps > maxSteps)
-        throw new ModelRefusal(`The steps are a number from 0 to ${maxSteps}.${this.needsLine(steps > maxSteps)}`);
+        throw new ModelRefusal(`The steps are a number from 0 to ${maxSteps}.${this.limitsLineHint(steps > maxSteps)}`);
     const flying = follows && this.header ? this.parts.filter(({ kind }) => kind === "out" || kind === "waste") : [];
-    const fresh = flying.length ? geometry.flyOn(flying, this.header.steps, steps - this.header.steps) : [];
+    const fresh = flying.length ? geometry.flownParts(flying, this.header.steps, steps - this.header.steps) : [];
     const changed = new Set(flying);
     const all = [...this.parts.filter((part) => !changed.has(part)), ...fresh];
     const outside = all.find(({ box: [x, y, w, h] }) => x < 0 || y < 0 || x + w > width || y + h > height);
     if (outside)
-        throw new ModelRefusal(`${titleOf(outside)} would be outside the layout of ${width} by ${height} cells.`);
+        throw new ModelRefusal(`${partTitle(outside)} would be outside the layout of ${width} by ${height} cells.`);
     if (fresh.length) this.require(fresh, flying.map(({ line }) => line));
     this.edit("size", (rows) => {
-      rows[this.start].text = reworded(rows[this.start].text, `layout ${width} ${height} ${steps}`);
-      for (const part of fresh) rows[part.line].text = reworded(rows[part.line].text, lineOf(part));
+      rows[this.start].text = withOtherWords(rows[this.start].text, `layout ${width} ${height} ${steps}`);
+      for (const part of fresh) rows[part.line].text = withOtherWords(rows[part.line].text, lineOf(part));
       return [];
     });
   }
@@ -474,12 +475,12 @@ class Model {
     const most = Math.max(wide, high);
     if (most > limits.SECOND.maxSide) throw new ModelRefusal(`A side is at most ${limits.SECOND.maxSide} cells.`);
     this.edit("enlarge", (rows) => {
-      rows[this.start].text = reworded(rows[this.start].text, `layout ${wide} ${high} ${steps}`);
-      for (const part of geometry.shifted(this.parts, left, above))
-          rows[part.line].text = reworded(rows[part.line].text,
+      rows[this.start].text = withOtherWords(rows[this.start].text, `layout ${wide} ${high} ${steps}`);
+      for (const part of geometry.shiftedParts(this.parts, left, above))
+          rows[part.line].text = withOtherWords(rows[part.line].text,
           lineOf(part));
       if (most > this.limits.maxSide) {
-        rows[0].text = unmarked(rows[0].text);
+        rows[0].text = withoutMark(rows[0].text);
         rows.unshift({ text: limits.SECOND.line });
       }
       return [];
@@ -487,7 +488,7 @@ class Model {
   }
 
   /** Returns a sentence on the line that raises the limits if a number is above them, or nothing. */
-  needsLine(isAbove) { return isAbove ? limits.needsLine("A larger layout", this.limits) : ""; }
+  limitsLineHint(isAbove) { return isAbove ? limits.limitsLineHint("A larger layout", this.limits) : ""; }
 
   /** Puts other lines in the place of those before the layout. */
   setHead(text, merge = null) {
@@ -513,14 +514,14 @@ class Model {
     const parts = cellParts(layout, x, y, hasWires ? (name) => names.get(name) : null, steps);
     const flying = hasWires && steps > this.header.steps
       ? this.parts.filter(({ kind }) => kind === "out" || kind === "waste") : [];
-    const fresh = geometry.flyOn(flying, this.header.steps, steps - this.header.steps);
+    const fresh = geometry.flownParts(flying, this.header.steps, steps - this.header.steps);
     this.require([...parts, ...fresh], flying.map(({ line }) => line));
     return this.edit("cell", (rows) => {
-      for (const part of fresh) rows[part.line].text = reworded(rows[part.line].text, lineOf(part));
-      if (hasWires) rows[this.start].text = reworded(rows[this.start].text,
+      for (const part of fresh) rows[part.line].text = withOtherWords(rows[part.line].text, lineOf(part));
+      if (hasWires) rows[this.start].text = withOtherWords(rows[this.start].text,
           `layout ${this.header.width} ${this.header.height} ${steps}`);
-      const added = this.insert(rows, parts);
-      if (hasWires) circuitText.join(rows, this.start, circuit, names);
+      const added = this.insertRows(rows, parts);
+      if (hasWires) circuitText.joinCircuit(rows, this.start, circuit, names);
       return added;
     });
   }
@@ -534,11 +535,12 @@ function cellParts(layout, x, y, nameOf, steps) {
   const one = (kind, name, cell) => ({ kind, name, box: [cell[0], cell[1], 1, 1], line: -1 });
   const firm = [...layout.mirrors.map((box) => ({ kind: "mirror", name: null, box, line: -1 })),
     ...layout.balls.map((cell) => one("ball", null, cell))];
-  if (nameOf === null) return geometry.shifted(firm, x, y);
+  if (nameOf === null) return geometry.shiftedParts(firm, x, y);
   const ins = layout.ins.map(({ name, cell }) => one("in", nameOf(name), cell));
   const late = [...layout.outs.map(({ name, cell }) => one("out", nameOf(name), cell)),
     ...layout.wastes.map((cell) => one("waste", null, cell))];
-  return geometry.shifted([...firm, ...ins, ...geometry.flyOn(late, layout.steps, steps - layout.steps)], x, y);
+  const flown = geometry.flownParts(late, layout.steps, steps - layout.steps);
+  return geometry.shiftedParts([...firm, ...ins, ...flown], x, y);
 }
 
 export { Model, ModelRefusal, cellParts, refusalOf };

@@ -1,9 +1,9 @@
 /** Small helpers for elements of the page and its dialog. Texts are set as text, never as HTML. */
-import { element, made } from "../view/boxes.js";
+import { element, newElement } from "../view/boxes.js";
 
 /** Returns a new button. */
 function button(text, action, className = "") {
-  const found = made("button", text, className);
+  const found = newElement("button", text, className);
   found.type = "button";
   found.addEventListener("click", action);
   return found;
@@ -11,12 +11,12 @@ function button(text, action, className = "") {
 
 /** Appends a text in which words between backticks are code. */
 function appendWords(parent, text) {
-  text.split("`").forEach((part, index) => parent.append(index % 2 ? made("code", part) : part));
+  text.split("`").forEach((part, index) => parent.append(index % 2 ? newElement("code", part) : part));
   return parent;
 }
 
 /** Calls an action when calls have stopped for some milliseconds. */
-function delayed(milliseconds, action) {
+function debounced(milliseconds, action) {
   let timer = 0;
   return () => {
     clearTimeout(timer);
@@ -54,7 +54,7 @@ function ask(title, body, choices) {
 }
 
 /** Shows a text above the page, with buttons, or nothing. */
-function notice(text, choices = []) {
+function showNotice(text, choices = []) {
   const box = element("notice");
   box.hidden = text === "";
   box.replaceChildren(text, ...choices.map(([words, action]) => button(words, () => {
@@ -63,4 +63,4 @@ function notice(text, choices = []) {
   })));
 }
 
-export { element, made, button, appendWords, delayed, ask, notice };
+export { element, newElement, button, appendWords, debounced, ask, showNotice };

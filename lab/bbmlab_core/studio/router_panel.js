@@ -2,16 +2,16 @@
  * What searches in the background, with its progress and with cancel: the button that routes the circuit of the text,
  * and the tool that leads the ball of an output to an input.
  */
-import { counted } from "../view/stage.js";
-import { ask, button, element, made } from "./page_parts.js";
+import { plural } from "../view/stage.js";
+import { ask, button, element, newElement } from "./page_parts.js";
 import { server } from "./server_link.js";
 
 const SECONDS = 60, CONNECT_SECONDS = 60;
 
 /** Returns a field for a number with its words. */
 function numberField(words, value, least, most) {
-  const field = Object.assign(made("input"), { type: "number", value, min: least, max: most });
-  const label = made("label", `${words} `);
+  const field = Object.assign(newElement("input"), { type: "number", value, min: least, max: most });
+  const label = newElement("label", `${words} `);
   label.append(field);
   return { field, label };
 }
@@ -41,9 +41,9 @@ class RouterPanel {
       return;
     }
     const seconds = numberField("seconds", SECONDS, 1, 3600), seed = numberField("seed", this.seed, 0, 2147483647);
-    const words = `The lab searches a layout for the circuit with ${counted(circuit.gates.length, "gate", "gates")}. `
+    const words = `The lab searches a layout for the circuit with ${plural(circuit.gates.length, "gate", "gates")}. `
       + "It takes the place of the text; undo brings the old one back.";
-    const wanted = await ask("Route the circuit", [made("p", words), seconds.label, seed.label],
+    const wanted = await ask("Route the circuit", [newElement("p", words), seconds.label, seed.label],
       [["route", () => [Number(seconds.field.value), Number(seed.field.value)]], ["cancel", () => null]]);
     if (wanted) this.begin(...wanted);
   }
@@ -53,7 +53,7 @@ class RouterPanel {
     this.seed = seed + 1;
     const head = this.desk.model.headText;
     const answer = await this.search("route", { text: `${head}\n`, seconds, seed }, "Routing");
-    this.take(answer, () => this.desk.model.headText === head, { label: "route", none: "There is no route.",
+    this.takeState(answer, () => this.desk.model.headText === head, { label: "route", none: "There is no route.",
       done: () => "Routed. The verdict is asked for the text as it is now." });
   }
 
@@ -65,7 +65,7 @@ class RouterPanel {
     }
     const { text } = this.desk.model, wanted = { text, seconds: CONNECT_SECONDS, seed: 1, output, input };
     const answer = await this.search("connect", wanted, `Leading the ball of ${output} to ${input}`);
-    this.take(answer, () => this.desk.model.text === text,
+    this.takeState(answer, () => this.desk.model.text === text,
       { label: "connect", none: "Nothing is changed.", done: (said) => said.at(-1) });
   }
 
@@ -87,7 +87,8 @@ class RouterPanel {
   /** Shows the progress, with a button that ends the search. */
   show(text) {
     const box = element("routing");
-    if (box.hidden) box.replaceChildren(made("span"), button("cancel", () => { server.request("unroute"); }, "cancel"));
+    if (box.hidden) box.replaceChildren(newElement("span"),
+      button("cancel", () => { server.request("unroute"); }, "cancel"));
     box.hidden = false;
     box.firstChild.textContent = text;
   }
@@ -95,7 +96,7 @@ class RouterPanel {
   hide() { element("routing").hidden = true; }
 
   /** Takes the text that was found, or says why there is none. If the text is another one now, it asks first. */
-  async take({ state, text, said = [], error }, isCurrent, { label, none, done }) {
+  async takeState({ state, text, said = [], error }, isCurrent, { label, none, done }) {
     if (state !== "found") {
       const why = error || (state === "cancelled" ? "The search was cancelled."
         : `${none} ${said.filter((line) => !/first side|verdict yes/.test(line)).join(" ")}`);
@@ -104,7 +105,7 @@ class RouterPanel {
     }
     if (!isCurrent()) {
       const isTaken = await ask("The text has changed",
-        [made("p", "What was found is of the circuit and the layout as they were when the search began.")],
+        [newElement("p", "What was found is of the circuit and the layout as they were when the search began.")],
         [["take it in place of the text", () => true], ["keep the text", () => false]]);
       if (!isTaken) return;
     }

@@ -12,7 +12,7 @@ const lockOf = (tab) => `${TAB} ${tab}`;
  * Holds the lock of a tab's number until the page is closed. Resolves to whether no other page holds it, as far as the
  * options let it wait.
  */
-function hold(tab, options = {}) {
+function holdTab(tab, options = {}) {
   return new Promise((resolve) => {
     navigator.locks.request(lockOf(tab), options, () => {
       resolve(true);
@@ -27,10 +27,10 @@ function hold(tab, options = {}) {
  */
 async function tabNow() {
   const old = sessionStorage.getItem(TAB);
-  if (old && (!navigator.locks || await hold(old, { signal: AbortSignal.timeout(TAB_DELAY) }))) return old;
+  if (old && (!navigator.locks || await holdTab(old, { signal: AbortSignal.timeout(TAB_DELAY) }))) return old;
   const fresh = crypto.randomUUID();
   sessionStorage.setItem(TAB, fresh);
-  if (navigator.locks) await hold(fresh);
+  if (navigator.locks) await holdTab(fresh);
   return fresh;
 }
 

@@ -1,7 +1,7 @@
 /** The panels beside the picture: size, inputs, the circuit with its refusal, and the truth table. */
 import { fillBox, inputSwitch } from "../view/boxes.js";
 import { Model, refusalOf } from "./model.js";
-import { appendWords, ask, delayed, element, made } from "./page_parts.js";
+import { appendWords, ask, debounced, element, newElement } from "./page_parts.js";
 import { server } from "./server_link.js";
 import { wireInks } from "./sketch.js";
 import * as surveys from "./survey.js";
@@ -29,7 +29,7 @@ class SidePanels {
     this.desk = desk;
     this.sketch = sketch;
     this.say = say;
-    this.askSoon = delayed(REFUSAL_DELAY, () => this.askRefusal());
+    this.askSoon = debounced(REFUSAL_DELAY, () => this.askRefusal());
     for (const id of NUMBERS) {
       // The field in which a number is typed that is not taken yet.
       element(id).addEventListener("input", () => { this.typed = id; });
@@ -75,15 +75,16 @@ class SidePanels {
   async chooseRoom() {
     const fields = ["left", "above", "right", "below"].map(
       (side) =>
-      Object.assign(made("input"), { type: "number", min: 0, max: 4096, step: 2, value: 16, ariaLabel: side }));
-    const box = made("p");
+      Object.assign(newElement("input"), { type: "number", min: 0, max: 4096, step: 2, value: 16, ariaLabel: side }));
+    const box = newElement("p");
     fields.forEach((field) => {
-      const label = made("label", `${field.ariaLabel} `);
+      const label = newElement("label", `${field.ariaLabel} `);
       label.append(field);
       box.append(label, " ");
     });
     const sides = await ask("Enlarge the layout",
-      [made("p", "Columns and rows that are added at each side: even numbers. The parts keep their distances."), box],
+      [newElement("p", "Columns and rows that are added at each side: even numbers. The parts keep their distances."),
+        box],
       [["enlarge", () => fields.map((field) => Number(field.value))], ["cancel", () => null]]);
     if (!sides) return;
     const reason = refusalOf(() => this.desk.model.enlarge(...sides));
@@ -142,7 +143,7 @@ class SidePanels {
     const numbers = (from, to) =>
       [...Array(Math.max(0, to - from)).keys()].map((index) => `${from + index}\n`).join("");
     if (bad === null || bad > count) element("gutter").replaceChildren(numbers(1, count + 1));
-    else element("gutter").replaceChildren(numbers(1, bad), made("span", `✗ ${bad}`, "bad"), "\n",
+    else element("gutter").replaceChildren(numbers(1, bad), newElement("span", `✗ ${bad}`, "bad"), "\n",
       numbers(bad + 1, count + 1));
     element("gutter").scrollTop = element("circuit").scrollTop;
   }
@@ -159,9 +160,9 @@ class SidePanels {
     if (!refusal) return;
     const line = refusal.line === null ? "" : `Line ${refusal.line}: `;
     const text = refusal.line === null ? "" : this.desk.model.lines[refusal.line - 1];
-    if (text) box.append(made("p", `${line}${text}`, "code"));
-    for (const words of refusal.words) box.append(appendWords(made("p", "", "bad"), words));
-    for (const words of refusal.hints.slice(0, 2)) box.append(appendWords(made("p", "", "soft"), words));
+    if (text) box.append(newElement("p", `${line}${text}`, "code"));
+    for (const words of refusal.words) box.append(appendWords(newElement("p", "", "bad"), words));
+    for (const words of refusal.hints.slice(0, 2)) box.append(appendWords(newElement("p", "", "soft"), words));
   }
 
   /** Shows a switch for each input. */
@@ -180,16 +181,16 @@ class SidePanels {
     const { survey, isExact } = this.desk, legend = element("legend"), inks = wireInks();
     legend.replaceChildren();
     if (!survey) return;
-    const seen = [...survey.wires.keys()].filter((colour) => colour < surveys.CONSTANT).sort((a, b) => a - b);
+    const seen = [...survey.wires.keys()].filter((colour) => colour < surveys.CONSTANT_COLOUR).sort((a, b) => a - b);
     for (const colour of seen.slice(0, MAX_LEGEND)) {
-      const item = made("span", survey.wires.get(colour));
+      const item = newElement("span", survey.wires.get(colour));
       item.style.borderBottomColor = inks[(colour - 1) % inks.length];
       legend.append(item);
     }
     if (seen.length > MAX_LEGEND) legend.append(`and ${seen.length - MAX_LEGEND} more`);
     if (this.desk.waysMode === "all"
         && !isExact) legend.append(` under ${survey.choiceCount} of 2^${survey.inputCount} choices`);
-    if (survey.leftAt !== null) legend.append(made("span", `A ball leaves at step ${survey.leftAt}.`, "bad"));
+    if (survey.leftAt !== null) legend.append(newElement("span", `A ball leaves at step ${survey.leftAt}.`, "bad"));
   }
 
   /** Shows what the outputs should be and what they are. */
@@ -200,29 +201,30 @@ class SidePanels {
       const why = !circuit ? "The circuit cannot be read yet."
         : circuit.outputs.length === 0 ? "The circuit has no outputs yet."
         : `The circuit has ${count} inputs: the table is for at most eight.`;
-      box.replaceChildren(made("p", why, "soft"));
+      box.replaceChildren(newElement("p", why, "soft"));
       return;
     }
     const wrong = rows.filter(({ outputs }) => outputs.some(({ wanted, found }) => wanted !== found)).length;
     const { inputs, outputs } = circuit;
-    const head = made("tr"), grid = made("table");
-    head.append(...inputs.map((name) => made("th", name)), ...outputs.map((name) => made("th", name, "output")));
+    const head = newElement("tr"), grid = newElement("table");
+    head.append(...inputs.map((name) => newElement("th", name)),
+      ...outputs.map((name) => newElement("th", name, "output")));
     grid.append(head, ...rows.map((row) => this.tableRow(row)));
     const words = wrong ? `${wrong} of ${rows.length} rows differ.`
       : rows.length === 1 ? "The row is as the circuit says." : `All ${rows.length} rows are as the circuit says.`;
-    const frame = made("div", "", "frame");
+    const frame = newElement("div", "", "frame");
     frame.tabIndex = 0;
     frame.append(grid);
-    box.replaceChildren(made("p", words, wrong ? "bad" : "good"), frame);
+    box.replaceChildren(newElement("p", words, wrong ? "bad" : "good"), frame);
   }
 
   /** Returns a row of the truth table: an output that differs shows what was found and what is wanted. */
   tableRow({ inputs, outputs }) {
-    const bit = (value) => (value === null ? "?" : String(Number(value))), row = made("tr");
-    row.append(...inputs.map((value) => made("td", bit(value))));
+    const bit = (value) => (value === null ? "?" : String(Number(value))), row = newElement("tr");
+    row.append(...inputs.map((value) => newElement("td", bit(value))));
     for (const { wanted, found } of outputs) {
-      row.append(wanted === found ? made("td", bit(found), "output")
-        : made("td", `${bit(found)}, wanted ${bit(wanted)}`, "output bad"));
+      row.append(wanted === found ? newElement("td", bit(found), "output")
+        : newElement("td", `${bit(found)}, wanted ${bit(wanted)}`, "output bad"));
     }
     return row;
   }

@@ -10,7 +10,7 @@ import * as surveys from "./survey.js";
 
 const { RULER } = painting;
 // A way in a survey has five numbers: x, y, x, y and a colour.
-const WIRE_INKS = 8, WAY = 5, PORT_FONT = "600 12px system-ui, sans-serif";
+const WIRE_INKS = 8, NUMBERS_PER_WAY = 5, PORT_FONT = "600 12px system-ui, sans-serif";
 
 /** Returns the colours of wires as the page is shown now. */
 function wireInks() {
@@ -42,7 +42,7 @@ class Sketch extends Stage {
   }
 
   /** Shows the desk's layout as it is now. */
-  take() {
+  takeLayout() {
     const { layout, player } = this.desk;
     const isOther = layout.width !== this.layout.width || layout.height !== this.layout.height;
     this.player = player;
@@ -58,8 +58,8 @@ class Sketch extends Stage {
 
   /** Returns the colour of a wire by its number in the survey's order. */
   inkOf(colour, inks, place) {
-    if (colour === surveys.CONSTANT) return place.inks.soft;
-    return colour === surveys.OTHER ? place.inks.border : inks[(colour - 1) % WIRE_INKS];
+    if (colour === surveys.CONSTANT_COLOUR) return place.inks.soft;
+    return colour === surveys.OTHER_COLOUR ? place.inks.border : inks[(colour - 1) % WIRE_INKS];
   }
 
   /** Draws at the next frame. The layout with its ways is drawn again too. */
@@ -88,12 +88,12 @@ class Sketch extends Stage {
     pen.beginPath();
     pen.rect(RULER.wide, RULER.high, place.wide, place.high);
     pen.clip();
-    for (const { box } of this.selected) painting.outline(place, box, place.inks.box, [], -2, 3);
+    for (const { box } of this.selected) painting.paintOutline(place, box, place.inks.box, [], -2, 3);
     if (this.ghost) this.paintGhost(place, this.ghost);
-    if (this.frame2) painting.outline(place, this.frame2, place.inks.box, [5, 4], 0, 1.5);
-    if (this.cursor) painting.outline(place, [...this.cursor, 1, 1], place.inks.box, [], 1, 2);
+    if (this.frame2) painting.paintOutline(place, this.frame2, place.inks.box, [5, 4], 0, 1.5);
+    if (this.cursor) painting.paintOutline(place, [...this.cursor, 1, 1], place.inks.box, [], 1, 2);
     pen.restore();
-    painting.rulers(place, this.layout, pointed);
+    painting.paintRulers(place, this.layout, pointed);
   }
 
   /** Draws the layout with its ways on a canvas of its own, which is then shown at each frame. */
@@ -110,8 +110,8 @@ class Sketch extends Stage {
   paintLayout(place) {
     super.paintWhole(place, null);
     if (this.desk.survey) this.paintMarks(place);
-    for (const { box } of this.desk.fallen) painting.outline(place, box, place.inks.bad, [], -2, 2.5);
-    for (const cell of this.faults) painting.ring(place, cell);
+    for (const { box } of this.desk.fallen) painting.paintOutline(place, box, place.inks.bad, [], -2, 2.5);
+    for (const cell of this.faults) painting.paintRing(place, cell);
   }
 
   /** Files the ways by the squares of the layout, once for each survey. */
@@ -119,7 +119,7 @@ class Sketch extends Stage {
     const { ways } = this.desk.survey;
     if (this.filedOf === ways) return;
     this.filed = new Buckets();
-    for (let index = 0; index < ways.length; index += WAY) this.filed.addPiece(ways[index], ways[index + 1],
+    for (let index = 0; index < ways.length; index += NUMBERS_PER_WAY) this.filed.addPiece(ways[index], ways[index + 1],
         ways[index + 2], ways[index + 3]);
     this.filedOf = ways;
   }
@@ -129,7 +129,7 @@ class Sketch extends Stage {
     const { survey } = this.desk, fresh = survey ? survey.ways : [], old = this.shownWays || [];
     const changed = new Buckets();
     if (fresh === old) return;
-    const { gone, added } = changedPlaces(old, fresh, WAY);
+    const { gone, added } = changedPlaces(old, fresh, NUMBERS_PER_WAY);
     for (const [list, places] of [[old, gone], [fresh, added]]) for (const at of places) changed.addPiece(list[at],
         list[at + 1], list[at + 2], list[at + 3]);
     this.shownWays = fresh;
@@ -143,9 +143,9 @@ class Sketch extends Stage {
     const { ways } = this.desk.survey, inks = wireInks(), paths = new Map();
     this.fileWays();
     this.filed.visit(range, (number) => {
-      const colour = ways[WAY * number + 4];
+      const colour = ways[NUMBERS_PER_WAY * number + 4];
       if (!paths.has(colour)) paths.set(colour, []);
-      paths.get(colour).push(WAY * number);
+      paths.get(colour).push(NUMBERS_PER_WAY * number);
     });
     pen.lineWidth = Math.max(1.2, Math.min(0.16 * scale, 3));
     pen.globalAlpha = 0.75;
@@ -184,15 +184,15 @@ class Sketch extends Stage {
   paintGhost(place, { parts, reason, ports = [], wanted = null, time = 0, link = null }) {
     const { pen, scale } = place, ink = reason ? place.inks.bad : place.inks.good;
     if (link) this.paintLink(place, link, ink);
-    if (wanted) painting.outline(place, wanted, place.inks.bad, [3, 3], 0, 1.5);
+    if (wanted) painting.paintOutline(place, wanted, place.inks.bad, [3, 3], 0, 1.5);
     for (const { kind, name, box } of parts) {
       pen.globalAlpha = 0.3;
       pen.fillStyle = ink;
       pen.fillRect((box[0] - place.left) * scale, (box[1] - place.top) * scale, box[2] * scale, box[3] * scale);
       pen.globalAlpha = 1;
-      painting.outline(place, box, ink, kind === "mirror" ? [] : [3, 2], 0, 2);
+      painting.paintOutline(place, box, ink, kind === "mirror" ? [] : [3, 2], 0, 2);
       if (kind !== "mirror" && kind !== "waste" && ports.length === 0) this.paintArrow(place, box,
-          geometry.direction(box[0], box[1], kind === "out" ? time : 0), ink);
+          geometry.flightDirection(box[0], box[1], kind === "out" ? time : 0), ink);
       if (name && ports.length === 0 && parts.length <= 2) this.paintWord(place, box, name, ink);
     }
     if (ports.length) this.paintPorts(place, ports, parts);

@@ -5,7 +5,7 @@ import { Tools } from "./drawing_tools.js";
 import { Files } from "./files.js";
 import * as geometry from "./geometry.js";
 import * as parts from "./page_parts.js";
-import { ask, button, element, made, notice } from "./page_parts.js";
+import { ask, button, element, newElement, showNotice } from "./page_parts.js";
 import { RouterPanel } from "./router_panel.js";
 import { server } from "./server_link.js";
 import { SidePanels } from "./side_panels.js";
@@ -65,7 +65,7 @@ function showTool() {
 /** Puts a wire into the field that has no port yet. */
 function suggestWire() {
   const { circuit, parts } = desk.model, isIn = tools.name === "in", names = isIn ? circuit.inputs : circuit.outputs;
-  element("wires").replaceChildren(...names.map((name) => Object.assign(made("option"), { value: name })));
+  element("wires").replaceChildren(...names.map((name) => Object.assign(newElement("option"), { value: name })));
   const taken = new Set(parts.filter(({ kind }) => kind === tools.name).map(({ name }) => name));
   const free = names.find((name) => !taken.has(name));
   if (free && (taken.has(tools.wire) || !names.includes(tools.wire))) setWire(free);
@@ -102,15 +102,15 @@ const showCell = () => sketch.showWords(element("cell"), sketch.cursor || sketch
 
 /** Shows the desk after a change. */
 function showChange() {
-  sketch.take();
-  tools.follow();
+  sketch.takeLayout();
+  tools.followLines();
   if (tools.name === "in" || tools.name === "out") suggestWire();
   element("hint").hidden = desk.model.parts.length > 0 || !desk.model.header;
   const why = desk.fallen.length ? geometry.fallReason(desk.fallen[0].box) : null;
   if (why) say(`The mirror ${desk.fallen[0].box.join(" ")} falls apart: ${why}.`, true);
   else if (!desk.model.header) {
     const range = `W and H are even, 2 to ${desk.model.limits.maxSide}`;
-    say(`The line \`layout W H STEPS\` is missing or not allowed: ${range}.${desk.model.needsLine(true)}`, true);
+    say(`The line \`layout W H STEPS\` is missing or not allowed: ${range}.${desk.model.limitsLineHint(true)}`, true);
   }
   showTime();
 }
@@ -167,7 +167,7 @@ function onArrow(event, [dx, dy]) {
   }
   const { width, height } = desk.layout, [x, y] = sketch.cursor || tools.at || [width >> 1, height >> 1];
   sketch.cursor = [Math.max(0, Math.min(width - 1, x + dx)), Math.max(0, Math.min(height - 1, y + dy))];
-  if (tools.pressed) tools.drag(sketch.cursor);
+  if (tools.pressed) tools.dragTo(sketch.cursor);
   else tools.hover(sketch.cursor);
   showCell();
 }
@@ -180,13 +180,13 @@ function pressCursor() {
     return;
   }
   if (tools.pressed) {
-    tools.up(sketch.cursor);
+    tools.release(sketch.cursor);
     showTool();
     return;
   }
   tools.down(sketch.cursor);
   if (!["mirror", "select"].includes(tools.name)) {
-    tools.up(sketch.cursor);
+    tools.release(sketch.cursor);
     showTool();
   }
 }
@@ -222,7 +222,7 @@ function movePointer(event) {
   if (!from) tools.hover(cell);
   else if (sketch.fingers.size === 2) return;
   else if (isHand(event)) sketch.pan(from[0] - event.offsetX, from[1] - event.offsetY);
-  else tools.drag(cell);
+  else tools.dragTo(cell);
 }
 
 /**
@@ -239,7 +239,7 @@ function listenToPointers(canvas) {
   canvas.addEventListener("pointermove", movePointer);
   canvas.addEventListener("pointerup", (event) => {
     sketch.fingers.delete(event.pointerId);
-    tools.up(sketch.cellAt(event.offsetX, event.offsetY));
+    tools.release(sketch.cellAt(event.offsetX, event.offsetY));
     showTool();
   });
   canvas.addEventListener("pointercancel", (event) => {
@@ -300,7 +300,7 @@ function listenToChanges() {
   sketch.onPaint = showCell;
   sketch.onPainted = () => minimap.paint();
   tools.onTool = showTool;
-  tools.askLarger = (words, size) => ask("The cell is larger than the layout", [made("p", words)],
+  tools.askLarger = (words, size) => ask("The cell is larger than the layout", [newElement("p", words)],
     [[`make the layout ${size.join(" by ")}`, () => true], ["cancel", () => null]]);
   tools.onConnect = (output, input) => router.connect(output, input);
   verdicts.onInputs = () => panels.showInputs();
@@ -316,15 +316,15 @@ function listenToChanges() {
 async function begin() {
   const start = await server.request("start");
   if (start.error) {
-    notice(start.error);
+    showNotice(start.error);
     return;
   }
   verdicts.program = start.program;
   files.folder = start.folder;
   files.templates = start.templates;
   files.examples = start.examples;
-  if (!start.program.path) notice(`There are no verdicts: the program was not found (${start.program.why}).`);
-  files.take(start);
+  if (!start.program.path) showNotice(`There are no verdicts: the program was not found (${start.program.why}).`);
+  files.takeFile(start);
   sketch.fit();
   await takeCells();
 }
@@ -332,7 +332,7 @@ async function begin() {
 /** Asks the server for the standard cells. */
 async function takeCells() {
   const { cells = [] } = await server.request("cells"), list = element("cell-name");
-  list.replaceChildren(...cells.map(({ name }) => Object.assign(made("option", name), { value: name })));
+  list.replaceChildren(...cells.map(({ name }) => Object.assign(newElement("option", name), { value: name })));
   const take = () => { tools.cell = cells.find(({ name }) => name === list.value) || null; };
   list.addEventListener("change", take);
   take();

@@ -7,9 +7,9 @@
 import { circuitValues, Grid } from "../view/automaton.js";
 import * as geometry from "./geometry.js";
 
-const LANES = 32;
+const LANE_COUNT = 32;
 // Colours: 1 to 250 are wires, and these two are a constant and what is no wire of the circuit.
-const CONSTANT = 251, OTHER = 252, MAX_WIRES = 250;
+const CONSTANT_COLOUR = 251, OTHER_COLOUR = 252, MAX_WIRES = 250;
 
 /** Returns all choices of some inputs: bit i of the number of a choice is input i. */
 const allChoices = (inputs) =>
@@ -26,7 +26,7 @@ function sampledChoices(inputs) {
     state = state * 1103515245 + 12345 & 0x7fffffff;
     return state >> 16 & 1;
   };
-  while (choices.length < LANES) choices.push(new Set(inputs.filter(draw)));
+  while (choices.length < LANE_COUNT) choices.push(new Set(inputs.filter(draw)));
   return choices;
 }
 
@@ -79,7 +79,7 @@ class Survey {
     this.choices = choices;
     this.inputs = inputs;
     this.isEnded = layout.steps === 0;
-    this.full = choices.length === LANES ? -1 : (1 << choices.length) - 1;
+    this.full = choices.length === LANE_COUNT ? -1 : (1 << choices.length) - 1;
     this.tables = tablesOf(circuit, inputs, choices);
     this.colours = new Map();
     [...this.tables].slice(0, MAX_WIRES).forEach(([, table], index) => { if (table && !this.colours.has(table))
@@ -151,7 +151,7 @@ class Survey {
       const block = grid.blockOf(now[index], odd);
       if (passes[block] === pass) continue;
       passes[block] = pass;
-      this.turn(block);
+      this.turnBlock(block);
     }
     if (this.time === 0) {
       this.next.set(this.first, this.nextCount);
@@ -168,7 +168,7 @@ class Survey {
    * Applies the block rule to a block in all choices at once: one ball crosses the block; two on a diagonal go to the
    * other diagonal; everything else stays (Margolus 1984, block rule).
    */
-  turn(a) {
+  turnBlock(a) {
     const { live, next } = this, b = a + 1, c = a + this.grid.row, d = c + 1, la = live[a], lb = live[b], lc = live[c];
     const ld = live[d], any = la | lb | lc | ld;
     if (any === 0) return;
@@ -183,7 +183,7 @@ class Survey {
       next[count + 1] = d;
       count += 2;
     }
-    else if ((la | ld) !== 0) count = this.passOn(a, d, count);
+    else if ((la | ld) !== 0) count = this.keepForNextStep(a, d, count);
     if (across !== 0) {
       live[b] = lb ^ across;
       live[c] = lc ^ across;
@@ -191,7 +191,7 @@ class Survey {
       next[count + 1] = c;
       count += 2;
     }
-    else if ((lb | lc) !== 0) count = this.passOn(b, c, count);
+    else if ((lb | lc) !== 0) count = this.keepForNextStep(b, c, count);
     this.nextCount = count;
     if ((diagonal | across) === 0) {
       if ((note & 72) === 64) this.noteBounce(a, any);
@@ -201,14 +201,14 @@ class Survey {
     if ((one !== 0 && (note & 1) === 0) || (other !== 0 && (note & 2) === 0)
         || (both !== 0 && (note & 4) === 0)) this.noteBlockWays(a, one, other, both);
     if ((note & 64) === 0) return;
-    if (diagonal !== 0) this.loosen(a, d);
-    if (across !== 0) this.loosen(b, c);
+    if (diagonal !== 0) this.noteMirrorCells(a, d);
+    if (across !== 0) this.noteMirrorCells(b, c);
     this.noteBroken(a);
     this.noteBounce(a, any & ~(one | other | both));
   }
 
   /** Notes which of two cells that changed are of mirrors. */
-  loosen(one, two) {
+  noteMirrorCells(one, two) {
     const { isMirror } = this;
     if (isMirror[one] === 1) isMirror[one] = 2;
     if (isMirror[two] === 1) isMirror[two] = 2;
@@ -218,7 +218,7 @@ class Survey {
    * Leaves those of two cells that did not change to the next step that are live, and no mirror or no longer one.
    * Returns how many cells it has.
    */
-  passOn(one, two, count) {
+  keepForNextStep(one, two, count) {
     const { live, isMirror, next } = this;
     if (live[one] !== 0 && isMirror[one] !== 1) {
       next[count] = one;
@@ -317,14 +317,14 @@ class Survey {
     const names = [...tables.keys()], wires = new Map();
     for (let index = 4; index < ways.length; index += 5) {
       const colour = ways[index];
-      wires.set(colour, colour === CONSTANT ? "1" : colour === OTHER ? null : names[colour - 1]);
+      wires.set(colour, colour === CONSTANT_COLOUR ? "1" : colour === OTHER_COLOUR ? null : names[colour - 1]);
     }
     return { ways, marks, live, isMirror, leftAt, tables, wires, inputCount: inputs.length,
       choiceCount: choices.length };
   }
 
   /** Returns the colour of the wire that has a table, or that of a constant, or that of no wire. */
-  colourOf(table) { return table === this.full ? CONSTANT : this.colours.get(table) || OTHER; }
+  colourOf(table) { return table === this.full ? CONSTANT_COLOUR : this.colours.get(table) || OTHER_COLOUR; }
 }
 
 /** What the outputs should be and what they are, for all choices of up to eight inputs. */
@@ -346,9 +346,9 @@ class TruthTableRun {
   /** Runs for some milliseconds, and returns whether all choices were run. */
   advance(milliseconds) {
     const until = performance.now() + milliseconds;
-    while (this.ends.length * LANES < this.choices.length) {
-      const first = this.ends.length * LANES;
-      this.run ||= new Survey(this.layout, this.circuit, this.choices.slice(first, first + LANES));
+    while (this.ends.length * LANE_COUNT < this.choices.length) {
+      const first = this.ends.length * LANE_COUNT;
+      this.run ||= new Survey(this.layout, this.circuit, this.choices.slice(first, first + LANE_COUNT));
       while (!this.run.isEnded) {
         if (performance.now() >= until) return false;
         this.run.advance(4);
@@ -372,8 +372,8 @@ class TruthTableRun {
     const order = this.choices.map(
     (_, row) => [...Array(bits).keys()].reduce((number, bit) => number | (row >> bit & 1) << bits - 1 - bit, 0));
     return order.map((number) => {
-      const on = this.choices[number], { left, states: live } = this.ends[Math.floor(number / LANES)];
-      const lane = number % LANES, values = circuitValues(circuit, on);
+      const on = this.choices[number], { left, states: live } = this.ends[Math.floor(number / LANE_COUNT)];
+      const lane = number % LANE_COUNT, values = circuitValues(circuit, on);
       const isLive = (out) => (live.get(out) >>> lane & 1) === 1;
       const outputs = circuit.outputs.map((name) => {
         const states = new Set(cells.get(name).map(isLive));
@@ -437,4 +437,6 @@ function endsOf(layout, circuit, milliseconds) {
   return run.isEnded && run.leftAt === null ? endParts(run, circuit.outputs, layout) : null;
 }
 
-export { Survey, TruthTableRun, endsOf, allChoices, sampledChoices, endParts, CONSTANT, OTHER, LANES };
+export {
+  Survey, TruthTableRun, endsOf, allChoices, sampledChoices, endParts, CONSTANT_COLOUR, OTHER_COLOUR, LANE_COUNT,
+};

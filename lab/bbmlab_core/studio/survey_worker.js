@@ -6,8 +6,8 @@ import * as surveys from "./survey.js";
 import { Survey, TruthTableRun } from "./survey.js";
 
 // How long a run may take before newer messages are looked at, in milliseconds.
-const SLICE = 12;
-const work = { number: 0, circuit: null }, turns = new MessageChannel();
+const SLICE_MILLISECONDS = 12;
+const workState = { number: 0, circuit: null }, turns = new MessageChannel();
 
 /** Returns the choices of inputs whose ways are wanted: those that are on, or all of a few inputs, or some of many. */
 function choicesOf({ on, isExact }, layout, circuit) {
@@ -18,30 +18,30 @@ function choicesOf({ on, isExact }, layout, circuit) {
 
 /** Runs for a while, first for the ways and then for the table, and goes on later if there is more to do. */
 function advance() {
-  const { number, survey, table } = work;
+  const { number, survey, table } = workState;
   if (survey) {
-    if (survey.advance(SLICE)) {
-      work.survey = null;
+    if (survey.advance(SLICE_MILLISECONDS)) {
+      workState.survey = null;
       const found = survey.result();
       // The large arrays are handed over.
       postMessage({ number, ways: found }, [found.ways.buffer, found.live.buffer, found.isMirror.buffer]);
     }
-  } else if (table && table.advance(SLICE)) {
-    work.table = null;
+  } else if (table && table.advance(SLICE_MILLISECONDS)) {
+    workState.table = null;
     postMessage({ number, rows: table.rows() });
   }
-  if (work.survey || work.table) turns.port2.postMessage(null);
+  if (workState.survey || workState.table) turns.port2.postMessage(null);
 }
 
 /** Begins with another layout. */
-onmessage = ({ data: { number, layout, ways, hasTable, circuit = work.circuit } }) => {
-  const isIdle = !work.survey && !work.table;
+onmessage = ({ data: { number, layout, ways, hasTable, circuit = workState.circuit } }) => {
+  const isIdle = !workState.survey && !workState.table;
   const survey = ways && new Survey(layout, circuit, choicesOf(ways, layout, circuit));
-  work.number = number;
-  work.circuit = circuit;
-  work.survey = survey;
-  work.table = hasTable ? new TruthTableRun(layout, circuit) : null;
-  if (isIdle && (work.survey || work.table)) turns.port2.postMessage(null);
+  workState.number = number;
+  workState.circuit = circuit;
+  workState.survey = survey;
+  workState.table = hasTable ? new TruthTableRun(layout, circuit) : null;
+  if (isIdle && (workState.survey || workState.table)) turns.port2.postMessage(null);
 };
 
 turns.port1.onmessage = advance;

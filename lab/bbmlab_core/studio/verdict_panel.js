@@ -1,12 +1,12 @@
 /**
  * The badge and the report: asks the server for the verdict when the text has been still, and shows faults and fixes.
  */
-import { appendWords, button, delayed, element, made } from "./page_parts.js";
+import { appendWords, button, debounced, element, newElement } from "./page_parts.js";
 import { server } from "./server_link.js";
 
 const VERDICT_DELAY = 200, MAX_RINGS = 40, RETRY_DELAY = 2000;
 const TITLES = { yes: "yes", no: "no", refused: "refused", none: "no certificate found", unknown: "no answer" };
-const BY = { own: "with the certificate of the text", earlier: "with the last certificate that got a yes",
+const BY_WORDS = { own: "with the certificate of the text", earlier: "with the last certificate that got a yes",
   plain: "with a certificate of one module",
   certify: "with a certificate that the lab made" };
 
@@ -50,7 +50,7 @@ class VerdictPanel {
     // its last one.
     this.desk = desk;
     this.sketch = sketch;
-    this.askSoon = delayed(VERDICT_DELAY, () => this.ask());
+    this.askSoon = debounced(VERDICT_DELAY, () => this.ask());
     desk.listen("change", () => this.outdate());
     element("badge").addEventListener("click", () => {
       element("verdict-box").focus();
@@ -89,14 +89,14 @@ class VerdictPanel {
       return;
     }
     if (answer.gone) setTimeout(() => { if (number === this.asked) this.askSoon(); }, RETRY_DELAY);
-    this.take(text, answer, stage);
+    this.takeAnswer(text, answer, stage);
     if (answer.error) return;
     if (!this.verdict.is_last) this.ask(this.verdict.verdict === "no" ? "other" : "made");
     else if (["no", "refused", "none"].includes(this.verdict.verdict)) this.explain(number, text);
   }
 
   /** Shows an answer. If the lab made no certificate, the no by another one stays. */
-  take(text, answer, stage) {
+  takeAnswer(text, answer, stage) {
     const first = stage === "other" && this.isCurrent && this.verdict.verdict === "no" ? this.verdict : null;
     if (answer.error) this.verdict = { verdict: "unknown", words: [answer.error], faults: [], by: "", hints: [],
         is_last: true };
@@ -132,11 +132,11 @@ class VerdictPanel {
   showBadge() {
     const badge = element("badge"), { verdict, isCurrent } = this;
     const isWaiting = !verdict || isCurrent && verdict.verdict === "none" && !verdict.is_last;
-    const isNothing = isCurrent && this.isNothing;
-    badge.className = isWaiting || isNothing ? "waiting" : isCurrent ? verdict.verdict : "old";
-    badge.textContent = isNothing ? "nothing yet" : isWaiting ? "checking…"
+    const isBlank = isCurrent && this.isBlank;
+    badge.className = isWaiting || isBlank ? "waiting" : isCurrent ? verdict.verdict : "old";
+    badge.textContent = isBlank ? "nothing yet" : isWaiting ? "checking…"
       : isCurrent ? TITLES[verdict.verdict] : `${TITLES[verdict.verdict]}, outdated`;
-    const said = isCurrent && !isNothing && ["yes", "no", "refused"].includes(verdict.verdict);
+    const said = isCurrent && !isBlank && ["yes", "no", "refused"].includes(verdict.verdict);
     const [fault] = verdict ? verdict.faults : [];
     const kind = said && verdict.verdict === "no" && fault ? `${describeFault(fault, this.desk.layout)}; ` : "";
     element("who").textContent = said ? `${kind}${this.programWords()}` : "";
@@ -145,7 +145,7 @@ class VerdictPanel {
   }
 
   /** Whether there is nothing that a verdict could be about: no wire and no part. */
-  get isNothing() {
+  get isBlank() {
     const { circuit, model } = this.desk;
     return circuit !== null && circuit.names.size === 0 && model.parts.length === 0;
   }
@@ -155,7 +155,7 @@ class VerdictPanel {
     const { program, verdict } = this;
     if (!program || !program.path) return "";
     const release = program.is_release ? " of the release" : "";
-    const by = BY[verdict.by] && verdict.verdict !== "refused" ? `, ${BY[verdict.by]}` : "";
+    const by = BY_WORDS[verdict.by] && verdict.verdict !== "refused" ? `, ${BY_WORDS[verdict.by]}` : "";
     const more = verdict.is_last ? "" : "; looking for another one…";
     return `says ${program.version || program.path}${release}${by}${more}`;
   }
@@ -165,23 +165,23 @@ class VerdictPanel {
     const { verdict, explanation } = this, box = element("report");
     box.classList.toggle("old", !this.isCurrent);
     box.replaceChildren();
-    if (this.isCurrent && this.isNothing) {
-      box.append(made("p", "The circuit is empty, and nothing is drawn.", "soft"));
+    if (this.isCurrent && this.isBlank) {
+      box.append(newElement("p", "The circuit is empty, and nothing is drawn.", "soft"));
       return;
     }
     const isEmpty = this.desk.circuit !== null && this.desk.circuit.outputs.length === 0;
     const yes = isEmpty ? "The layout ends as it should, but the circuit has no outputs yet."
       : "For all inputs the layout computes the circuit.";
     const title = { yes, no: "The layout does not compute the circuit with this certificate." }[verdict.verdict];
-    if (title) box.append(made("p", title, verdict.verdict === "yes" ? "good" : "bad"));
-    if (verdict.line) box.append(made("p", `Line ${verdict.line}: ${this.desk.model.lines[verdict.line - 1] ?? ""}`,
-        "code"));
+    if (title) box.append(newElement("p", title, verdict.verdict === "yes" ? "good" : "bad"));
+    if (verdict.line) box.append(newElement("p",
+      `Line ${verdict.line}: ${this.desk.model.lines[verdict.line - 1] ?? ""}`, "code"));
     const isChecked = ["no", "refused", "none"].includes(verdict.verdict);
     if (explanation) this.showFix(box, explanation);
-    else if (verdict.is_last && isChecked) box.append(made("p", "Looking for fixes…", "soft"));
+    else if (verdict.is_last && isChecked) box.append(newElement("p", "Looking for fixes…", "soft"));
     for (const words of [...verdict.words, ...(verdict.rule ? [`Rule: ${verdict.rule}`] : []), ...verdict.hints])
-        box.append(appendWords(made("p"), words));
-    if (!verdict.is_last) box.append(made("p", "The lab makes a certificate…", "soft"));
+        box.append(appendWords(newElement("p"), words));
+    if (!verdict.is_last) box.append(newElement("p", "The lab makes a certificate…", "soft"));
     for (const fault of verdict.faults) this.showFault(box, fault);
     this.sketch.faults = this.isCurrent
       ? verdict.faults.filter(({ cell }) => cell).slice(0, MAX_RINGS).map(({ cell }) => cell) : [];
@@ -190,15 +190,15 @@ class VerdictPanel {
 
   /** Shows the fix of the whole text, or what was tried. */
   showFix(box, { headline, fix, tried }) {
-    for (const words of headline) box.append(appendWords(made("p"), words));
+    for (const words of headline) box.append(appendWords(newElement("p"), words));
     if (fix) box.append(this.fixButton(fix));
-    for (const words of tried) box.append(appendWords(made("p", "", "soft"), words));
+    for (const words of tried) box.append(appendWords(newElement("p", "", "soft"), words));
   }
 
   /** Returns what a fix changes, with a button that takes it. It was tried. */
   fixButton({ words, text }) {
-    const box = made("div", "", "fix-box"), what = made("p");
-    what.append(made("strong", "Fix: "));
+    const box = newElement("div", "", "fix-box"), what = newElement("p");
+    what.append(newElement("strong", "Fix: "));
     words.forEach((word, index) => appendWords(what, index ? ` ${word}` : word));
     box.append(what, button("apply this fix", () => { if (this.isCurrent) this.desk.model.setText(text, "fix"); },
       "fix"));
@@ -209,7 +209,7 @@ class VerdictPanel {
   showFault(box, fault) {
     const entry = this.explanation ? this.explanation.entries.find(({ line }) => line === fault.text) : null;
     box.append(button(fault.text, () => this.goTo(fault), "fault"));
-    for (const words of entry ? entry.what : []) box.append(appendWords(made("p"), words));
+    for (const words of entry ? entry.what : []) box.append(appendWords(newElement("p"), words));
     if (entry && entry.fix) box.append(this.fixButton(entry.fix));
   }
 

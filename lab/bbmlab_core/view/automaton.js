@@ -92,7 +92,7 @@ class Cells {
 }
 
 // The number of the pass in which each block was last looked at.
-let passes = new Int32Array(0), pass = 0;
+let blockPasses = new Int32Array(0), pass = 0;
 
 /**
  * Applies the block rule to the block at `a`. One ball crosses the block; two on a diagonal go to the other diagonal;
@@ -122,13 +122,13 @@ function turnBlock(bytes, row, a, changed) {
  */
 function turnBlocks(live, lists, odd) {
   const changed = [], { bytes, grid } = live, { row } = grid;
-  if (passes.length < bytes.length) passes = new Int32Array(bytes.length);
-  pass = pass === 0x7fffffff ? (passes.fill(0), 1) : pass + 1;
+  if (blockPasses.length < bytes.length) blockPasses = new Int32Array(bytes.length);
+  pass = pass === 0x7fffffff ? (blockPasses.fill(0), 1) : pass + 1;
   for (const cells of lists) {
     for (let index = 0; index < cells.length; index += 1) {
       const block = grid.blockOf(cells[index], odd);
-      if (passes[block] === pass) continue;
-      passes[block] = pass;
+      if (blockPasses[block] === pass) continue;
+      blockPasses[block] = pass;
       turnBlock(bytes, row, block, changed);
     }
   }
@@ -175,7 +175,7 @@ function mirrorsOf(layout) {
 }
 
 /** Returns the cells that differ in two sets of one grid. */
-function differing(one, other) {
+function differingCells(one, other) {
   const found = [], { buffer } = one.bytes, words = buffer.byteLength >> 2, left = new Uint32Array(buffer, 0, words);
   const right = new Uint32Array(other.bytes.buffer, 0, words);
   for (let word = 0; word < words; word += 1) {
@@ -253,7 +253,7 @@ class WholeRun {
    * @returns {Set<number>}
    */
   different() {
-    if (this.pending === null) this.differ = new Set(differing(this.live, this.mirrors));
+    if (this.pending === null) this.differ = new Set(differingCells(this.live, this.mirrors));
     else for (const changed of this.pending) for (const key of changed)
       if (!this.differ.delete(key)) this.differ.add(key);
     this.pending = [];
@@ -308,7 +308,7 @@ class WholeRun {
   }
 
   /** Takes the snapshot that is nearest to a time, if it is nearer than the present state. */
-  jump(time) {
+  jumpToSnapshot(time) {
     const near = [...this.snapshots.keys()].reduce(
       (best, at) => (Math.abs(at - time) < Math.abs(best - time) ? at : best), this.time);
     if (near === this.time) return;
@@ -321,7 +321,7 @@ class WholeRun {
 
   /** Goes to a time, or to the last time before a ball leaves the rectangle. */
   seek(time) {
-    this.jump(time);
+    this.jumpToSnapshot(time);
     while (this.time < time && this.forward());
     while (this.time > time && this.backward());
   }
@@ -381,7 +381,7 @@ function lastMoves(run, length) {
 }
 
 /** The rows of the gates: the outputs for some inputs, or null where a gate has none (docs/FORMATS.md). */
-const ROWS = {
+const GATE_ROWS = {
   fredkin: ([c, x, y]) => (c ? [c, x, y] : [c, y, x]),
   cswap: ([c, x, y]) => (c ? [c, y, x] : [c, x, y]),
   interact: ([p, q]) => [p && q, !p && q, p && !q, p && q],
@@ -402,7 +402,7 @@ function addGates(circuit, numbers, values) {
   for (const number of numbers) {
     const gate = circuit.gates[number];
     const row = gate.gate === "source" ? [gate.parameter === 1]
-      : ROWS[gate.gate](gate.ins.map((name) => Boolean(values.get(name))));
+      : GATE_ROWS[gate.gate](gate.ins.map((name) => Boolean(values.get(name))));
     if (row === null) return values;
     gate.outs.forEach((name, index) => values.set(name, Boolean(row[index])));
   }
@@ -457,7 +457,7 @@ class ModuleRun {
     this.every = snapshotStep(data.layout.steps);
     this.always = [];
     this.timed = new Map();
-    for (const line of heardLines(data, number)) if (this.values.get(line[3])) this.hear(line);
+    for (const line of heardLines(data, number)) if (this.values.get(line[3])) this.fileHeardLine(line);
     const keys = startKeys(data.layout, (name) => Boolean(this.values.get(name)), this.grid);
     this.live = new Cells(keys.filter((key) => this.isInside(key)), this.grid);
     this.time = 0;
@@ -466,7 +466,7 @@ class ModuleRun {
   }
 
   /** Files a line whose signal is true. */
-  hear([time, x, y]) {
+  fileHeardLine([time, x, y]) {
     if (time !== null && !this.timed.has(time)) this.timed.set(time, []);
     (time === null ? this.always : this.timed.get(time)).push(this.grid.keyOf(x, y));
   }

@@ -2,12 +2,12 @@
 
 // A box shows so many items at first, and as many more where it is scrolled to their end: to lay out 20,480 switches
 // and 40,960 outputs takes three seconds.
-const CHUNK = 500;
+const ITEMS_AT_ONCE = 500;
 
 const element = (id) => document.getElementById(id);
 
 /** Returns a new element with a text. */
-function made(tag, text = "", className = "") {
+function newElement(tag, text = "", className = "") {
   const found = document.createElement(tag);
   found.textContent = text;
   found.className = className;
@@ -23,7 +23,7 @@ function made(tag, text = "", className = "") {
 function fillBox(box, items, itemOf) {
   let count = 0;
   const more = () => {
-    const fresh = items.slice(count, count + CHUNK);
+    const fresh = items.slice(count, count + ITEMS_AT_ONCE);
     count += fresh.length;
     box.append(...fresh.map(itemOf));
   };
@@ -34,10 +34,11 @@ function fillBox(box, items, itemOf) {
 
 /** Returns the switch of an input. `take` gets each new value. */
 function inputSwitch(name, isOn, take) {
-  const label = made("label"), box = Object.assign(made("input"), { type: "checkbox", value: name, checked: isOn });
+  const label = newElement("label");
+  const box = Object.assign(newElement("input"), { type: "checkbox", value: name, checked: isOn });
   box.addEventListener("change", () => take(box.checked));
   label.append(box, name);
   return label;
 }
 
-export { element, fillBox, inputSwitch, made };
+export { element, fillBox, inputSwitch, newElement };

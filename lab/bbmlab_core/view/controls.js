@@ -3,7 +3,7 @@ import * as address from "./address.js";
 import { Minimap } from "./minimap.js";
 import * as panels from "./panels.js";
 import { Player } from "./player.js";
-import { counted, Stage } from "./stage.js";
+import { plural, Stage } from "./stage.js";
 
 const { element } = panels;
 const data = JSON.parse(element("data").textContent);
@@ -155,15 +155,15 @@ function stopOf(facts) {
 }
 
 /** Opens the run of a module by itself. */
-function openOwn(number, values) {
-  player.openOwn(number, values);
+function openModuleRun(number, values) {
+  player.openModuleRun(number, values);
   const words = Object.entries(values).map(([name, value]) => `${name}=${value}`).join(" ") || "no cuts";
   element("beside-title").textContent = `Module ${number} by itself with ${words}.`;
   element("beside").hidden = false;
 }
 
 /** Closes the run of a module by itself. */
-function closeOwn() {
+function closeModuleRun() {
   player.own = null;
   element("beside").hidden = true;
   if (stage.isFit) stage.fit();
@@ -182,7 +182,7 @@ function closeEntry() {
   stage.fault = null;
   stage.module = null;
   stage.mark = null;
-  closeOwn();
+  closeModuleRun();
 }
 
 /** Goes to the module, time, assignment and cell of a line of the report. */
@@ -194,8 +194,8 @@ function showEntry(number) {
   stage.mark = null;
   stage.module = facts.module !== undefined ? facts.module : stop ? stop.module : null;
   if (facts.inputs) player.setInputs(facts.inputs);
-  if (facts.assignment && facts.module !== undefined) openOwn(facts.module, facts.assignment);
-  else closeOwn();
+  if (facts.assignment && facts.module !== undefined) openModuleRun(facts.module, facts.assignment);
+  else closeModuleRun();
   player.restart(facts.time !== undefined ? facts.time : stop ? stop.time : player.target);
   const box = stage.module === null ? null : player.modules[stage.module].box;
   const centre = stage.fault ? stage.fault.map((part) => part + 0.5)
@@ -246,13 +246,13 @@ function beginWays() {
 }
 
 /** Makes one step. */
-const step = (direction) => player.goTo(player.target + direction);
+const makeStep = (direction) => player.goTo(player.target + direction);
 
 /** Plays in a direction, or stops if it plays so already. */
-const toggle = (direction) => player.play(player.direction === direction ? 0 : direction);
+const togglePlay = (direction) => player.play(player.direction === direction ? 0 : direction);
 
 /** Writes a file to the reader's disk. */
-function save(file, kind) {
+function saveFile(file, kind) {
   const found = document.createElement("a");
   found.href = URL.createObjectURL(file);
   found.download =
@@ -264,8 +264,8 @@ function save(file, kind) {
 const MOVES = { ArrowLeft: [-PAN_STEP, 0], ArrowRight: [PAN_STEP, 0], ArrowUp: [0, -PAN_STEP],
   ArrowDown: [0, PAN_STEP] };
 const ACTIONS = {
-  " ": () => player.play(player.direction ? 0 : 1), b: () => toggle(-1), ArrowRight: () => step(1),
-    ArrowLeft: () => step(-1),
+  " ": () => player.play(player.direction ? 0 : 1), b: () => togglePlay(-1), ArrowRight: () => makeStep(1),
+    ArrowLeft: () => makeStep(-1),
   Home: () => player.seek(0), End: () => player.seek(layout.steps), 0: () => stage.fit(), "+": () => stage.zoom(1.25),
     "=": () => stage.zoom(1.25),
   "-": () => stage.zoom(0.8), n: () => nextFault(1), p: () => nextFault(-1), t: () => setTrails(!stage.hasTrails),
@@ -273,7 +273,7 @@ const ACTIONS = {
 };
 
 /** Whether the element that has the focus uses a key itself. */
-function isTaken(target, key) {
+function isKeyUsed(target, key) {
   if (target.type === "text") return true;
   if (target.type === "range") return !" bnptw".includes(key);
   return ["INPUT", "BUTTON", "SUMMARY"].includes(target.tagName) && key === " ";
@@ -281,7 +281,7 @@ function isTaken(target, key) {
 
 /** Does what a key asks. */
 function onKey(event) {
-  if (event.ctrlKey || event.metaKey || event.altKey || isTaken(event.target, event.key)) return;
+  if (event.ctrlKey || event.metaKey || event.altKey || isKeyUsed(event.target, event.key)) return;
   if (event.shiftKey && MOVES[event.key]) stage.pan(...MOVES[event.key]);
   else if (Object.hasOwn(ACTIONS, event.key)) ACTIONS[event.key]();
   else return;
@@ -330,14 +330,14 @@ function listenToPointers() {
 
 /** Sets what the buttons and fields do. */
 function listenToButtons() {
-  const clicks = { play: () => toggle(1), reverse: () => toggle(-1), back: ACTIONS.ArrowLeft, next: ACTIONS.ArrowRight,
-    first: ACTIONS.Home,
+  const clicks = { play: () => togglePlay(1), reverse: () => togglePlay(-1), back: ACTIONS.ArrowLeft,
+    next: ACTIONS.ArrowRight, first: ACTIONS.Home,
     last: ACTIONS.End, fit: () => stage.fit(), in: () => stage.zoom(1.25), out: () => stage.zoom(0.8),
-      "close-own": closeOwn,
+      "close-own": closeModuleRun,
     "previous-fault": () => nextFault(-1), "next-fault": () => nextFault(1),
-      png: () => stage.png((file) => save(file, "png")),
-    svg: () => save(new Blob([stage.svg(`${document.title}, time ${player.run.time}`)], { type: "image/svg+xml" }),
-      "svg") };
+      png: () => stage.png((file) => saveFile(file, "png")),
+    svg: () => saveFile(new Blob([stage.svgText(`${document.title}, time ${player.run.time}`)],
+      { type: "image/svg+xml" }), "svg") };
   for (const [id, action] of Object.entries(clicks)) element(id).addEventListener("click", () => {
     action();
     writeAddressSoon();
@@ -361,7 +361,7 @@ function listenToButtons() {
 /** Sets how many steps a second are made. */
 function showRate() {
   player.rate = 2 ** Number(element("speed").value);
-  element("rate").textContent = `${counted(player.rate, "step", "steps")}/s`;
+  element("rate").textContent = `${plural(player.rate, "step", "steps")}/s`;
 }
 
 /** Sets what follows from changes of the player, the window and the address. */

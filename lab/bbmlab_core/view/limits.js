@@ -12,6 +12,6 @@ const SECOND = Object.freeze({ line: "limits 2", maxSide: 4096, maxSteps: 104857
 const limitsOf = (words) => (words.join(" ") === SECOND.line ? SECOND : FIRST);
 
 /** Returns a sentence on the line that raises a limit, after a space; nothing if the text begins with it. */
-const needsLine = (what, limits) => (limits === SECOND ? "" : ` ${what} needs \`${SECOND.line}\` as first line.`);
+const limitsLineHint = (what, limits) => (limits === SECOND ? "" : ` ${what} needs \`${SECOND.line}\` as first line.`);
 
-export { FIRST, SECOND, limitsOf, needsLine };
+export { FIRST, SECOND, limitsOf, limitsLineHint };

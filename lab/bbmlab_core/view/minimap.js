@@ -11,7 +11,7 @@ class Minimap {
   constructor(stage, canvas) {
     this.stage = stage;
     this.canvas = canvas;
-    const go = (event) => { if (event.buttons & 1) this.go(event.offsetX, event.offsetY); };
+    const go = (event) => { if (event.buttons & 1) this.centreAt(event.offsetX, event.offsetY); };
     canvas.addEventListener("pointerdown", (event) => {
       canvas.setPointerCapture(event.pointerId);
       go(event);
@@ -23,14 +23,14 @@ class Minimap {
   get scale() { return SIDE / Math.max(this.stage.layout.width, this.stage.layout.height); }
 
   /** Puts a place of the small picture into the middle of the large one. */
-  go(x, y) {
+  centreAt(x, y) {
     this.stage.centre(x / this.scale, y / this.scale, this.stage.scale);
-    this.stage.afterMove();
+    this.stage.noteMoved();
   }
 
   /** Draws it, if the large picture does not show everything. */
   paint() {
-    const { stage, canvas, scale } = this, { layout } = stage, [x0, y0, x1, y1] = stage.seen();
+    const { stage, canvas, scale } = this, { layout } = stage, [x0, y0, x1, y1] = stage.seenRange();
     canvas.hidden = x0 <= 0 && y0 <= 0 && x1 >= layout.width && y1 >= layout.height;
     if (canvas.hidden) return;
     const wide = `${Math.ceil(layout.width * scale)}px`, high = `${Math.ceil(layout.height * scale)}px`;

@@ -62,7 +62,7 @@ const isSeen = (place, x, y) => px(place, x + 1) >= 0 && py(place, y + 1) >= 0 &
   && py(place, y) <= place.high;
 
 /** Strokes the outline of a rectangle of cells, drawn inwards by some pixels. */
-function outline(place, [x, y, w, h], ink, dash, inset, width) {
+function paintOutline(place, [x, y, w, h], ink, dash, inset, width) {
   const { pen, scale } = place;
   pen.strokeStyle = ink;
   pen.lineWidth = width;
@@ -73,7 +73,7 @@ function outline(place, [x, y, w, h], ink, dash, inset, width) {
 }
 
 /** Strokes the outlines of cells, x, y, x, y…, of which each can be seen. */
-function outlines(place, found, ink, dash, inset, width) {
+function paintOutlines(place, found, ink, dash, inset, width) {
   const { pen, scale } = place, side = Math.max(1, scale - 2 * inset);
   if (scale < 1 && isMany(pen, found.length / 2)) {
     // A pen draws a thin outline about one pixel as a dot that begins at a whole pixel.
@@ -90,7 +90,7 @@ function outlines(place, found, ink, dash, inset, width) {
 }
 
 /** Strokes the lines between the blocks of the next step that can be seen. */
-function grid(place, [x, y, w, h], odd) {
+function paintGrid(place, [x, y, w, h], odd) {
   if (place.scale < 5) return;
   const { pen, left, top, wide, high, scale } = place;
   const first = (start, seen) => start + odd + 2 * Math.max(0, Math.floor((seen - start - odd) / 2));
@@ -143,7 +143,7 @@ function seenCells(place, live, mirrors) {
 }
 
 /** Draws mirrors, given as rectangles. */
-function bars(place, found, least) {
+function paintMirrors(place, found, least) {
   const { pen, scale } = place;
   pen.fillStyle = place.inks.mirror;
   pen.beginPath();
@@ -156,7 +156,7 @@ function bars(place, found, least) {
  * Draws what differs from the mirrors, by the numbers of cells: a dot for each ball, and holes where cells of mirrors
  * are dead.
  */
-function changes(place, different, mirrors) {
+function paintDifferences(place, different, mirrors) {
   const { pen, scale } = place, balls = [], { grid } = mirrors;
   pen.fillStyle = place.inks.plane;
   for (const key of different) {
@@ -165,11 +165,11 @@ function changes(place, different, mirrors) {
     if (mirrors.has(key)) pen.fillRect(px(place, x), py(place, y), Math.max(1, scale), Math.max(1, scale));
     else balls.push(x, y);
   }
-  discs(place, balls);
+  paintBalls(place, balls);
 }
 
 /** Draws the live cells that can be seen: mirrors, and a disc or a dot for each ball. */
-function cells(place, live, mirrors) {
+function paintCells(place, live, mirrors) {
   const { pen, scale, inks } = place, { bars: found, balls } = seenCells(place, live, mirrors);
   pen.fillStyle = inks.mirror;
   pen.beginPath();
@@ -177,11 +177,11 @@ function cells(place, live, mirrors) {
   for (const [x, y, w, h] of found) pen.rect(px(place, x), py(place, y), Math.max(1.5, w * scale + 0.5),
       Math.max(1.5, h * scale + 0.5));
   pen.fill();
-  discs(place, balls);
+  paintBalls(place, balls);
 }
 
 /** Draws balls, given as x, y, x, y… */
-function discs(place, balls) {
+function paintBalls(place, balls) {
   const { pen, scale } = place, radius = scale * 0.36, side = Math.max(scale < 1 ? 2.5 : 1.5, scale);
   if (scale < 3 && isMany(pen, balls.length / 2)) {
     paintSquares(place, balls, place.inks.ball, { side });
@@ -202,7 +202,7 @@ function discs(place, balls) {
 }
 
 /** Draws the last moves of the balls, the latest step first. Older ones are fainter. */
-function trails(place, steps, cellsOf) {
+function paintTrails(place, steps, cellsOf) {
   const { pen, scale, inks } = place;
   pen.strokeStyle = inks.ball;
   pen.lineWidth = Math.max(1, Math.min(4, scale * 0.16));
@@ -222,7 +222,7 @@ function trails(place, steps, cellsOf) {
 }
 
 /** Writes a text on a small plate, so that it is readable on any cell. The plate has a top and a height. */
-function label(place, text, x, y, ink, align, [top, high] = [y - 10, 13]) {
+function paintLabel(place, text, x, y, ink, align, [top, high] = [y - 10, 13]) {
   const { pen, inks } = place, width = pen.measureText(text).width;
   pen.textAlign = align;
   pen.globalAlpha = 0.85;
@@ -245,7 +245,7 @@ function portNames(layout) {
 }
 
 /** Returns for each output whether it is as it should be; undefined if that is not known. */
-function statesOf(outs, good) {
+function outputStates(outs, good) {
   if (!good) return [];
   if (!outStates.has(good)) outStates.set(good, outs.map(({ cell }) => good.get(String(cell))));
   return outStates.get(good);
@@ -331,7 +331,7 @@ function placedNames(place, layout, size) {
 }
 
 /** Draws a line from the place of a name to its cell, if it is away from it. */
-function leader(place, { box, away }, cell, ink) {
+function paintLeader(place, { box, away }, cell, ink) {
   if (away === 0) return;
   const { pen } = place, left = px(place, 0), top = py(place, 0), x = (cell[0] + 0.5) * place.scale;
   const y = (cell[1] + 0.5) * place.scale;
@@ -345,51 +345,51 @@ function leader(place, { box, away }, cell, ink) {
 }
 
 /** Returns the colour, the sign and the line of an output, by whether it is as it should be; undefined is not known. */
-const lookOf = (inks, state) => (state === undefined ? { ink: inks.ink, sign: "", width: 1.5 }
+const outputLook = (inks, state) => (state === undefined ? { ink: inks.ink, sign: "", width: 1.5 }
   : { ink: state ? inks.good : inks.bad, sign: state ? "✓ " : "✗ ", width: 3 });
 
 /**
  * Draws ports with their names, and waste cells. `good` says of out cells whether they are as they should be, at the
  * last time.
  */
-function ports(place, layout, good) {
-  const { inks, scale } = place, isSmall = scale < 4, states = statesOf(layout.outs, good);
+function paintPorts(place, layout, good) {
+  const { inks, scale } = place, isSmall = scale < 4, states = outputStates(layout.outs, good);
   const range = seenRange(place, layout), ins = [], outs = new Map([[undefined, []], [true, []], [false, []]]);
   visitPorts(layout.ins, range, (_, [x, y]) => { if (isSeen(place, x, y)) ins.push(x, y); });
   visitPorts(layout.outs, range, (number, [x, y]) => { if (isSeen(place, x, y)) outs.get(states[number]).push(x, y); });
-  outlines(place, ins, inks.ink, [], isSmall ? 0 : 1, isSmall ? scale / 3 : 1.5);
+  paintOutlines(place, ins, inks.ink, [], isSmall ? 0 : 1, isSmall ? scale / 3 : 1.5);
   // Where cells are small, thick outlines would cover each other: only those that differ are thick, and come last.
   for (const [state, found] of outs) {
-    const { ink, width } = lookOf(inks, state), isThin = isSmall && state !== false;
-    outlines(place, found, ink, isSmall ? [] : [4, 3], isSmall ? 0 : -1, isThin ? scale / 3 : width);
+    const { ink, width } = outputLook(inks, state), isThin = isSmall && state !== false;
+    paintOutlines(place, found, ink, isSmall ? [] : [4, 3], isSmall ? 0 : -1, isThin ? scale / 3 : width);
   }
-  wastes(place, layout.wastes);
+  paintWastes(place, layout.wastes);
   const portCount = layout.ins.length + layout.outs.length;
-  if (scale >= (portCount > MANY_PORTS ? MANY_SCALE : NAMED_SCALE)) names(place, layout, good);
+  if (scale >= (portCount > MANY_PORTS ? MANY_SCALE : NAMED_SCALE)) paintPortNames(place, layout, good);
 }
 
 /**
  * Writes the names of ports above the lines to their cells. Where ports are crowded, names show when the reader zooms
  * in.
  */
-function names(place, layout, good) {
+function paintPortNames(place, layout, good) {
   const { pen, inks, scale } = place, size = Math.max(9, Math.min(14, scale * 0.8)), left = px(place, 0);
   const top = py(place, 0);
   pen.font = `600 ${size}px system-ui, sans-serif`;
   const shown = placedNames(place, layout, size)
     .filter(({ port: { cell }, at }) => isSeen(place, ...cell) && at.away <= MAX_AWAY)
     .map(({ port, at }) => ({ ...port, at,
-      ...lookOf(inks, port.isIn || !good ? undefined : good.get(String(port.cell))) }));
-  for (const { at, cell, ink } of shown) leader(place, at, cell, ink);
+      ...outputLook(inks, port.isIn || !good ? undefined : good.get(String(port.cell))) }));
+  for (const { at, cell, ink } of shown) paintLeader(place, at, cell, ink);
   for (const { at: { box }, sign, name, ink } of shown) {
     const bottom = top + box.y + box.height;
-    label(place, sign + name, left + box.x + box.width / 2, bottom - 0.25 * size - 1, ink, "center",
+    paintLabel(place, sign + name, left + box.x + box.width / 2, bottom - 0.25 * size - 1, ink, "center",
       [bottom - box.height, box.height]);
   }
 }
 
 /** Draws a cross in each cell. */
-function wastes(place, found, ink = place.inks.soft) {
+function paintWastes(place, found, ink = place.inks.soft) {
   const { pen } = place;
   pen.strokeStyle = ink;
   pen.lineWidth = 1.5;
@@ -419,7 +419,7 @@ function seenModules(place, found) {
  * Draws the borders of modules with their numbers; the chosen one is thick. Where they are very close they are left
  * out.
  */
-function modules(place, found, chosen) {
+function paintModules(place, found, chosen) {
   const { pen, inks, scale } = place, shown = seenModules(place, found);
   pen.font = "600 11px system-ui, sans-serif";
   pen.strokeStyle = inks.box;
@@ -432,30 +432,31 @@ function modules(place, found, chosen) {
   }
   pen.stroke();
   pen.setLineDash([]);
-  if (chosen !== null && found[chosen]) outline(place, found[chosen].box, inks.box, scale < 4 ? [] : [6, 4], 0, 2.5);
+  if (chosen !== null && found[chosen]) paintOutline(
+    place, found[chosen].box, inks.box, scale < 4 ? [] : [6, 4], 0, 2.5);
   for (const number of shown) {
     const [x, y, w] = found[number].box;
-    if (w * scale > 26) label(place, String(number), px(place, x) + 5, py(place, y) + 14, inks.box, "left");
+    if (w * scale > 26) paintLabel(place, String(number), px(place, x) + 5, py(place, y) + 14, inks.box, "left");
   }
 }
 
 /** Draws the cells of lines of the certificate, with a letter for the kind and the wire where there is room. */
-function lines(place, found) {
+function paintLines(place, found) {
   const { pen, inks, scale } = place, offsets = { edge: 2, halo: 4, stop: 6 };
   if (scale < LINES_SCALE) return;
   pen.font = "600 10px ui-monospace, monospace";
   for (const { kind, x, y, signal } of found) {
     if (!isSeen(place, x, y)) continue;
-    outline(place, [x, y, 1, 1], inks[kind], kind === "halo" ? [2, 2] : [], Math.min(offsets[kind], scale / 4),
+    paintOutline(place, [x, y, 1, 1], inks[kind], kind === "halo" ? [2, 2] : [], Math.min(offsets[kind], scale / 4),
       kind === "stop" ? 2.5 : 1.5);
     const bottom = py(place, y) + (kind === "edge" ? 11 : scale - 4);
-    if (scale >= 22 && kind !== "halo") label(place, `${MARKS[kind]} ${signal}`, px(place, x) + 2, bottom, inks[kind],
-        "left");
+    if (scale >= 22 && kind !== "halo") paintLabel(
+      place, `${MARKS[kind]} ${signal}`, px(place, x) + 2, bottom, inks[kind], "left");
   }
 }
 
 /** Draws a ring about a cell. */
-function ring(place, [x, y], ink = place.inks.bad) {
+function paintRing(place, [x, y], ink = place.inks.bad) {
   const { pen } = place;
   pen.strokeStyle = ink;
   pen.lineWidth = 3;
@@ -466,13 +467,13 @@ function ring(place, [x, y], ink = place.inks.bad) {
 
 /** Marks cells that differ: a cross where only this run has the cell live, an empty square where only the other has. */
 function markDifferences(place, more, less) {
-  for (const cell of less) outline(place, [...cell, 1, 1], place.inks.bad, [], 2, 2.5);
-  for (const cell of more) outline(place, [...cell, 1, 1], place.inks.bad, [], 0, 2.5);
-  wastes(place, more, place.inks.bad);
+  for (const cell of less) paintOutline(place, [...cell, 1, 1], place.inks.bad, [], 2, 2.5);
+  for (const cell of more) paintOutline(place, [...cell, 1, 1], place.inks.bad, [], 0, 2.5);
+  paintWastes(place, more, place.inks.bad);
 }
 
 /** Writes a number of a ruler, on a plate if the pointer is there. */
-function rulerNumber(place, number, x, y, isPointed) {
+function paintRulerNumber(place, number, x, y, isPointed) {
   const { pen, inks } = place;
   pen.textAlign = "center";
   if (isPointed) {
@@ -491,7 +492,7 @@ function rulerStep(scale, distance) {
 }
 
 /** Draws the numbers of the columns above the picture and of the rows at its left, with those of a cell on plates. */
-function rulers(place, { width, height }, pointed) {
+function paintRulers(place, { width, height }, pointed) {
   const { pen, inks, wide, high, scale } = place;
   pen.fillStyle = inks.paper;
   pen.fillRect(0, 0, wide, RULER.high);
@@ -513,10 +514,10 @@ function rulers(place, { width, height }, pointed) {
     return found;
   };
   const columns = numbers(x0, x1, width, 30), rows = numbers(y0, y1, height, 18);
-  const column = (x, isPointed) => { if (px(place, x + 0.5) > RULER.wide + 8) rulerNumber(place, x, px(place, x + 0.5),
-    RULER.high - 5, isPointed); };
+  const column = (x, isPointed) => { if (px(place, x + 0.5) > RULER.wide + 8) paintRulerNumber(
+    place, x, px(place, x + 0.5), RULER.high - 5, isPointed); };
   const isWhole = (y) => py(place, y + 0.5) > RULER.high + 6 && py(place, y + 0.5) < high - 6;
-  const row = (y, isPointed) => { if (isWhole(y)) rulerNumber(place, y, RULER.wide / 2, py(place, y + 0.5) + 4,
+  const row = (y, isPointed) => { if (isWhole(y)) paintRulerNumber(place, y, RULER.wide / 2, py(place, y + 0.5) + 4,
     isPointed); };
   // A number that the plate of the pointed cell would cover in part is left out.
   const isFree = (number, at, distance) => at === undefined || Math.abs(number - at) * scale >= distance;
@@ -536,28 +537,28 @@ function rulers(place, { width, height }, pointed) {
  * not too large, `ways` draws the ways of the balls, and below that scale `still` draws these and the mirrors from
  * tiles, with what differs from the mirrors over them; `over` draws what stands out
  */
-function scene(place, shown) {
+function paintScene(place, shown) {
   const { layout, modules: boxes, live, mirrors, odd, trail, chosen, lines: said, fault, mark, good, pointed } = shown;
   const { ways = null, still = null, different = null, over = null } = shown;
   const box = [0, 0, layout.width, layout.height], hasTiles = still !== null && place.scale < TILE_SCALE;
-  grid(place, box, odd);
-  outline(place, box, place.inks.soft, [], 0, 1.5);
+  paintGrid(place, box, odd);
+  paintOutline(place, box, place.inks.soft, [], 0, 1.5);
   if (hasTiles) still(place);
   else if (ways) ways(place, seenRange(place, layout));
-  trails(place, trail, live.grid);
-  if (hasTiles) changes(place, different(), mirrors);
-  else cells(place, live, mirrors);
+  paintTrails(place, trail, live.grid);
+  if (hasTiles) paintDifferences(place, different(), mirrors);
+  else paintCells(place, live, mirrors);
   if (over) over(place);
-  modules(place, boxes, chosen);
-  lines(place, said);
-  if (fault) ring(place, fault);
-  if (mark) ring(place, mark, place.inks.box);
-  ports(place, layout, good);
-  rulers(place, layout, pointed);
+  paintModules(place, boxes, chosen);
+  paintLines(place, said);
+  if (fault) paintRing(place, fault);
+  if (mark) paintRing(place, mark, place.inks.box);
+  paintPorts(place, layout, good);
+  paintRulers(place, layout, pointed);
 }
 
 export {
-  clearCanvas, inksNow, scene, outline, grid, cells, ports, modules, lines, ring, markDifferences, rulers, rulerStep,
-    trails,
-  bars, wireInks, seenRange, RULER, LINES_SCALE,
+  clearCanvas, inksNow, paintScene, paintOutline, paintGrid, paintCells, paintPorts, paintModules, paintLines,
+  paintRing, markDifferences, paintRulers, rulerStep, paintTrails, paintMirrors, wireInks, seenRange, RULER,
+  LINES_SCALE,
 };

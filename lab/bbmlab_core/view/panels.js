@@ -1,12 +1,12 @@
 /** Fills the panels beside the picture: inputs, outputs, the report, the lines of the certificate. */
-import { element, fillBox, inputSwitch, made } from "./boxes.js";
-import { counted } from "./stage.js";
+import { element, fillBox, inputSwitch, newElement } from "./boxes.js";
+import { plural } from "./stage.js";
 
 const MAX_LINES_SHOWN = 200;
 
 /** Returns a link that does something on this page. */
-function link(text, action) {
-  const found = made("a", text);
+function actionLink(text, action) {
+  const found = newElement("a", text);
   found.href = "#report-box";
   found.addEventListener("click", (event) => {
     event.preventDefault();
@@ -26,10 +26,10 @@ function appendWords(parent, text, { lines, cell }) {
   text.split("`").forEach((part, index) => {
     if (index % 2 === 0) appendCells(parent, part, cell);
     else if (lines.has(part)) {
-      const found = link("", lines.get(part));
-      found.append(made("code", part));
+      const found = actionLink("", lines.get(part));
+      found.append(newElement("code", part));
       parent.append(found);
-    } else parent.append(made("code", part));
+    } else parent.append(newElement("code", part));
   });
   return parent;
 }
@@ -38,7 +38,7 @@ function appendWords(parent, text, { lines, cell }) {
 function appendCells(parent, text, action) {
   text.split(/(\(\d{1,4}, \d{1,4}\))/).forEach((part, index) => {
     const [x, y] = (part.match(/\d+/g) || []).map(Number);
-    parent.append(index % 2 ? link(part, () => action(x, y)) : part);
+    parent.append(index % 2 ? actionLink(part, () => action(x, y)) : part);
   });
 }
 
@@ -67,7 +67,7 @@ function resultWords(player) {
   if (!results) return `Running to the last time: ${player.ahead.time} of ${player.layout.steps}.`;
   const count = results.filter((result) => !result.isGood).length;
   if (results.length === 0) return "The layout has no outputs.";
-  if (count > 0) return `${count} of ${counted(results.length, "output differs", "outputs differ")}`;
+  if (count > 0) return `${count} of ${plural(results.length, "output differs", "outputs differ")}`;
   return results.length === 1 ? "The output is as the circuit says."
     : `All ${results.length} outputs are as the circuit says.`;
 }
@@ -86,7 +86,7 @@ function showResults(player, cell) {
   element("outputs-count").textContent = text;
   element("outputs-count").className = isBad ? "bad" : results.length ? "good" : "";
   fillBox(element("outputs"), results, (result) => {
-    const label = made("span",
+    const label = newElement("span",
       `${result.isGood ? "✓" : "✗"} ${result.name}=${result.wanted === undefined ? "?" : Number(result.wanted)}`);
     label.className = result.isGood ? "good" : "bad";
     if (!result.isGood) appendCells(label, ` (${faultWords(player, result)})`, cell);
@@ -102,12 +102,12 @@ function showLines(player, module) {
     const place = kind === "stop" ? `${time} ${signal} ${x} ${y}` : `${time === null ? "*" : time} ${x} ${y} ${signal}`;
     const value = player.valueOf(signal);
     const now = value === undefined ? "" : signal === "1" ? " (live)" : ` (${signal}=${Number(value)})`;
-    const item = made("li", "");
-    item.append(`module ${number}: `, made("span", `${kind} ${place}`, kind), now);
+    const item = newElement("li", "");
+    item.append(`module ${number}: `, newElement("span", `${kind} ${place}`, kind), now);
     return item;
   });
-  if (found.length > shown.length) shown.push(made("li", `and ${found.length - shown.length} more`));
-  element("lines").replaceChildren(...(shown.length ? shown : [made("li", "No line speaks of this time.")]));
+  if (found.length > shown.length) shown.push(newElement("li", `and ${found.length - shown.length} more`));
+  element("lines").replaceChildren(...(shown.length ? shown : [newElement("li", "No line speaks of this time.")]));
 }
 
 /** Shows the verdict, and returns whether there is a report. */
@@ -131,7 +131,7 @@ function showHeadline(explanation, actions) {
   const { headline, fix, tried } = explanation;
   const words = [...headline.slice(1), ...(fix && fix.words.length ? [`Fix: ${fix.words.join(" ")}`] : []),
     ...(fix ? fix.others : []).map((other) => `Or: ${other.join(" ")}`), ...tried];
-  element("report").append(...words.map((text) => appendWords(made("p", ""), text, actions)));
+  element("report").append(...words.map((text) => appendWords(newElement("p", ""), text, actions)));
 }
 
 /**
@@ -146,12 +146,13 @@ function showReport(explanation, show, cell) {
   const fix = explanation.fix ? explanation.fix.words.join(" ") : "";
   showHeadline(explanation, actions);
   return explanation.entries.map((entry, number) => {
-    const button = made("button", `${entry.is_against ? "✗" : "✓"} ${entry.report_line}`), own = entry.fixes.join(" ");
+    const button = newElement("button", `${entry.is_against ? "✗" : "✓"} ${entry.report_line}`);
+    const own = entry.fixes.join(" ");
     button.type = "button";
     button.setAttribute("aria-pressed", "false");
     button.addEventListener("click", () => show(number));
     const words = own && own !== fix ? [...entry.what, `Fix: ${own}`] : entry.what;
-    element("report").append(button, ...words.map((text) => appendWords(made("p", ""), text, actions)));
+    element("report").append(button, ...words.map((text) => appendWords(newElement("p", ""), text, actions)));
     return button;
   });
 }
@@ -162,7 +163,7 @@ function showSigns(hasModules) {
   if (hasModules) signs.push("dashed boxes: modules with their numbers",
       "E edge, S stop with their wires; dotted: halo");
   signs.push("waveform: high while the cell is live; ● as its wire at that time, ✗ not so, ○ not known");
-  element("signs").replaceChildren(...signs.map((text) => made("li", text)));
+  element("signs").replaceChildren(...signs.map((text) => newElement("li", text)));
 }
 
 export { element, makeInputs, resultWords, showResults, showLines, showVerdict, showReport, showSigns };

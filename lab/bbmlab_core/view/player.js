@@ -7,7 +7,7 @@ import * as waveform from "./waveform.js";
 const AHEAD_SLICE = 25, SEEK_SLICE = 40;
 // The moves of so many steps before the time to which a run goes are noted on the way: their trail needs no other run
 // then.
-const NOTED = 32;
+const NOTED_STEPS = 32;
 
 /** Adds a line to those of a time. */
 function addLine(found, time, line) {
@@ -130,25 +130,25 @@ class Player {
   seek(time) {
     this.target = Math.max(0, Math.min(this.layout.steps, time));
     clearTimeout(this.seekTimer);
-    this.run.jump(this.target);
-    this.seekOn();
+    this.run.jumpToSnapshot(this.target);
+    this.seekForAWhile();
   }
 
   /** Makes the steps of a seek for a while, and goes on later if more are needed. */
-  seekOn() {
+  seekForAWhile() {
     const until = performance.now() + SEEK_SLICE, { run, target } = this;
     let moved = true;
     for (let count = 1; moved && run.time !== target && (count % 16 || performance.now() < until); count += 1) {
       const isForward = run.time < target;
       moved = isForward ? run.forward() : run.backward();
-      if (!moved || !isForward || target - run.time > NOTED) continue;
+      if (!moved || !isForward || target - run.time > NOTED_STEPS) continue;
       run.moves.set(run.time - 1, movesNow(run));
-      run.moves.delete(run.time - 1 - 3 * NOTED);
+      run.moves.delete(run.time - 1 - 3 * NOTED_STEPS);
     }
     this.isSeeking = moved && run.time !== target;
     if (this.isSeeking) this.seekTimer = setTimeout(() => {
-      run.jump(target);
-      this.seekOn();
+      run.jumpToSnapshot(target);
+      this.seekForAWhile();
     }, 0);
     else this.target = run.time;
     if (this.own) this.own.seek(run.time);
@@ -169,13 +169,13 @@ class Player {
     if (direction !== 0) {
       if (this.isAtBound(direction)) this.seek(direction > 0 ? 0 : this.layout.steps);
       this.playedAt = performance.now();
-      this.playFrame = requestAnimationFrame(() => this.playOn());
+      this.playFrame = requestAnimationFrame(() => this.playDueSteps());
     }
     if (direction !== 0 || wasPlaying) this.notify("play");
   }
 
   /** Makes the steps that are due since the last frame. */
-  playOn() {
+  playDueSteps() {
     const { rate } = this, now = performance.now(), count = Math.floor((now - this.playedAt) / 1000 * rate);
     if (count > 0 && !this.isSeeking) {
       // A page that was hidden, or is slow, does not make up for lost time.
@@ -186,7 +186,7 @@ class Player {
         return;
       }
     }
-    this.playFrame = requestAnimationFrame(() => this.playOn());
+    this.playFrame = requestAnimationFrame(() => this.playDueSteps());
   }
 
   /** Sets inputs, by their names. */
@@ -196,7 +196,7 @@ class Player {
   }
 
   /** Opens the run of a module by itself. The bits of an assignment are in order of the cuts. */
-  openOwn(number, values) {
+  openModuleRun(number, values) {
     const bits = this.modules[number].cuts.reduce((sum, name, index) => sum + (values[name] ? 2 ** index : 0), 0);
     this.own = new ModuleRun(this.data, number, bits);
   }

@@ -4,13 +4,13 @@
  */
 
 // Fewer squares than this are drawn by the pen.
-const MANY = 2000;
+const MANY_SQUARES = 2000;
 
 // An image of the size of the canvas that was drawn on last, its bytes and its words.
 let board = null;
 
 /** Whether a pen has pixels, and the squares are so many that they are drawn into these. */
-const isMany = (pen, count) => pen.canvas !== undefined && count > MANY;
+const isMany = (pen, count) => pen.canvas !== undefined && count > MANY_SQUARES;
 
 /** Returns the image for a canvas of a size. */
 function boardOf({ width, height }) {

@@ -13,7 +13,7 @@ const { RULER } = painting;
 const TRAIL_STEPS = 24, MAX_MOVES = 8000, FIT_SCALE = 60;
 
 /** Writes a number with its noun. */
-const counted = (count, one, several) => `${count} ${count === 1 ? one : several}`;
+const plural = (count, one, several) => `${count} ${count === 1 ? one : several}`;
 
 class Stage {
   player;
@@ -82,7 +82,7 @@ class Stage {
     // Mirrors lie over the ways, so new ones are drawn over what a tile shows.
     if (fresh.length > 0) {
       const inks = painting.inksNow();
-      tiles.add(filedOf(fresh), (place) => painting.bars({ ...place, inks }, fresh, 1));
+      tiles.add(filedOf(fresh), (place) => painting.paintMirrors({ ...place, inks }, fresh, 1));
     }
   }
 
@@ -91,11 +91,11 @@ class Stage {
     const found = [], shown = { ...place, inks: painting.inksNow() };
     this.filedBoxes.visit(range, (number) => found.push(this.boxes[number]));
     this.drawWays(shown, range);
-    painting.bars(shown, found, 1);
+    painting.paintMirrors(shown, found, 1);
   }
 
   /** Draws the ways of a range of cells, if they are shown. */
-  drawWays(place, range) { if (this.hasWays) this.wires.draw(place, range, painting.wireInks()); }
+  drawWays(place, range) { if (this.hasWays) this.wires.drawWays(place, range, painting.wireInks()); }
 
   /** Shows or hides the ways. */
   setWays(isOn) {
@@ -110,35 +110,36 @@ class Stage {
   }
 
   /** Returns the range of places that is seen: x, y, x, y. */
-  seen() {
-    const { wide, high } = this.room(), x = this.left + RULER.wide / this.scale, y = this.top + RULER.high / this.scale;
+  seenRange() {
+    const { wide, high } = this.pictureSizes();
+    const x = this.left + RULER.wide / this.scale, y = this.top + RULER.high / this.scale;
     return [x, y, x + wide / this.scale, y + high / this.scale];
   }
 
   /** Returns the wire whose ball flies at a place of the canvas, with the time there, or null. */
-  wireAt(x, y) { return this.wires.at(this.left + x / this.scale - 0.5, this.top + y / this.scale - 0.5,
+  wireAt(x, y) { return this.wires.wireAt(this.left + x / this.scale - 0.5, this.top + y / this.scale - 0.5,
     Math.max(1, 5 / this.scale)); }
 
   /** Shows all ways of a wire, and lets them stand out; null lets none stand out. */
   showWire(wire) {
     this.wire = wire;
     if (wire) {
-      const [x, y, w, h] = this.wires.boxOf(wire), { wide, high } = this.room();
+      const [x, y, w, h] = this.wires.boxOf(wire), { wide, high } = this.pictureSizes();
       this.centre(x + w / 2, y + h / 2, Math.min(28, wide / (w + 8), high / (h + 8)));
-      this.afterMove();
+      this.noteMoved();
     }
     this.requestPaint();
   }
 
   /** Returns the size of the whole picture, and of its part beside the rulers, in pixels. */
-  room() {
+  pictureSizes() {
     const { clientWidth, clientHeight } = this.parts.whole;
     return { wide: Math.max(1, clientWidth - RULER.wide), high: Math.max(1, clientHeight - RULER.high) };
   }
 
   /** Puts a place of the layout in the middle, at a scale in pixels for a cell. */
   centre(x, y, scale) {
-    const { wide, high } = this.room();
+    const { wide, high } = this.pictureSizes();
     this.scale = Math.max(address.MIN_SCALE, Math.min(address.MAX_SCALE, scale));
     this.left = x - (RULER.wide + wide / 2) / this.scale;
     this.top = y - (RULER.high + high / 2) / this.scale;
@@ -147,14 +148,14 @@ class Stage {
 
   /** Returns the scale and the place in the middle. */
   zoomNow() {
-    const { wide, high } = this.room();
+    const { wide, high } = this.pictureSizes();
     return [this.scale, this.left + (RULER.wide + wide / 2) / this.scale,
       this.top + (RULER.high + high / 2) / this.scale];
   }
 
   /** Shows the whole layout. */
   fit() {
-    const { width, height } = this.layout, { wide, high } = this.room();
+    const { width, height } = this.layout, { wide, high } = this.pictureSizes();
     this.isFit = true;
     this.centre(width / 2, height / 2, Math.min(FIT_SCALE, wide / (width + 1), high / (height + 1)));
   }
@@ -165,14 +166,14 @@ class Stage {
     this.left += x / this.scale - x / scale;
     this.top += y / this.scale - y / scale;
     this.scale = scale;
-    this.afterMove();
+    this.noteMoved();
   }
 
   /** Moves the picture by pixels. */
   pan(x, y) {
     this.left += x / this.scale;
     this.top += y / this.scale;
-    this.afterMove();
+    this.noteMoved();
   }
 
   /** Notes where a finger or the mouse was put down. */
@@ -182,7 +183,7 @@ class Stage {
   }
 
   /** Returns how far two fingers are apart, and the place in the middle. */
-  spread() {
+  fingerSpread() {
     const [[x, y], [u, v]] = this.fingers.values();
     return { gap: Math.hypot(x - u, y - v), x: (x + u) / 2, y: (y + v) / 2 };
   }
@@ -191,10 +192,10 @@ class Stage {
   moveFinger({ pointerId, offsetX, offsetY }) {
     const { fingers } = this, from = fingers.get(pointerId);
     if (!from) return from;
-    const before = fingers.size === 2 ? this.spread() : null;
+    const before = fingers.size === 2 ? this.fingerSpread() : null;
     fingers.set(pointerId, [offsetX, offsetY]);
     if (before) {
-      const after = this.spread();
+      const after = this.fingerSpread();
       this.pan(before.x - after.x, before.y - after.y);
       if (before.gap > 0) this.zoom(after.gap / before.gap, after.x, after.y);
     }
@@ -233,7 +234,7 @@ class Stage {
   }
 
   /** Notes that the picture is no longer fitted. */
-  afterMove() {
+  noteMoved() {
     this.isFit = false;
     this.requestPaint();
     if (this.onMove) this.onMove();
@@ -243,9 +244,9 @@ class Stage {
   lookAt([x, y], box) {
     this.fit();
     if (this.scale >= 12) return;
-    const { wide, high } = this.room(), side = box ? Math.max(box[2], box[3]) + 8 : 24;
+    const { wide, high } = this.pictureSizes(), side = box ? Math.max(box[2], box[3]) + 8 : 24;
     this.centre(x, y, Math.max(this.scale, Math.min(28, Math.max(8, Math.min(wide, high) / side))));
-    this.afterMove();
+    this.noteMoved();
   }
 
   /** Returns the cell at a place of the canvas, or null beside the layout. @returns {?Cell} */
@@ -282,7 +283,7 @@ class Stage {
       if (this.onPaint) this.onPaint();
       this.isWhole = true;
       this.paintWhole(painting.clearCanvas(this.parts.whole, this.scale, this.left, this.top));
-      if (this.player.own) this.paintOwn();
+      if (this.player.own) this.paintModuleRun();
       if (this.onPainted) this.onPainted();
       // Tiles for which there was no time come with the next frames.
       if (!this.isWhole) this.requestPaint();
@@ -290,7 +291,7 @@ class Stage {
   }
 
   /** Returns the moves to draw as trails, by steps. */
-  trails() {
+  trailMoves() {
     if (!this.hasTrails) return [];
     let room = MAX_MOVES;
     return lastMoves(this.player.run, TRAIL_STEPS).filter((moves) => {
@@ -303,7 +304,7 @@ class Stage {
   paintWhole(place, pointed = this.pointed) {
     const { run, modules, layout } = this.player, { mirrors, fault, mark, module } = this;
     const wire = this.pointedWire || this.wire;
-    painting.scene(place, { layout, modules, live: run.live, mirrors, odd: run.time % 2, trail: this.trails(),
+    painting.paintScene(place, { layout, modules, live: run.live, mirrors, odd: run.time % 2, trail: this.trailMoves(),
       chosen: module,
       lines: place.scale < painting.LINES_SCALE ? [] : this.player.linesNow(module), fault, mark,
       good: run.time === layout.steps ? this.good : null, pointed,
@@ -316,7 +317,7 @@ class Stage {
   drawStill(place) { if (!this.tiles.paint(place, window.devicePixelRatio || 1)) this.isWhole = false; }
 
   /** Returns what is seen as the text of an SVG file. */
-  svg(title) {
+  svgText(title) {
     const { clientWidth, clientHeight } = this.parts.whole, meter = document.createElement("canvas").getContext("2d");
     const measure = (text, font) => {
       meter.font = font;
@@ -343,19 +344,19 @@ class Stage {
   }
 
   /** Draws the module's own run, and marks the cells that differ from the whole run. */
-  paintOwn() {
+  paintModuleRun() {
     const canvas = this.parts.own, { own, run } = this.player, [x, y, w, h] = own.module.box;
     const { clientWidth, clientHeight } = canvas;
     const scale = Math.min(48, clientWidth / (w + 4), clientHeight / (h + 4));
     const place = painting.clearCanvas(canvas, scale, x + w / 2 - clientWidth / scale / 2,
       y + h / 2 - clientHeight / scale / 2);
     const heard = own.heardNow().map((key) => own.grid.cellOf(key)), { more, less } = this.differences();
-    painting.grid(place, own.module.box, own.time % 2);
-    painting.outline(place, own.module.box, place.inks.box, [6, 4], 0, 1.5);
-    painting.cells(place, own.live, this.mirrors);
-    for (const cell of heard) painting.outline(place, [...cell, 1, 1], place.inks.halo, [2, 2], 3, 2.5);
+    painting.paintGrid(place, own.module.box, own.time % 2);
+    painting.paintOutline(place, own.module.box, place.inks.box, [6, 4], 0, 1.5);
+    painting.paintCells(place, own.live, this.mirrors);
+    for (const cell of heard) painting.paintOutline(place, [...cell, 1, 1], place.inks.halo, [2, 2], 3, 2.5);
     painting.markDifferences(place, more, less);
-    if (this.fault) painting.ring(place, this.fault);
+    if (this.fault) painting.paintRing(place, this.fault);
     const told = heard.length ? ` Dotted: ${heard.length} live around the box, as the module is told.` : "";
     this.parts.note.textContent = own.time === run.time ? this.differenceWords() + told : "";
   }
@@ -376,16 +377,17 @@ class Stage {
   differenceWords() {
     const { more, less } = this.differences(), count = more.length + less.length;
     return count === 0 ? "No cell differs from the whole run now."
-      : `${counted(count, "cell differs", "cells differ")} from the whole run: ✗ is live only here, ☐ only there.`;
+      : `${plural(count, "cell differs", "cells differ")} from the whole run: ✗ is live only here, ☐ only there.`;
   }
 
   /** Draws the rows of the waveform that can be seen. */
   paintWave() {
     const { wave, waveBox, waveRest } = this.parts, { probes, recorder, layout, values } = this.player;
     if (wave.clientHeight === 0) return;
-    waveRest.style.height = `${Math.max(0, waveform.heightOf(probes) - waveBox.clientHeight)}px`;
+    waveRest.style.height = `${Math.max(0, waveform.waveformHeight(probes) - waveBox.clientHeight)}px`;
     const place = painting.clearCanvas(wave, 1, 0, 0);
-    this.axis = waveform.paint(place, { probes, recorder, steps: layout.steps, values, scrolled: waveBox.scrollTop });
+    this.axis = waveform.paintRows(place,
+      { probes, recorder, steps: layout.steps, values, scrolled: waveBox.scrollTop });
     this.moveCursor();
   }
 
@@ -399,4 +401,4 @@ class Stage {
   timeAt(x) { return this.axis ? Math.floor((x - this.axis.left) / this.axis.unit) : 0; }
 }
 
-export { Stage, counted };
+export { Stage, plural };

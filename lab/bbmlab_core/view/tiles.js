@@ -16,7 +16,7 @@ class Buckets {
   look = 0;
 
   /** Files a number under a square. */
-  put(column, row, number) {
+  file(column, row, number) {
     const square = row * COLUMNS + column;
     if (!this.filed.has(square)) this.filed.set(square, []);
     const list = this.filed.get(square);
@@ -26,7 +26,7 @@ class Buckets {
   /** Files a rectangle under the next number. */
   addBox(x, y, w, h) {
     for (let row = y >> BUCKET_BITS; row <= (y + h - 1) >> BUCKET_BITS; row += 1) {
-      for (let column = x >> BUCKET_BITS; column <= (x + w - 1) >> BUCKET_BITS; column += 1) this.put(column, row,
+      for (let column = x >> BUCKET_BITS; column <= (x + w - 1) >> BUCKET_BITS; column += 1) this.file(column, row,
           this.count);
     }
     this.count += 1;
@@ -38,7 +38,7 @@ class Buckets {
     const edge = 1 << BUCKET_BITS;
     for (let at = 0; ; ) {
       const column = (x + dx * at) >> BUCKET_BITS, row = (y + dy * at) >> BUCKET_BITS;
-      this.put(column, row, this.count);
+      this.file(column, row, this.count);
       // The steps until the piece leaves this square.
       const leave = (step, place, square) => (step > 0 ? ((square + 1) * edge) - place
         : step < 0 ? place - square * edge + 1 : Infinity);
@@ -132,7 +132,7 @@ function changedPlaces(old, fresh, size) {
 }
 
 /** Writes the number of a tile. */
-const nameOf = (level, column, row) => `${level} ${column} ${row}`;
+const tileName = (level, column, row) => `${level} ${column} ${row}`;
 
 class Tiles {
   width;
@@ -156,7 +156,7 @@ class Tiles {
   clear() { this.made.clear(); }
 
   /** Calls an action with the name, the canvas and the place of each tile that shows something of what is filed. */
-  touched(changed, action) {
+  visitTouched(changed, action) {
     for (const [name, canvas] of [...this.made]) {
       const [level, column, row] = name.split(" ").map(Number), scale = 2 ** level, cells = SIDE / scale;
       const x = column * cells, y = row * cells;
@@ -167,34 +167,34 @@ class Tiles {
   }
 
   /** Forgets the tiles that show something of what is filed. @param {Buckets} changed */
-  forget(changed) { this.touched(changed, (name) => this.made.delete(name)); }
+  forget(changed) { this.visitTouched(changed, (name) => this.made.delete(name)); }
 
   /**
    * Draws what was added over the tiles that show something of it.
    * @param {Buckets} added
    * @param {(place: Place) => void} draw
    */
-  add(added, draw) { this.touched(added, (_, canvas, place) => draw({ ...place, pen: canvas.getContext("2d") })); }
+  add(added, draw) { this.visitTouched(added, (_, canvas, place) => draw({ ...place, pen: canvas.getContext("2d") })); }
 
   /** Returns the level whose scale is the next at or above one. */
   levelOf(scale) { return Math.max(this.coarsest, Math.min(FINEST, Math.ceil(Math.log2(scale)))); }
 
   /** Makes a tile. */
-  make(level, column, row) {
+  makeTile(level, column, row) {
     const scale = 2 ** level, cells = SIDE / scale, x = column * cells, y = row * cells;
     const canvas = document.createElement("canvas");
     canvas.width = canvas.height = SIDE;
     this.draw({ pen: canvas.getContext("2d"), scale, left: x, top: y, wide: SIDE, high: SIDE },
       [x - 2, y - 2, x + cells + 2, y + cells + 2]);
-    this.made.set(nameOf(level, column, row), canvas);
+    this.made.set(tileName(level, column, row), canvas);
     // A map lists what was set first: the tile that was not used for the longest time.
     if (this.made.size > MAX_TILES) this.made.delete(this.made.keys().next().value);
     return canvas;
   }
 
   /** Returns a tile that is made, or undefined. It counts as used. */
-  used(level, column, row) {
-    const name = nameOf(level, column, row), found = this.made.get(name);
+  useTile(level, column, row) {
+    const name = tileName(level, column, row), found = this.made.get(name);
     if (found) {
       this.made.delete(name);
       this.made.set(name, found);
@@ -203,7 +203,7 @@ class Tiles {
   }
 
   /** Returns the tiles of a level that a place shows, those in the middle first. */
-  shown({ left, top, wide, high, scale }, level) {
+  shownTiles({ left, top, wide, high, scale }, level) {
     const cells = SIDE / 2 ** level, found = [], last = (size) => Math.ceil(size / cells) - 1;
     const x0 = Math.max(0, Math.floor(left / cells));
     const x1 = Math.min(last(this.width), Math.floor((left + wide / scale) / cells));
@@ -219,7 +219,7 @@ class Tiles {
     const cells = SIDE / 2 ** level, x = (column * cells - left) * scale, y = (row * cells - top) * scale;
     const side = cells * scale;
     for (let up = 0; level - up >= this.coarsest; up += 1) {
-      const part = SIDE / 2 ** up, canvas = this.used(level - up, column >> up, row >> up);
+      const part = SIDE / 2 ** up, canvas = this.useTile(level - up, column >> up, row >> up);
       if (!canvas) continue;
       pen.drawImage(canvas, (column - (column >> up << up)) * part, (row - (row >> up << up)) * part, part, part, x, y,
         side, side);
@@ -229,14 +229,14 @@ class Tiles {
 
   /** Draws what a place shows, with the tiles that there is time to make. Returns whether none is missing. */
   paint(place, ratio = 1) {
-    const level = this.levelOf(place.scale * ratio), wanted = this.shown(place, level);
+    const level = this.levelOf(place.scale * ratio), wanted = this.shownTiles(place, level);
     const until = performance.now() + BUDGET;
-    for (const [column, row] of this.shown(place, this.coarsest)) if (!this.used(this.coarsest, column,
-        row)) this.make(this.coarsest, column, row);
+    for (const [column, row] of this.shownTiles(place, this.coarsest)) if (!this.useTile(this.coarsest, column,
+        row)) this.makeTile(this.coarsest, column, row);
     let missing = 0;
     for (const [column, row] of wanted) {
-      if (this.used(level, column, row)) continue;
-      if (performance.now() < until) this.make(level, column, row);
+      if (this.useTile(level, column, row)) continue;
+      if (performance.now() < until) this.makeTile(level, column, row);
       else missing += 1;
     }
     for (const [column, row] of wanted) this.copy(place, level, column, row);

@@ -93,16 +93,16 @@ function liveSpans({ isLive, changes }, until) {
  * Returns where the time axis lies.
  * @type {(place: Object, probes: Probe[], steps: number) => {left: number, unit: number}}
  */
-function axisOf(place, probes, steps) {
+function axisPlace(place, probes, steps) {
   place.pen.font = "12px ui-monospace, monospace";
   const widest = probes.slice(0, 400).reduce((most, probe) =>
-    Math.max(most, place.pen.measureText(nameOf(probe)).width), 0);
+    Math.max(most, place.pen.measureText(rowName(probe)).width), 0);
   const left = Math.min(MAX_NAMES, place.wide * 0.42, Math.ceil(widest) + 14);
   return { left, unit: Math.max(0.0001, place.wide - left - 10) / (steps + 1) };
 }
 
 /** Writes what a row is of. */
-const nameOf = ({ wire, cell, marks }) =>
+const rowName = ({ wire, cell, marks }) =>
   `${wire} ${[...new Set(marks.map((mark) => mark.kind))].join("/")} (${cell.join(", ")})`;
 
 /** Draws the times below the rows. */
@@ -164,8 +164,8 @@ function paintMark(place, x, y, isGood) {
  * @param {Object} place a place of `painting`
  * @param {{probes: Probe[], recorder: Recorder, steps: number, values: ?Map<string, boolean>, scrolled: number}} wave
  */
-function paint(place, { probes, recorder, steps, values, scrolled }) {
-  const axis = axisOf(place, probes, steps), first = Math.max(0, Math.floor(scrolled / ROW_HEIGHT));
+function paintRows(place, { probes, recorder, steps, values, scrolled }) {
+  const axis = axisPlace(place, probes, steps), first = Math.max(0, Math.floor(scrolled / ROW_HEIGHT));
   const last = Math.min(probes.length, Math.ceil((scrolled + place.high) / ROW_HEIGHT));
   for (let row = first; row < last; row += 1) {
     const probe = probes[row], top = row * ROW_HEIGHT - scrolled, wanted = values ? values.get(probe.wire) : undefined;
@@ -180,13 +180,13 @@ function paint(place, { probes, recorder, steps, values, scrolled }) {
     place.pen.fillStyle = place.inks.ink;
     place.pen.font = "12px ui-monospace, monospace";
     place.pen.textAlign = "left";
-    place.pen.fillText(nameOf(probe), 6, top + ROW_HEIGHT - 6, axis.left - 12);
+    place.pen.fillText(rowName(probe), 6, top + ROW_HEIGHT - 6, axis.left - 12);
   }
   paintAxis(place, axis, steps);
   return axis;
 }
 
 /** Returns the height of all rows with the axis, in pixels. */
-const heightOf = (probes) => probes.length * ROW_HEIGHT + AXIS_HEIGHT;
+const waveformHeight = (probes) => probes.length * ROW_HEIGHT + AXIS_HEIGHT;
 
-export { probesOf, Recorder, liveSpans, paint, heightOf };
+export { probesOf, Recorder, liveSpans, paintRows, waveformHeight };

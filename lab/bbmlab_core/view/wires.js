@@ -6,10 +6,10 @@
  */
 import { Buckets } from "./tiles.js";
 
-const PIECE = 5, GROUPS = 8;
+const NUMBERS_PER_PIECE = 5, GROUPS = 8;
 
 /** Returns how a wire is called: that of assignments of no wire has no name. */
-const titleOf = ({ name, equal }) => (name === "" ? "no wire"
+const wireTitle = ({ name, equal }) => (name === "" ? "no wire"
   : name === "1" ? "constant" : [name, ...equal].join(", "));
 
 /**
@@ -42,7 +42,7 @@ class Wires {
     this.circuit = circuit;
     this.filed = new Buckets();
     for (const wire of this.list) {
-      for (let at = 0; at < wire.pieces.length; at += PIECE) {
+      for (let at = 0; at < wire.pieces.length; at += NUMBERS_PER_PIECE) {
         this.filed.addPiece(wire.pieces[at], wire.pieces[at + 1], wire.pieces[at + 2], wire.pieces[at + 3]);
         this.owners.push(wire);
         this.starts.push(at);
@@ -73,7 +73,7 @@ class Wires {
    * cells are there.
    * @returns {?{wire: Wire, times: number[]}}
    */
-  at(x, y, most) {
+  wireAt(x, y, most) {
     let found = null, least = most;
     this.visit([Math.floor(x - most), Math.floor(y - most), Math.ceil(x + most), Math.ceil(y + most)],
       (x0, y0, x1, y1, wire, time) => {
@@ -96,7 +96,7 @@ class Wires {
   /** Returns the box of all pieces of a wire: x, y, width and height. */
   boxOf({ pieces }) {
     const box = [Infinity, Infinity, -Infinity, -Infinity];
-    for (let at = 0; at < pieces.length; at += PIECE) {
+    for (let at = 0; at < pieces.length; at += NUMBERS_PER_PIECE) {
       box[0] = Math.min(box[0], pieces[at], pieces[at + 2]);
       box[1] = Math.min(box[1], pieces[at + 1], pieces[at + 3]);
       box[2] = Math.max(box[2], pieces[at], pieces[at + 2]);
@@ -108,7 +108,7 @@ class Wires {
   /** Returns the first and the last time at which a ball of a wire flies. */
   timesOf({ pieces }) {
     let first = Infinity, last = 0;
-    for (let at = 0; at < pieces.length; at += PIECE) {
+    for (let at = 0; at < pieces.length; at += NUMBERS_PER_PIECE) {
       first = Math.min(first, pieces[at + 4]);
       last = Math.max(last,
         pieces[at + 4] + Math.max(Math.abs(pieces[at + 2] - pieces[at]), Math.abs(pieces[at + 3] - pieces[at + 1])));
@@ -117,7 +117,7 @@ class Wires {
   }
 
   /** Says where a wire comes from and where it goes: "output of switch 3, input of fredkin 7". */
-  makersOf({ name, equal }) {
+  gateWords({ name, equal }) {
     if (!this.circuit) return "";
     const names = new Set([name, ...equal]), { inputs, gates, outputs } = this.circuit, words = [];
     if (inputs.some((input) => names.has(input))) words.push("an input");
@@ -132,12 +132,12 @@ class Wires {
   /** Says what is known of a wire: its names, its gates, its level and its times. */
   wordsOf(wire) {
     const [first, last] = this.timesOf(wire);
-    const makers = wire.name === "" || wire.name === "1" ? "" : `: ${this.makersOf(wire)}, level ${wire.level}`;
-    return `${titleOf(wire)}${makers.replace(": , ", ": ")}; flies from time ${first} to ${last}`;
+    const makers = wire.name === "" || wire.name === "1" ? "" : `: ${this.gateWords(wire)}, level ${wire.level}`;
+    return `${wireTitle(wire)}${makers.replace(": , ", ": ")}; flies from time ${first} to ${last}`;
   }
 
   /** Draws the ways of a range of cells on a place, by groups of levels in some colours. */
-  draw({ pen, scale, left, top }, range, inks) {
+  drawWays({ pen, scale, left, top }, range, inks) {
     const found = Array.from({ length: GROUPS + 1 }, () => []);
     this.visit(range, (x, y, u, v, wire) => found[this.groupOf(wire)].push(x, y, u, v));
     pen.lineWidth = Math.max(1, 0.22 * scale);
@@ -155,9 +155,9 @@ class Wires {
     for (const [ink, width] of [[inks.plane, 6], [inks.ink, 3]]) {
       pen.strokeStyle = ink;
       pen.lineWidth = Math.max(width, width / 10 * scale);
-      strokePieces({ pen, scale, left, top }, wire.pieces, PIECE);
+      strokePieces({ pen, scale, left, top }, wire.pieces, NUMBERS_PER_PIECE);
     }
   }
 }
 
-export { Wires, titleOf as wireTitle };
+export { Wires, wireTitle };
