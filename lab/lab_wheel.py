@@ -15,7 +15,7 @@ from typing import Any, Iterator
 
 HERE = Path(__file__).resolve().parent
 # The date of all files of a wheel: the bytes depend on the sources alone.
-DATE = (1980, 1, 1, 0, 0, 0)
+FILE_DATE = (1980, 1, 1, 0, 0, 0)
 
 
 def version() -> str:
@@ -26,7 +26,7 @@ def version() -> str:
     return found[1]
 
 
-def files_of(settings: dict[str, Any]) -> Iterator[tuple[str, Path]]:
+def package_files(settings: dict[str, Any]) -> Iterator[tuple[str, Path]]:
     """Yields the files of the packages with their names in the wheel."""
     for package, place in settings["packages"].items():
         for path in sorted((HERE / place).iterdir()):
@@ -44,12 +44,12 @@ def metadata(about: dict[str, Any]) -> str:
     return "\n".join([*lines, "Description-Content-Type: text/markdown", "", about["readme"]["text"]])
 
 
-def contents() -> dict[str, bytes]:
+def wheel_files() -> dict[str, bytes]:
     """Returns the files of the wheel, without the list of them."""
     settings = tomllib.loads((HERE / "pyproject.toml").read_text(encoding="utf-8"))
     about, folder = settings["project"], f"bbmlab-{version()}.dist-info"
     scripts = "".join(f"{name} = {target}\n" for name, target in about["scripts"].items())
-    found = {name: path.read_bytes() for name, path in files_of(settings["tool"]["lab_wheel"])}
+    found = {name: path.read_bytes() for name, path in package_files(settings["tool"]["lab_wheel"])}
     return {**found, f"{folder}/METADATA": metadata(about).encode(),
             f"{folder}/entry_points.txt": f"[console_scripts]\n{scripts}".encode(),
             f"{folder}/WHEEL": b"Wheel-Version: 1.0\nGenerator: lab_wheel\nRoot-Is-Purelib: true\nTag: py3-none-any\n"}
@@ -57,7 +57,7 @@ def contents() -> dict[str, bytes]:
 
 def build_wheel(wheel_directory: str, config_settings: Any = None, metadata_directory: Any = None) -> str:
     """Writes the wheel to a folder, and returns its name."""
-    files, name = contents(), f"bbmlab-{version()}-py3-none-any.whl"
+    files, name = wheel_files(), f"bbmlab-{version()}-py3-none-any.whl"
     record = f"bbmlab-{version()}.dist-info/RECORD"
     digests = {file: base64.urlsafe_b64encode(hashlib.sha256(data).digest()).rstrip(b"=").decode() for file,
                data in files.items()}
@@ -65,7 +65,7 @@ def build_wheel(wheel_directory: str, config_settings: Any = None, metadata_dire
     files[record] = "\n".join([*lines, f"{record},,", ""]).encode()
     with zipfile.ZipFile(Path(wheel_directory) / name, "w", zipfile.ZIP_DEFLATED) as wheel:
         for file, data in files.items():
-            entry = zipfile.ZipInfo(file, DATE)
+            entry = zipfile.ZipInfo(file, FILE_DATE)
             entry.external_attr = 0o100644 << 16
             wheel.writestr(entry, data, zipfile.ZIP_DEFLATED)
     forget_compiled()

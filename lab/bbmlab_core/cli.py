@@ -19,13 +19,13 @@ if TYPE_CHECKING:
 EPILOG = ("Nothing here is proved, and nothing here is trusted: the verdict is always the program's.\n"
           "Exit statuses: 0 done or all yes, 1 a no or a refusal, 2 wrong arguments, "
           "4 a file or the program is missing or failed.")
-FORMATS = ["json", "jsonl", "junit", "tap", "text"]
-FORMS = ["blif", "json", "real", "qasm", "pla", "aiger", "gates"]
-NETLISTS = "BLIF, yosys JSON, RevLib .real, OpenQASM, PLA, AIGER, plain gates"
-RESULTS = ["yes", "no", "refused", "timeout", "missing", "error"]
+RESULT_FORMATS = ["json", "jsonl", "junit", "tap", "text"]
+NETLIST_FORMS = ["blif", "json", "real", "qasm", "pla", "aiger", "gates"]
+NETLIST_FORM_WORDS = "BLIF, yosys JSON, RevLib .real, OpenQASM, PLA, AIGER, plain gates"
+RESULT_NAMES = ["yes", "no", "refused", "timeout", "missing", "error"]
 
 
-def imported_late(module: str, function: str = "run") -> Callable[[argparse.Namespace], int]:
+def late_command(module: str, function: str = "run") -> Callable[[argparse.Namespace], int]:
     """Returns a command whose module is imported only when it runs, so that the lab starts quickly."""
     def run(options: argparse.Namespace) -> int:
         """Imports the module and runs the command."""
@@ -44,12 +44,12 @@ def grid_sides(word: str) -> tuple[int, int]:
     return int(sides[0]), int(sides[1])
 
 
-def positive(word: str) -> int:
+def positive_number(word: str) -> int:
     """Returns a whole number from 1."""
     return whole_number(word, 1)
 
 
-def from_zero(word: str) -> int:
+def number_from_zero(word: str) -> int:
     """Returns a whole number from 0."""
     return whole_number(word, 0)
 
@@ -65,7 +65,7 @@ def ball_size(word: str) -> float:
     return size
 
 
-def port(word: str) -> int:
+def port_number(word: str) -> int:
     """Returns the number of a port, or 0 for a free one."""
     number = whole_number(word, 0)
     if number > 65535:
@@ -88,19 +88,19 @@ def seconds(word: str) -> float:
     return number
 
 
-def result_words(words: str) -> list[str]:
+def result_names(words: str) -> list[str]:
     """Returns names of results, with commas between."""
     found = words.split(",")
-    unknown = [word for word in found if word not in RESULTS]
+    unknown = [word for word in found if word not in RESULT_NAMES]
     if unknown:
-        raise argparse.ArgumentTypeError(f"{unknown[0]!r} is no result: they are {', '.join(RESULTS)}")
+        raise argparse.ArgumentTypeError(f"{unknown[0]!r} is no result: they are {', '.join(RESULT_NAMES)}")
     return found
 
 
-def shard(word: str) -> Any:
+def parse_shard(word: str) -> Any:
     """Returns a part of a set, written K/N."""
-    from .farm.sharding import shard as read_shard
-    return read_shard(word)
+    from .farm.sharding import shard_of_word
+    return shard_of_word(word)
 
 
 def arg(names: str, about: str, **options: Any) -> tuple[list[str], dict[str, Any]]:
@@ -113,11 +113,11 @@ def flag(names: str, about: str) -> tuple[list[str], dict[str, Any]]:
     return arg(names, about, action="store_true")
 
 
-class OneOf(list["Any"]):
+class ExclusiveArguments(list["Any"]):
     """Arguments of which at most one can be given."""
 
 
-def columns() -> int:
+def terminal_columns() -> int:
     """Returns the width of the terminal, as `shutil` finds it, which takes long to import."""
     words = os.environ.get("COLUMNS", "")
     if words.isdecimal() and int(words):
@@ -128,14 +128,14 @@ def columns() -> int:
         return 80
 
 
-class HelpForm(argparse.RawDescriptionHelpFormatter):
+class HelpFormatter(argparse.RawDescriptionHelpFormatter):
     """The form of `--help`. argparse makes one for each option: the terminal is asked for its width only once."""
 
     width = 0
 
     def __init__(self, prog: str) -> None:
-        HelpForm.width = HelpForm.width or columns()
-        super().__init__(prog, width=max(HelpForm.width - 2, 10))
+        HelpFormatter.width = HelpFormatter.width or terminal_columns()
+        super().__init__(prog, width=max(HelpFormatter.width - 2, 10))
 
 
 class Parser(argparse.ArgumentParser):
@@ -161,29 +161,29 @@ class Parser(argparse.ArgumentParser):
             sys.exit(4)
 
 
-class ListedOnly(argparse.ArgumentParser):
+class UnparsedCommand(argparse.ArgumentParser):
     """A command that does not run: it needs no parser, which would take most of the time of a start."""
 
     def __init__(self, **_options: Any) -> None:
         """Makes nothing."""
 
 
-def commands_for(words: list[str]) -> tuple[Parser, dict[str, argparse.ArgumentParser]]:
+def parsers_for(words: list[str]) -> tuple[Parser, dict[str, argparse.ArgumentParser]]:
     """Returns the parser of the command that the words name, or of the list of all commands, and that of each command.
     """
     named = next((word for word in words if not word.startswith("-")), None)
     wanted = named if named in COMMANDS else None
     whole = Parser(prog="bbmlab", description="See, explain, trace and check billiard-ball layouts.",
-                   epilog=EPILOG, formatter_class=HelpForm)
+                   epilog=EPILOG, formatter_class=HelpFormatter)
     whole.add_argument("--version", action="version", version=f"bbmlab {VERSION}")
     commands: argparse._SubParsersAction[argparse.ArgumentParser] = whole.add_subparsers(
-        dest="name", metavar="COMMAND", required=True, parser_class=Parser if wanted else ListedOnly)
+        dest="name", metavar="COMMAND", required=True, parser_class=Parser if wanted else UnparsedCommand)
     for name in [wanted] if wanted else COMMANDS:
         run, about, example, arguments = COMMANDS[name]
-        parser = commands.add_parser(name, help=about, description=about, formatter_class=HelpForm,
+        parser = commands.add_parser(name, help=about, description=about, formatter_class=HelpFormatter,
                                      epilog=f"Example: bbmlab {example}")
         if wanted:
-            parser.set_defaults(run=imported_late(*run.split(".")))
+            parser.set_defaults(run=late_command(*run.split(".")))
             add_arguments(parser, arguments)
     return whole, commands.choices
 
@@ -191,26 +191,28 @@ def commands_for(words: list[str]) -> tuple[Parser, dict[str, argparse.ArgumentP
 def add_arguments(parser: argparse._ActionsContainer, arguments: list[Any]) -> None:
     """Adds arguments to a command."""
     for argument in arguments:
-        if isinstance(argument, OneOf):
+        if isinstance(argument, ExclusiveArguments):
             add_arguments(parser.add_mutually_exclusive_group(), argument)
         else:
             names, options = argument
             parser.add_argument(*names, **options)
 
 
-OUTPUT = arg("-o --output", "write to this file (default: standard output)", metavar="FILE")
-PROGRAM = [arg("--program", "the program (else $BBMCHECK, the repository's, or bbmcheck on PATH)", metavar="PATH"),
-           arg("--timeout", "how long the program may take on a file", type=seconds, metavar="SECONDS")]
-ON = arg("--on", "the inputs that are on, with commas between", metavar="NAMES")
-READING = [
-    arg("--from", "the form of the netlist (default: told by its content)", dest="given", choices=FORMS),
-    arg("--cycles", "unroll flip-flops and latches for K cycles", type=positive, metavar="K"),
+OUTPUT_OPTION = arg("-o --output", "write to this file (default: standard output)", metavar="FILE")
+PROGRAM_OPTIONS = [arg("--program", "the program (else $BBMCHECK, the repository's, or bbmcheck on PATH)",
+                       metavar="PATH"),
+                   arg("--timeout", "how long the program may take on a file", type=seconds,
+                       metavar="SECONDS")]
+ON_OPTION = arg("--on", "the inputs that are on, with commas between", metavar="NAMES")
+NETLIST_OPTIONS = [
+    arg("--from", "the form of the netlist (default: told by its content)", dest="given", choices=NETLIST_FORMS),
+    arg("--cycles", "unroll flip-flops and latches for K cycles", type=positive_number, metavar="K"),
     arg("--state", "ports: the state comes in by inputs. initial: it begins with its first values (default: ports)",
         choices=["ports", "initial"], default="ports")]
-CIRCUIT = f"a text that begins with a circuit, or a netlist ({NETLISTS})"
+ABOUT_CIRCUIT_FILE = f"a text that begins with a circuit, or a netlist ({NETLIST_FORM_WORDS})"
 
 
-def file(about: str) -> tuple[list[str], dict[str, Any]]:
+def file_argument(about: str) -> tuple[list[str], dict[str, Any]]:
     """Returns the file that a command reads."""
     return arg("file", f"{about}, or - for standard input", metavar="FILE")
 
@@ -221,62 +223,64 @@ COMMANDS: dict[str, tuple[str, str, str, list[Any]]] = {
     "check": ("check", "Put each file through the program; exit 0 only if all said yes.",
               "check --jobs 4 designs/ more.txt", [
         arg("files", "a bundle, - for standard input, or a folder: all its .txt files", nargs="+", metavar="FILE"),
-        arg("--jobs", "files at a time (default: %(default)s)", type=positive, default=min(4, os.cpu_count() or 1),
-            metavar="N"),
-        arg("--format", "how results are written (default: text)", choices=FORMATS, default="text"),
-        arg("--only", "list only files with these results, such as no,refused; all are checked", type=result_words,
+        arg("--jobs", "files at a time (default: %(default)s)", type=positive_number,
+            default=min(4, os.cpu_count() or 1), metavar="N"),
+        arg("--format", "how results are written (default: text)", choices=RESULT_FORMATS, default="text"),
+        arg("--only", "list only files with these results, such as no,refused; all are checked", type=result_names,
             metavar="RESULTS"),
         arg("--receipts", "write a receipt of each answer here, and skip texts whose receipt holds", metavar="DIR"),
         flag("--again", "with --receipts: check all texts"),
-        arg("--shard", "check only part K of N, by the digests of the names", type=shard, metavar="K/N"),
+        arg("--shard", "check only part K of N, by the digests of the names", type=parse_shard, metavar="K/N"),
         arg("--dask", "check by the workers of this Dask scheduler, or of a cluster here", nargs="?", const="",
             metavar="ADDRESS"),
         flag("--send-program", "with --dask: send the program to workers that have another"),
-        *PROGRAM]),
+        *PROGRAM_OPTIONS]),
     "verify": ("verify", "Say whether a receipt is of a text, and of a released program; exit 0 only if it is.",
                "verify receipts/design.txt.json design.txt --again", [
         arg("receipt", "a receipt that `bbmlab check --receipts` wrote", metavar="RECEIPT"),
-        file("the text"),
+        file_argument("the text"),
         flag("--again", "run the program again, and compare the report byte for byte"),
         arg("--release", "the MANIFEST of another release that counts", action="append", default=[],
             metavar="MANIFEST"),
-        *PROGRAM]),
+        *PROGRAM_OPTIONS]),
     "summary": ("verify.run_summary", "Count the receipts of a folder; exit 0 only if all are of a yes.",
                 "summary receipts/", [arg("folder", "a folder of receipts", metavar="DIR")]),
     "explain": ("explain", "Explain each line of the report, or the refusal, in plain English.",
                 "explain examples/wrong_edge.txt", [
-        file("the text that the program answers"),
+        file_argument("the text that the program answers"),
         arg("--report", "explain this answer of the program, which must be of this text", metavar="FILE"),
         flag("--fix", "write the text with the edits that were found, after trying them"),
         arg("-o --output", "with --fix: write to this file (default: standard output)", metavar="FILE"),
         flag("-i --in-place", "with --fix: write the file again"),
-        arg("--effort", "how much processor time the search for fixes takes (default: 30)", type=seconds, default=30.0,
-            metavar="SECONDS"),
+        arg("--effort", "how much processor time the search for fixes takes (default: 30)", type=seconds,
+            default=30.0, metavar="SECONDS"),
         arg("--command", "the command of the program (default: by the sections of the text)",
             dest="command_of_program", choices=["check", "run", "value", "modules", "migrate"]),
-        OneOf([flag("--json", "write one JSON document"),
-               flag("--gcc", "write file:line: error: text, for editors")]),
-        *PROGRAM]),
+        ExclusiveArguments([flag("--json", "write one JSON document"),
+                            flag("--gcc", "write file:line: error: text, for editors")]),
+        *PROGRAM_OPTIONS]),
     "trace": ("trace", "Write the live cells at each time; the last state is compared with the program's run.",
               "trace examples/head_on.txt --on p,q", [
-        file("a bundle, a circuit and a layout, or a layout with or without an assign section"), OUTPUT,
+        file_argument("a bundle, a circuit and a layout, or a layout with or without an assign section"), OUTPUT_OPTION,
         arg("--on", "the inputs that are on, with commas between (default: those of the assign section)",
             metavar="NAMES"),
-        arg("--from", "the first time (default: 0)", dest="start", type=from_zero, default=0, metavar="T"),
-        arg("--to", "the last time (default: the layout's steps)", type=from_zero, metavar="T"),
-        arg("--module", "run this module of the certificate by itself", type=from_zero, metavar="M"),
-        arg("--assignment", "bit i of A is the value of the module's cut i (default: 0)", type=from_zero, default=0,
-            metavar="A"),
+        arg("--from", "the first time (default: 0)", dest="start", type=number_from_zero, default=0, metavar="T"),
+        arg("--to", "the last time (default: the layout's steps)", type=number_from_zero, metavar="T"),
+        arg("--module", "run this module of the certificate by itself", type=number_from_zero, metavar="M"),
+        arg("--assignment", "bit i of A is the value of the module's cut i (default: 0)", type=number_from_zero,
+            default=0, metavar="A"),
         flag("--pictures", "add a small picture at each time"),
         flag("--json", "write one JSON document"),
-        *PROGRAM]),
+        *PROGRAM_OPTIONS]),
     "draw": ("draw", "Draw a layout as SVG: mirrors, ports, modules, balls at a time or their ways.",
              "draw examples/fredkin_gate.txt --ways -o ways.svg", [
-        file("a text with a layout"), OUTPUT, ON,
-        OneOf([arg("--time", "the time that is shown (default: 0)", type=from_zero, default=0, metavar="T"),
-               flag("--ways", "the ways of the balls over all times, coloured by wire")]),
+        file_argument("a text with a layout"), OUTPUT_OPTION, ON_OPTION,
+        ExclusiveArguments([arg("--time", "the time that is shown (default: 0)", type=number_from_zero, default=0,
+                                metavar="T"),
+                            flag("--ways", "the ways of the balls over all times, coloured by wire")]),
         arg("--report", "mark the cells of the faults of this report", metavar="FILE"),
-        arg("--crop", "draw this part of the layout only", type=from_zero, nargs=4, metavar=("X", "Y", "W", "H")),
+        arg("--crop", "draw this part of the layout only", type=number_from_zero, nargs=4,
+            metavar=("X", "Y", "W", "H")),
         arg("--wires", "bring out the ways of these wires, with commas between", metavar="NAMES"),
         arg("--cone", "bring out the ways of this wire and of all wires on which it depends", metavar="NAME"),
         flag("--arrows", "show where the balls go, on ways that are long enough"),
@@ -284,58 +288,61 @@ COMMANDS: dict[str, tuple[str, str, str, list[Any]]] = {
             metavar="CELLS")]),
     "view": ("view", "Write one HTML file that shows a layout in a browser, without a network.",
              "view examples/wrong_edge.txt -o wrong_edge.html", [
-        file("a text with a layout"), OUTPUT,
+        file_argument("a text with a layout"), OUTPUT_OPTION,
         arg("--report", "show this report in place of running the program", metavar="FILE"),
-        *PROGRAM]),
+        *PROGRAM_OPTIONS]),
     "studio": ("studio", "Draw a layout in the browser, and see the program's verdict while you draw.",
                "studio my_gate.txt", [
         arg("file", "the text to open (default: a new layout in this folder)", nargs="?", metavar="FILE"),
         arg("--no-open", "print the address, and open no browser", dest="open", action="store_false"),
-        arg("--port", "listen at this port of 127.0.0.1 (default: a free one)", type=port, metavar="N"),
-        arg("--memory", "the memory limit of the program and of the lab (default: 4096)", type=positive, default=4096,
-            metavar="MIB"),
-        *PROGRAM]),
+        arg("--port", "listen at this port of 127.0.0.1 (default: a free one)", type=port_number, metavar="N"),
+        arg("--memory", "the memory limit of the program and of the lab (default: 4096)", type=positive_number,
+            default=4096, metavar="MIB"),
+        *PROGRAM_OPTIONS]),
     "certify": ("certify", "Make a certificate for a circuit and a layout; exit 0 only if the program says yes to it.",
                 "certify design.txt -o bundle.txt", [
-        file("a text that begins with a circuit and a layout"), OUTPUT,
-        OneOf([arg("--grid", "take boxes of W by H cells, even and at most 64 (default: the lab chooses)",
-                   type=grid_sides, metavar="W,H"),
-               arg("--boxes", "take the boxes of the lines `module X Y W H` of this text", metavar="FILE"),
-               flag("--plain", "one module for the whole layout, without edge lines")]),
+        file_argument("a text that begins with a circuit and a layout"), OUTPUT_OPTION,
+        ExclusiveArguments([arg("--grid", "take boxes of W by H cells, even and at most 64 (default: the lab chooses)",
+                                type=grid_sides, metavar="W,H"),
+                            arg("--boxes", "take the boxes of the lines `module X Y W H` of this text", metavar="FILE"),
+                            flag("--plain", "one module for the whole layout, without edge lines")]),
         arg("--version", "certificate version (default: 2)", dest="version_of_text", type=int, choices=[1, 2],
             default=2),
         arg("--cuts", "auto: cut wires where they come in, if that holds. safe: use all gates back to the inputs "
             "(default: auto)", choices=["auto", "safe"], default="auto"),
-        *PROGRAM]),
+        *PROGRAM_OPTIONS]),
     "circuit": ("circuits.run_circuit",
                 "Write the circuit of a netlist, its inverse, or a circuit in the form of another tool.",
                 "circuit toffoli.real -o toffoli.txt", [
-        file(CIRCUIT), OUTPUT, *READING,
+        file_argument(ABOUT_CIRCUIT_FILE), OUTPUT_OPTION, *NETLIST_OPTIONS,
         arg("--to", "write this form (default: a circuit section)",
             choices=["blif", "verilog", "aiger", "real", "qasm", "dot"]),
-        OneOf([flag("--inverse", "turn the gates round: outputs become inputs, and constants garbage"),
-               flag("--clean", "compute, copy the outputs and undo, so that inputs are the only garbage")]),
+        ExclusiveArguments([flag("--inverse", "turn the gates round: outputs become inputs, and constants garbage"),
+                            flag("--clean",
+                                 "compute, copy the outputs and undo, so that inputs are the only garbage")]),
         flag("--simplify", "fold constants, and remove what is dead, undone or made twice")]),
     "table": ("circuits.run_table", "Write the values of a circuit's outputs for all inputs.",
               "table examples/half_adder.txt", [
-        file(CIRCUIT), OUTPUT, *READING,
+        file_argument(ABOUT_CIRCUIT_FILE), OUTPUT_OPTION, *NETLIST_OPTIONS,
         arg("--on", "one row alone: the inputs that are on, with commas between", metavar="NAMES"),
         flag("--csv", "comma-separated values")]),
     "stats": ("circuits.run_stats", "Count gates, constants, garbage and depth, and the cells of a layout.",
-              "stats examples/machine_fredkin.txt", [file(f"{CIRCUIT}, or a bundle"), OUTPUT, *READING]),
+              "stats examples/machine_fredkin.txt",
+              [file_argument(f"{ABOUT_CIRCUIT_FILE}, or a bundle"), OUTPUT_OPTION, *NETLIST_OPTIONS]),
     "equal": ("circuits.run_equal", "Say whether two circuits have the same outputs, by the names of their ports.",
               "equal adder.blif adder.txt", [
-        arg("file", CIRCUIT, metavar="FILE"),
+        arg("file", ABOUT_CIRCUIT_FILE, metavar="FILE"),
         arg("other", "another one", metavar="OTHER"),
         flag("--common", "compare the outputs that both have")]),
     "route": ("route", "Place and route a circuit: a layout of balls and mirrors, with a certificate.",
               "route circuit.txt -o bundle.txt", [
-        file(CIRCUIT), OUTPUT, *READING,
-        arg("--seed", "another seed gives another layout (default: 1)", type=positive, default=1, metavar="N"),
-        arg("--size", "the side of the layout, a multiple of 16 up to 4096 (default: as needed)", type=positive,
+        file_argument(ABOUT_CIRCUIT_FILE), OUTPUT_OPTION, *NETLIST_OPTIONS,
+        arg("--seed", "another seed gives another layout (default: 1)", type=positive_number, default=1, metavar="N"),
+        arg("--size", "the side of the layout, a multiple of 16 up to 4096 (default: as needed)", type=positive_number,
             metavar="N"),
         arg("--effort", "how long to search (default: 60)", type=seconds, default=60.0, metavar="SECONDS"),
-        arg("--jobs", "attempts at a time, each in a process (default: 1)", type=positive, default=1, metavar="N"),
+        arg("--jobs", "attempts at a time, each in a process (default: 1)", type=positive_number, default=1,
+            metavar="N"),
         flag("--compact", "go on with ever smaller planes, until no attempt on one finds a route"),
         flag("--no-certificate", "write the circuit and the layout alone"),
         flag("--open-ends", "keep room at each start and end for `bbmlab join`"),
@@ -344,51 +351,53 @@ COMMANDS: dict[str, tuple[str, str, str, list[Any]]] = {
         flag("--circuit-only", "write the circuit section to which a netlist is mapped, and route nothing"),
         flag("--keep-partial", "if there is no route, write a bundle of the gates that were placed"),
         arg("--map", "also write a picture of how full the plane was when the best attempt ended", metavar="SVG"),
-        *PROGRAM]),
+        *PROGRAM_OPTIONS]),
     "join": ("join", "Put bundles on one plane, lead balls between their ports, certify the whole.",
              "join first.txt second.txt --connect A.sum=B.p -o bundle.txt", [
         arg("files", "a bundle with a yes, as FILE or NAME=FILE; without a name the parts are a, b, c ..", nargs="+",
             metavar="PART"),
         arg("--connect", "lead an output of a part to an input of another", action="extend", nargs="+", default=[],
             metavar="A.OUT=B.IN"),
-        OUTPUT,
-        arg("--seed", "another seed gives other paths (default: 1)", type=positive, default=1, metavar="N"),
-        arg("--size", "the side of the plane, a multiple of 16 up to 4096 (default: as needed)", type=positive,
+        OUTPUT_OPTION,
+        arg("--seed", "another seed gives other paths (default: 1)", type=positive_number, default=1, metavar="N"),
+        arg("--size", "the side of the plane, a multiple of 16 up to 4096 (default: as needed)", type=positive_number,
             metavar="N"),
         arg("--effort", "how long to search (default: 60)", type=seconds, default=60.0, metavar="SECONDS"),
-        *PROGRAM]),
+        *PROGRAM_OPTIONS]),
     "cells": ("cells", "List the standard cells with their ports, or show one of them.",
               "cells fredkin --svg -o fredkin.svg", [
         arg("cell", "the name of a cell (default: list all)", nargs="?", metavar="NAME"),
-        OneOf([flag("--svg", "draw the ways of its balls"),
-               flag("--bundle", "write its bundle, which the program checks")]),
-        OUTPUT]),
+        ExclusiveArguments([flag("--svg", "draw the ways of its balls"),
+                            flag("--bundle", "write its bundle, which the program checks")]),
+        OUTPUT_OPTION]),
     "fmt": ("fmt", "Write a text in its one spelling: no comments, no empty lines, sorted lists.", "fmt -i mine.txt", [
         arg("files", "a text, or - for standard input", nargs="+", metavar="FILE"),
-        OUTPUT,
+        OUTPUT_OPTION,
         flag("-i --in-place", "write each file again if it changes; refused if it has comments"),
         flag("--strip-comments", "with -i: leave out the comments of a file"),
         flag("--check", "write nothing; exit 1 if a file would change")]),
     "json": ("json_document", "Write a text and its report as one JSON document, or the text of such a document.",
              "json bundle.txt | bbmlab json --back -", [
-        file("a text, or a JSON document with --back"), OUTPUT,
+        file_argument("a text, or a JSON document with --back"), OUTPUT_OPTION,
         flag("--back", "read a JSON document and write its text"),
         arg("--report", "add this report to the document", metavar="FILE")]),
     "golly": ("golly", "Write the start of a layout as an RLE file for Golly.",
-              "golly examples/head_on.txt --on p,q -o head_on.rle", [file("a text with a layout"), OUTPUT, ON]),
-    "from-golly": ("golly.run_back",
+              "golly examples/head_on.txt --on p,q -o head_on.rle",
+              [file_argument("a text with a layout"), OUTPUT_OPTION, ON_OPTION]),
+    "from-golly": ("golly.run_from_golly",
                    "Write the layout of an RLE file: that of its comments, or its live cells as balls.",
-                   "from-golly pattern.rle", [file("an RLE file for Golly's rule BBM-Margolus-emulated"), OUTPUT]),
+                   "from-golly pattern.rle",
+                   [file_argument("an RLE file for Golly's rule BBM-Margolus-emulated"), OUTPUT_OPTION]),
 }
 
 
 def run_command(run: Callable[[argparse.Namespace], int], options: argparse.Namespace) -> int:
     """Runs a command and returns its exit status; what goes wrong is a line on standard error."""
     from .host.program import BadProgramError, ProgramTimeout
-    from .host.signals import Stopped, end_by_pipe, listen
+    from .host.signals import Stopped, end_by_pipe, install_handlers
     from .host.terminal import LabError, escape_controls, require_output
     from .texts.reports import ReportError
-    listen()
+    install_handlers()
     try:
         read = [getattr(options, word, None) for word in ("file", "report", "boxes")]
         require_output(getattr(options, "output", None), [name for name in read if name])
@@ -445,7 +454,7 @@ def main(words: list[str] | None = None) -> int:
     open_standard_error()
     buffer_output()
     words = sys.argv[1:] if words is None else words
-    parser, commands = commands_for(words)
+    parser, commands = parsers_for(words)
     options, unknown = parser.parse_known_args(words)
     if unknown:
         commands[options.name].error(f"unrecognized arguments: {' '.join(unknown)}")

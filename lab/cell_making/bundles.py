@@ -2,13 +2,13 @@
 
 from dataclasses import dataclass, field, replace
 
-from bbmlab_core.certify.certifier import CertificatePlan, certified, grid_boxes
-from bbmlab_core.route.balls import Ball, Mirror, Run, block_cells, mirror_cells, run_exactly, start_state
+from bbmlab_core.certify.certifier import CertificatePlan, certified_text, grid_boxes
+from bbmlab_core.route.balls import Ball, BallRun, Mirror, block_cells, mirror_cells, run_exactly, start_state
 from bbmlab_core.texts.certificates import MAX_BOX_SIDE, Certificate, Stop, local_wires, whole_module
 from bbmlab_core.texts.circuits import Circuit, evaluate_all
 from bbmlab_core.texts.documents import read_document
 from bbmlab_core.texts.gates import Table
-from bbmlab_core.texts.layouts import Box, Cell, Layout, Port, row_order
+from bbmlab_core.texts.layouts import Box, Cell, Layout, Port, row_order_key
 
 # Dead cells between the machine and the rim, so that nothing is live on the rim.
 MARGIN = 2
@@ -34,7 +34,7 @@ class Machine:
     rest: int = 2
 
     @property
-    def last(self) -> int:
+    def last_time(self) -> int:
         """The last time of the run."""
         return max(ball.time for ball in [*self.outs.values(), *self.garbage.values()]) + self.rest
 
@@ -57,11 +57,11 @@ def read_circuit(text: str) -> Circuit:
     return document.circuit
 
 
-def run_machine(machine: Machine, tables: dict[str, Table], full: Table) -> Run:
+def run_machine(machine: Machine, tables: dict[str, Table], full: Table) -> BallRun:
     """Returns the run of a machine under all its inputs. Raises ValueError if a mirror breaks or an output is wrong."""
     start = [(ball.at(0), tables[name]) for name, ball in machine.ins.items()] + [(ball.at(0), full)
                                                                                   for ball in machine.constants]
-    run = run_exactly(mirror_cells(machine.mirrors), start_state(start), 0, machine.last)
+    run = run_exactly(mirror_cells(machine.mirrors), start_state(start), 0, machine.last_time)
     if not run.is_stable:
         raise ValueError(f"{machine.name}: a mirror breaks in the step from time {len(run.blocks)}")
     for name, ball in machine.ports():
@@ -71,7 +71,7 @@ def run_machine(machine: Machine, tables: dict[str, Table], full: Table) -> Run:
     return run
 
 
-def frame_of(machine: Machine, run: Run) -> tuple[int, int, int, int]:
+def move_and_size(machine: Machine, run: BallRun) -> tuple[int, int, int, int]:
     """Returns how far to move the machine, by even numbers, and the even width and height of its layout."""
     cells = mirror_cells(machine.mirrors) | {cell for corners in run.blocks for corner in corners
                                              for cell in block_cells(corner)}
@@ -84,7 +84,7 @@ def frame_of(machine: Machine, run: Run) -> tuple[int, int, int, int]:
 def rectangles(cells: set[Cell]) -> list[Mirror]:
     """Returns disjoint rectangles with these cells: rows as wide as they go, then as high as they go."""
     left, found = set(cells), []
-    for x, y in sorted(cells, key=row_order):
+    for x, y in sorted(cells, key=row_order_key):
         if (x, y) not in left:
             continue
         width = height = 1
@@ -102,7 +102,7 @@ def bundle_text(machine: Machine) -> str:
     circuit = read_circuit(machine.circuit_text())
     values = evaluate_all(circuit)
     run = run_machine(machine, values.tables, values.full)
-    dx, dy, width, height = frame_of(machine, run)
+    dx, dy, width, height = move_and_size(machine, run)
 
     def shifted(ball: Ball) -> list[Cell]:
         """Returns the cells of a ball in the layout."""
@@ -112,13 +112,13 @@ def bundle_text(machine: Machine) -> str:
         """Returns the cells of balls at a time, with their names."""
         return tuple(Port(name, x, y) for name, ball in balls.items() for x, y in shifted(ball.at(time)))
 
-    outs = ports(machine.outs, machine.last)
+    outs = ports(machine.outs, machine.last_time)
     wastes = {(x + dx, y + dy) for x, y in run.states[-1]} - {port.cell for port in outs}
     mirrors = rectangles({(x + dx, y + dy) for x, y in mirror_cells(machine.mirrors)})
     balls = tuple(cell for ball in machine.constants for cell in shifted(ball.at(0)))
-    layout = Layout(width, height, machine.last,
+    layout = Layout(width, height, machine.last_time,
                     tuple(Box(mirror.x, mirror.y, mirror.width, mirror.height) for mirror in mirrors), balls,
-                    ports(machine.ins, 0), outs, tuple(sorted(wastes, key=row_order)))
+                    ports(machine.ins, 0), outs, tuple(sorted(wastes, key=row_order_key)))
     stops = [Stop(ball.time, name, *cell) for name, ball in machine.ports() for cell in shifted(ball)]
     certificate = with_stops(certificate_for(circuit, layout), circuit, stops)
     return f"{circuit}{layout}{certificate}"
@@ -129,7 +129,7 @@ def certificate_for(circuit: Circuit, layout: Layout) -> Certificate:
     if max(layout.width, layout.height) <= MAX_BOX_SIDE:
         return Certificate(2, (whole_module(circuit, layout),))
     plan, boxes = CertificatePlan(2, "safe"), grid_boxes(layout, MAX_BOX_SIDE, MAX_BOX_SIDE)
-    made = read_document(certified(read_document(f"{circuit}{layout}", "design"), boxes, plan)).certificate
+    made = read_document(certified_text(read_document(f"{circuit}{layout}", "design"), boxes, plan)).certificate
     assert made is not None
     return made
 

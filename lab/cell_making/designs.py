@@ -5,7 +5,7 @@ The gates are those of Fredkin and Toffoli 1982. The mirrors of the larger machi
 
 from dataclasses import replace
 
-from bbmlab_core.route.balls import Ball, Leg, Mirror, Turn, follow
+from bbmlab_core.route.balls import Ball, Leg, Mirror, Turn, follow_legs
 from bbmlab_core.route.cells import GateCell, base_cells
 
 from .bundles import Machine, rectangles
@@ -19,7 +19,7 @@ LEAD_IN = 4
 def path_machine(name: str, legs: list[Leg], gates: list[str], out: str) -> Machine:
     """Returns a machine of one ball and its mirrors."""
     start = Ball(4, 4, 1, 1, LEAD_IN)
-    end, mirrors = follow(start, legs)
+    end, mirrors = follow_legs(start, legs)
     return Machine(name, gates, {"a": start}, {out: end}, mirrors)
 
 
@@ -59,7 +59,7 @@ def gate_machine(name: str, cell: GateCell) -> Machine:
     return Machine(name, [line], ins, outs, rectangles(set(cell.mirrors)))
 
 
-def renamed(machine: Machine, name: str, names: dict[str, str], gates: list[str]) -> Machine:
+def renamed_machine(machine: Machine, name: str, names: dict[str, str], gates: list[str]) -> Machine:
     """Returns a machine with other names and gate lines.
 
     An output whose name begins with `*` is garbage, and an input named `1` is a constant.
@@ -147,9 +147,9 @@ def switch_machines(switch: Machine) -> list[Machine]:
     """Returns the machines that are a switch with other names: copies, NOT and AND."""
     copying = ["source 1 -> k", "switch a k -> d y z"]
     return [
-        renamed(switch, "fan_out", {"c": "a", "x": "1", "d": "d", "y": "y", "z": "*z"}, copying),
-        renamed(switch, "not", {"c": "a", "x": "1", "d": "*d", "y": "*y", "z": "z"}, copying),
-        renamed(switch, "and", {"c": "a", "x": "b", "d": "*d", "y": "y", "z": "*z"}, ["switch a b -> d y z"]),
+        renamed_machine(switch, "fan_out", {"c": "a", "x": "1", "d": "d", "y": "y", "z": "*z"}, copying),
+        renamed_machine(switch, "not", {"c": "a", "x": "1", "d": "*d", "y": "*y", "z": "z"}, copying),
+        renamed_machine(switch, "and", {"c": "a", "x": "b", "d": "*d", "y": "y", "z": "*z"}, ["switch a b -> d y z"]),
     ]
 
 
@@ -157,8 +157,8 @@ def all_machines() -> list[Machine]:
     """Returns the machines of all cells."""
     cells = base_cells()
     switch, fredkin = gate_machine("switch", cells["switch"][0]), gate_machine("fredkin", cells["fredkin"][0])
-    either = renamed(fredkin, "or", {"c": "a", "x": "1", "y": "b", "d": "*d", "u": "u", "v": "*v"},
-                     ["source 1 -> k", "fredkin a k b -> d u v"])
+    either = renamed_machine(fredkin, "or", {"c": "a", "x": "1", "y": "b", "d": "*d", "u": "u", "v": "*v"},
+                             ["source 1 -> k", "fredkin a k b -> d u v"])
     return [
         path_machine("turn_left", [Leg(4, FLAT), Leg(6, None)], [], "a"),
         path_machine("turn_right", [Leg(4, UPRIGHT), Leg(6, None)], [], "a"),

@@ -17,7 +17,7 @@ from itertools import product
 from typing import Any, Callable, Iterator
 
 import support
-from bbmlab_core.explain.trials import Trial, is_yes
+from bbmlab_core.explain.trials import TrialRunner, is_yes
 from measure_fixes import right_texts
 from mutations import FAMILIES, mutants
 
@@ -291,7 +291,7 @@ def main() -> int:
     program, texts = support.program(), right_texts()
     counts: Counter[bool | None] = Counter()
     for family in FAMILIES:
-        for name, text in mutants(family, texts, count, seed, lambda text: is_yes(Trial(program).report(text))):
+        for name, text in mutants(family, texts, count, seed, lambda text: is_yes(TrialRunner(program).report(text))):
             explanation = explained(text)
             if explanation["verdict"] != "no" or not Whole(text).is_small():
                 continue

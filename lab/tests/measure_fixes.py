@@ -8,7 +8,7 @@ import time
 
 import support
 from bbmlab_core.explain.fixing import Fixer
-from bbmlab_core.explain.trials import Budget, Trial, is_yes
+from bbmlab_core.explain.trials import Budget, TrialRunner, is_yes
 from mutations import FAMILIES, mutants
 
 MAX_BYTES = 12_000
@@ -22,23 +22,23 @@ def right_texts(most: int = MAX_BYTES) -> dict[str, str]:
              *(support.TOP / "conformance" / "data").glob("cascade*.txt")]
     texts = {path.stem: path.read_text() for path in sorted(files) if path.stat().st_size <= most
              or "cascade" in path.stem and most >= MAX_BYTES}
-    return {name: text for name, text in texts.items() if is_yes(Trial(program).report(text))}
+    return {name: text for name, text in texts.items() if is_yes(TrialRunner(program).report(text))}
 
 
 def rounds_to_yes(text: str, program: str) -> tuple[int | None, list[str]]:
     """Returns after how many rounds a text gets a yes, or None, and the fixes of these rounds that led to a refusal."""
     refused = []
     for number in range(1, ROUNDS + 1):
-        trial = Trial(program, Budget(600, 30))
+        trial = TrialRunner(program, Budget(600, 30))
         report = trial.report(text)
         assert report
-        fix = Fixer(text, report, trial).find()
+        fix = Fixer(text, report, trial).find_fix()
         if fix is None:
             return None, refused
         if fix.report.refused:
             refused.append(" ".join(fix.words))
         text = fix.text
-        if is_yes(Trial(program).report(text)):
+        if is_yes(TrialRunner(program).report(text)):
             return number, refused
     return None, refused
 
@@ -51,7 +51,7 @@ def main() -> int:
     fixed = total = 0
     for family in FAMILIES:
         started, good, made, rounds = time.monotonic(), 0, 0, {1: 0, 2: 0}
-        for name, text in mutants(family, texts, count, seed, lambda text: is_yes(Trial(program).report(text))):
+        for name, text in mutants(family, texts, count, seed, lambda text: is_yes(TrialRunner(program).report(text))):
             begun = time.monotonic()
             number, refused = rounds_to_yes(text, program)
             made += 1

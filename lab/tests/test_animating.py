@@ -22,7 +22,7 @@ class Animation(unittest.TestCase):
             names = animating.input_names(layout)
             for bits in itertools.product((False, True), repeat=len(names)):
                 on = [name for name, bit in zip(names, bits) if bit]
-                found = animating.tracks(layout, on)
+                found = animating.ball_tracks(layout, on)
                 for time in range(0, layout.steps + 1, 7):
                     live = tracing.state_at(layout, on, time) - layout.mirror_cells()
                     self.assertEqual({cells[time] for _, cells in found}, live, (name, on, time))
@@ -34,7 +34,7 @@ class Animation(unittest.TestCase):
         space = "{http://www.w3.org/2000/svg}"
         values = [it.attrib["values"].split(";") for it in picture.iter(f"{space}animate")
                   if it.attrib["attributeName"] in "xy"]
-        own = layout.steps + 1 + animating.REST
+        own = layout.steps + 1 + animating.REST_STEPS
         self.assertEqual({len(it) for it in values}, {2 * own})
         self.assertEqual(len(values), 2 * 6)
         for it in values:

@@ -9,7 +9,7 @@ from bbmlab_core.host.program import ask
 from bbmlab_core.physics.simulation import run_layout
 from bbmlab_core.texts.circuits import values_under
 from bbmlab_core.texts.layouts import Cell, Layout
-from bbmlab_core.physics.standard_cells import ABOUT, FOLDER, cell_names, read_cell
+from bbmlab_core.physics.standard_cells import CELLS_FOLDER, CELL_DESCRIPTIONS, cell_names, read_cell
 
 # The Boolean function of a cell with constants and garbage: for each output its value at the inputs.
 FUNCTIONS = {
@@ -39,16 +39,17 @@ class Cells(support.Case):
     def test_each_gets_a_yes(self) -> None:
         """The program says yes to each cell, and each file is a cell of the list."""
         program = support.program()
-        self.assertEqual({path.stem for path in FOLDER.glob("*.txt")}, set(cell_names()))
-        self.assertEqual(set(cell_names()), set(ABOUT))
+        self.assertEqual({path.stem for path in CELLS_FOLDER.glob("*.txt")}, set(cell_names()))
+        self.assertEqual(set(cell_names()), set(CELL_DESCRIPTIONS))
         for name in cell_names():
             with self.subTest(name):
-                self.assertIn("\nverdict yes\n", ask(program, "check", (FOLDER / f"{name}.txt").read_bytes()).output)
+                self.assertIn("\nverdict yes\n",
+                              ask(program, "check", (CELLS_FOLDER / f"{name}.txt").read_bytes()).output)
 
     def test_another_gate_gets_a_no(self) -> None:
         """A Fredkin cell is no cell of `cswap`, and a switch with a mirror less is none."""
         program = support.program()
-        fredkin, switch = ((FOLDER / f"{name}.txt").read_text() for name in ("fredkin", "switch"))
+        fredkin, switch = ((CELLS_FOLDER / f"{name}.txt").read_text() for name in ("fredkin", "switch"))
         mirror = next(line for line in switch.splitlines() if line.startswith("mirror"))
         for text in (fredkin.replace("\nfredkin ", "\ncswap "), switch.replace(mirror + "\n", "")):
             self.assertIn("\nverdict no\n", ask(program, "check", text.encode()).output)
@@ -112,7 +113,7 @@ class Cells(support.Case):
 
     def test_forms(self) -> None:
         """`--bundle` writes the file, `--svg` a picture, and an unknown name is a wrong word."""
-        self.assertEqual(support.lab("cells", "fredkin", "--bundle").stdout, (FOLDER / "fredkin.txt").read_text())
+        self.assertEqual(support.lab("cells", "fredkin", "--bundle").stdout, (CELLS_FOLDER / "fredkin.txt").read_text())
         self.assertIn("<svg ", support.lab("cells", "turn_left", "--svg").stdout)
         self.assert_ends(2, "cells", "../cells/switch", err="there is no cell")
         self.assertEqual(support.lab("cells", "--svg").returncode, 2)

@@ -8,7 +8,7 @@ import unittest
 
 import support
 from bbmlab_core.circuits import circuit_forms, truth
-from bbmlab_core.circuits.netlists import Reading, map_netlist
+from bbmlab_core.circuits.netlists import ReadingOptions, map_netlist
 from bbmlab_core.texts.circuits import values_under
 from support import circuit_of
 from test_reworking import random_text
@@ -127,7 +127,7 @@ class Examples(unittest.TestCase):
 
     def rows(self, name: str, cycles: int | None = None) -> list[tuple[list[int], list[int]]]:
         """Returns the inputs and the outputs of each row."""
-        circuit = circuit_of(map_netlist((CIRCUITS / name).read_text(), reading=Reading(None, cycles)).text)
+        circuit = circuit_of(map_netlist((CIRCUITS / name).read_text(), reading=ReadingOptions(None, cycles)).text)
         found = []
         for bits in itertools.product((0, 1), repeat=len(circuit.inputs)):
             values, _ = values_under(circuit, {name for name, bit in zip(circuit.inputs, bits) if bit})

@@ -11,12 +11,12 @@ from pathlib import Path
 from unittest import mock
 
 import support
-from bbmlab_core.host.program import opened
+from bbmlab_core.host.program import open_program
 from bbmlab_core.host.terminal import LabError
 from bbmlab_core.physics import standard_cells
 from bbmlab_core.physics.simulation import run_layout
 from bbmlab_core.studio import connecting, machines
-from bbmlab_core.studio.connecting import ConnectedText, connect
+from bbmlab_core.studio.connecting import ConnectedText, connect_ports
 from bbmlab_core.studio.verdicts import Judge
 from bbmlab_core.texts.documents import Document, read_document
 
@@ -27,7 +27,7 @@ ORDER = ("mirror", "ball", "in", "out", "waste")
 def cell_lines(x: int, y: int, rename: dict[str, str]) -> list[str]:
     """Returns the lines of a layout of the standard cell `not` at a place, with other wires."""
     found = []
-    for part in standard_cells.parts_of(standard_cells.read_cell("not").document)[0].parts:
+    for part in standard_cells.layout_and_circuit(standard_cells.read_cell("not").document)[0].parts:
         size = f" {part.width} {part.height}" if part.kind == "mirror" else ""
         name = f" {rename[part.name]}" if part.name else ""
         found.append(f"{part.kind}{name} {part.x + x} {part.y + y}{size}")
@@ -45,7 +45,7 @@ def two_nots(width: int, height: int, first: tuple[int, int], second: tuple[int,
 
 def connected(text: str, output: str = "z", given: str = "b", seconds: float = 60) -> ConnectedText:
     """Returns the connection of two ports."""
-    return connect(text, (output, given), time.monotonic() + seconds, 1)
+    return connect_ports(text, (output, given), time.monotonic() + seconds, 1)
 
 
 class Connecting(unittest.TestCase):
@@ -53,7 +53,7 @@ class Connecting(unittest.TestCase):
 
     def assert_is_buffer(self, text: str) -> Document:
         """Asserts that the program says yes to a text, and that two NOT gates in a row copy `a` to `q`."""
-        verdict = Judge(text, opened(support.program()), 60).verdict()
+        verdict = Judge(text, open_program(support.program()), 60).verdict()
         self.assertEqual(verdict.verdict, "yes", verdict.words)
         document = read_document(text, "design")
         self.assertEqual((document.circuit.inputs, document.circuit.outputs), (("a",), ("q",)))
@@ -92,12 +92,12 @@ class Connecting(unittest.TestCase):
         self.assertNotEqual((out.dx, out.dy), (goal.dx, goal.dy))
         flipped = connecting.PortConnection(read_document(text, "design"), "z", "b")
         flipped.goal = out.flown(40).moved(0, 0, -out.time - 40)
-        self.assertEqual(flipped.delays()[0], out.time + 40)
+        self.assertEqual(flipped.possible_delays()[0], out.time + 40)
 
     def test_gates_come_in_order(self) -> None:
         """The circuit lists a gate after those that it takes wires from, and the input's wire is the output's."""
         section = connecting.PortConnection(read_document(two_nots(200, 160, (20, 60), (120, 70)), "design"), "z",
-                                        "b").section()
+                                        "b").circuit_section()
         self.assertLess(section.index("switch a k -> d y z"), section.index("switch z l -> e x q"))
         self.assertNotIn("input b", section)
         self.assertNotIn("output z", section)
@@ -116,15 +116,15 @@ class Connecting(unittest.TestCase):
             with self.subTest(ports=ports, words=words), self.assertRaises(LabError) as caught:
                 connected(own, *ports)
             self.assertIn(words, str(caught.exception))
-        with mock.patch.object(connecting, "ROOMS", (0,)), self.assertRaises(LabError) as caught:
+        with mock.patch.object(connecting, "ADDED_CELLS", (0,)), self.assertRaises(LabError) as caught:
             connected(two_nots(88, 44, (0, 0), (44, 0)), seconds=2)
         self.assertIn("There is no room", str(caught.exception))
 
     def test_two_machines(self) -> None:
         """The balls of one gate are one machine, and those of another gate another one."""
         run = machines.MachineRun(read_document(two_nots(200, 160, (20, 60), (120, 70)), "design"))
-        left = {run.find(number) for number, port in enumerate(run.starts) if port.ball.x < 90}
-        right = {run.find(number) for number, port in enumerate(run.starts) if port.ball.x > 90}
+        left = {run.machine_of_number(number) for number, port in enumerate(run.starts) if port.ball.x < 90}
+        right = {run.machine_of_number(number) for number, port in enumerate(run.starts) if port.ball.x > 90}
         self.assertEqual((len(left), len(right), left & right), (1, 1, set()))
 
     def test_too_many_moves(self) -> None:

@@ -10,7 +10,7 @@ from pathlib import Path
 from typing import Callable
 
 import support
-from bbmlab_core.circuits.netlists import NetlistError, Reading, map_netlist
+from bbmlab_core.circuits.netlists import NetlistError, ReadingOptions, map_netlist
 from bbmlab_core.texts.circuits import Circuit, values_under
 from test_netlists import blif_values, random_table
 
@@ -25,7 +25,7 @@ endmodule
 def circuit_of(text: str, cycles: int, has_state_ports: bool = True) -> Circuit:
     """Returns the circuit of a machine."""
     with support.FEW_TRIES:
-        return support.circuit_of(map_netlist(text, reading=Reading(None, cycles, has_state_ports)).text)
+        return support.circuit_of(map_netlist(text, reading=ReadingOptions(None, cycles, has_state_ports)).text)
 
 
 def yosys(room: Path, verilog: str, steps: str) -> None:
@@ -90,18 +90,21 @@ class Cycles(support.InRoom):
         """What cannot be unrolled gets a sentence."""
         model = ".model m\n.inputs clk d\n.outputs q\n"
         for text, reading, said in (
-            (model + ".latch d q re clk 2\n.end\n", Reading(None, 2, INITIAL), "`q` has no first value"),
-            (model + ".latch d q re clk 2\n.latch q r fe clk 2\n.end\n", Reading(None, 2), "different clocks or edges"),
-            (model + ".latch d q re clk 2\n.latch q r re d 2\n.end\n", Reading(None, 2), "different clocks or edges"),
-            (model + ".latch d q re x 2\n.names clk x\n0 1\n.end\n", Reading(None, 2), "Logic makes the clock"),
-            (model + ".latch y q re clk 2\n.names clk d y\n11 1\n.end\n", Reading(None, 2), "also used as a bit"),
-            (model + ".latch d q re clk 2\n.latch d q re clk 2\n.end\n", Reading(None, 2), "Two stored bits"),
-            (model + ".latch d q re clk 2\n.names d q\n1 1\n.end\n", Reading(None, 2),
+            (model + ".latch d q re clk 2\n.end\n", ReadingOptions(None, 2, INITIAL), "`q` has no first value"),
+            (model + ".latch d q re clk 2\n.latch q r fe clk 2\n.end\n", ReadingOptions(None, 2),
+             "different clocks or edges"),
+            (model + ".latch d q re clk 2\n.latch q r re d 2\n.end\n", ReadingOptions(None, 2),
+             "different clocks or edges"),
+            (model + ".latch d q re x 2\n.names clk x\n0 1\n.end\n", ReadingOptions(None, 2), "Logic makes the clock"),
+            (model + ".latch y q re clk 2\n.names clk d y\n11 1\n.end\n", ReadingOptions(None, 2),
+             "also used as a bit"),
+            (model + ".latch d q re clk 2\n.latch d q re clk 2\n.end\n", ReadingOptions(None, 2), "Two stored bits"),
+            (model + ".latch d q re clk 2\n.names d q\n1 1\n.end\n", ReadingOptions(None, 2),
              "driven by a latch or an input and by logic"),
-            (model + ".latch d q re clk 2\n.end\n", Reading(None, 999_999), "too many"),
-            (model + ".latch x q re clk\n.end\n", Reading(None, 1), "Nothing drives"),
-            (model + ".names d q\n1 1\n.end\n", Reading(None, 2), "no cycles"),
-            (model + ".latch d q\n.end\n", Reading(), "say for how many cycles"),
+            (model + ".latch d q re clk 2\n.end\n", ReadingOptions(None, 999_999), "too many"),
+            (model + ".latch x q re clk\n.end\n", ReadingOptions(None, 1), "Nothing drives"),
+            (model + ".names d q\n1 1\n.end\n", ReadingOptions(None, 2), "no cycles"),
+            (model + ".latch d q\n.end\n", ReadingOptions(), "say for how many cycles"),
         ):
             with self.assertRaises(NetlistError, msg=text) as found:
                 map_netlist(text, reading=reading)

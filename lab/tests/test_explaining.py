@@ -8,7 +8,7 @@ import unittest
 import support
 from bbmlab_core.explain.diagnosis import Diagnosis, Truth
 from bbmlab_core.explain.explaining import as_gcc, explain_answer
-from bbmlab_core.explain.trials import Trial
+from bbmlab_core.explain.trials import TrialRunner
 from bbmlab_core.texts.skimming import certificate_digest
 from bbmlab_core.texts.circuits import values_under
 from bbmlab_core.texts.reports import ReportError, parse_report
@@ -153,7 +153,7 @@ class Explained(unittest.TestCase):
         text = support.text_of("gate_and_mirror")
         for line in re.findall(r"^edge \d+ .*$", text, re.M):
             broken = text.replace(line + "\n", "", 1)
-            told = explain_answer(broken, "check", support.checked(broken), "broken", Trial(support.program()))
+            told = explain_answer(broken, "check", support.checked(broken), "broken", TrialRunner(support.program()))
             first = min((entry for entry in told.entries if entry.facts.get("time") is not None),
                         key=lambda entry: entry.facts["time"])
             wires = {"a": "ad", "d": "ad"}.get(line[-1], line[-1])
@@ -185,4 +185,4 @@ def explained_example(name: str):
     import reference_reports
     data = (support.EXAMPLES / f"{name}.txt").read_bytes()
     return explain_answer(data.decode(), "check", reference_reports.answer(data)[1].decode(), name,
-                          Trial(support.program()))
+                          TrialRunner(support.program()))

@@ -9,17 +9,17 @@ from types import SimpleNamespace
 
 import support
 from bbmlab_core.explain.diagnosis import Diagnosis, Truth
-from bbmlab_core.explain.edits import EditError, add, applied, delete, edits_between, replace
+from bbmlab_core.explain.edits import EditError, addition, deletion, edits_between, replacement, text_after
 from bbmlab_core.explain.expected_lines import BorderCheck
 from bbmlab_core.explain.explaining import ExplainedAnswer, explain_answer
 from bbmlab_core.explain.fixing import Fixer
 from bbmlab_core.explain.refusal_edits import refusal_edits
-from bbmlab_core.explain.trials import Budget, Trial, is_yes
+from bbmlab_core.explain.trials import Budget, TrialRunner, is_yes
 from bbmlab_core.host.program import ask
-from bbmlab_core.physics.mirrors import stays
+from bbmlab_core.physics.mirrors import is_stable
 from bbmlab_core.physics.own_report import own_report
 from bbmlab_core.texts.skimming import certificate_digest
-from bbmlab_core.physics.simulation import Field, key_of
+from bbmlab_core.physics.simulation import LiveCells, key_of
 from bbmlab_core.texts.certificates import Border, Module
 from bbmlab_core.texts.layouts import Box, Layout, Part
 from bbmlab_core.texts.reports import ReportError, parse_report
@@ -31,7 +31,7 @@ from support import text_of
 def explained(text: str, command: str = "check") -> ExplainedAnswer:
     """Returns the program's answer to a text in words, with fixes that the program tried."""
     output = ask(support.program(), command, text.encode("latin-1")).output
-    return explain_answer(text, command, output, "text", Trial(support.program()))
+    return explain_answer(text, command, output, "text", TrialRunner(support.program()))
 
 
 def says_yes(text: str) -> bool:
@@ -45,25 +45,25 @@ class Edits(unittest.TestCase):
     def test_lines_count_in_the_text_before(self) -> None:
         """Edits do not shift each other's lines, and two lines that are added at one place keep their order."""
         text = "a\nb\nc\nd\n"
-        edits = [delete(1), add(2, "x"), add(2, "y"), replace(4, "z"), add(0, "first")]
-        self.assertEqual(applied(text, edits), "first\nb\nx\ny\nc\nz\n")
-        for wrong in ([delete(9)], [delete(0)], [delete(2), replace(2, "q")]):
+        edits = [deletion(1), addition(2, "x"), addition(2, "y"), replacement(4, "z"), addition(0, "first")]
+        self.assertEqual(text_after(text, edits), "first\nb\nx\ny\nc\nz\n")
+        for wrong in ([deletion(9)], [deletion(0)], [deletion(2), replacement(2, "q")]):
             with self.assertRaises(EditError):
-                applied(text, wrong)
+                text_after(text, wrong)
 
     def test_edits_between_lead_from_one_to_the_other(self) -> None:
         """What is found by comparing two texts makes one of the other."""
         for one, two in (("a\nb\nc\n", "a\nc\nd\n"), ("a\n", "a\n"), ("", "x\ny\n"), ("p\nq\nr\n", "r\nq\np\n"),
                          ("a\na\na\n", "a\n")):
             with self.subTest(one=one, two=two):
-                self.assertEqual(applied(one, edits_between(one, two)), two)
+                self.assertEqual(text_after(one, edits_between(one, two)), two)
 
     def test_module_for_a_gap(self) -> None:
         """A module that was left out is added again, if no wire comes into its box."""
         head = "circuit\ninput p\noutput p\nend\nlayout 16 8 3\nin p 2 2\nout p 5 5\nend\n"
         whole = f"{head}certificate 2\nmodule 0 0 8 8\ncut p\nmodule 8 0 8 8\nend\n"
         text = whole.replace("module 8 0 8 8\n", "")
-        self.assertEqual([applied(text, edits) for edits in refusal_edits(support.read_document(text))], [whole])
+        self.assertEqual([text_after(text, edits) for edits in refusal_edits(support.read_document(text))], [whole])
         self.assertTrue(says_yes(whole))
 
     def test_one_edit(self) -> None:
@@ -79,10 +79,10 @@ class Edits(unittest.TestCase):
             self.assertGreater(len(numbers), 5)
             for number in numbers:
                 text = "\n".join(lines[:number] + lines[number + 1:])
-                report = Trial(support.program()).report(text)
+                report = TrialRunner(support.program()).report(text)
                 assert report
                 if not is_yes(report):
-                    fix = Fixer(text, report, Trial(support.program())).find()
+                    fix = Fixer(text, report, TrialRunner(support.program())).find_fix()
                     self.assertEqual((len(fix.edits), fix.remakes, is_yes(fix.report)), (1, False, True),
                                      (lines[number], fix.words))
 
@@ -102,7 +102,7 @@ class Edits(unittest.TestCase):
                 at.setdefault((x, y), []).append((knowing[0], Border(time, x, y, name)))
             check.__dict__.update(lines_at=at, layout=layout,
                                   diagnosis=SimpleNamespace(values=SimpleNamespace(tables=tables),
-                                                            local=lambda module: module.cuts))
+                                                            local_wires_of=lambda module: module.cuts))
             self.assertEqual("".join(check.likely_wires(5, modules, (8, 3), 49)), wanted, lines)
 
     def test_first_edit(self) -> None:
@@ -133,12 +133,12 @@ class Edits(unittest.TestCase):
                     for height in range(1, 6):
                         part = Part("mirror", None, x, y, width, height)
                         start = {key_of(cell): 1 for cell in part.cells()}
-                        field = Field(start)
+                        field = LiveCells(start)
                         kept = []
                         for _ in (1, 2):
                             field.step()
                             kept.append(set(field.live) == set(start))
-                        self.assertEqual(stays(part), all(kept), part)
+                        self.assertEqual(is_stable(part), all(kept), part)
 
     def test_the_headline_names_it(self) -> None:
         """A mirror that was moved by one cell is named before anything else, though the fault is at an output."""
@@ -159,7 +159,7 @@ class Mistakes(unittest.TestCase):
         self.assertIsNotNone(told.fix, told.tried)
         self.assertEqual((told.fix.verdict, told.fix.judge), ("yes", "the program"))
         if not told.fix.certificate_again:
-            self.assertTrue(says_yes(applied(broken, told.fix.edits)))
+            self.assertTrue(says_yes(text_after(broken, told.fix.edits)))
         return told
 
     def test_the_text_comes_back(self) -> None:
@@ -178,7 +178,7 @@ class Mistakes(unittest.TestCase):
                 self.assertIn(old, text)
                 broken = text.replace(old, new)
                 told = self.fixed(text, broken)
-                self.assertEqual(applied(broken, told.fix.edits), text)
+                self.assertEqual(text_after(broken, told.fix.edits), text)
 
     def test_kinds_of_edits(self) -> None:
         """Where several texts are near and right, the fix is an edit of the line that is wrong."""
@@ -279,7 +279,7 @@ class Reports(support.InRoom):
             text = self.many_inputs(is_right)
             document = support.read_document(text, "check")
             self.assertIsNone(document.refusal)
-            outcome = Diagnosis(document).outcome
+            outcome = Diagnosis(document).whole_outcome
             self.assertIs(outcome.is_right, Truth.UNKNOWN if is_right else Truth.NO)
         told = explained(self.many_inputs(False))
         self.assertIn("The layout itself does not do what the circuit asks", " ".join(told.headline))
@@ -350,7 +350,7 @@ class Command(support.InRoom):
         count = int(os.environ.get("BBMLAB_MUTANTS", "3"))
         total, failed = 0, []
         for family in FAMILIES:
-            for name, text in mutants(family, texts, count, 7, lambda text: is_yes(Trial(program).report(text))):
+            for name, text in mutants(family, texts, count, 7, lambda text: is_yes(TrialRunner(program).report(text))):
                 rounds, refused = rounds_to_yes(text, program)
                 total += 1
                 self.assertEqual(refused, [], f"{family} {name}")
@@ -365,14 +365,14 @@ class Command(support.InRoom):
         for name in ("wrong_edge", "wrong_border", "wrong_times", "wrong_stop", "extra_cut", "two_names",
                      "outside_domain", "not_kept"):
             text = text_of(name)
-            trial = Trial(program, Budget(200, 20))
+            trial = TrialRunner(program, Budget(200, 20))
             report = trial.report(text)
             fixer, diagnosis = Fixer(text, report, trial), Diagnosis(support.read_document(text, "check"))
             for finding in report.faults:
-                fix = fixer.find_for(diagnosis, finding)
+                fix = fixer.find_fix_of_line(diagnosis, finding)
                 if fix:
                     tried += 1
-                    after = support.checked(applied(text, fix.edits))
+                    after = support.checked(text_after(text, fix.edits))
                     self.assertNotIn("refused", after)
                     self.assertNotIn(finding.text, after.split("\n"))
         self.assertGreater(tried, 6)

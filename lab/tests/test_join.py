@@ -19,20 +19,21 @@ from unittest import mock
 
 import support
 from bbmlab_core.joining import coil_ways, coils, command, lone_ways, modules, planning, wiring
-from bbmlab_core.joining.composing import Composed, Connection, NamedPart, composed, ordered
-from bbmlab_core.joining.lone_ways import balls_of
+from bbmlab_core.joining.composing import Composition, Connection, NamedPart, compose, feeding_order
+from bbmlab_core.joining.lone_ways import whole_balls_of
 from bbmlab_core.joining.parts import read_part
-from bbmlab_core.joining.places import GAP, Area, all_places
-from bbmlab_core.joining.slack import Cut, Slack
+from bbmlab_core.joining.places import LEAST_GAP, Area, all_places
+from bbmlab_core.joining.slack import LoneWayCuts, WayCut
 from bbmlab_core.joining.turning import TURNINGS, UPRIGHT, Placing
 from bbmlab_core.physics.simulation import run_layout
 from bbmlab_core.route.attempt import Attempt
-from bbmlab_core.route.balls import BOUNCE_STEPS, Ball, Turn, bounce, follow, mirror_cells
+from bbmlab_core.route.balls import BOUNCE_STEPS, Ball, Turn, bounce, follow_legs, mirror_cells
 from bbmlab_core.route.command import ProgressLine
 from bbmlab_core.route.netlist import RouterNetlist
 from bbmlab_core.route.paths import PathFinder
 from bbmlab_core.route.settings import OPEN_STEPS, Settings
-from bbmlab_core.route.world import MARGIN, ROW, STEP, TILE, Item, World, cell_number, number_cell, path_item
+from bbmlab_core.route.world import (MARGIN_CELLS, ROW_STRIDE, STEP_STRIDE, TILE, Item, World, cell_number,
+                                     cell_of_number, path_item)
 from bbmlab_core.texts.certificates import Module
 from bbmlab_core.texts.circuits import values_under
 from bbmlab_core.texts.documents import Document, read_document
@@ -135,7 +136,7 @@ class Joining(unittest.TestCase):
         self.assertEqual(document.circuit.outputs, ("p_sum", "p_carry", "q_b"))
         parts = {name: read_part(name, self.parts[name].read_text()) for name in ("half", "block")}
         self.assertEqual(document.layout.steps, max(own.layout.steps for own in parts.values()))
-        plan = planning.made_plan(composed(parts, []), 512, [])
+        plan = planning.make_plan(compose(parts, []), 512, [])
         assert plan
         self.assertTrue(all(plan.end - own.end < 2 for own in plan.placed), plan.placed)
         self.assert_runs(document)
@@ -170,8 +171,8 @@ class Joining(unittest.TestCase):
             self.assertFalse(way.mirrors - made.parts[0].text.layout.mirror_cells())
         parts = {part.name: part.text for part in made.parts}
         with mock.patch.object(planning, "turnings_of", lambda placed: [UPRIGHT]):
-            whole = planning.made_plan(composed(parts, made.connections, set(ways)), 512, [0])
-            plan = planning.made_plan(made, 512, [0])
+            whole = planning.make_plan(compose(parts, made.connections, set(ways)), 512, [0])
+            plan = planning.make_plan(made, 512, [0])
         assert plan and whole
         self.assertLess(plan.end, whole.end)
 
@@ -179,32 +180,33 @@ class Joining(unittest.TestCase):
         """A mirror that another ball touches stays, and so do all mirrors that hang together with it."""
         mirrors = {(x + i, y + j) for x, y in ((10, 10), (30, 30), (34, 31)) for i in range(4) for j in range(2)}
         beside = {(10, 10), (31, 31)}
-        self.assertEqual(len(lone_ways.free_mirrors(beside, set().__contains__, mirrors)), 24)
-        claimed = {32 * ROW + 37}.__contains__
-        self.assertEqual(lone_ways.free_mirrors(beside, claimed, mirrors), {cell for cell in mirrors if cell[0] < 20})
+        self.assertEqual(len(lone_ways.unclaimed_mirrors(beside, set().__contains__, mirrors)), 24)
+        claimed = {32 * ROW_STRIDE + 37}.__contains__
+        self.assertEqual(lone_ways.unclaimed_mirrors(beside, claimed, mirrors),
+                         {cell for cell in mirrors if cell[0] < 20})
 
     def test_balls_with_time_to_spare(self) -> None:
         """A ball with time to spare stays on its lone ways. It leaves elsewhere if it could not leave there."""
         made = self.made()
-        plan = planning.made_plan(made, 512, [0])
+        plan = planning.make_plan(made, 512, [0])
         assert plan
-        self.assertEqual(Slack(made, plan, [0], set()).moved, [])
+        self.assertEqual(LoneWayCuts(made, plan, [0], set()).moved, [])
         first, last = plan.placed
         late = replace(plan, end=plan.end + 1000, placed=[first, replace(last, time=last.time + 1000)])
-        slack = Slack(made, late, [0], set())
-        before, job = plan.jobs[0], slack.planned().jobs[0]
+        slack = LoneWayCuts(made, late, [0], set())
+        before, job = plan.jobs[0], slack.plan_with_cuts().jobs[0]
         assert before.start and job.start and job.goal
-        self.assertEqual(slack.moved[0], Cut(0, True, first.part.text.layout.steps))
+        self.assertEqual(slack.moved[0], WayCut(0, True, first.part.text.layout.steps))
         self.assertGreater(job.start.time, before.start.time)
         self.assertGreaterEqual(job.steps, planning.steps_needed(last, job.start, job.goal, 0))
-        self.assertNotIn(slack.moved[0], Slack(made, late, [0], set(slack.moved)).moved)
+        self.assertNotIn(slack.moved[0], LoneWayCuts(made, late, [0], set(slack.moved)).moved)
 
     # --- planted mistakes: the program finds each of them -------------------------------------------------------------
 
-    def made(self, names: str = "ab", words: Iterable[str] = ("a.sum=b.a",), lone: str = "sum a") -> Composed:
+    def made(self, names: str = "ab", words: Iterable[str] = ("a.sum=b.a",), lone: str = "sum a") -> Composition:
         """Returns connected half adders, two in a row if no others are given, and wires whose balls may come alone."""
         part = read_part("half", self.parts["half"].read_text(), lone.split())
-        return composed(dict.fromkeys(names, part), [command.connection_of(word) for word in words])
+        return compose(dict.fromkeys(names, part), [command.parse_connection(word) for word in words])
 
     def verdict_with(self, change: mock._patch) -> str: # type: ignore[type-arg]
         """Returns the first lines that the program says of a join with a mistake."""
@@ -216,7 +218,7 @@ class Joining(unittest.TestCase):
 
     def test_join_without_mistakes(self) -> None:
         """Without a mistake the join gets a yes."""
-        self.assertIn("verdict yes", self.verdict_with(mock.patch.object(planning, "GAP", planning.GAP)))
+        self.assertIn("verdict yes", self.verdict_with(mock.patch.object(planning, "LEAST_GAP", planning.LEAST_GAP)))
 
     def test_a_part_with_early_lines(self) -> None:
         """A part whose lines come two steps before its balls gets a no."""
@@ -242,12 +244,12 @@ class Joining(unittest.TestCase):
 
     def test_a_lost_wire(self) -> None:
         """If no module is told of the wires of paths, the text is refused."""
-        change = mock.patch.object(modules.JoinedModules, "count", lambda *words: None)
+        change = mock.patch.object(modules.JoinedModules, "count_wire", lambda *words: None)
         self.assertIn("refused", self.verdict_with(change))
 
     def test_lines_of_a_lone_way(self) -> None:
         """A part that keeps the lines of a ball that comes another way gets no yes."""
-        change = mock.patch.object(NamedPart, "missing", set[object]())
+        change = mock.patch.object(NamedPart, "left_out_lines", set[object]())
         self.assertRegex(self.verdict_with(change), "verdict no|^refused")
 
     # --- time and room between parts ----------------------------------------------------------------------------------
@@ -261,20 +263,21 @@ class Joining(unittest.TestCase):
         for places in found:
             boxes = [(x, y, x + own.width, y + own.height) for (x, y), own in zip(places, areas)]
             for number, (left, top, right, bottom) in enumerate(boxes):
-                self.assertTrue(min(left, top) >= GAP and max(right, bottom) <= 800 - GAP)
+                self.assertTrue(min(left, top) >= LEAST_GAP and max(right, bottom) <= 800 - LEAST_GAP)
                 self.assertTrue(left % TILE == top % TILE == 0)
                 for x, y, far, low in boxes[:number]:
-                    self.assertTrue(left >= far + GAP or x >= right + GAP or top >= low + GAP or y >= bottom + GAP)
+                    self.assertTrue(left >= far + LEAST_GAP or x >= right + LEAST_GAP or top >= low + LEAST_GAP
+                                    or y >= bottom + LEAST_GAP)
             for (x, y), (across, down) in zip(places, places[1:]):
-                self.assertLess(max(abs(x - across), abs(y - down)), 160 + 32 + 8 * GAP)
+                self.assertLess(max(abs(x - across), abs(y - down)), 160 + 32 + 8 * LEAST_GAP)
         self.assertEqual(list(all_places(areas, 600)), [])
 
     def test_order_of_parts(self) -> None:
         """A part comes next to those that feed it: before other parts that nothing feeds."""
         fed = [Connection(*own.split()) for own in ("u o x i", "v o y i", "w o y j")]
-        self.assertEqual(ordered(list("uvwxy"), fed), list("uxvwy"))
-        self.assertEqual(ordered(list("yxwvu"), fed), list("wvyux"))
-        self.assertEqual(ordered(list("uvw"), []), list("uvw"))
+        self.assertEqual(feeding_order(list("uvwxy"), fed), list("uxvwy"))
+        self.assertEqual(feeding_order(list("yxwvu"), fed), list("wvyux"))
+        self.assertEqual(feeding_order(list("uvw"), []), list("uvw"))
 
     def test_time_for_each_ball(self) -> None:
         """A part to which many balls come begins so late that each of them gets its steps, and with more to spare
@@ -283,8 +286,8 @@ class Joining(unittest.TestCase):
         made = self.made("abcde", words, "sum carry a b")
         ends = []
         for spare, own in enumerate(planning.SPARES):
-            with mock.patch.object(planning, "SHALLOW", 30):
-                plan = planning.made_plan(made, 800, [spare] * len(words))
+            with mock.patch.object(planning, "SHALLOW_CELLS", 30):
+                plan = planning.make_plan(made, 800, [spare] * len(words))
             assert plan
             between, world = [job for job in plan.jobs if job.start and job.goal], wiring.JoinWorld(plan)
             self.assertEqual(len(between), len(words))
@@ -300,13 +303,14 @@ class Joining(unittest.TestCase):
     def test_ways_back_from_deep_goals(self) -> None:
         """A path to a ball deep in a part comes back from it for more steps, so that it can be joined outside."""
         search = command.JoinSearch(self.made(), command.JoinOptions(1, None, 60), ProgressLine(60))
-        _, _, own = search.prepared()
+        _, _, own = search.prepare_attempt()
         ball = Ball(512, 512, 1, 1, 4000)
-        for depth in (0, planning.SHALLOW, planning.SHALLOW + 500):
+        for depth in (0, planning.SHALLOW_CELLS, planning.SHALLOW_CELLS + 500):
             with mock.patch.object(own.world, "depth", lambda *words, own=depth: own), mock.patch.object(
                     own.finder, "wander", return_value=False) as wander:
-                self.assertIsNone(own.connected("w", ball.at(0), ball))
-            steps, deep = [ball.time + call.args[1] for call in wander.call_args_list], max(0, depth - planning.SHALLOW)
+                self.assertIsNone(own.find_connecting_path("w", ball.at(0), ball))
+            steps, deep = [ball.time + call.args[1]
+                           for call in wander.call_args_list], max(0, depth - planning.SHALLOW_CELLS)
             self.assertEqual(len(steps), wiring.CONNECT_TRIES)
             self.assertGreaterEqual(min(steps), wiring.BACK_STEPS[0] + deep)
             self.assertLessEqual(max(steps), wiring.BACK_STEPS[1] + 2 * deep)
@@ -314,7 +318,7 @@ class Joining(unittest.TestCase):
     def test_more_time_for_one_ball(self) -> None:
         """A ball between two parts that cannot be led in its time gets more, and no other one does."""
         search = command.JoinSearch(self.made(), command.JoinOptions(1, None, 60), ProgressLine(60))
-        _, _, own = search.prepared()
+        _, _, own = search.prepare_attempt()
         with mock.patch.object(wiring.JoinWiring, "lead", lambda *words: False):
             with self.assertRaises(wiring.TightError) as caught:
                 own.run(lambda *words: None, [0])
@@ -330,11 +334,11 @@ class Joining(unittest.TestCase):
         made = self.made("abc", ("a.sum=b.a", "b.sum=c.a", "a.carry=c.b"), "sum carry a b")
         search = command.JoinSearch(made, command.JoinOptions(1, 800, 60), ProgressLine(60))
         before = search.steps_between()
-        search.loosen([2])
+        search.add_spare_steps([2])
         self.assertEqual(search.spares, [1, 1, 2])
         self.assertTrue(all(more > steps for more, steps in zip(search.steps_between(), before)))
         search.spares = [0, 0, 0]
-        search.loosen([1])
+        search.add_spare_steps([1])
         self.assertEqual(search.spares, [0, 1, 0])
 
     def test_coils(self) -> None:
@@ -346,7 +350,7 @@ class Joining(unittest.TestCase):
                 self.assertEqual(sum(leg.steps for leg in legs), steps)
                 item = path_item(ball, legs)
                 assert item
-                cells = {number_cell(number) for number in item.mirrors | item.touched}
+                cells = {cell_of_number(number) for number in item.mirrors | item.touched}
                 self.assertTrue(all(coil.box.has(cell) for cell in cells), (ball, steps))
 
     def test_balls_wait_in_coils(self) -> None:
@@ -357,13 +361,13 @@ class Joining(unittest.TestCase):
         own.ground = coil_ways.CoilGround(own.world, [Box(400, 450, 220, 100)])
         for number in range(8):
             ball = Ball(440 + 16 * number, 500, 1, 1, 1000)
-            job = planning.Job("w", None, ball, 1000) if number % 2 else planning.Job("w", ball, None, 4000)
-            path = own.found(job)
+            job = planning.BallJob("w", None, ball, 1000) if number % 2 else planning.BallJob("w", ball, None, 4000)
+            path = own.find_path(job)
             assert path
             assert isinstance(path, wiring.CoiledPath)
             before = len(own.world.claims), len(own.world.mirrors)
             own.world.add(path.sealed)
-            self.assertEqual(follow(path.start, path.legs)[0], path.end)
+            self.assertEqual(follow_legs(path.start, path.legs)[0], path.end)
             self.assertEqual((path.start.time, path.end.time), (0, 1000) if number % 2 else (1000, 4000))
             self.assertLess(len(path.sealed.claims), len(path.item.claims) // 2)
             ring = path.sealed.mirrors - path.item.mirrors
@@ -383,18 +387,18 @@ class Joining(unittest.TestCase):
             search = coil_ways.CoilSearch(finder, coil_ways.CoilGround(world, []), ball, 3000 * (not is_backward),
                                           is_backward)
             first = search.first
-            room = world.free_flight(first.ball, coil_ways.LONGEST)
-            with mock.patch.object(search, "places", lambda *words, most=room: range(most + 1)):
+            room = world.free_steps(first.ball, coil_ways.LONGEST_LEG)
+            with mock.patch.object(search, "bounce_steps", lambda *words, most=room: range(most + 1)):
                 found = list(search.options_behind(first, room))
-            on = coil_ways.LEAST_ON
+            on = coil_ways.LEAST_STEPS_ON
             self.assertEqual([(option.steps, option.turn) for option in found], [
                 (steps, turn) for steps in range(room + 1) for turn in Turn
                 for after, mirror in [bounce(first.ball.flown(steps), turn)]
-                if world.can_hold(mirror) and world.free_flight(after.flown(BOUNCE_STEPS), on) == on])
+                if world.can_hold(mirror) and world.free_steps(after.flown(BOUNCE_STEPS), on) == on])
             search.queue = found
-            for bend in iter(search.next_bend, None):
+            for bend in iter(search.next_bounce, None):
                 item, left, right, top, bottom = bend.spans[-1]
-                for x, y in map(number_cell, item.mirrors | item.touched):
+                for x, y in map(cell_of_number, item.mirrors | item.touched):
                     self.assertTrue(left <= x <= right and top <= y <= bottom, bend)
 
     def test_ways_to_open_ground(self) -> None:
@@ -409,10 +413,10 @@ class Joining(unittest.TestCase):
             for cells in wiring.GOAL_CELLS:
                 search = coil_ways.OpenSearch(finder, ground, inner, other, is_backward, lambda _: True, cells)
                 legs = next(search.ways())
-                first = finder.before(inner, legs) if is_backward else inner
-                item, last = path_item(first, legs), follow(first, legs)[0]
+                first = finder.ball_before(inner, legs) if is_backward else inner
+                item, last = path_item(first, legs), follow_legs(first, legs)[0]
                 assert item
-                self.assertTrue(world.fits(item))
+                self.assertTrue(world.can_add(item))
                 self.assertEqual(inner, last if is_backward else first)
                 end = first if is_backward else last
                 self.assertFalse(part.has((end.x, end.y)))
@@ -423,17 +427,17 @@ class Joining(unittest.TestCase):
         size, part, world = 160, Box(50, 40, 20, 30), World(160)
         taken = [(30, 100), (100, 60), *part.ring()]
         world.add(Item(frozenset(map(cell_number, taken[:2]))))
-        ground, side, street = coil_ways.CoilGround(world, [part]), 40, coil_ways.PATH_STREET
+        ground, side, street = coil_ways.CoilGround(world, [part]), 40, coil_ways.PATH_STREET_CELLS
         ground.take_coil(Box(130, 120, 20, 20))
         squares = ground.squares(side, 80)
         for x, y in itertools.product(range(0, size, 3), repeat=2):
             own, around = Box(x, y, side, side), Box(x - street, y - street, side + 2 * street, side + 2 * street)
-            inside = min(x, y) >= MARGIN and max(x, y) + side <= size - MARGIN
+            inside = min(x, y) >= MARGIN_CELLS and max(x, y) + side <= size - MARGIN_CELLS
             free = inside and not any(map(around.has, taken[:2])) and not any(map(own.has, taken[2:])) and (
-                x + side <= 130 - coil_ways.STREET or y + side <= 120 - coil_ways.STREET)
+                x + side <= 130 - coil_ways.STREET_CELLS or y + side <= 120 - coil_ways.STREET_CELLS)
             self.assertEqual(squares.has(x, y), free, (x, y))
         places = [(x + side // 2, y + side // 2) for x in range(size) for y in range(size) if squares.has(x, y)]
-        distances = squares.distances()
+        distances = squares.tile_distances()
         for x, y in ((5, 5), (60, 55), (155, 155)):
             least = min(max(abs(i - x), abs(j - y)) for i, j in places)
             self.assertLess(abs(distances.steps_from(x, y) - least), 2 * TILE)
@@ -446,12 +450,13 @@ class Joining(unittest.TestCase):
             cells, blocks = placing.cell_numbers(), placing.block_numbers()
             for _ in range(20):
                 x, y, time = chance.randrange(0, 158), chance.randrange(0, 94), chance.randrange(100)
-                self.assertEqual(number_cell(cells(cell_number((x, y)))), placing.cell((x, y)))
-                number = time * STEP + cell_number((x, y))
+                self.assertEqual(cell_of_number(cells(cell_number((x, y)))), placing.cell((x, y)))
+                number = time * STEP_STRIDE + cell_number((x, y))
                 own = blocks(number)
-                self.assertEqual((own // STEP, number_cell(own % STEP)), (time + 40, placing.box(Box(x, y, 2, 2))[:2]))
+                self.assertEqual((own // STEP_STRIDE, cell_of_number(own % STEP_STRIDE)),
+                                 (time + 40, placing.box(Box(x, y, 2, 2))[:2]))
                 self.assertEqual(blocks.inverse()(own), number)
-                flight = range(number, number + 5 * (STEP + ROW + 1), STEP + ROW + 1)
+                flight = range(number, number + 5 * (STEP_STRIDE + ROW_STRIDE + 1), STEP_STRIDE + ROW_STRIDE + 1)
                 self.assertEqual(list(blocks.of_range(flight)), [blocks(each) for each in flight])
                 self.assertEqual(list(blocks.of_all(flight)), [blocks(each) for each in flight])
                 dx, dy = chance.choice((-1, 1)), chance.choice((-1, 1))
@@ -478,8 +483,8 @@ class Joining(unittest.TestCase):
         for balls, moment in ((even, 4), ([ball.moved(1, 1, 1) for ball in even], 5)):
             self.assertTrue(all(ball.is_legal for ball in balls))
             cells = [cell for ball in balls for cell in ball.cells()]
-            self.assertEqual(sorted(balls_of(cells, moment) or []), sorted(balls))
-            self.assertIsNone(balls_of(cells[1:], moment))
+            self.assertEqual(sorted(whole_balls_of(cells, moment) or []), sorted(balls))
+            self.assertIsNone(whole_balls_of(cells[1:], moment))
 
     def test_room_at_open_ends(self) -> None:
         """An end that is to be open takes the room of one more mirror than its path has, and no other end does."""
@@ -494,11 +499,11 @@ class Joining(unittest.TestCase):
     def test_open_ends_can_be_led(self) -> None:
         """Each ball of a part that is routed with open ends can be led away from it, and to it from elsewhere."""
         made = self.made()
-        plan = planning.made_plan(made, planning.estimated_side(made, [3]), [3])
+        plan = planning.make_plan(made, planning.estimated_side(made, [3]), [3])
         assert plan
         own = wiring.JoinWiring(plan, modules.JoinedModules(made, plan), 1, command.SETTINGS, float("inf"))
         for job in plan.jobs:
-            self.assertIsNotNone(next((path for path in (own.found(job) for _ in range(4)) if path), None), job)
+            self.assertIsNotNone(next((path for path in (own.find_path(job) for _ in range(4)) if path), None), job)
 
     # --- what is refused ----------------------------------------------------------------------------------------------
 

@@ -14,7 +14,7 @@ from bbmlab_core.physics.simulation import WholeRun, cell_of, end_tables, key_of
 from bbmlab_core.texts.circuits import Circuit, evaluate_all
 from bbmlab_core.texts.documents import read_document
 from bbmlab_core.texts.layouts import Cell, Layout
-from bbmlab_core.physics.standard_cells import CellPort, parts_of, read_cell
+from bbmlab_core.physics.standard_cells import CellPort, layout_and_circuit, read_cell
 
 KINDS = ("mirror", "ball", "in", "out", "waste")
 # Dead cells around a joined layout.
@@ -90,7 +90,7 @@ def joined_circuit(joint: Joint) -> str:
     """Returns the circuit: the gates of the first cell, then those of the second, whose other wires get the prefix
     `v_`.
     """
-    first, second = (parts_of(read_cell(name).document)[1] for name in (joint.first, joint.second))
+    first, second = (layout_and_circuit(read_cell(name).document)[1] for name in (joint.first, joint.second))
 
     def own(wire: str) -> str:
         """Returns the name that a wire of the second cell gets."""
@@ -107,7 +107,7 @@ def joined_circuit(joint: Joint) -> str:
 
 def joined(joint: Joint, k: int) -> str:
     """Returns the joined circuit and layout, in which the ball flies k steps from the first cell to the second."""
-    first, second = (parts_of(read_cell(name).document)[0] for name in (joint.first, joint.second))
+    first, second = (layout_and_circuit(read_cell(name).document)[0] for name in (joint.first, joint.second))
     leaves, comes = port_of(joint.first, joint.output, ("out",)), port_of(joint.second, joint.input, ("in",))
     right, down = leaves.lead[0] + k * leaves.dx - comes.lead[0], leaves.lead[1] + k * leaves.dy - comes.lead[1]
     later = leaves.time + k - comes.time
@@ -156,7 +156,7 @@ def waves(name: str, distance: int) -> str:
     """Returns a circuit and a layout that let two waves of inputs through a cell: the second starts some steps further
     back.
     """
-    layout, circuit = parts_of(read_cell(name).document)
+    layout, circuit = layout_and_circuit(read_cell(name).document)
     lines: list[Line] = []
     for kind, wire, cell, width, height in lines_of(layout):
         if kind == "mirror":

@@ -7,7 +7,7 @@ import unittest
 
 import support
 from bbmlab_core.circuits.cones import keeping_cone
-from bbmlab_core.circuits.keeps import KeepSearch, kept_cone, why_not_kept
+from bbmlab_core.circuits.keeps import KeepSearch, search_keeping_cone, why_not_kept
 from bbmlab_core.texts.certificates import MAX_CUTS, MAX_USES
 from bbmlab_core.texts.circuits import Circuit, evaluate
 from support import circuit_of as read_circuit
@@ -37,7 +37,7 @@ class Keeps(unittest.TestCase):
             for gate in circuit.gates:
                 if not gate.is_inverse or keeping_cone(circuit, gate.number):
                     continue
-                cone = kept_cone(circuit, gate.number)
+                cone = search_keeping_cone(circuit, gate.number)
                 if cone is None:
                     missed += 1
                     self.assertIn("cannot be kept", why_not_kept(circuit, gate.number))
@@ -63,8 +63,8 @@ class Keeps(unittest.TestCase):
                 every = [*search.before, gate.number]
                 wanted = {number for number in search.before
                           if lacks_a_row(circuit, [own for own in every if own != number])}
-                self.assertLessEqual(set(search.necessary()), wanted, f"seed {seed + index}")
-                count += len(search.necessary())
+                self.assertLessEqual(set(search.necessary_gates()), wanted, f"seed {seed + index}")
+                count += len(search.necessary_gates())
         self.assertGreater(count, 40)
 
     def test_fewest_wires(self) -> None:
@@ -79,11 +79,11 @@ class Keeps(unittest.TestCase):
                       if number not in core]
             sets = (core | set(more) for count in range(len(others) + 1)
                     for more in itertools.combinations(others, count))
-            least = min(len(search.cuts(gates)) for gates in sets)
-            found = search.cut_off(core)
+            least = min(len(search.wires_into(gates)) for gates in sets)
+            found = search.minimum_cut_gates(core)
             self.assertTrue(core <= found)
-            self.assertEqual(len(search.cuts(found)), least, index)
-            larger += len(search.cuts(core)) > least
+            self.assertEqual(len(search.wires_into(found)), least, index)
+            larger += len(search.wires_into(core)) > least
         self.assertGreater(larger, 3)
 
     def test_why(self) -> None:
@@ -93,5 +93,5 @@ class Keeps(unittest.TestCase):
         text = (f"circuit\ninput a\ninput b\nswitch a b -> p q0 r\n{delays}\nunswitch p q70 r -> c d\noutput c\noutput "
                 "d\nend\n")
         circuit = read_circuit(text)
-        self.assertIsNone(kept_cone(circuit, 71))
+        self.assertIsNone(search_keeping_cone(circuit, 71))
         self.assertIn(f"at least {MAX_USES} gates before it", why_not_kept(circuit, 71))

@@ -13,13 +13,13 @@ from pathlib import Path
 from unittest import mock
 
 import support
-from bbmlab_core.certify.certifier import CertificatePlan, certified
+from bbmlab_core.certify.certifier import CertificatePlan, certified_text
 from bbmlab_core.cli import main
 from bbmlab_core.explain.diagnosis import Diagnosis
 from bbmlab_core.explain.expected_lines import BorderCheck
 from bbmlab_core.explain.explaining import explain_answer
 from bbmlab_core.explain.fixing import Fixer
-from bbmlab_core.explain.trials import Budget, Trial
+from bbmlab_core.explain.trials import Budget, TrialRunner
 from bbmlab_core.host.program import ask
 from bbmlab_core.host.terminal import LabError
 from bbmlab_core.physics import tracing
@@ -30,9 +30,9 @@ from bbmlab_core.texts.assigns import AssignReader
 from bbmlab_core.texts.certificates import Certificate, CertificateReader
 from bbmlab_core.texts.circuits import Circuit, CircuitReader, Gate, evaluate_samples, sampled_tables
 from bbmlab_core.texts.documents import HEADER_LINE, HEADERS, Document
-from bbmlab_core.texts.json_form import indented
+from bbmlab_core.texts.json_form import indented_json
 from bbmlab_core.texts.layouts import Box, Layout, LayoutReader, Part
-from bbmlab_core.texts.lines import Form, Values, match_line, word_value
+from bbmlab_core.texts.lines import LineForm, Values, match_line, word_value
 from test_studio_model import random_layout
 
 # Memory in which the trace of a large layout fits.
@@ -175,7 +175,7 @@ class Runs(unittest.TestCase):
             self.assertEqual(columns[column], {name for name in names if chance.random() < share}, column)
         gate = Gate("switch", (names[0], names[1]), ("d", "y", "z"))
         values = evaluate_samples(Circuit(tuple(names), (gate,)), 64)
-        self.assertIs(values.defined, values.defined)
+        self.assertIs(values.defined_columns, values.defined_columns)
 
     def test_golly_rows(self) -> None:
         """Each sign of a Golly file is the state of its cell: 1 and 2 dead, 3 and 4 live, 1 and 3 upper left in a block
@@ -215,8 +215,8 @@ class Forms(unittest.TestCase):
         list."""
         value = {"a": [], "b": {}, "c": [1, [2, "x\n\xe9\"", None], {"d": True, "e": [-1.5, {"f": [[]]}]}], "g": None,
                  "\x85": [[1, 2], ["a", "b"]]}
-        self.assertEqual(indented(value, "\n"), json.dumps(value, indent=1))
-        self.assertEqual(indented({"a": (part for part in [[1], {"b": 2}]), "c": (part for part in [])}, "\n"),
+        self.assertEqual(indented_json(value, "\n"), json.dumps(value, indent=1))
+        self.assertEqual(indented_json({"a": (part for part in [[1], {"b": 2}]), "c": (part for part in [])}, "\n"),
                          json.dumps({"a": [[1], {"b": 2}], "c": []}, indent=1))
 
     def test_headers(self) -> None:
@@ -235,13 +235,14 @@ class Forms(unittest.TestCase):
             read_sections = []
             right = CertificateReader.read
             read = mock.patch.object(CertificateReader, "read", lambda own: read_sections.append(right(own)))
-            with (mock.patch.object(designs, "LONG_TEXT", 0), read, contextlib.redirect_stderr(io.StringIO()),
+            with (mock.patch.object(designs, "LONG_TEXT_CHARACTERS", 0), read,
+                  contextlib.redirect_stderr(io.StringIO()),
                   contextlib.redirect_stdout(io.TextIOWrapper(io.BytesIO()))):
                 self.assertEqual(main([*words, support.example("four_modules")]), 0)
             self.assertEqual(read_sections, [], words)
 
 
-def plain_values(words: list[str], form: Form) -> Values | None:
+def plain_values(words: list[str], form: LineForm) -> Values | None:
     """Returns the values of the placeholders of a form for the words of a line, or None if one does not fit."""
     try:
         values = [(place, word_value(word, place)) for word, place in zip(words, form, strict=True)]
@@ -260,26 +261,26 @@ class Once(support.InRoom):
                                                                autospec=True,
                                                                side_effect=CertificateReader.read) as reader:
             out = str(Path(room) / "page.html")
-            with mock.patch("bbmlab_core.commands.view.trial_of", return_value=None):
+            with mock.patch("bbmlab_core.commands.view.trial_runner", return_value=None):
                 self.assertEqual(main(["view", "--program", support.program(), support.example("wrong_edge"), "-o",
                                        out]), 0)
             self.assertEqual(reader.call_count, 1)
         with mock.patch("bbmlab_core.explain.expected_lines.BorderCheck.all_cell_edits", autospec=True,
                         side_effect=BorderCheck.all_cell_edits) as groups:
             explain_answer(text, "check", ask(support.program(), "check", text.encode()).output, "text",
-                           Trial(support.program()))
+                           TrialRunner(support.program()))
         own = [call for call in groups.call_args_list if call.args[0].diagnosis.document.text == text]
         self.assertEqual(len(own), 1)
 
     def test_effort_is_the_end(self) -> None:
         """When the effort is used up nothing more is tried, for no line of the report."""
         text = support.text_of("wrong_edge")
-        trial = Trial(support.program(), Budget(seconds=30))
+        trial = TrialRunner(support.program(), Budget(seconds=30))
         report = trial.report(text)
         fixer, diagnosis = Fixer(text, report, trial), Diagnosis(read(text))
         trial.budget = Budget(seconds=0)
-        with mock.patch.object(fixer, "applied_or_none") as applied:
-            self.assertEqual([fixer.find_for(diagnosis, finding) for finding in report.faults],
+        with mock.patch.object(fixer, "text_after_or_none") as applied:
+            self.assertEqual([fixer.find_fix_of_line(diagnosis, finding) for finding in report.faults],
                              [None] * len(report.faults))
         self.assertEqual(applied.call_count, 0)
 
@@ -289,7 +290,7 @@ class Once(support.InRoom):
         text = support.text_of("wrong_edge")
         output = ask(support.program(), "check", text.encode()).output
         for is_of_search in (True, False):
-            trial = Trial(support.program(), Budget(is_of_search=is_of_search))
+            trial = TrialRunner(support.program(), Budget(is_of_search=is_of_search))
             trial.started -= 1000.0
             self.assertEqual(explain_answer(text, "check", output, "text", trial).fix is not None, is_of_search)
 
@@ -305,7 +306,7 @@ class Once(support.InRoom):
             self.assertIsNone(BorderCheck(diagnosis, -1.0).ring_tables)
             self.assertLessEqual(step.call_count, 1)
             with self.assertRaises(LabError):
-                certified(document, None, CertificatePlan(until=0.0))
+                certified_text(document, None, CertificatePlan(until=0.0))
             self.assertLessEqual(step.call_count, 2)
             self.assertIsNotNone(BorderCheck(Diagnosis(document), 30.0).ring_tables)
             self.assertGreater(step.call_count, 5)

@@ -8,7 +8,7 @@ from pathlib import Path
 
 import support
 from bbmlab_core.commands.draw import picture_of
-from bbmlab_core.pictures.label_places import Name, Rect, place_names
+from bbmlab_core.pictures.label_places import NameToPlace, Rect, place_names
 from bbmlab_core.texts.designs import read_design
 
 SVG = "{http://www.w3.org/2000/svg}"
@@ -37,9 +37,9 @@ def covered(picture: str, size: float) -> list[str]:
     ports = [Rect(number(part, "x"), number(part, "y"), number(part, "width"), number(part, "height"))
              for part in root.iter(f"{SVG}rect") if part.get("class") in ("in", "out")]
     found = [f"{text} covers the port at {port.x}, {port.y}" for text,
-             box in names for port in ports if box.shared(port) > 0.5]
+             box in names for port in ports if box.shared_area(port) > 0.5]
     found += [f"{text} covers {other}" for index, (text, box) in enumerate(names) for other,
-              rect in names[:index] if box.shared(rect) > 0.5]
+              rect in names[:index] if box.shared_area(rect) > 0.5]
     return found
 
 
@@ -57,7 +57,7 @@ class Labels(unittest.TestCase):
     def test_alone_a_name_keeps_its_side(self) -> None:
         """With nothing near, an input's name is above its cell and an output's below, both in the middle."""
         cell = Rect(100, 100, 12, 12)
-        above, below = (place_names([Name(cell, 20, 8, is_above)], [], [])[0].box for is_above in (True, False))
+        above, below = (place_names([NameToPlace(cell, 20, 8, is_above)], [], [])[0].box for is_above in (True, False))
         self.assertEqual((above.x, below.x), (96, 96))
         self.assertLess(above.y + above.height, 100)
         self.assertGreater(below.y, 112)
@@ -65,12 +65,12 @@ class Labels(unittest.TestCase):
     def test_a_name_stays_in_the_picture(self) -> None:
         """A long name at the border is moved, so that it is not cut off."""
         bounds = Rect(0, 0, 200, 200)
-        box = place_names([Name(Rect(2, 2, 12, 12), 60, 8, True)], [], [], bounds)[0].box
-        self.assertEqual(box.shared(bounds), 60 * 8)
+        box = place_names([NameToPlace(Rect(2, 2, 12, 12), 60, 8, True)], [], [], bounds)[0].box
+        self.assertEqual(box.shared_area(bounds), 60 * 8)
 
     def test_a_crowd(self) -> None:
         """Names of a block of sixteen ports cover no port and no name, though some are away from their cells."""
         cells = [Rect(100 + 12 * (index % 4), 100 + 12 * (index // 4), 12, 12) for index in range(16)]
-        boxes = [place.box for place in place_names([Name(cell, 30, 8, False) for cell in cells], [], [])]
-        self.assertEqual(sum(box.shared(cell) for box in boxes for cell in cells), 0)
-        self.assertEqual(sum(one.shared(other) for index, one in enumerate(boxes) for other in boxes[:index]), 0)
+        boxes = [place.box for place in place_names([NameToPlace(cell, 30, 8, False) for cell in cells], [], [])]
+        self.assertEqual(sum(box.shared_area(cell) for box in boxes for cell in cells), 0)
+        self.assertEqual(sum(one.shared_area(other) for index, one in enumerate(boxes) for other in boxes[:index]), 0)

@@ -12,7 +12,7 @@ from pathlib import Path
 from typing import Callable
 
 import support
-from bbmlab_core.certify.certifier import CertificatePlan, certified
+from bbmlab_core.certify.certifier import CertificatePlan, certified_text
 from bbmlab_core.farm.receipts import section_digests
 from bbmlab_core.physics import tracing
 from bbmlab_core.pictures import golly
@@ -21,12 +21,12 @@ from bbmlab_core.texts.documents import Document, read_document
 from bbmlab_core.texts.layouts import Box
 from bbmlab_core.texts.limits import FIRST, SECOND
 from bbmlab_core.texts.refusals import explain_refusal, refusal_words
-from bbmlab_core.texts.spelling import spelled
+from bbmlab_core.texts.spelling import spelled_text
 from bbmlab_core.view import viewing
 
 sys.path.insert(0, str(support.LAB / "public"))
 import bbmlab  # noqa: E402
-from bbmlab._reading import characters  # noqa: E402
+from bbmlab._reading import byte_characters  # noqa: E402
 
 LINE = "limits 2\n"
 # The last value without the line, and with it (docs/FORMATS.md, Limits).
@@ -117,9 +117,9 @@ class Values(unittest.TestCase):
         """A text of the most bytes is read, and one byte more is an error of the call."""
         for front, most in (("", BYTES[0]), (LINE, BYTES[1])):
             text = front + "x" * (most - len(front))
-            self.assertEqual(len(characters(text)), most)
+            self.assertEqual(len(byte_characters(text)), most)
             with self.assertRaises(OSError):
-                characters(text + "x")
+                byte_characters(text + "x")
 
     def test_small_texts_of_large_layouts(self) -> None:
         """A mirror over the whole of the largest layout, and a module that is missing there, take little time and
@@ -181,10 +181,10 @@ class Forms(unittest.TestCase):
     def test_fmt_keeps_the_line(self) -> None:
         """A text in its one spelling keeps the line, which may be written freely before all sections."""
         text = LINE + EMPTY + layout(514)
-        self.assertEqual(spelled(text).text, text)
-        self.assertEqual(spelled(f"\ufeff# large\n\n  limits   02 # as below\r\n{EMPTY}{layout(514)}").text, text)
-        self.assertEqual(spelled(LINE + LINE + EMPTY).text, LINE + LINE + EMPTY)
-        self.assertEqual(spelled(LINE + "circuit\noutput a\ninput a\nend\n").text,
+        self.assertEqual(spelled_text(text).text, text)
+        self.assertEqual(spelled_text(f"\ufeff# large\n\n  limits   02 # as below\r\n{EMPTY}{layout(514)}").text, text)
+        self.assertEqual(spelled_text(LINE + LINE + EMPTY).text, LINE + LINE + EMPTY)
+        self.assertEqual(spelled_text(LINE + "circuit\noutput a\ninput a\nend\n").text,
                          LINE + "circuit\ninput a\noutput a\nend\n")
 
     def test_json(self) -> None:
@@ -228,24 +228,25 @@ class Forms(unittest.TestCase):
         self.assertEqual(golly.layout_from_golly(pattern), text)
         bare = "\n".join(line for line in pattern.split("\n") if not line.startswith("#C"))
         self.assertRegex(golly.layout_from_golly(bare), r"\Alimits 2\nlayout \d+ \d+ 0\n")
-        self.assertTrue(tracing.run_text(lines, []).startswith(b"limits 2\nlayout 4096 "))
+        self.assertTrue(tracing.text_for_run(lines, []).startswith(b"limits 2\nlayout 4096 "))
 
     def test_certify_writes_the_line_only_if_asked(self) -> None:
         """A certificate of a layout within the first limits comes without the line, and any other with it."""
         for side, has_line in ((512, False), (514, True)):
             for front in {"", LINE} if not has_line else {LINE}:
-                made = certified(read_document(front + EMPTY + layout(side, 4), "design"), None, CertificatePlan())
+                made = certified_text(read_document(front + EMPTY + layout(side, 4), "design"), None, CertificatePlan())
                 self.assertEqual(made.startswith(LINE), has_line)
                 self.assertIsNone(refusal_of(made))
-        tall = certified(read_document(EMPTY + layout(512, 512), "design"), [], CertificatePlan())
+        tall = certified_text(read_document(EMPTY + layout(512, 512), "design"), [], CertificatePlan())
         self.assertFalse(tall.startswith(LINE))
-        many = certified(read_document(EMPTY + layout(128, 130), "design"), small_boxes(128, 130), CertificatePlan())
+        many = certified_text(read_document(EMPTY + layout(128, 130), "design"), small_boxes(128, 130),
+                              CertificatePlan())
         self.assertTrue(many.startswith(LINE))
 
     def test_studio_has_the_same_numbers(self) -> None:
         """The table of the pages is that of the lab."""
         support.require("node", "nodejs")
-        script = f"""import {{ FIRST, SECOND }} from {json.dumps((viewing.TEMPLATE / "limits.js").as_uri())};
+        script = f"""import {{ FIRST, SECOND }} from {json.dumps((viewing.TEMPLATE_FOLDER / "limits.js").as_uri())};
 console.log(JSON.stringify([FIRST, SECOND]));"""
         ended = subprocess.run(["node", "--input-type=module", "-e", script], capture_output=True, text=True,
                                check=True)

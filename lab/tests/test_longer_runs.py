@@ -11,7 +11,7 @@ from bbmlab_core.physics.longer_runs import longer_runs
 from bbmlab_core.texts.circuits import values_under
 from bbmlab_core.texts.documents import read_document
 from bbmlab_core.texts.layouts import Cell
-from bbmlab_core.physics.standard_cells import StandardCell, cell_names, longer_runs_text, parts_of, read_cell
+from bbmlab_core.physics.standard_cells import StandardCell, cell_names, layout_and_circuit, longer_runs_text, read_cell
 
 # The cells in which not every longer run is good: the most steps by which all balls can start earlier, and for which
 # they fly on.
@@ -33,7 +33,7 @@ def longer_layout(cell: StandardCell, before: int, after: int) -> str:
 
     It is moved by numbers that are odd if `before` is, so that all blocks stay.
     """
-    layout, _ = parts_of(cell.document)
+    layout, _ = layout_and_circuit(cell.document)
     room = before + after + (after % 2) + 2
     lines = [f"layout {(layout.width + 2 * room + 1) // 2 * 2} {(layout.height + 2 * room + 1) // 2 * 2} "
              f"{layout.steps + before + after}"]
@@ -50,7 +50,7 @@ def longer_layout(cell: StandardCell, before: int, after: int) -> str:
 def is_good(program: str, cell: StandardCell, before: int, after: int) -> bool:
     """Returns whether a program's run of the longer layout ends as it asks, under all inputs."""
     text = longer_layout(cell, before, after)
-    _, circuit = parts_of(cell.document)
+    _, circuit = layout_and_circuit(cell.document)
     layout = read_document(text, "layout").layout
     if layout is None:
         return False
@@ -74,7 +74,7 @@ class LongerRuns(unittest.TestCase):
     def test_figures(self) -> None:
         """The lab finds the limits above, and no other."""
         for name in cell_names():
-            layout, circuit = parts_of(read_cell(name).document)
+            layout, circuit = layout_and_circuit(read_cell(name).document)
             with self.subTest(name):
                 self.assertEqual(longer_runs(circuit, layout), LIMITS.get(name, (None, None)))
 
@@ -96,7 +96,7 @@ class LongerRuns(unittest.TestCase):
         for mirror, wanted in (("mirror 1 0 2 2", (0, None)), ("mirror 19 4 2 2", (None, 0))):
             document = read_document(text.replace("\nmirror ", f"\n{mirror}\nmirror ", 1))
             self.assertIsNone(document.refusal)
-            layout, circuit = parts_of(document)
+            layout, circuit = layout_and_circuit(document)
             with self.subTest(mirror):
                 self.assertEqual(longer_runs(circuit, layout), wanted)
 
@@ -104,7 +104,7 @@ class LongerRuns(unittest.TestCase):
         """The list says both figures."""
         said = {}
         for name in ("switch", "uninteract", "or", "full_adder"):
-            layout, circuit = parts_of(read_cell(name).document)
+            layout, circuit = layout_and_circuit(read_cell(name).document)
             said[name] = longer_runs_text(circuit, layout)
         self.assertEqual(said, {
             "switch": "balls can start any number of steps further back, and fly on after the end",

@@ -13,16 +13,17 @@ from pathlib import Path
 from unittest import mock
 
 import support
-from bbmlab_core.certify.certifier import CertificateMaker, NoBoxError, CertificatePlan, certified, checked_boxes
+from bbmlab_core.certify.certifier import (CertificateMaker, ImpossibleModuleError, CertificatePlan, certified_text,
+                                           legal_grid_boxes)
 from bbmlab_core.host.terminal import LabError
 from bbmlab_core.physics.simulation import run_layout
 from bbmlab_core.pictures import golly
-from bbmlab_core.pictures.drawing import centre, module_parts
+from bbmlab_core.pictures.drawing import cell_centre, module_parts
 from bbmlab_core.texts import json_form
 from bbmlab_core.texts.certificates import Module
 from bbmlab_core.texts.layouts import Box
 from bbmlab_core.texts.reports import parse_report
-from bbmlab_core.texts.spelling import spelled
+from bbmlab_core.texts.spelling import spelled_text
 
 # Examples, and grids by which they have a certificate.
 GRIDS = [("fredkin_gate", (14, 14)), ("full_adder", (26, 34)), ("timed_modules", (4, 4)), ("gate_and_mirror", (8, 12)),
@@ -67,13 +68,13 @@ class Certificates(support.InRoom):
                 """Makes no module of the boxes with a cell."""
                 tried[box] += 1
                 if box.has(cell):
-                    raise NoBoxError("not here")
+                    raise ImpossibleModuleError("not here")
                 return right(self, box)
 
             with (self.subTest(name), mock.patch.object(CertificateMaker, "module", module),
                   self.assertRaisesRegex(LabError, "no certificate was found: not here")):
                 tried.clear()
-                certified(design(name), None, CertificatePlan())
+                certified_text(design(name), None, CertificatePlan())
             self.assertGreater(len(tried), 20)
             self.assertEqual(max(tried.values()), 1)
 
@@ -83,19 +84,19 @@ class Certificates(support.InRoom):
         text = "circuit\ninput a\nsource 1 -> k\nswitch a k -> b c d\noutput b\noutput c\noutput d\nend\n"
         routed = support.lab("route", "-", "--program", support.program(), text=text).stdout
         document = support.read_document(routed.split("certificate ")[0], "design")
-        with mock.patch.object(CertificateMaker, "module", side_effect=NoBoxError("not here")):
+        with mock.patch.object(CertificateMaker, "module", side_effect=ImpossibleModuleError("not here")):
             with self.assertRaisesRegex(LabError, "not here. 2 of 5 wires have the values of an earlier one in all 2 "
                                         "choices of the inputs, as `b` has those of `a`"):
-                certified(document, None, CertificatePlan())
+                certified_text(document, None, CertificatePlan())
             with self.assertRaisesRegex(LabError, "not here$"):
-                certified(support.read_document("circuit\ninput a\noutput a\nend\nlayout 8 8 0\nin a 4 4\nout a 4 "
-                                                "4\nend\n", "design"), None, CertificatePlan())
+                certified_text(support.read_document("circuit\ninput a\noutput a\nend\nlayout 8 8 0\nin a 4 4\nout a 4 "
+                                                     "4\nend\n", "design"), None, CertificatePlan())
 
     def test_own_boxes_avoid_cells_without_a_wire(self) -> None:
         """Without a grid the lab finds boxes by itself, though a grid of 10 by 10 cells has no certificate."""
         for name, _ in GRIDS:
             for version in (1, 2):
-                text = certified(design(name), None, CertificatePlan(version))
+                text = certified_text(design(name), None, CertificatePlan(version))
                 with self.subTest(f"{name} {version}"):
                     self.assertIn("verdict yes", support.checked(text))
 
@@ -143,7 +144,7 @@ def by_grid(name: str, grid: tuple[int, int], plan: CertificatePlan) -> str:
     """Returns an example with a certificate whose boxes are those of a grid."""
     document = design(name)
     assert document.layout is not None
-    return certified(document, checked_boxes(document.layout, *grid), plan)
+    return certified_text(document, legal_grid_boxes(document.layout, *grid), plan)
 
 
 class Spelling(unittest.TestCase):
@@ -154,7 +155,7 @@ class Spelling(unittest.TestCase):
         for case in support.worked_cases():
             if case.status in (0, 1) and len(case.input) < 20000:
                 with self.subTest(case.name):
-                    self.assertEqual(spelled(support.decode(case.input)).text, support.decode(case.input))
+                    self.assertEqual(spelled_text(support.decode(case.input)).text, support.decode(case.input))
 
     def test_free_texts_come_back(self) -> None:
         """A text with comments, odd spaces, other line ends and shuffled lists of modules comes back."""
@@ -162,7 +163,7 @@ class Spelling(unittest.TestCase):
         for name in ("gate_and_mirror", "four_modules", "timed_modules", "full_adder"):
             text = support.text_of(name)
             with self.subTest(name):
-                self.assertEqual(spelled(roughened(text, chooser)).text, text)
+                self.assertEqual(spelled_text(roughened(text, chooser)).text, text)
 
     def test_a_refused_text_is_mended(self) -> None:
         """`fmt` on a Windows text is what the program takes."""
@@ -278,7 +279,7 @@ class Pictures(unittest.TestCase):
         layout = support.read_document(support.text_of("machine_switch")).layout
         for mark, kind, best in (("→c", "in", min), ("d→", "out", min)):
             cells = [part.cell for part in layout.of_kind(kind) if part.name == mark.strip("→")]
-            self.assertEqual(names[mark][0], centre(best(cells))[0])
+            self.assertEqual(names[mark][0], cell_centre(best(cells))[0])
 
     def test_large_layouts_have_large_letters(self) -> None:
         """Letters grow with the layout, and many modules have no numbers."""

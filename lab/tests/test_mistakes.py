@@ -8,7 +8,7 @@ from pathlib import Path
 from unittest.mock import patch
 
 import support
-from bbmlab_core.explain.edits import add, applied, delete, edits_between
+from bbmlab_core.explain.edits import addition, deletion, edits_between, text_after
 from bbmlab_core.explain.explaining import as_gcc, explain_answer
 from bbmlab_core.farm.checking import files_below
 from bbmlab_core.farm.receipts import ReceiptError, parse_receipt
@@ -163,15 +163,15 @@ class Edits(support.InRoom):
 
     def test_ends_of_texts(self) -> None:
         """Of empty lines at the end the first is deleted, and a missing line feed is told."""
-        self.assertEqual(edits_between("a\nb\n\n", "a\nb\n"), [delete(3)])
+        self.assertEqual(edits_between("a\nb\n\n", "a\nb\n"), [deletion(3)])
         self.assertEqual(edits_between("a\nb\n", "a\nb\n"), [])
-        self.assertEqual(edits_between("a\nb", "a\nb\n"), [add(2, "")])
-        self.assertEqual(add(2, "").words(["a", "b"]), "Add a line feed at the end of the file.")
+        self.assertEqual(edits_between("a\nb", "a\nb\n"), [addition(2, "")])
+        self.assertEqual(addition(2, "").words(["a", "b"]), "Add a line feed at the end of the file.")
 
     def test_equal_lines(self) -> None:
         """Edits between texts of many equal lines make the one of the other."""
         old, new = "waste 2 2\n# c\n" * 1990, "waste 2 2\n" * 1990
-        self.assertEqual(applied(old, edits_between(old, new)), new)
+        self.assertEqual(text_after(old, edits_between(old, new)), new)
 
     def test_lines_of_nothing(self) -> None:
         """A line about what the text does not have, and a report that contradicts itself, are refused."""

@@ -11,8 +11,8 @@ from bbmlab_core.farm import remote
 from bbmlab_core.farm.checking import Checker
 from bbmlab_core.farm.receipts import ReceiptFolder
 from bbmlab_core.host import sealed
-from bbmlab_core.host.program import ask, opened
-from bbmlab_core.host.releases import program_of
+from bbmlab_core.host.program import ask, open_program
+from bbmlab_core.host.releases import identity_of
 from bbmlab_core.studio.jobs import Jobs
 
 # It says yes to each text, with the digest of its certificate.
@@ -59,21 +59,21 @@ class Replaced(support.InRoom):
 
     def test_overwritten_in_place(self) -> None:
         """Other bytes in the same file change no answer either, nor what `--version` says."""
-        program = opened(str(self.program))
+        program = open_program(str(self.program))
         ask(program, "check", self.text)
         with open(self.program, "r+b") as file:
             file.truncate()
             file.write(f"#!/bin/sh\n{LIE}\n".encode())
         self.assertIn("verdict no", ask(program, "check", self.text).output)
-        self.assertRegex(program_of(program).version or "", r"^bbmcheck \d")
+        self.assertRegex(identity_of(program).version or "", r"^bbmcheck \d")
 
     def test_checker(self) -> None:
         """The API's processes get the copy from the process that opened it."""
         files = [str(self.room / f"{place}.txt") for place in range(3)]
         for file in files:
             Path(file).write_bytes(self.text)
-        program = opened(str(self.program))
-        checker = Checker(program, 2, None, ReceiptFolder(str(self.room / "receipts"), program_of(program)))
+        program = open_program(str(self.program))
+        checker = Checker(program, 2, None, ReceiptFolder(str(self.room / "receipts"), identity_of(program)))
         found = [result for result in checker.results(files) if result]
         checker.stop()
         self.assertEqual({result.result for result in found}, {"no"})
@@ -84,19 +84,20 @@ class Replaced(support.InRoom):
         jobs = Jobs(str(self.program), 20.0, 4096)
         self.addCleanup(jobs.close)
         job = {"kind": "verdict", "text": self.text.decode(), "stage": "first", "earlier": ""}
-        first = jobs.run("a", job)
+        first = jobs.answer_job("a", job)
         self.assertTrue(self.was_replaced())
-        self.assertNotIn("modules 77", first["report"] + jobs.run("a", job)["report"])
+        self.assertNotIn("modules 77", first["report"] + jobs.answer_job("a", job)["report"])
         jobs.worker.end()
-        self.assertNotIn("modules 77", jobs.run("a", job)["report"])
+        self.assertNotIn("modules 77", jobs.answer_job("a", job)["report"])
 
     def test_worker_of_a_cluster(self) -> None:
         """A worker of a cluster answers a group of texts by the bytes whose digest it compared."""
         with mock.patch.dict(os.environ, BBMCHECK=str(self.program), XDG_CACHE_HOME=str(self.room)):
-            said = remote.answers(self.digest, [self.text, self.text], 60)
+            said = remote.run_on_texts(self.digest, [self.text, self.text], 60)
             self.assertEqual([status for _, status, *_ in said], [1, 1])
             self.assertTrue(self.was_replaced())
-            self.assertEqual([kind for *_, kind, _ in remote.answers(self.digest, [self.text], 60)], ["other program"])
+            self.assertEqual([kind for *_, kind, _ in remote.run_on_texts(self.digest, [self.text], 60)],
+                             ["other program"])
 
     def test_nobody_writes(self) -> None:
         """The copy cannot be written, by its descriptor nor by its path, and both kinds of copies can be executed."""
@@ -110,8 +111,8 @@ class Replaced(support.InRoom):
                     os.write(copy, b"x")
         copy = sealed.sealed_copy(data)
         self.addCleanup(os.close, copy)
-        with self.assertRaises(OSError), open(sealed.path_of(copy), "r+b", buffering=0) as file:
+        with self.assertRaises(OSError), open(sealed.descriptor_path(copy), "r+b", buffering=0) as file:
             file.write(b"x")
         with mock.patch("bbmlab_core.host.sealed.memory_file", side_effect=OSError):
-            program = opened(support.program())
+            program = open_program(support.program())
         self.assertEqual(ask(program, "check", Path(support.example("wrong_edge")).read_bytes()).status, 1)

@@ -12,10 +12,10 @@ import support
 from bbmlab_core.commands import fmt
 from bbmlab_core.farm.answering import Result
 from bbmlab_core.farm.receipts import ReceiptFolder
-from bbmlab_core.host.releases import Program
+from bbmlab_core.host.releases import ProgramIdentity
 from bbmlab_core.host.terminal import LabError, write_bytes
 from bbmlab_core.studio.folder import ChangedError, Folder, digest_of
-from bbmlab_core.texts.spelling import spelled
+from bbmlab_core.texts.spelling import spelled_text
 
 OTHER = b"# of another editor\n"
 FOR_ROOT = unittest.skipIf(os.getuid(), "only root can give files to another user")
@@ -54,7 +54,7 @@ class Meanwhile(support.InRoom):
         file = self.room / "free.txt"
         before = b"circuit\n\nend\n"
         file.write_bytes(before + OTHER)
-        spelling = spelled(before.decode())
+        spelling = spelled_text(before.decode())
         with self.assertRaisesRegex(LabError, "another program changed it meanwhile"):
             fmt.write_in_place(str(file), spelling, before, spelling.text.encode(), False)
         self.assertEqual((file.read_bytes(), (self.room / "free.txt.new").read_bytes()),
@@ -166,8 +166,8 @@ class Meanwhile(support.InRoom):
             write_bytes(str(self.room / "receipt.json"), b"{}")
             self.assertEqual(done, ["fsync", "rename"])
             ReceiptFolder(str(self.room / "receipts"),
-                          Program("0" * 64, None)).keep(b"x\n",
-                                                        Result("x.txt", "refused", "line 1, code 1", 0.0,
-                                                               output="refused 1 1\n"), 0.0)
+                          ProgramIdentity("0" * 64, None)).keep(b"x\n",
+                                                                Result("x.txt", "refused", "line 1, code 1", 0.0,
+                                                                       output="refused 1 1\n"), 0.0)
         self.assertEqual(done, ["fsync", "rename"] * 2)
         self.assertEqual([path.name for path in (self.room / "receipts").iterdir()][0][-10:], "x.txt.json")

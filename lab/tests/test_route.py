@@ -161,7 +161,7 @@ class Yes(Routing):
         """The planes of `--compact` are smaller than the last layout, and nearly squares. None is too small."""
         circuit, chance = read_document(gate_circuit("switch"), "circuit").circuit, random.Random(1)
         assert circuit
-        options = search.Options()
+        options = search.SearchOptions()
         routed = search.Search(circuit, gate_circuit("switch"), options, Settings(), lambda *_: None).run().routed
         assert routed
         for _ in range(30):
@@ -331,16 +331,16 @@ class Hostile(Routing):
         text = gate_circuit("switch")
         circuit = read_document(text, "circuit").circuit
         assert circuit
-        found = search.Search(circuit, text, search.Options(), Settings(), lambda *_: None).run().routed
+        found = search.Search(circuit, text, search.SearchOptions(), Settings(), lambda *_: None).run().routed
 
-        def stopped(pool: search.Pool) -> None:
+        def stopped(pool: search.AttemptPool) -> None:
             """Is interrupted after a route was found."""
             assert found
             pool.found[0] = found
             raise Stopped(signal.SIGTERM)
 
-        with mock.patch.object(search.Pool, "start", stopped):
-            outcome = search.Search(circuit, text, search.Options(jobs=2, is_compact=True), Settings(),
+        with mock.patch.object(search.AttemptPool, "start", stopped):
+            outcome = search.Search(circuit, text, search.SearchOptions(jobs=2, is_compact=True), Settings(),
                                     lambda *_: None).run()
         self.assertTrue(outcome.is_interrupted)
         self.assertEqual((outcome.routed, outcome.interrupt_status), (found, 143))
@@ -384,7 +384,7 @@ class LateInputs(Routing):
         assert circuit
         design = Attempt(RouterNetlist(circuit, late=late), 256, 1, Settings()).run()
         gate = next(gate for gate in design.gates if gate.number == 1)
-        return next(path.end.time for path in design.paths if path.wire == "b"), gate.time + gate.cell.length
+        return next(path.end.time for path in design.paths if path.wire == "b"), gate.time + gate.cell.step_count
 
     def test_late_input(self) -> None:
         """A late input comes after all gates that do not depend on it; without the option it comes earlier."""
@@ -398,7 +398,7 @@ class LateInputs(Routing):
         assert circuit
         netlist = RouterNetlist(circuit, late=("b",))
         self.assertEqual(netlist.late_gates, {2, 3})
-        self.assertEqual([wire for wire in "abcdefghk" if netlist.is_awaited(wire)], ["a", "c", "d"])
+        self.assertEqual([wire for wire in "abcdefghk" if netlist.is_before_late_inputs(wire)], ["a", "c", "d"])
 
     def test_no_input(self) -> None:
         """A late input that the circuit does not have is refused."""

@@ -8,9 +8,9 @@ from unittest import mock
 
 import support
 from bbmlab_core.route.attempt import Attempt
-from bbmlab_core.route.balls import BOUNCE_STEPS, Ball, Leg, Turn, follow, path_run, reversed_legs
+from bbmlab_core.route.balls import BOUNCE_STEPS, Ball, Leg, Turn, follow_legs, path_run, reversed_legs
 from bbmlab_core.route.board import Board, NoRouteError
-from bbmlab_core.route.design import turned_path
+from bbmlab_core.route.design import time_reversed_path
 from bbmlab_core.route.netlist import RouterNetlist
 from bbmlab_core.route.paths import Path
 from bbmlab_core.route.ripup import WayMaker
@@ -71,16 +71,16 @@ class Backward(unittest.TestCase):
             turns = [chance.choice(list(Turn)) for _ in range(chance.randint(0, 5))]
             legs = [Leg(chance.randint(BOUNCE_STEPS, 40), turn) for turn in [*turns, None]]
             start = Ball(400, 400, 1, 1, 0)
-            end, mirrors = follow(start, legs)
+            end, mirrors = follow_legs(start, legs)
             item, last = path_item(start, legs), 2 * chance.randint(200, 300) + 1
             if item is None:
                 continue
-            path = turned_path(Path("a", start, end, tuple(legs), item),
-                               RouterNetlist(read_circuit(circuit_text("a", "", "a"))), last)
+            path = time_reversed_path(Path("a", start, end, tuple(legs), item),
+                                      RouterNetlist(read_circuit(circuit_text("a", "", "a"))), last)
             run = path_run(path.start, path.legs)
             self.assertEqual(set(run.states[-1]), set(start.cells()))
             self.assertEqual(set(path.start.cells()), set(end.cells()))
-            self.assertEqual(follow(path.start, reversed_legs(legs))[1], mirrors[::-1])
+            self.assertEqual(follow_legs(path.start, reversed_legs(legs))[1], mirrors[::-1])
             forward = path_item(path.start, path.legs)
             self.assertEqual((forward.mirrors, forward.touched, forward.claims),
                              (path.item.mirrors, path.item.touched, path.item.claims))
@@ -93,7 +93,7 @@ class Backward(unittest.TestCase):
                                                            *(path.item for path in [*step.paths, *step.parked])]]
         items += [path.item for path in board.ends]
         for item in [*items, *(own.item for own in board.waiting.values() if own.item)]:
-            self.assertTrue(world.fits(item))
+            self.assertTrue(world.can_add(item))
             world.add(item)
         self.assertEqual((world.claims, world.mirrors, world.counts),
                          (board.world.claims, board.world.mirrors, board.world.counts))
@@ -121,7 +121,7 @@ class Backward(unittest.TestCase):
     def test_books_of_ends(self) -> None:
         """If no ball finds its way to the last time at once, paths to gates make way for some, and the books agree in
         the end."""
-        right, lead, made, asked = Attempt.path_through, Attempt.last_path, [], set()
+        right, lead, made, asked = Attempt.add_path_through, Attempt.add_last_path, [], set()
 
         def unwilling(self: Attempt, root: str, ball: Ball | None, end: int) -> Path | None:
             if root in asked:
@@ -135,7 +135,8 @@ class Backward(unittest.TestCase):
             return path
 
         attempt = Attempt(RouterNetlist(read_circuit(made_circuit("forward", 12, 8, 1))), 384, 1, Settings())
-        with mock.patch.object(Attempt, "path_through", counted), mock.patch.object(Attempt, "last_path", unwilling):
+        with mock.patch.object(Attempt, "add_path_through", counted), \
+                mock.patch.object(Attempt, "add_last_path", unwilling):
             attempt.run()
         self.assert_books(attempt.board)
         self.assertEqual(len({path.end.time for path in attempt.board.ends}), 1)
@@ -144,8 +145,8 @@ class Backward(unittest.TestCase):
     def test_long_ways(self) -> None:
         """A ball is led on for 9,000 steps, which take more legs than the tries of a short wander."""
         attempt = Attempt(RouterNetlist(read_circuit(circuit_text("a", "", "a"))), 1200, 1, Settings())
-        path = attempt.last_path("a", Ball(600, 600, 1, 1, 0), 9000)
-        self.assertEqual((path.end.time, follow(path.start, path.legs)[0]), (9000, path.end))
+        path = attempt.add_last_path("a", Ball(600, 600, 1, 1, 0), 9000)
+        self.assertEqual((path.end.time, follow_legs(path.start, path.legs)[0]), (9000, path.end))
         world = World(1200)
         world.add(path.item)
         self.assertEqual((world.claims, world.counts), (attempt.board.world.claims, attempt.board.world.counts))

@@ -4,10 +4,9 @@ import random
 import unittest
 
 import support  # noqa: F401
-from bbmlab_core.route.balls import (BOUNCE_STEPS, Ball, Leg, Turn, bounce, bounce_before, cells_at, follow,
-                                     moving_cells, path_run,
-                                     run_exactly, start_state)
-from bbmlab_core.route.cells import PORTS, GateCell, base_cells, library
+from bbmlab_core.route.balls import (BOUNCE_STEPS, Ball, Leg, Turn, bounce, bounce_before, cells_at, follow_legs,
+                                     moving_cells, path_run, run_exactly, start_state)
+from bbmlab_core.route.cells import GATE_PORTS, GateCell, base_cells, cell_library
 from bbmlab_core.route.world import path_item
 from bbmlab_core.texts.circuits import Gate
 from bbmlab_core.texts.gates import gate_row, input_tables
@@ -24,7 +23,7 @@ class Balls(unittest.TestCase):
         for ball in EACH_DIRECTION:
             for turn in Turn:
                 legs = [Leg(6, turn), Leg(BOUNCE_STEPS, None)]
-                run, (end, _) = path_run(ball, legs), follow(ball, legs)
+                run, (end, _) = path_run(ball, legs), follow_legs(ball, legs)
                 with self.subTest(ball=ball, turn=turn):
                     self.assertTrue(run.is_stable)
                     self.assertEqual(set(run.states[-1]), set(end.cells()))
@@ -67,7 +66,7 @@ class Balls(unittest.TestCase):
 
     def ends(self, cell: GateCell, shift: tuple[int, int, int]) -> tuple[dict, dict]:
         """Returns the last state of a run of a moved cell, and the state that the gate's rule asks for."""
-        inputs, outputs = PORTS[cell.word]
+        inputs, outputs = GATE_PORTS[cell.word]
         tables = input_tables(len(inputs))
         outs, rows = gate_row(cell.word, None, tables, (1 << (1 << len(inputs))) - 1)
         table = dict(zip(inputs + outputs, tables + outs))
@@ -84,7 +83,7 @@ class Balls(unittest.TestCase):
         """Each cell computes its gate in all orientations, moved by even and by odd numbers."""
         seed = random.randrange(10**6)
         chance = random.Random(seed)
-        for word, cells in library().items():
+        for word, cells in cell_library().items():
             self.assertGreaterEqual(len(cells), 8)
             for cell in [*cells, *base_cells()[word]]:
                 odd = chance.randrange(2)
@@ -94,20 +93,20 @@ class Balls(unittest.TestCase):
 
     def test_ports_are_legal(self) -> None:
         """The ports of each cell are legal balls, and their names are those of the gate's line."""
-        for word, cells in library().items():
+        for word, cells in cell_library().items():
             for cell in cells:
                 self.assertEqual((tuple(sorted(cell.ins)), tuple(sorted(cell.outs))),
-                                 tuple(tuple(sorted(names)) for names in PORTS[word]))
+                                 tuple(tuple(sorted(names)) for names in GATE_PORTS[word]))
                 self.assertTrue(all(ball.is_legal for ball in (cell.ins | cell.outs).values()))
 
     def test_claims_are_whole(self) -> None:
         """A cell's blocks and the straight flights of its ports have all moving cells of its run."""
         for word in ("switch", "interact", "fredkin"):
-            cell = library()[word][3]
-            inputs = PORTS[word][0]
+            cell = cell_library()[word][3]
+            inputs = GATE_PORTS[word][0]
             tables = dict(zip(inputs, input_tables(len(inputs))))
             run = run_exactly(set(cell.mirrors), start_state([(cell.ins[port].at(0), tables[port]) for port in inputs]),
-                              0, cell.length)
+                              0, cell.step_count)
             for time, state in enumerate(run.states[:-1]):
                 flying = {own for ball in cell.ins.values() if time < ball.time for own in ball.at(time).cells()}
                 flying |= {own for ball in cell.outs.values() if time >= ball.time for own in ball.at(time).cells()}
@@ -115,7 +114,7 @@ class Balls(unittest.TestCase):
 
     def test_port_counts(self) -> None:
         """Each gate has as many ports as wires."""
-        for word, (inputs, outputs) in PORTS.items():
+        for word, (inputs, outputs) in GATE_PORTS.items():
             gate = Gate(word, tuple(inputs), tuple(outputs))
             self.assertEqual(gate.is_inverse, word.startswith("un"))
             self.assertEqual(len(gate_row(word, None, input_tables(len(inputs)), 1)[0]), len(outputs))

@@ -10,18 +10,18 @@ from unittest import mock
 from test_route import Routing, circuit_text, gate_circuit
 
 import support
-from bbmlab_core.circuits.keeps import kept_cone
+from bbmlab_core.circuits.keeps import search_keeping_cone
 from bbmlab_core.route import bit_rows, search
 from bbmlab_core.route.attempt import Attempt
-from bbmlab_core.route.balls import BOUNCE_STEPS, Ball, Leg, Turn, bounce, follow
+from bbmlab_core.route.balls import BOUNCE_STEPS, Ball, Leg, Turn, bounce, follow_legs
 from bbmlab_core.route.bit_rows import BitJoiner
-from bbmlab_core.route.board import Bound, NoRouteError, Waiting
+from bbmlab_core.route.board import FailureKind, NoRouteError, WaitingBall
 from bbmlab_core.route.certificate import require_keeps
-from bbmlab_core.route.design import cropped
+from bbmlab_core.route.design import cropped_design
 from bbmlab_core.route.netlist import RouterNetlist
 from bbmlab_core.route.placement import Inlet
 from bbmlab_core.route.settings import Settings
-from bbmlab_core.route.world import MARGIN, World, path_item
+from bbmlab_core.route.world import MARGIN_CELLS, World, path_item
 from support import circuit_of as read_circuit
 from random_circuits import made_circuit
 
@@ -36,7 +36,7 @@ def crowded_world(chance: random.Random, count: int) -> World:
         ball = Ball(2 * chance.randrange(40, 160) + (dx < 0), 2 * chance.randrange(40, 160) + (dy < 0), dx, dy, 0)
         legs = [Leg(chance.randint(BOUNCE_STEPS, 30), chance.choice(list(Turn))), Leg(chance.randint(3, 20), None)]
         item = path_item(ball, legs)
-        if item and world.fits(item):
+        if item and world.can_add(item):
             world.add(item)
             count -= 1
     return world
@@ -66,10 +66,10 @@ class BitRows(unittest.TestCase):
             if start.dx * start.dy != goal.dx * goal.dy:
                 continue
             pairs += 1
-            found = list(BitJoiner(world, chance, Settings()).joins(start, goal, 0, 20))
+            found = list(BitJoiner(world, chance, Settings()).joining_legs(start, goal, 0, 20))
             joined += bool(found)
             for legs in found:
-                end, mirrors = follow(start, legs)
+                end, mirrors = follow_legs(start, legs)
                 self.assertEqual(end, goal, f"seed {seed}")
                 self.assertEqual(len(mirrors), 4)
                 self.assertTrue(all(world.can_hold(mirror) for mirror in mirrors), f"seed {seed}")
@@ -86,7 +86,7 @@ class BitRows(unittest.TestCase):
             ball, goal = random_pair(chance)
             joiner = BitJoiner(world, chance, Settings())
             found = {(bend.steps, bend.turn) for bend in joiner.first_bends(ball, 0)}
-            wanted = {(steps, turn) for steps in range(joiner.room(ball) + 1) for turn in Turn
+            wanted = {(steps, turn) for steps in range(joiner.steps_inside(ball) + 1) for turn in Turn
                       if world.can_hold(bounce(ball.flown(steps), turn)[1])}
             self.assertEqual(found, wanted, f"seed {seed}")
             for bend in joiner.last_bends(goal):
@@ -158,7 +158,7 @@ class BitRows(unittest.TestCase):
         placer, board = attempt.placer, attempt.board
         gate = attempt.netlist.gates[0]
         cell, ball = board.netlist.cells(gate)[0], Ball(200, 200, 1, 1, 0)
-        board.waiting["other"] = Waiting(ball)
+        board.waiting["other"] = WaitingBall(ball)
         self.assertTrue(placer.is_in_lane(cell, 230, 230, []))
         self.assertFalse(placer.is_in_lane(cell, 230, 230, [Inlet("c", "other", ball, 0)]))
         self.assertFalse(placer.is_in_lane(cell, 100, 100, []))
@@ -174,14 +174,14 @@ class Cropping(Routing):
         cells on each side."""
         text = made_circuit("any", 8, 5, 2)
         design = next(found for found in (self.design(text, seed) for seed in range(20)) if found)
-        small, whole = search.bundle_of(text, cropped(design)), search.bundle_of(text, design)
+        small, whole = search.uncropped_bundle(text, cropped_design(design)), search.uncropped_bundle(text, design)
         self.assertLess(small.width * small.height, whole.width * whole.height)
         for bundle in (small, whole):
             self.assertIn("\nverdict yes\n", self.verdict(bundle.text))
         layout = support.read_document(small.text).layout
         columns = [part.x for part in layout.parts]
         self.assertLess(min(columns), 40)
-        self.assertGreater(min(columns), MARGIN - 3)
+        self.assertGreater(min(columns), MARGIN_CELLS - 3)
         self.assertGreater(max(columns), layout.width - 60)
 
     def design(self, text: str, seed: int) -> "search.Design | None":
@@ -220,7 +220,7 @@ class Words(Routing):
     def test_no_keep_is_said_before_the_search(self) -> None:
         """A circuit with an inverse gate that nothing can keep is refused at once, with the gate and its line."""
         text = next(text for text in (made_circuit("any", 100, 8, seed) for seed in range(1, 200))
-                    if any(gate.is_inverse and kept_cone(read_circuit(text), gate.number) is None
+                    if any(gate.is_inverse and search_keeping_cone(read_circuit(text), gate.number) is None
                            for gate in read_circuit(text).gates))
         with mock.patch.object(search.Search, "run", side_effect=AssertionError("the search began")):
             status, _, said = self.route(text)
@@ -228,7 +228,7 @@ class Words(Routing):
         self.assertRegex(said, r"gate \d+ \((unswitch|uninteract) .*, line \d+\) cannot be kept")
         with self.assertRaises(NoRouteError) as raised:
             require_keeps(read_circuit(text))
-        self.assertIs(raised.exception.bound, Bound.KEEP)
+        self.assertIs(raised.exception.bound, FailureKind.KEEP)
         require_keeps(read_circuit(circuit_text("ab", "switch a b -> c d e\nunswitch c d e -> f g", "fg")))
 
     def test_a_program_without_the_line(self) -> None:
@@ -243,5 +243,5 @@ class Words(Routing):
 
     def test_pickled_errors_keep_their_bound(self) -> None:
         """What ended an attempt in a process of its own is known to the others."""
-        again = pickle.loads(pickle.dumps(NoRouteError("no room at all", Bound.ROOM)))
-        self.assertEqual((str(again), again.bound), ("no room at all", Bound.ROOM))
+        again = pickle.loads(pickle.dumps(NoRouteError("no room at all", FailureKind.ROOM)))
+        self.assertEqual((str(again), again.bound), ("no room at all", FailureKind.ROOM))

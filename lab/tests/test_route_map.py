@@ -8,10 +8,10 @@ from pathlib import Path
 
 import support
 from bbmlab_core.route.board import Board
-from bbmlab_core.route.crowding import COLOURS, class_of, crowding_of, runs, tile_counts
+from bbmlab_core.route.crowding import COLOURS, class_runs, crowding_of, tile_class, tile_counts
 from bbmlab_core.route.netlist import RouterNetlist
 from bbmlab_core.route.settings import Settings
-from bbmlab_core.route.world import ROW, TILE, Item, World
+from bbmlab_core.route.world import ROW_STRIDE, TILE, Item, World
 from bbmlab_core.texts.documents import read_document
 
 sys.path.insert(0, str(support.TOP / "bench"))
@@ -23,8 +23,8 @@ SVG = "{http://www.w3.org/2000/svg}"
 def world_with(size: int, cells: list[tuple[int, int]]) -> World:
     """Returns a plane on which some cells are taken, some of them twice."""
     world = World(size)
-    world.add(Item(frozenset(y * ROW + x for x, y in cells)))
-    world.add(Item(frozenset(), ([y * ROW + x for x, y in cells[::2]],)))
+    world.add(Item(frozenset(y * ROW_STRIDE + x for x, y in cells)))
+    world.add(Item(frozenset(), ([y * ROW_STRIDE + x for x, y in cells[::2]],)))
     return world
 
 
@@ -47,22 +47,22 @@ class Counts(support.InRoom):
         cells = [(x, y) for x in range(TILE) for y in range(TILE)] + [(x, y) for x in range(TILE, 2 * TILE)
                                                                       for y in range(TILE // 2)]
         row = next(tile_counts(world_with(48, cells)))
-        self.assertEqual([class_of(half) for half in row], [len(COLOURS) - 1, 4, 0])
+        self.assertEqual([tile_class(half) for half in row], [len(COLOURS) - 1, 4, 0])
 
     def test_runs(self) -> None:
         """The runs of a row are its tiles in order."""
         chance = random.Random(11)
         row = bytes(chance.choice((0, 0, 1, 64, 128)) for _ in range(200))
-        spread = [kind for kind, _, count in runs(row) for _ in range(count)]
-        self.assertEqual(spread, [class_of(half) for half in row])
-        self.assertTrue(all(one[0] != two[0] for one, two in zip(list(runs(row)), list(runs(row))[1:])))
+        spread = [kind for kind, _, count in class_runs(row) for _ in range(count)]
+        self.assertEqual(spread, [tile_class(half) for half in row])
+        self.assertTrue(all(one[0] != two[0] for one, two in zip(list(class_runs(row)), list(class_runs(row))[1:])))
 
     def test_empty_board(self) -> None:
         """A board without gates is empty."""
         circuit = read_document(str(made_circuit("forward", 5, 4, 1)), "circuit").circuit
         assert circuit is not None
         crowding = crowding_of(Board(RouterNetlist(circuit), 96, Settings()))
-        self.assertEqual((crowding.part, crowding.gates), (0, ()))
+        self.assertEqual((crowding.taken_share, crowding.gates), (0, ()))
 
     def route(self, *words: str) -> tuple[int, str, tree.Element | None]:
         """Routes a circuit of ten gates; returns the status, what was said, and the map."""

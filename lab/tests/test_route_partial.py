@@ -16,14 +16,14 @@ from bbmlab_core.host.program import find_program
 from bbmlab_core.route import partial
 from bbmlab_core.route.attempt import Attempt, OutOfTimeError
 from bbmlab_core.route.balls import Ball, Leg
-from bbmlab_core.route.board import NoRouteError, Placement, Waiting
+from bbmlab_core.route.board import NoRouteError, Placement, WaitingBall
 from bbmlab_core.route.command import report_failure
 from bbmlab_core.route.design import Design
 from bbmlab_core.route.netlist import RouterNetlist
 from bbmlab_core.route.partial import (PartialRoute, finishable_step_count, partial_circuit, partial_design,
                                        partial_text, steps_without)
 from bbmlab_core.route.paths import Path as BallPath
-from bbmlab_core.route.search import Options, Outcome, Search, routed_bundle
+from bbmlab_core.route.search import Search, SearchOptions, SearchOutcome, routed_bundle
 from bbmlab_core.route.settings import Settings
 from bbmlab_core.route.world import path_item
 from bbmlab_core.texts.circuits import Circuit
@@ -82,14 +82,14 @@ class Parts(support.InRoom):
     def test_paths_make_way(self) -> None:
         """Some ball of these parts has a way to the end only since paths to gates were led again."""
         made: Counter[bool] = Counter()
-        right = partial.Attempt.path_through
+        right = partial.Attempt.add_path_through
 
         def counted(self: Attempt, root: str, ball: Ball | None, end: int) -> BallPath | None:
             path = right(self, root, ball, end)
             made[path is not None] += 1
             return path
 
-        with mock.patch.object(partial.Attempt, "path_through", counted):
+        with mock.patch.object(partial.Attempt, "add_path_through", counted):
             for seed in range(1, 30):
                 part = placed_part(made_circuit("inverse", 40, 10, 1), 256, seed)
                 self.assert_yes(part, len(part.steps))
@@ -128,10 +128,10 @@ class Parts(support.InRoom):
         other = BallPath("y", ball.flown(2), ball.flown(22), (Leg(20, None),), way)
         own = Placement(step.gate, step.paths, {"x": step.outs["x"]}, [*step.parked, other])
         attempt = Attempt(RouterNetlist(part.circuit), 384, 1, Settings())
-        self.assertEqual(attempt.adopt([own]), "x")
-        self.assertIsInstance(attempt.board.waiting["x"], Waiting)
+        self.assertEqual(attempt.adopt_placements([own]), "x")
+        self.assertIsInstance(attempt.board.waiting["x"], WaitingBall)
         again = Attempt(RouterNetlist(part.circuit), 384, 1, Settings())
-        self.assertEqual(again.adopt([step]), "")
+        self.assertEqual(again.adopt_placements([step]), "")
 
     def test_what_is_counted_is_kept(self) -> None:
         """The summary counts the gates of the bundle, and one more sentence those whose balls could not be led to the
@@ -140,7 +140,7 @@ class Parts(support.InRoom):
         options = argparse.Namespace(keep_partial=True, map=None, output=f"{self.room}/part.txt", seed=1, size=512,
                                      effort=1.0, jobs=1, compact=False, timeout=60, late=[])
         for is_interrupted in (False, True):
-            outcome = Outcome(None, "", Counter(), 1, 12, 12, part.steps, 512, is_interrupted)
+            outcome = SearchOutcome(None, "", Counter(), 1, 12, 12, part.steps, 512, is_interrupted)
             said = io.StringIO()
             with mock.patch.object(partial, "led_design", slow_above(3)), \
                     mock.patch.object(partial, "finishable_step_count", lambda *_: 3), \
@@ -159,7 +159,7 @@ class Parts(support.InRoom):
         circuit = read_document(text, "circuit").circuit
         assert circuit
         for keeps, count in ((True, 1), (False, 11)):
-            search = Search(circuit, text, Options(keeps_partial=keeps), Settings(), lambda *_: None)
+            search = Search(circuit, text, SearchOptions(keeps_partial=keeps), Settings(), lambda *_: None)
             search.note_partial(11, [], 384)
             search.note_partial(1, placed_part(text, 384, 1).steps[:1], 384)
             self.assertEqual(search.outcome.placed, count)

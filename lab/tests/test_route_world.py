@@ -4,10 +4,10 @@ import random
 import unittest
 
 import support  # noqa: F401
-from bbmlab_core.route.balls import (BOUNCE_STEPS, Ball, Leg, Run, Turn, follow, mirror_cells, path_run, run_exactly,
-                                     start_state)
-from bbmlab_core.route.cells import library
-from bbmlab_core.route.world import STEP, Item, World, cell_item, cell_number, path_item
+from bbmlab_core.route.balls import (BOUNCE_STEPS, Ball, BallRun, Leg, Turn, follow_legs, mirror_cells, path_run,
+                                     run_exactly, start_state)
+from bbmlab_core.route.cells import cell_library
+from bbmlab_core.route.world import STEP_STRIDE, Item, World, cell_item, cell_number, path_item
 from bbmlab_core.texts.layouts import Cell
 
 # The steps of the runs that are compared.
@@ -21,7 +21,7 @@ class Piece:
     def __init__(self, item: Item, mirrors: set[Cell], balls: list[Ball]) -> None:
         self.item, self.mirrors, self.balls = item, mirrors, balls
 
-    def run(self) -> Run:
+    def run(self) -> BallRun:
         """Runs the piece alone."""
         return run_exactly(self.mirrors, start_state([(ball, 1) for ball in self.balls]), 0, LAST)
 
@@ -42,12 +42,12 @@ def random_path(chance: random.Random) -> Piece | None:
         return None
     legs.append(Leg(left, None))
     item = path_item(ball, legs)
-    return Piece(item, mirror_cells(follow(ball, legs)[1]), [ball]) if item else None
+    return Piece(item, mirror_cells(follow_legs(ball, legs)[1]), [ball]) if item else None
 
 
 def random_gate(chance: random.Random) -> Piece | None:
     """Returns a random gate with straight ways in and out, or None if its balls meet again outside."""
-    cell = chance.choice(library()[chance.choice(["switch", "interact"])])
+    cell = chance.choice(cell_library()[chance.choice(["switch", "interact"])])
     time = chance.randint(2, 8)
     x, y = (2 * chance.randrange(30, 60) + time % 2 for _ in range(2))
     parts = [cell_item(cell, x, y, time)]
@@ -57,7 +57,7 @@ def random_gate(chance: random.Random) -> Piece | None:
         parts += [item for item in [path_item(ball, [Leg(LAST - ball.time, None)])] if item]
     plane = World(300)
     for part in parts:
-        if not plane.fits(part):
+        if not plane.can_add(part):
             return None
         plane.add(part)
     item = Item(parts[0].mirrors, tuple(own for part in parts for own in part.touched_parts),
@@ -90,7 +90,7 @@ class Composition(unittest.TestCase):
                 piece = random_gate(chance) if chance.random() < 0.3 else random_path(chance)
                 if piece is None:
                     continue
-                if plane.fits(piece.item):
+                if plane.can_add(piece.item):
                     plane.add(piece.item)
                     pieces.append(piece)
                 elif not any(piece.mirrors & other.mirrors for other in pieces):
@@ -118,8 +118,8 @@ class Claims(unittest.TestCase):
                 count += 1
                 run = path_run(ball, legs)
                 self.assertTrue(run.is_stable, f"seed {seed}")
-                self.assertEqual(set(run.states[-1]), set(follow(ball, legs)[0].cells()), f"seed {seed}")
-                claims = {time * STEP + cell_number(corner) for time,
+                self.assertEqual(set(run.states[-1]), set(follow_legs(ball, legs)[0].cells()), f"seed {seed}")
+                claims = {time * STEP_STRIDE + cell_number(corner) for time,
                           corners in enumerate(run.blocks) for corner in corners}
                 self.assertEqual(item.claims, claims, f"seed {seed}")
         self.assertGreater(count, 300)
@@ -130,7 +130,7 @@ class Claims(unittest.TestCase):
         plane, items = World(300), []
         while len(items) < 8:
             piece = random_path(chance)
-            if piece and plane.fits(piece.item):
+            if piece and plane.can_add(piece.item):
                 plane.add(piece.item)
                 items.append(piece.item)
         ball = random_ball(chance)
@@ -141,10 +141,10 @@ class Claims(unittest.TestCase):
         self.assertFalse(plane.claims or plane.mirrors or any(plane.counts) or any(plane.blocked)
                          or any(plane.mirror_falling)
                          or any(plane.mirror_rising) or any(plane.blocked_falling) or any(plane.blocked_rising))
-        self.assertGreater(plane.free_flight(ball, 400), 60)
+        self.assertGreater(plane.free_steps(ball, 400), 60)
 
     def test_free_flight_ends_before_mirrors(self) -> None:
-        """A straight flight as long as `free_flight` says fits, and one step more meets a mirror or the margin."""
+        """A straight flight as long as `free_steps` says fits, and one step more meets a mirror or the margin."""
         chance, met = random.Random(6), 0
         for _ in range(300):
             plane, ball = World(300), random_ball(chance)
@@ -153,11 +153,11 @@ class Claims(unittest.TestCase):
                 continue
             mirrors = Item(other.item.mirrors)
             plane.add(mirrors)
-            steps = plane.free_flight(ball, 200)
+            steps = plane.free_steps(ball, 200)
             item = path_item(ball, [Leg(steps, None)])
             start = path_item(ball, [Leg(1, None)])
             assert item and start
-            if not steps or not plane.fits(start):
+            if not steps or not plane.can_add(start):
                 continue
             self.assertTrue(plane.mirrors.isdisjoint(item.touched))
             longer = path_item(ball, [Leg(steps + 3, None)])

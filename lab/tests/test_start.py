@@ -16,8 +16,8 @@ class Start(support.InRoom):
     def test_late_imports(self) -> None:
         """`--help` imports none of the modules that make a start slow, beyond those that Python itself imports."""
         code = ("import sys; before = set(sys.modules); sys.path.insert(0, sys.argv[1]); from bbmlab_core.cli import "
-                "commands_for; "
-                "commands_for(['--help'])[0].format_help(); print(*sorted(set(sys.modules) - before))")
+                "parsers_for; "
+                "parsers_for(['--help'])[0].format_help(); print(*sorted(set(sys.modules) - before))")
         ended = subprocess.run([sys.executable, "-S", "-c", code, str(support.LAB)], capture_output=True, text=True,
                                check=True)
         self.assertEqual(HEAVY & set(ended.stdout.split()), set())

@@ -9,13 +9,13 @@ from pathlib import Path
 from typing import Any
 
 import support
-from bbmlab_core.physics.mirrors import falling_mirrors, stays
+from bbmlab_core.physics.mirrors import falling_mirrors, is_stable
 from bbmlab_core.physics.simulation import run_layout
 from bbmlab_core.studio import answers, server
 from bbmlab_core.texts import json_form
 from bbmlab_core.texts.circuits import values_under
 from bbmlab_core.texts.layouts import Box, Layout, Part
-from bbmlab_core.texts.spelling import spelled
+from bbmlab_core.texts.spelling import spelled_text
 from support import text_of as example
 
 STUDIO = Path(server.__file__).resolve().parent
@@ -220,7 +220,7 @@ class Commands(unittest.TestCase):
     def test_freely_written_words(self) -> None:
         """Arrows without spaces and leading zeros are read as the lab reads them."""
         free = "circuit\nsource 1->k\noutput k\nend\nlayout 08 08 00\nmirror 3 04 2 2\nball 02 02\nout k 02 5\nend\n"
-        layout = support.read_document(spelled(free).text, "design").layout
+        layout = support.read_document(spelled_text(free).text, "design").layout
         self.assertEqual(node(["parts", free])[0],
                          {"size": [layout.width, layout.height, layout.steps], "isWhole": True,
                           "parts": sorted([part.kind, part.x, part.y] for part in layout.parts)})
@@ -358,7 +358,7 @@ class Runs(unittest.TestCase):
         """Each snapped mirror stays, lies in the layout, holds the cells that were dragged or is one cell away."""
         boxes = [[x, y, w, h] for x in range(0, 9) for y in range(0, 9) for w in range(1, 5) for h in range(1, 5)]
         for (x, y, w, h), box in zip(boxes, node(["snapped", boxes, 12, 12])[0]):
-            self.assertTrue(stays(Part("mirror", None, *box)), box)
+            self.assertTrue(is_stable(Part("mirror", None, *box)), box)
             self.assertTrue(box[0] >= 0 and box[1] >= 0 and box[0] + box[2] <= 12 and box[1] + box[3] <= 12)
             self.assertLessEqual(abs(box[0] - x) + abs(box[1] - y), 1)
             self.assertEqual((box[2], box[3]), (w + w % 2, h + h % 2))
@@ -379,7 +379,7 @@ class Sources(unittest.TestCase):
         for told in node(*[["random", example("machine_fredkin"), cells("not", "turn_left"), seed + 31, 100, False]
                            for seed in range(3)]):
             for text in [*told["texts"], told["last"]]:
-                self.assertEqual(spelled(text).text, text)
+                self.assertEqual(spelled_text(text).text, text)
 
     def test_the_page_has_no_script_of_its_own(self) -> None:
         """The page has no script of its own."""

@@ -17,7 +17,7 @@ from typing import Any
 import support
 from bbmlab_core.studio import routes
 from test_connecting import two_nots
-from bbmlab_core.studio.answers import EMPTY, Answers
+from bbmlab_core.studio.answers import EMPTY_TEXT, Answers
 from bbmlab_core.studio.folder import Folder
 from bbmlab_core.studio.guard import MAX_REQUEST_BYTES
 from bbmlab_core.studio.jobs import Jobs, JobWorker
@@ -250,11 +250,11 @@ class Files(Served):
     def test_a_new_file(self) -> None:
         """A file that is missing is an empty layout, and is written only if it is still missing."""
         opened = self.ask("open", name="new.txt")
-        self.assertEqual((opened["text"], opened["digest"]), (EMPTY, None))
+        self.assertEqual((opened["text"], opened["digest"]), (EMPTY_TEXT, None))
         (self.room / "new.txt").write_text("there\n")
-        self.assertTrue(self.ask("save", name="new.txt", text=EMPTY, digest=None)["changed"])
+        self.assertTrue(self.ask("save", name="new.txt", text=EMPTY_TEXT, digest=None)["changed"])
         (self.room / "new.txt").unlink()
-        self.assertIn("digest", self.ask("save", name="new.txt", text=EMPTY, digest=None))
+        self.assertIn("digest", self.ask("save", name="new.txt", text=EMPTY_TEXT, digest=None))
         self.assertEqual(sorted(path.name for path in self.room.iterdir()), ["gate.txt", "new.txt"])
 
     def test_refusals(self) -> None:
@@ -278,7 +278,7 @@ class Files(Served):
         """New texts are an empty layout, standard cells and examples; other names are none."""
         start = self.ask("start")
         self.assertEqual(start["text"], text_of("not_gate"))
-        self.assertEqual(self.ask("template", name="empty")["text"], EMPTY)
+        self.assertEqual(self.ask("template", name="empty")["text"], EMPTY_TEXT)
         self.assertIn("layout 44 44 37", self.ask("template", name="not")["text"])
         self.assertIn("fredkin_gate", start["examples"])
         self.assertEqual(self.ask("template", name="example not_gate")["text"], start["text"])
@@ -405,7 +405,7 @@ class Searches(Served):
     def setUp(self) -> None:
         """Starts the server with searches."""
         super().setUp()
-        self.routes = routes.Routes(support.program(), MEMORY)
+        self.routes = routes.RouteSearches(support.program(), MEMORY)
         self.server.answers.routes = self.routes
         self.addCleanup(self.routes.close)
 
@@ -474,8 +474,8 @@ class Searches(Served):
 
     def test_a_page_that_is_gone(self) -> None:
         """The search of a page that no longer asks is ended."""
-        old, routes.SILENCE = routes.SILENCE, 0.0
-        self.addCleanup(setattr, routes, "SILENCE", old)
+        old, routes.SILENCE_SECONDS = routes.SILENCE_SECONDS, 0.0
+        self.addCleanup(setattr, routes, "SILENCE_SECONDS", old)
         self.ask("route", tab="a", text=self.long_circuit(), seconds=600, seed=1)
         self.routes.found["a"].process.wait(60)
 
@@ -495,7 +495,7 @@ class Limits(support.InRoom):
     def test_time_limit(self) -> None:
         """A program that does not end is killed."""
         jobs = Jobs(self.fake(f"exec sleep 987654.{os.getpid()}"), 0.5, MEMORY)
-        told = jobs.run("a", {"kind": "verdict", "text": EMPTY})
+        told = jobs.answer_job("a", {"kind": "verdict", "text": EMPTY_TEXT})
         jobs.close()
         self.assertEqual((told["verdict"], told["words"]),
                          ("unknown", ["The program gave no answer within 0.5 seconds."]))
@@ -506,15 +506,17 @@ class Limits(support.InRoom):
         runs."""
         mark = self.fake(f"exec {SLEEP}")
         jobs, answers = Jobs(mark, 600, MEMORY), []
-        first = threading.Thread(target=lambda: answers.append(jobs.run("a", {"kind": "verdict", "text": EMPTY})))
-        other = threading.Thread(target=lambda: answers.append(jobs.run("b", {"kind": "verdict", "text": EMPTY})))
+        first = threading.Thread(target=lambda: answers.append(jobs.answer_job("a", {"kind": "verdict",
+                                                                                     "text": EMPTY_TEXT})))
+        other = threading.Thread(target=lambda: answers.append(jobs.answer_job("b", {"kind": "verdict",
+                                                                                     "text": EMPTY_TEXT})))
         first.start()
         wait_for(lambda: processes().count(SLEEP) == 1)
         other.start()
         time.sleep(0.3)
         self.assertEqual(processes().count(SLEEP), 1)
         export = {"kind": "export", "text": "circuit\n", "bundle": "", "form": "svg", "name": "", "on": []}
-        closer = threading.Thread(target=lambda: answers.append(jobs.run("a", export)))
+        closer = threading.Thread(target=lambda: answers.append(jobs.answer_job("a", export)))
         closer.start()
         wait_for(lambda: {"replaced": True} in answers)
         wait_for(lambda: processes().count(SLEEP) == 1 or len(answers) > 1)
@@ -529,10 +531,10 @@ class Limits(support.InRoom):
         worker = JobWorker(self.fake("exit 0"), 5, 1024)
         self.addCleanup(worker.release)
         self.addCleanup(worker.end)
-        worker.answer({"kind": "verdict", "text": EMPTY}, 60)
+        worker.answer({"kind": "verdict", "text": EMPTY_TEXT}, 60)
         self.assertEqual(resource.prlimit(worker.process.pid, resource.RLIMIT_AS), (1024 * 2 ** 20, 1024 * 2 ** 20))
         jobs = Jobs(self.fake(f"exec {sys.executable} -c 'x = bytes(3 << 30)'"), 20, 2048)
-        told = jobs.run("a", {"kind": "verdict", "text": EMPTY})
+        told = jobs.answer_job("a", {"kind": "verdict", "text": EMPTY_TEXT})
         jobs.close()
         self.assertEqual(told["verdict"], "unknown")
         self.assertIn("There is no verdict", told["words"][0])

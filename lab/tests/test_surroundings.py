@@ -158,7 +158,8 @@ class Programs(Room):
             self.assertNotIn("says yes", ended.stderr)
         jobs = Jobs(program, 20.0, 4096)
         self.addCleanup(jobs.close)
-        told = jobs.run("a", {"kind": "verdict", "text": support.text_of("not_gate"), "stage": "first", "earlier": ""})
+        told = jobs.answer_job("a", {"kind": "verdict", "text": support.text_of("not_gate"), "stage": "first",
+                                     "earlier": ""})
         self.assertEqual(told["verdict"], "unknown", told)
         self.assertIn("another text", told["words"][0])
 
@@ -177,14 +178,15 @@ class Programs(Room):
                                  "\"$real\" \"$@\""), 20.0, 4096)
         self.addCleanup(jobs.close)
         job = {"kind": "verdict", "text": support.text_of("not_gate"), "stage": "first", "earlier": ""}
-        self.assertEqual(jobs.run("a", job), {"error": "There is no answer: the lab's process was ended by SIGKILL."})
-        self.assertEqual(jobs.run("a", job)["verdict"], "yes")
+        self.assertEqual(jobs.answer_job("a", job),
+                         {"error": "There is no answer: the lab's process was ended by SIGKILL."})
+        self.assertEqual(jobs.answer_job("a", job)["verdict"], "yes")
 
     def test_hard_memory_limit(self) -> None:
         """Under a hard limit of the address space, below what the studio takes by itself, there are verdicts."""
         script = ("import sys; sys.path.insert(0, sys.argv[1]); from bbmlab_core.studio.jobs import Jobs; jobs = "
                   "Jobs(sys.argv[2], 20.0, 4096);"
-                  "print(jobs.run('a', {'kind': 'verdict', 'text': open(sys.argv[3]).read(), 'stage': 'first', "
+                  "print(jobs.answer_job('a', {'kind': 'verdict', 'text': open(sys.argv[3]).read(), 'stage': 'first', "
                   "'earlier': ''}).get('verdict')); jobs.close()")
         limit = 2 << 30
         ended = subprocess.run([sys.executable, "-c", script, str(support.LAB), support.program(),
@@ -247,11 +249,11 @@ class Signals(Room):
         just before the call."""
         thread = "threading.Thread(target=hang_up, daemon=True).start()"
         self.assertEqual(self.run_with(thread, "explain", support.example("wrong_edge")), 129)
-        worker = ("serve = checking.serve\n"
+        worker = ("serve_checks = checking.serve_checks\n"
                   "def patched(*rest):\n"
                   "    threading.Thread(target=hang_up, args=(signal.SIGTERM,), daemon=True).start()\n"
-                  "    serve(*rest)\n"
-                  "checking.serve = patched")
+                  "    serve_checks(*rest)\n"
+                  "checking.serve_checks = patched")
         (self.room / "started").unlink()
         self.assertEqual(self.run_with(worker, "check", support.example("wrong_edge")), 4)
 
@@ -287,12 +289,12 @@ class Words(Room):
         self.assertNotIn("fault is in the certificate", ended.stdout)
         self.assertRegex(" ".join(ended.stdout.split()), r"the cell \(\d+, 0\) of the rim is live at time 1\. .* no "
                          r"certificate gets a yes before the layout is changed")
-        outcome = Diagnosis(support.read_document(text, "check")).outcome
+        outcome = Diagnosis(support.read_document(text, "check")).whole_outcome
         self.assertEqual((outcome.is_right, outcome.is_rim), (Truth.NO, True))
         for name, wanted in (("gate_and_mirror", Truth.YES), ("not_gate", None)):
             document = support.read_document(support.text_of(name), "check")
             if document.certificate and not document.refusal:
-                self.assertEqual(Diagnosis(document).outcome.is_right, wanted, name)
+                self.assertEqual(Diagnosis(document).whole_outcome.is_right, wanted, name)
 
     def test_table_of_a_netlist(self) -> None:
         """A `$lut` whose table has another number of bits than its inputs make is refused by its name."""

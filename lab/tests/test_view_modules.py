@@ -9,7 +9,7 @@ from typing import Any
 import support
 from bbmlab_core.physics import tracing
 from bbmlab_core.physics.simulation import block_of, cell_of, key_of
-from bbmlab_core.pictures.label_places import Name, Rect, place_names
+from bbmlab_core.pictures.label_places import NameToPlace, Rect, place_names
 from bbmlab_core.pictures.ways import block_moves
 from bbmlab_core.texts.documents import Document
 from bbmlab_core.view import viewing
@@ -17,7 +17,7 @@ from support import data_of
 
 SVG = "{http://www.w3.org/2000/svg}"
 LIMITS = {"steps": 30, "names": ["p", "q", "constructor"], "faults": 2}
-FOLDERS = [viewing.TEMPLATE, viewing.TEMPLATE.parent / "studio"]
+FOLDERS = [viewing.TEMPLATE_FOLDER, viewing.TEMPLATE_FOLDER.parent / "studio"]
 
 
 def node(jobs: list[list[Any]]) -> list[Any]:
@@ -74,7 +74,7 @@ class Address(unittest.TestCase):
         chooser, jobs, wanted = random.Random(7), [], []
         for _ in range(20):
             cells = [Rect(12 * chooser.randrange(20), 12 * chooser.randrange(20), 12, 12) for _ in range(40)]
-            names = [Name(cell, chooser.randrange(10, 70), 8, chooser.random() < 0.5) for cell in cells[:20]]
+            names = [NameToPlace(cell, chooser.randrange(10, 70), 8, chooser.random() < 0.5) for cell in cells[:20]]
             found = place_names(names, cells[20:30], cells[30:])
             wanted.append([[place.box.x, place.box.y, place.away] for place in found])
             jobs.append(["places",
@@ -97,9 +97,9 @@ class Address(unittest.TestCase):
                              ["→a", "→b", "→carry", "✓ carry_out→", "✓ carry_out→", "✓ sum→"])
             cells = [part.cell for part in document.layout.parts if part.kind in ("in", "out")]
             ports = [Rect((x - 2) * scale, (y - 2) * scale, scale, scale) for x, y in cells]
-            self.assertEqual([text for text, box in names for port in ports if box.shared(port) > 1], [], scale)
+            self.assertEqual([text for text, box in names for port in ports if box.shared_area(port) > 1], [], scale)
             self.assertEqual([text for index, (text, box) in enumerate(names) for _,
-                              other in names[:index] if box.shared(other) > 1], [], scale)
+                              other in names[:index] if box.shared_area(other) > 1], [], scale)
 
 
 def part_box(part: ET.Element) -> Rect:

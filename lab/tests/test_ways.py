@@ -9,9 +9,10 @@ from pathlib import Path
 
 import support
 from bbmlab_core.commands.draw import gate_boxes, picture_of
-from bbmlab_core.physics.simulation import DIAGONAL, ROW, Table, WholeRun, block_of, cell_of
+from bbmlab_core.physics.simulation import DIAGONAL_STRIDE, ROW_STRIDE, Table, WholeRun, block_of, cell_of
 from bbmlab_core.pictures import drawing
-from bbmlab_core.pictures.picture_parts import OTHERS, Look, bring_out, chevrons, cone_of, piece_within
+from bbmlab_core.pictures.picture_parts import (OTHER_WIRES_LABEL, PictureOptions, chevrons, cone_of, piece_within,
+                                                with_others_grouped)
 from bbmlab_core.pictures.ways import Piece, WayRun, block_moves, directed_ways, joined_pieces, ways_of
 from bbmlab_core.texts.designs import read_design
 from bbmlab_core.texts.documents import Document, read_document
@@ -37,7 +38,8 @@ def moves_by_rule(document: Document, tables: dict[str, Table], full: Table) -> 
     for _ in range(layout.steps):
         live, is_odd = run.field.live, run.time % 2
         looked = {block_of(key, is_odd) for key in run.field.changed | run.field.changed_before}
-        before = {key: live[key] for corner in looked for key in (corner, corner + 1, corner + ROW, corner + DIAGONAL)
+        before = {key: live[key] for corner in looked
+                  for key in (corner, corner + 1, corner + ROW_STRIDE, corner + DIAGONAL_STRIDE)
                   if key in live}
         if not run.step():
             break
@@ -145,9 +147,9 @@ class Ways(unittest.TestCase):
         class Counted(WayRun):
             """A run that counts single moves."""
 
-            def cross(self, start: int, end: int, direction: int, left: list[int]) -> None:
+            def move_lone_cell(self, start: int, end: int, direction: int, left: list[int]) -> None:
                 crossed.append(start)
-                super().cross(start, end, direction, left)
+                super().move_lone_cell(start, end, direction, left)
 
         balls = [f"ball {4 * number} {4 * number % 60}" for number in range(20)]
         document = read_document("\n".join(["layout 512 512 400", "mirror 490 1 4 2", *balls, "end"]) + "\n")
@@ -299,7 +301,8 @@ class Chosen(support.Case):
     def test_crop(self) -> None:
         """A cropped picture has the size of its part, and the parts that lie in it."""
         design = read_design(support.example("four_modules"))
-        whole, part = (picture_of(design, None, None, None, Look(crop=crop)) for crop in (None, Box(0, 0, 6, 4)))
+        whole, part = (picture_of(design, None, None, None, PictureOptions(crop=crop))
+                       for crop in (None, Box(0, 0, 6, 4)))
         self.assertIn('<rect class="plane" x="30" y="30" width="72" height="48"/>', part)
         self.assertLess(part.count('class="box"'), whole.count('class="box"'))
         self.assertLess(len(part), len(whole))
@@ -312,9 +315,9 @@ class Chosen(support.Case):
     def test_wires_are_brought_out(self) -> None:
         """The ways of a wire, or of an equal one, keep their colour, and all others are faint."""
         ways = {"a": [((0, 0), (3, 3))], "b": [((5, 0), (8, 3))], "": [((9, 9), (8, 8))]}
-        found = bring_out(ways, {"a": "a, c"}, {"c"})
-        self.assertEqual(found, {"a": ways["a"], OTHERS: ways["b"] + ways[""]})
-        picture = picture_of(read_design(support.example("full_adder")), None, None, None, Look(wires=("a",)))
+        found = with_others_grouped(ways, {"a": "a, c"}, {"c"})
+        self.assertEqual(found, {"a": ways["a"], OTHER_WIRES_LABEL: ways["b"] + ways[""]})
+        picture = picture_of(read_design(support.example("full_adder")), None, None, None, PictureOptions(wires=("a",)))
         self.assertIn("<title>other wires</title>", picture)
         self.assertLess(picture.index("<title>other wires</title>"), picture.index('class="way w0"'))
 
@@ -340,5 +343,5 @@ class Chosen(support.Case):
         (one, tip, other), = chevrons([((20, 0), (0, 20))], 2)
         self.assertTrue(one[0] > tip[0] and other[1] < tip[1])
         with_arrows, without = (picture_of(read_design(support.example("fredkin_gate")), None, None, None,
-                                           Look(has_arrows=has)) for has in (True, False))
+                                           PictureOptions(has_arrows=has)) for has in (True, False))
         self.assertGreater(with_arrows.count('class="way'), without.count('class="way'))

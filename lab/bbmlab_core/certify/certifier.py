@@ -16,17 +16,17 @@ from ..physics.simulation import Fault, ModuleRun, Table, cell_of, key_of, keys_
 from ..texts.certificates import (MAX_BOX_SIDE, MAX_BORDER_LINES, MAX_CUTS, MAX_USES, Border, Certificate, Module,
                                   ModuleDraft, Stop, line_words)
 from ..texts.circuits import Circuit, Gate
-from ..texts.documents import Document, without_collector
-from ..texts.layouts import Box, Cell, Layout, row_order
-from ..texts.limits import SECOND, limits_for, sections_after_line, with_line
-from .observing import Observer, perimeter
+from ..texts.documents import Document, pause_garbage_collection
+from ..texts.layouts import Box, Cell, Layout, row_order_key
+from ..texts.limits import SECOND, limits_for, text_without_limits_line, with_limits_line
+from .observing import Observer, ring_and_halo_keys
 
 # How many steps back from the wires of a box to the gates that make them are tried, before all gates back to the
 # inputs.
 MAX_DEPTH = 4
 
 
-class NoBoxError(Exception):
+class ImpossibleModuleError(Exception):
     """A box can't be a module. The message says why."""
 
 
@@ -37,7 +37,7 @@ class CutsAndUses:
     cuts: list[str]
     uses: list[int]
 
-    def fits(self) -> bool:
+    def is_within_limits(self) -> bool:
         """Whether it is within the limits of a module."""
         return len(self.cuts) <= MAX_CUTS and len(self.uses) <= MAX_USES
 
@@ -66,7 +66,7 @@ class CertificateMaker:
         self.observer.require_quiet_rim()
         # What the user should know of the certificate.
         self.notes: list[str] = []
-        self.stops = self.chosen_stops()
+        self.stops = self.user_or_delay_stops()
         self.ports = {key_of(port.cell): port.name for port in layout.ins + layout.outs}
         # The modules of each rectangle that was tried, or why it has none.
         self.known: dict[Box, list[ModuleDraft] | str] = {}
@@ -77,7 +77,8 @@ class CertificateMaker:
     def certificate(self, boxes: list[Box] | None) -> Certificate:
         """Returns a certificate with given boxes, or with boxes of its own."""
         modules = [self.module(box)
-                   for box in boxes] if boxes else self.divided(Box(0, 0, self.layout.width, self.layout.height))
+                   for box in boxes] if boxes else self.modules_covering(Box(0, 0, self.layout.width,
+                                                                             self.layout.height))
         if len(modules) > SECOND.max_modules:
             raise LabError(f"the certificate takes {len(modules)} modules; {SECOND.max_modules} is the most", 1)
         for gate in self.circuit.gates:
@@ -88,7 +89,7 @@ class CertificateMaker:
                 module.halos = []
         return Certificate(self.plan.version, tuple(module.module() for module in modules))
 
-    def divided(self, box: Box) -> list[ModuleDraft]:
+    def modules_covering(self, box: Box) -> list[ModuleDraft]:
         """Returns the modules of a rectangle: itself, or those of its parts.
 
         What came of a rectangle is kept, since both orders of cuts lead to it.
@@ -96,15 +97,15 @@ class CertificateMaker:
         found = self.known.get(box)
         if found is None:
             try:
-                found = self.newly_divided(box)
-            except NoBoxError as error:
+                found = self.find_modules_covering(box)
+            except ImpossibleModuleError as error:
                 found = str(error)
             self.known[box] = found
         if isinstance(found, str):
-            raise NoBoxError(found)
+            raise ImpossibleModuleError(found)
         return found
 
-    def newly_divided(self, box: Box) -> list[ModuleDraft]:
+    def find_modules_covering(self, box: Box) -> list[ModuleDraft]:
         """Returns the modules of a rectangle that was not tried before."""
         if self.plan.until is not None and processor_seconds() > self.plan.until:
             raise LabError("no certificate was found in the time that was given", 1)
@@ -112,16 +113,16 @@ class CertificateMaker:
         if max(box.width, box.height) <= MAX_BOX_SIDE:
             try:
                 return [self.module(box)]
-            except NoBoxError as error:
+            except ImpossibleModuleError as error:
                 why = str(error)
-        for parts in self.halves(box):
+        for parts in self.best_splits(box):
             try:
-                return [module for part in parts for module in self.divided(part)]
-            except NoBoxError as error:
+                return [module for part in parts for module in self.modules_covering(part)]
+            except ImpossibleModuleError as error:
                 why = why or str(error)
-        raise NoBoxError(why or self.uncut_words(box))
+        raise ImpossibleModuleError(why or self.why_not_split(box))
 
-    def halves(self, box: Box) -> Iterable[tuple[Box, Box]]:
+    def best_splits(self, box: Box) -> Iterable[tuple[Box, Box]]:
         """Yields cuts of a rectangle into two, along lines at which all cells carry a wire: the best of each direction.
         """
         found = []
@@ -132,7 +133,7 @@ class CertificateMaker:
             # Boxes of full size first: then by nearness to the middle.
             if size > MAX_BOX_SIDE:
                 ranked.sort(key=lambda place: place % MAX_BOX_SIDE != 0)
-            place = next((place for place in ranked if self.is_cut(box, place, is_upright)), None)
+            place = next((place for place in ranked if self.can_split_at(box, place, is_upright)), None)
             if place is not None:
                 found.append((size, is_upright, place))
         for _, is_upright, place in sorted(found, reverse=True):
@@ -141,50 +142,51 @@ class CertificateMaker:
             else:
                 yield Box(box.x, box.y, box.width, place), Box(box.x, box.y + place, box.width, box.height - place)
 
-    def is_cut(self, box: Box, place: int, is_upright: bool) -> bool:
+    def can_split_at(self, box: Box, place: int, is_upright: bool) -> bool:
         """Whether each cell on both sides of a line through a rectangle carries a wire at each odd time."""
         lines = Box(box.x + place - 1, box.y, 2, box.height) if is_upright else Box(box.x, box.y + place - 1, box.width,
                                                                                     2)
-        return all(self.observer.names_at(key) is not None for key in self.observer.observed.seen.keys()
+        return all(self.observer.wires_carried_by(key) is not None for key in self.observer.observed.seen.keys()
                    & keys_of(lines))
 
-    def uncut_words(self, box: Box) -> str:
+    def why_not_split(self, box: Box) -> str:
         """Says why a rectangle can't be cut."""
         for y in range(box.y, box.y + box.height):
             for x in range(box.x, box.x + box.width):
-                if self.observer.names_at(key_of((x, y))) is None:
+                if self.observer.wires_carried_by(key_of((x, y))) is None:
                     return (f"each line through the rectangle {box.words} meets a cell without a wire: "
-                            f"{self.observer.unnamed_words(key_of((x, y)))}")
+                            f"{self.observer.moment_without_wire_words(key_of((x, y)))}")
         return f"the rectangle {box.words} can't be cut further"
 
     # ---- one module
 
     def module(self, box: Box) -> ModuleDraft:
         """Returns the module of a box, whose own run has no fault."""
-        ring, halo = perimeter(self.layout, box)
-        unnamed = [key for key in (*ring, *halo) if self.observer.names_at(key) is None]
+        ring, halo = ring_and_halo_keys(self.layout, box)
+        unnamed = [key for key in (*ring, *halo) if self.observer.wires_carried_by(key) is None]
         if unnamed:
-            raise NoBoxError(self.observer.unnamed_words(min(unnamed, key=self.observer.first_unnamed_moment)))
+            first = min(unnamed, key=self.observer.first_moment_without_wire)
+            raise ImpossibleModuleError(self.observer.moment_without_wire_words(first))
         module = ModuleDraft(box, edges=self.border_lines(ring), halos=self.border_lines(halo))
         module.stops = [stop for stop in self.stops if box.has(stop.cell)]
         if len(module.edges) + max(len(module.halos), len(module.stops)) > MAX_BORDER_LINES:
-            raise NoBoxError(f"the box {box.words} takes more than {MAX_BORDER_LINES} lines")
+            raise ImpossibleModuleError(f"the box {box.words} takes more than {MAX_BORDER_LINES} lines")
         needed = {line.signal for line in (*module.edges, *module.halos)} - {"1"}
         inside = keys_of(box)
         needed |= {self.ports[key] for key in self.ports.keys() & inside} | {stop.name for stop in module.stops}
         fault = None
-        for wiring in self.wirings(box, needed, inside, halo):
-            if wiring.fits():
+        for wiring in self.possible_cuts_and_uses(box, needed, inside, halo):
+            if wiring.is_within_limits():
                 module.cuts, module.uses = wiring.cuts, wiring.uses
                 fault = self.fault_of(module.module()) if self.plan.is_tried else None
                 if fault is None:
                     return module
         if fault is None:
-            raise NoBoxError(f"the box {box.words} needs {len(needed)} wires, and no cuts that were tried fit one "
-                             "module")
-        raise NoBoxError(
+            raise ImpossibleModuleError(f"the box {box.words} needs {len(needed)} wires, and no cuts that were "
+                                        "tried fit one module")
+        raise ImpossibleModuleError(
             f"with the last cuts that were tried the cell ({fault.x}, {fault.y}) in the box {box.words} is "
-                         f"wrong at time {fault.time}")
+                                    f"wrong at time {fault.time}")
 
     def fault_of(self, module: Module) -> Fault | None:
         """Returns the least fault of a module's own run."""
@@ -201,14 +203,15 @@ class CertificateMaker:
                       for time, table in self.observer.observed.seen.get(key, ())]
         return sorted(lines, key=lambda line: line.place)
 
-    def wirings(self, box: Box, needed: set[str], inside: list[int], halo: list[int]) -> Iterable[CutsAndUses]:
+    def possible_cuts_and_uses(self, box: Box, needed: set[str], inside: list[int],
+                               halo: list[int]) -> Iterable[CutsAndUses]:
         """Yields ways to know the wires of a box: with the wires cut that come in, then with gates before these, at
         last from the inputs."""
         if self.plan.cuts != "safe":
             seen: set[tuple[str, ...]] = set()
-            incoming = self.incoming(box, needed, inside, halo)
+            incoming = self.incoming_wires(box, needed, inside, halo)
             for depth in range(MAX_DEPTH + 1):
-                for wiring in self.known_by(needed, incoming):
+                for wiring in self.cuts_of_incoming_wires(needed, incoming):
                     if tuple(wiring.cuts) not in seen:
                         seen.add(tuple(wiring.cuts))
                         yield wiring
@@ -220,15 +223,15 @@ class CertificateMaker:
         cuts, uses = self.circuit.cone(sorted(needed))
         yield CutsAndUses(cuts, uses)
 
-    def incoming(self, box: Box, needed: set[str], inside: list[int], halo: list[int]) -> set[str]:
+    def incoming_wires(self, box: Box, needed: set[str], inside: list[int], halo: list[int]) -> set[str]:
         """Returns the wires that come into a box: those of its `in` cells, and those that are beside it before they are
         in it."""
-        here, beside = self.observer.first_times(inside), self.observer.first_times(halo)
+        here, beside = self.observer.first_times_of_wires(inside), self.observer.first_times_of_wires(halo)
         starts = {self.starts[key] for key in self.starts.keys() & inside}
         return starts | {name for name in needed if name not in starts
                          and beside.get(name, self.layout.steps) < here.get(name, self.layout.steps)}
 
-    def known_by(self, needed: set[str], incoming: set[str]) -> Iterable[CutsAndUses]:
+    def cuts_of_incoming_wires(self, needed: set[str], incoming: set[str]) -> Iterable[CutsAndUses]:
         """Yields the wiring that cuts the incoming wires, and one that uses the gates between them too."""
         cuts, uses = self.circuit.cone(sorted(needed), frozenset(incoming))
         made = {name for number in uses for name in self.circuit.gates[number].outs}
@@ -261,25 +264,26 @@ class CertificateMaker:
 
     # ---- stops
 
-    def chosen_stops(self) -> list[Stop]:
+    def user_or_delay_stops(self) -> list[Stop]:
         """Returns the user's stops if all of them hold and show the delays, and else stops for the delays."""
         if not self.plan.stops:
             return self.delay_stops()
-        wrong = [stop for stop in self.plan.stops if not self.holds(stop)]
-        wrong += [stop for gate in self.circuit.gates if gate.kind == "delay" for stop in self.delay_faults(gate)]
+        wrong = [stop for stop in self.plan.stops if not self.is_correct_stop(stop)]
+        wrong += [stop for gate in self.circuit.gates if gate.kind == "delay"
+                  for stop in self.user_stops_with_wrong_delay(gate)]
         if not wrong:
             return self.plan.stops
         self.notes.append(f"the old stops are left out: `{line_words('stop', wrong[0])}` does not hold in the layout")
         return self.delay_stops()
 
-    def holds(self, stop: Stop) -> bool:
+    def is_correct_stop(self, stop: Stop) -> bool:
         """Whether the cell of a stop is live just in the cases in which its wire is true."""
         key, values = key_of(stop.cell), self.observer.values
         live = values.full if key in self.observer.observed.always else self.observer.observed.moments[stop.time].get(
             key, 0)
         return live == values.tables[stop.name]
 
-    def delay_faults(self, gate: Gate) -> list[Stop]:
+    def user_stops_with_wrong_delay(self, gate: Gate) -> list[Stop]:
         """Returns the stops of the user that show another delay than a gate's."""
         before = [stop for stop in self.plan.stops if stop.name == gate.ins[0]]
         after = [stop for stop in self.plan.stops if stop.name == gate.outs[0]]
@@ -296,9 +300,9 @@ class CertificateMaker:
         for gate in (gate for gate in self.circuit.gates if gate.kind == "delay"):
             used, made, steps = gate.ins[0], gate.outs[0], gate.parameter or 0
             first = [seen[used]] if used in seen else [(time, cell) for time in range(len(moments))
-                                                       for cell in [self.place_of(used, moments[time])] if cell]
+                                                       for cell in [self.cell_carrying(used, moments[time])] if cell]
             pairs = ((place, (place[0] + steps, end)) for place in first if place[0] + steps < len(moments)
-                     for end in [self.place_of(made, moments[place[0] + steps])] if end)
+                     for end in [self.cell_carrying(made, moments[place[0] + steps])] if end)
             pair = next(pairs, None)
             if pair is None:
                 raise LabError(f"no cell carries `{made}` {steps} steps after one carries `{used}`: the layout does "
@@ -310,13 +314,13 @@ class CertificateMaker:
                 stops.setdefault(wire, Stop(time, wire, *cell))
         return sorted(stops.values(), key=lambda stop: stop.place)
 
-    def place_of(self, wire: str, live: dict[int, Table]) -> Cell | None:
+    def cell_carrying(self, wire: str, live: dict[int, Table]) -> Cell | None:
         """Returns a cell that carries a wire, an `out` cell of it first."""
         outs = {port.cell for port in self.layout.outs if port.name == wire}
         table = self.observer.values.tables[wire]
         cells = [cell for cell in (cell_of(key) for key, other in live.items() if other == table)
                  if self.layout.has(cell)]
-        return min(cells, key=lambda cell: (cell not in outs, row_order(cell))) if cells else None
+        return min(cells, key=lambda cell: (cell not in outs, row_order_key(cell))) if cells else None
 
 
 def grid_boxes(layout: Layout, width: int, height: int) -> list[Box]:
@@ -325,36 +329,37 @@ def grid_boxes(layout: Layout, width: int, height: int) -> list[Box]:
             for y in range(0, layout.height, height) for x in range(0, layout.width, width)]
 
 
-def certified(document: Document, boxes: list[Box] | None, plan: CertificatePlan,
-              notes: list[str] | None = None) -> str:
+def certified_text(document: Document, boxes: list[Box] | None, plan: CertificatePlan,
+                   notes: list[str] | None = None) -> str:
     """Returns the text of a circuit and a layout with a certificate of its own, with given boxes or with boxes that it
     chooses.
 
     What the user should know of the certificate is added to `notes`.
     """
-    with without_collector():
-        return newly_certified(document, boxes, plan, notes)
+    with pause_garbage_collection():
+        return make_certified_text(document, boxes, plan, notes)
 
 
-def newly_certified(document: Document, boxes: list[Box] | None, plan: CertificatePlan, notes: list[str] | None) -> str:
-    """Returns the text of `certified`."""
+def make_certified_text(document: Document, boxes: list[Box] | None, plan: CertificatePlan,
+                        notes: list[str] | None) -> str:
+    """Returns the text of `certified_text`."""
     circuit, layout = document.circuit, document.layout
     if circuit is None or layout is None:
         raise LabError("certify takes a circuit and a layout")
     maker = CertificateMaker(circuit, layout, plan)
     try:
         certificate = maker.certificate(boxes)
-    except NoBoxError as error:
-        raise LabError(f"no certificate was found: {error}{maker.observer.equal_words()}", 1) from error
+    except ImpossibleModuleError as error:
+        raise LabError(f"no certificate was found: {error}{maker.observer.hidden_wires_words()}", 1) from error
     if notes is not None:
         notes += maker.notes
-    head = sections_after_line(document.text).split("\nend\n", 2)
+    head = text_without_limits_line(document.text).split("\nend\n", 2)
     limits = limits_for(max(layout.width, layout.height), layout.steps, len(certificate.modules), len(circuit.gates),
                         len(circuit.wires))
-    return with_line(f"{head[0]}\nend\n{head[1]}\nend\n{certificate}", limits)
+    return with_limits_line(f"{head[0]}\nend\n{head[1]}\nend\n{certificate}", limits)
 
 
-def checked_boxes(layout: Layout, width: int, height: int) -> list[Box]:
+def legal_grid_boxes(layout: Layout, width: int, height: int) -> list[Box]:
     """Returns the boxes of a grid whose sides are allowed."""
     if any(side % 2 or not 2 <= side <= MAX_BOX_SIDE for side in (width, height)):
         raise LabError(f"a box of {width} by {height} cells: its sides are even numbers from 2 to {MAX_BOX_SIDE}", 2)

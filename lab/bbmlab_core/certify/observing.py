@@ -8,19 +8,19 @@ from ..host.processor import processor_seconds
 from ..host.terminal import LabError
 from ..physics.simulation import Table, WholeRun, cell_of, key_of, lowest_bit
 from ..texts.circuits import Circuit, evaluate_choices
-from ..texts.layouts import Box, Cell, Layout, row_order
-from ..texts.refusals import listed
+from ..texts.layouts import Box, Cell, Layout, row_order_key
+from ..texts.refusals import name_list
 
 # Up to this many inputs all choices are tried, and else so many samples.
 MAX_TRIED_INPUTS = 12
-SAMPLES = 1024
+SAMPLE_COUNT = 1024
 # A layout with a delay is remembered at each time; this is the most that is kept.
-MAX_REMEMBERED = 4_000_000
+MAX_REMEMBERED_CELLS = 4_000_000
 NO_WIRES: frozenset[str] = frozenset()
 
 
 @dataclass
-class Observed:
+class ObservedCells:
     """The cells of a whole run.
 
     `seen` has for a cell its odd times below the steps with their tables; `always` are live at all of them.
@@ -41,7 +41,7 @@ class Observer:
         self.circuit, self.layout, self.until = circuit, layout, until
         # Whether the cells are remembered at each time, for stops.
         self.remembers = remembers or any(gate.kind == "delay" for gate in circuit.gates)
-        self.values = evaluate_choices(circuit, MAX_TRIED_INPUTS, SAMPLES)
+        self.values = evaluate_choices(circuit, MAX_TRIED_INPUTS, SAMPLE_COUNT)
         self.require_rows()
         self.signals: dict[Table, str] = {}
         for name, table in self.values.tables.items():
@@ -50,7 +50,7 @@ class Observer:
         self.observed = self.run()
         self.wires: dict[int, frozenset[str] | None] = {}
 
-    def equal_words(self) -> str:
+    def hidden_wires_words(self) -> str:
         """Says how many wires have the values of an earlier one, by whose name the cells go: a box may lack the wires
         that its gate takes."""
         named = set(self.signals.values())
@@ -67,13 +67,14 @@ class Observer:
         """Raises LabError if some gate has no row under a choice of the inputs."""
         for number, table in self.values.rows.items():
             if table != self.values.full:
-                on = self.values.names_of(lowest_bit(self.values.full ^ table))
-                raise LabError(f"gate {number} has no row with {listed(on) or 'none of the inputs'} on: no certificate "
-                               "gets a yes", 1)
+                on = self.values.true_names(lowest_bit(self.values.full ^ table))
+                raise LabError(f"gate {number} has no row with {name_list(on) or 'none of the inputs'} on: no "
+                               "certificate gets a yes", 1)
 
-    def run(self) -> Observed:
+    def run(self) -> ObservedCells:
         """Runs the layout, and returns what its cells were."""
-        run, observed, values = WholeRun(self.layout, self.values.tables, self.values.full), Observed(), self.values
+        values, observed = self.values, ObservedCells()
+        run = WholeRun(self.layout, values.tables, values.full)
         observed.always = {key for key, table in run.field.live.items() if table == values.full}
         moving = {key: table for key, table in run.field.live.items() if table != values.full}
         remembered = 0
@@ -82,7 +83,7 @@ class Observer:
             if self.remembers:
                 observed.moments.append(dict(moving))
                 remembered += len(moving)
-                if remembered > MAX_REMEMBERED:
+                if remembered > MAX_REMEMBERED_CELLS:
                     raise LabError("the run is too long to look for stops of delays: write the `stop` lines by hand", 1)
             if time % 2 and time < self.layout.steps:
                 for key, table in moving.items():
@@ -92,13 +93,13 @@ class Observer:
             if self.until is not None and processor_seconds() > self.until:
                 raise LabError("no certificate was found in the time that was given", 1)
             if not run.step():
-                on = values.names_of(lowest_bit(run.left[1])) if run.left else []
-                raise LabError(f"step {run.time} leaves the rectangle with {listed(on) or 'none of the inputs'} on: no "
-                               "certificate gets a yes", 1)
+                on = values.true_names(lowest_bit(run.left[1])) if run.left else []
+                raise LabError(f"step {run.time} leaves the rectangle with {name_list(on) or 'none of the inputs'} on: "
+                               "no certificate gets a yes", 1)
             for key in run.field.changed:
                 self.note_change(observed, moving, key, run.field.live.get(key, 0), run.time)
 
-    def note_change(self, observed: Observed, moving: dict[int, Table], key: int, table: Table, time: int) -> None:
+    def note_change(self, observed: ObservedCells, moving: dict[int, Table], key: int, table: Table, time: int) -> None:
         """Notes a cell that changed in the last step. One that was live always gets its times before."""
         if key in observed.always:
             observed.always.discard(key)
@@ -118,12 +119,12 @@ class Observer:
                                                               times in self.observed.seen.items()]
         rim = [(time, cell_of(key)) for time, key in first if self.layout.is_rim(cell_of(key))]
         if rim:
-            time, (x, y) = min(rim, key=lambda place: (place[0], row_order(place[1])))
+            time, (x, y) = min(rim, key=lambda place: (place[0], row_order_key(place[1])))
             raise LabError(f"at time {time} the cell ({x}, {y}) is live, on the rim of the rectangle: no certificate "
                            "allows it. "
                            "Make the layout larger", 1)
 
-    def names_at(self, key: int) -> frozenset[str] | None:
+    def wires_carried_by(self, key: int) -> frozenset[str] | None:
         """Returns the wires that a cell carries at odd times, without constants; None if at some time it carries no
         wire."""
         if key not in self.observed.seen:
@@ -133,20 +134,20 @@ class Observer:
             self.wires[key] = None if None in names else frozenset(name for name in names if name and name != "1")
         return self.wires[key]
 
-    def first_unnamed_moment(self, key: int) -> tuple[int, int, int]:
+    def first_moment_without_wire(self, key: int) -> tuple[int, int, int]:
         """Returns the first time at which a cell carries no wire, with the cell's row and column."""
         x, y = cell_of(key)
         return next(time for time, table in self.observed.seen[key] if table not in self.signals), y, x
 
-    def unnamed_words(self, key: int) -> str:
+    def moment_without_wire_words(self, key: int) -> str:
         """Says when a cell carries no wire."""
-        time, y, x = self.first_unnamed_moment(key)
+        time, y, x = self.first_moment_without_wire(key)
         table = dict(self.observed.seen[key])[time]
-        on = listed(self.values.names_of(lowest_bit(table))) or "none of the inputs"
+        on = name_list(self.values.true_names(lowest_bit(table))) or "none of the inputs"
         return (f"at time {time} the cell ({x}, {y}) is live with {on} on, and no wire of the circuit is true in just "
                 "the cases in which it is live")
 
-    def first_times(self, keys: list[int]) -> dict[str, int]:
+    def first_times_of_wires(self, keys: list[int]) -> dict[str, int]:
         """Returns for each wire that some cells carry the first odd time at which one of them does."""
         first: dict[str, int] = {}
         for key in self.observed.seen.keys() & keys:
@@ -157,7 +158,7 @@ class Observer:
         return first
 
 
-def perimeter(layout: Layout, box: Box) -> tuple[list[int], list[int]]:
+def ring_and_halo_keys(layout: Layout, box: Box) -> tuple[list[int], list[int]]:
     """Returns the cells of a box's ring, and those of its halo that lie in the rectangle, as numbers."""
     def around(left: int, top: int, right: int, bottom: int) -> set[Cell]:
         """Returns the outermost cells of a rectangle that lie in the layout."""
@@ -168,6 +169,6 @@ def perimeter(layout: Layout, box: Box) -> tuple[list[int], list[int]]:
 
     ring = around(box.x, box.y, box.x + box.width - 1, box.y + box.height - 1)
     halo = around(box.x - 1, box.y - 1, box.x + box.width, box.y + box.height)
-    return [key_of(cell) for cell in sorted(ring, key=row_order)], [key_of(cell)
-                                                                    for cell in sorted(halo, key=row_order)]
+    return [key_of(cell) for cell in sorted(ring, key=row_order_key)], [key_of(cell)
+                                                                        for cell in sorted(halo, key=row_order_key)]
 

@@ -40,7 +40,7 @@ class AndGraph:
         return none ^ 1
 
 
-def difference_bytes(number: int) -> str:
+def encoded_delta(number: int) -> str:
     """Returns a number as AIGER writes it: seven bits in each byte, and the highest bit where more follow."""
     found = ""
     while number > 127:
@@ -55,7 +55,7 @@ def aiger_text(circuit: Circuit) -> str:
         ins = [graph.literals[name] for name in gate.ins]
         graph.literals.update((name, graph.literal_of_rows(rows, ins)) for name, rows in output_rows(gate))
     first, count = graph.input_count, len(graph.gates)
-    body = "".join(difference_bytes(2 * (first + at) - high) + difference_bytes(high - low) for at,
+    body = "".join(encoded_delta(2 * (first + at) - high) + encoded_delta(high - low) for at,
                    (high, low) in enumerate(graph.gates, 1))
     head = [f"aig {first + count} {first} 0 {len(circuit.outputs)} {count}",
             *(str(graph.literals[name]) for name in circuit.outputs)]

@@ -6,16 +6,16 @@ from ..texts.circuits import Circuit, Gate
 
 # For each output of a gate the rows of its table, in the order of the inputs. An inverse gate has what it has where it
 # has a row.
-ROWS: dict[str, list[list[str]]] = {
+OUTPUT_ROWS: dict[str, list[list[str]]] = {
     "fredkin": [["1--"], ["11-", "0-1"], ["1-1", "01-"]], "cswap": [["1--"], ["1-1", "01-"], ["11-", "0-1"]],
     "interact": [["11"], ["01"], ["10"], ["11"]], "switch": [["1-"], ["11"], ["01"]], "delay": [["1"]],
     "unswitch": [["1--"], ["-1-", "--1"]], "uninteract": [["1---", "--1-"], ["1---", "-1--"]],
 }
 # Words of Verilog that a wire of a circuit may be called.
-RESERVED = set("""always and assign begin buf case deassign default defparam disable edge else end endcase endfunction
-endmodule event for force forever fork function if initial inout input integer join module nand negedge nor not or
-output parameter posedge primitive real reg release repeat supply0 supply1 table task time tri wait wand while wire
-wor xnor xor""".split())
+VERILOG_KEYWORDS = set("""always and assign begin buf case deassign default defparam disable edge else end endcase
+endfunction endmodule event for force forever fork function if initial inout input integer join module nand negedge nor
+not or output parameter posedge primitive real reg release repeat supply0 supply1 table task time tri wait wand while
+wire wor xnor xor""".split())
 
 
 def output_rows(gate: Gate) -> Iterator[tuple[str, list[str]]]:
@@ -23,7 +23,7 @@ def output_rows(gate: Gate) -> Iterator[tuple[str, list[str]]]:
     if gate.kind == "source":
         yield gate.outs[0], [""] if gate.parameter else []
     else:
-        yield from zip(gate.outs, ROWS[gate.kind])
+        yield from zip(gate.outs, OUTPUT_ROWS[gate.kind])
 
 
 def blif_text(circuit: Circuit) -> str:
@@ -38,10 +38,10 @@ def blif_text(circuit: Circuit) -> str:
 
 def verilog_name(name: str) -> str:
     """Returns the name of a wire in Verilog: one of its reserved words is escaped."""
-    return f"\\{name} " if name in RESERVED else name
+    return f"\\{name} " if name in VERILOG_KEYWORDS else name
 
 
-def expression(gate: Gate, rows: list[str]) -> str:
+def verilog_expression(gate: Gate, rows: list[str]) -> str:
     """Returns the expression of a table's rows."""
     products = []
     for row in rows:
@@ -70,7 +70,7 @@ def verilog_text(circuit: Circuit) -> str:
     lines += [f"  input {verilog_name(name)};" for name in circuit.inputs] + [f"  output {name};" for name in outs]
     wires = [name for gate in circuit.gates for name in gate.outs if name not in circuit.outputs]
     lines += [f"  wire {verilog_name(name)};" for name in wires]
-    lines += [f"  assign {verilog_name(name)} = {expression(gate, rows)};" for gate in circuit.gates for name,
+    lines += [f"  assign {verilog_name(name)} = {verilog_expression(gate, rows)};" for gate in circuit.gates for name,
               rows in output_rows(gate)]
     return "\n".join([*lines, *ends, "endmodule", ""])
 

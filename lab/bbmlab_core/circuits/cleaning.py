@@ -7,13 +7,13 @@ outputs. What is left are the inputs, and the constants.
 
 from ..texts.circuits import Circuit, Gate
 from .cones import keeping_cone
-from .gate_lines import read_circuit, source_line
+from .gate_lines import reread_circuit, source_line
 from .inverting import INVERSES, require_rows
-from .netlists.naming import MAX_NAME, NameBook
+from .netlists.naming import MAX_NAME_BYTES, NameBook
 
 # So many gates at most are undone by inverse gates, each of which is searched for a cone that keeps it. Fredkin gates
 # undo those of larger circuits.
-MAX_SEARCHED = 1000
+MAX_SEARCHED_GATES = 1000
 REPLACEABLE_KINDS = ("switch", "interact")
 
 
@@ -35,24 +35,24 @@ class Cleaner:
 
     def fresh_name(self, name: str, ending: str) -> str:
         """Returns a new name that looks like another one."""
-        return self.book.fresh_name(name[:MAX_NAME - len(ending)] + ending)
+        return self.book.fresh_name(name[:MAX_NAME_BYTES - len(ending)] + ending)
 
     def run(self) -> Circuit:
         """Returns the lines of the circuit."""
         maker = self.circuit.maker
         copied = [name for name in self.circuit.outputs if name in maker and maker[name].kind != "source"]
         own = {name: self.fresh_name(name, "_own") for name in copied}
-        first = [(gate.number, line) for gate in self.circuit.gates for line in self.forward(gate.number, own)]
+        first = [(gate.number, line) for gate in self.circuit.gates for line in self.forward_lines(gate.number, own)]
         self.gates = [line for _, line in first]
-        complements = [self.copy(own[name], name) for name in copied]
+        complements = [self.add_copy(own[name], name) for name in copied]
         for number, line in reversed(first):
-            self.undo(number, line)
+            self.add_undoing_gate(number, line)
         ends = [*self.circuit.inputs, *(line.outs[0] for _, line in first if line.kind == "source")]
         spills = tuple(self.now.get(name, name) for name in ends if name not in self.circuit.outputs)
         outputs = (*self.circuit.outputs, *complements)
         return Circuit(tuple(self.circuit.inputs), tuple(self.gates), outputs, spills)
 
-    def forward(self, number: int, own: dict[str, str]) -> list[Gate]:
+    def forward_lines(self, number: int, own: dict[str, str]) -> list[Gate]:
         """Returns the lines of a gate in the first half: its own, or Fredkin gates and constants in its place."""
         gate = self.circuit.gates[number]
         ins, outs = tuple(own.get(name, name) for name in gate.ins), tuple(own.get(name, name) for name in gate.outs)
@@ -67,7 +67,7 @@ class Cleaner:
         return [source_line(0, zero), Gate("fredkin", (*ins, zero), (control, both, outs[1])),
                 source_line(0, other), Gate("fredkin", (both, control, other), (outs[0], outs[3], outs[2]))]
 
-    def copy(self, wire: str, name: str) -> str:
+    def add_copy(self, wire: str, name: str) -> str:
         """Adds the copy of a wire, which gets the name of the output, and returns the name of its complement."""
         one = self.fresh_name("one", "")
         passed, complement = (self.fresh_name(name, ending) for ending in ("_read", "_not"))
@@ -75,7 +75,7 @@ class Cleaner:
         self.now[wire] = passed
         return complement
 
-    def undo(self, number: int, line: Gate) -> None:
+    def add_undoing_gate(self, number: int, line: Gate) -> None:
         """Adds the gate that undoes a line of the first half.
 
         A delay is not undone: its wire comes back with the same values.
@@ -100,11 +100,11 @@ def clean(circuit: Circuit) -> Circuit:
     """
     require_rows(circuit, "the circuit")
     replaceable = frozenset(gate.number for gate in circuit.gates if gate.kind in REPLACEABLE_KINDS)
-    separate = replaceable if len(replaceable) > MAX_SEARCHED else frozenset[int]()
+    separate = replaceable if len(replaceable) > MAX_SEARCHED_GATES else frozenset[int]()
     while True:
         cleaner = Cleaner(circuit, separate)
         lines = cleaner.run()
-        result = read_circuit(lines)
+        result = reread_circuit(lines)
         failed = {number for place, number in cleaner.undone.items()
                   if result.gates[place].is_inverse and number not in separate and keeping_cone(result, place) is None}
         if not failed:

@@ -4,12 +4,12 @@ Toffoli 1982).
 
 from ..host.terminal import LabError
 from ..texts.circuits import Circuit, Gate, Valuation, evaluate_choices
-from .gate_lines import read_circuit, source_line
-from .row_check import missing_row
+from .gate_lines import reread_circuit, source_line
+from .row_check import first_gate_without_row
 
 # Up to so many inputs all choices are tried, and above them so many samples.
-MAX_ALL = 16
-SAMPLES = 4096
+MAX_EXHAUSTIVE_INPUTS = 16
+SAMPLE_COUNT = 4096
 INVERSES = {"fredkin": "fredkin", "cswap": "cswap", "delay": "delay", "switch": "unswitch", "unswitch": "switch",
             "interact": "uninteract",
             "uninteract": "interact"}
@@ -17,7 +17,7 @@ INVERSES = {"fredkin": "fredkin", "cswap": "cswap", "delay": "delay", "switch": 
 
 def values_of(circuit: Circuit) -> Valuation:
     """Returns the values of a circuit's wires, in all choices of up to 16 inputs, or in samples."""
-    return evaluate_choices(circuit, MAX_ALL, SAMPLES)
+    return evaluate_choices(circuit, MAX_EXHAUSTIVE_INPUTS, SAMPLE_COUNT)
 
 
 def constant_bit(values: Valuation, name: str) -> int | None:
@@ -25,10 +25,10 @@ def constant_bit(values: Valuation, name: str) -> int | None:
     return 1 if values.tables[name] == values.full else 0 if values.tables[name] == 0 else None
 
 
-def choice_words(values: Valuation, name: str, bit: int) -> str:
+def inputs_for_bit_words(values: Valuation, name: str, bit: int) -> str:
     """Says with which inputs on a wire is a bit."""
     table = values.tables[name] if bit else values.full ^ values.tables[name]
-    on = values.names_of((table & -table).bit_length() - 1)
+    on = values.true_names((table & -table).bit_length() - 1)
     return f"with {' '.join(on[:12])}{' and more' if len(on) > 12 else ''} on" if on else "with no input on"
 
 
@@ -48,26 +48,26 @@ def inverse(circuit: Circuit) -> Circuit:
     for name in circuit.spills:
         bit = constant_bit(values, name)
         if bit is None:
-            raise LabError(f"there is no inverse: the garbage `{name}` is 1 {choice_words(values, name, 1)} and 0 "
-                           f"{choice_words(values, name, 0)}, so no "
-                           "constant can take its place. Make it an output", 1)
+            raise LabError(f"there is no inverse: the garbage `{name}` is 1 {inputs_for_bit_words(values, name, 1)} "
+                           f"and 0 {inputs_for_bit_words(values, name, 0)}, so no constant can take its place. Make it "
+                           "an output", 1)
         gates.append(source_line(bit, name))
     gates += [Gate(INVERSES[gate.kind], tuple(gate.outs), tuple(gate.ins), gate.parameter)
                     for gate in reversed(circuit.gates) if gate.kind != "source"]
     spills = tuple(gate.outs[0] for gate in circuit.gates if gate.kind == "source")
     back = Circuit(tuple(circuit.outputs), tuple(gates), tuple(circuit.inputs), spills)
-    require_constants(circuit, read_circuit(back))
+    require_constants_returned(circuit, reread_circuit(back))
     return back
 
 
 def require_rows(circuit: Circuit, what: str) -> None:
     """Raises LabError if an inverse gate of a circuit has no row at some inputs."""
-    why = missing_row(circuit)
+    why = first_gate_without_row(circuit)
     if why is not None:
         raise LabError(f"{what} has no values at some inputs: {why.partition(': ')[0]}", 1)
 
 
-def require_constants(circuit: Circuit, back: Circuit) -> None:
+def require_constants_returned(circuit: Circuit, back: Circuit) -> None:
     """Raises LabError if the inverse has no values at some inputs, or does not give each constant back."""
     require_rows(back, "the inverse")
     values = values_of(back)
@@ -76,6 +76,6 @@ def require_constants(circuit: Circuit, back: Circuit) -> None:
             continue
         name, bit = gate.outs[0], gate.parameter or 0
         if constant_bit(values, name) != bit:
-            raise LabError(f"there is no inverse: {choice_words(values, name, 1 - bit)}, the constant `{name}` comes "
-                           f"back as {1 - bit} and not as "
-                           f"{bit}. The circuit never has these outputs. Make `{name}` an input", 1)
+            raise LabError(f"there is no inverse: {inputs_for_bit_words(values, name, 1 - bit)}, the constant `{name}` "
+                           f"comes back as {1 - bit} and not as {bit}. The circuit never has these outputs. Make "
+                           f"`{name}` an input", 1)

@@ -14,23 +14,23 @@ from .cones import few_cuts_and_uses, keeping_cone
 
 # The assignments that are sampled, the sets of gates of one size that are looked at further, and the gates that are run
 # at most to add gates, and to leave gates out: less than a second each.
-SAMPLES = 1024
-WIDTH = 4
+SAMPLE_COUNT = 1024
+BEAM_WIDTH = 4
 MOST_RUNS = 60_000
 
-Gates = frozenset[int]
+GateSet = frozenset[int]
 Cone = tuple[list[str], list[int]]
 
 
-def kept_cone(circuit: Circuit, number: int) -> Cone | None:
+def search_keeping_cone(circuit: Circuit, number: int) -> Cone | None:
     """Returns wires to cut and gates to use under which an inverse gate has a row whenever the gates before it have
     theirs, or None."""
-    return keeping_cone(circuit, number) or KeepSearch(circuit, number).found()
+    return keeping_cone(circuit, number) or KeepSearch(circuit, number).find_cone()
 
 
 def why_not_kept(circuit: Circuit, number: int) -> str:
     """Returns a clause on why the lab finds no keep for an inverse gate."""
-    least = len(KeepSearch(circuit, number).necessary())
+    least = len(KeepSearch(circuit, number).necessary_gates())
     if least >= MAX_USES:
         return (f"cannot be kept: its row follows only from at least {MAX_USES} gates before it, and a module uses at "
                 f"most {MAX_USES} with it")
@@ -46,35 +46,37 @@ class KeepSearch:
         self.before = circuit.cone(circuit.gates[number].ins)[1]
         chance = random.Random(1)
         # A sample of assignments for each wire, if it is cut.
-        self.samples = {wire: chance.getrandbits(SAMPLES) for wire in circuit.wires}
+        self.samples = {wire: chance.getrandbits(SAMPLE_COUNT) for wire in circuit.wires}
         self.consumer = {wire: gate.number for gate in circuit.gates for wire in gate.ins}
         self.runs = 0
 
-    def found(self) -> Cone | None:
+    def find_cone(self) -> Cone | None:
         """Returns wires to cut and gates to use, or None if none were found."""
-        necessary = self.necessary()
+        necessary = self.necessary_gates()
         if len(necessary) >= MAX_USES:
             return None
         core = frozenset({*necessary, self.number})
-        return self.shown(self.cut_off(core)) or self.grown(core) or self.cone_by_removal(core)
+        return (self.cone_if_valid(self.minimum_cut_gates(core)) or self.cone_by_growth(core)
+                or self.cone_by_removal(core))
 
-    def cuts(self, gates: Iterable[int]) -> set[str]:
+    def wires_into(self, gates: Iterable[int]) -> set[str]:
         """Returns the wires that come into some gates from elsewhere."""
         own = [self.circuit.gates[number] for number in gates]
         return {wire for gate in own for wire in gate.ins} - {wire for gate in own for wire in gate.outs}
 
-    def missing_row_count(self, gates: Gates) -> int:
+    def missing_row_count(self, gates: GateSet) -> int:
         """Returns under how many of the sampled assignments the inverse gate, the last of some gates, has no row while
         the others have theirs."""
         self.runs += len(gates)
-        full, order = (1 << SAMPLES) - 1, sorted(gates)
-        rows = evaluate_under(self.circuit, {wire: self.samples[wire] for wire in self.cuts(gates)}, full, order).rows
+        full, order = (1 << SAMPLE_COUNT) - 1, sorted(gates)
+        rows = evaluate_under(self.circuit, {wire: self.samples[wire] for wire in self.wires_into(gates)}, full,
+                              order).rows
         return ((rows[order[-2]] if len(order) > 1 else full) & ~rows[self.number]).bit_count()
 
-    def shown(self, gates: Gates) -> Cone | None:
+    def cone_if_valid(self, gates: GateSet) -> Cone | None:
         """Returns the wires that cut gates off, and the gates, if they are few enough and show the row under all
         assignments."""
-        cuts, order = sorted(self.cuts(gates)), sorted(gates)
+        cuts, order = sorted(self.wires_into(gates)), sorted(gates)
         if len(cuts) > MAX_CUTS or len(order) > MAX_USES or self.missing_row_count(gates):
             return None
         values = evaluate(self.circuit, cuts, order)
@@ -83,7 +85,7 @@ class KeepSearch:
         least, uses = few_cuts_and_uses(self.circuit, cuts, order)
         return (cuts, order) if len(least) <= MAX_CUTS and len(uses) <= MAX_USES else None
 
-    def necessary(self) -> list[int]:
+    def necessary_gates(self) -> list[int]:
         """Returns gates that each module needs that keeps the gate: those nearest to it first, and no more than a
         module can use."""
         every, found = frozenset({*self.before, self.number}), list[int]()
@@ -95,73 +97,74 @@ class KeepSearch:
         self.runs = 0
         return found
 
-    def grown(self, core: Gates) -> Cone | None:
+    def cone_by_growth(self, core: GateSet) -> Cone | None:
         """Returns what is found by adding gates to a core, those first that leave the fewest assignments without a row.
         """
         level, seen = [core], {core}
         while level and self.runs < MOST_RUNS:
-            ranked: list[tuple[int, int, int, Gates]] = []
-            for larger in self.larger(level):
+            ranked: list[tuple[int, int, int, GateSet]] = []
+            for larger in self.larger_gate_sets(level):
                 if larger in seen or len(larger) > MAX_USES:
                     continue
                 seen.add(larger)
                 lacking = self.missing_row_count(larger)
-                found = self.shown(larger) or self.shown(self.cut_off(larger)) if lacking == 0 else None
+                found = None if lacking else self.cone_if_valid(larger) or self.cone_if_valid(
+                    self.minimum_cut_gates(larger))
                 if found:
                     return found
-                ranked.append((lacking, len(self.cuts(larger)), len(ranked), larger))
-            level = [gates for _, _, _, gates in sorted(ranked, key=lambda own: own[:3])[:WIDTH]]
+                ranked.append((lacking, len(self.wires_into(larger)), len(ranked), larger))
+            level = [gates for _, _, _, gates in sorted(ranked, key=lambda own: own[:3])[:BEAM_WIDTH]]
         return None
 
-    def larger(self, level: list[Gates]) -> Iterator[Gates]:
+    def larger_gate_sets(self, level: list[GateSet]) -> Iterator[GateSet]:
         """Yields sets of gates with one more gate that makes a wire of the cut."""
         for gates in level:
-            for wire in sorted(self.cuts(gates)):
+            for wire in sorted(self.wires_into(gates)):
                 if wire in self.circuit.maker:
-                    yield self.with_sources(gates | {self.circuit.maker[wire].number})
+                    yield self.with_source_gates(gates | {self.circuit.maker[wire].number})
 
-    def cone_by_removal(self, core: Gates) -> Cone | None:
+    def cone_by_removal(self, core: GateSet) -> Cone | None:
         """Returns what is found by leaving gates out of all before the inverse gate, those first that leave the fewest
         wires to cut."""
         self.runs = 0
-        level, seen = [frozenset({*self.before, self.number})], set[Gates]()
+        level, seen = [frozenset({*self.before, self.number})], set[GateSet]()
         while level and self.runs < MOST_RUNS:
-            ranked: list[tuple[int, int, Gates]] = []
+            ranked: list[tuple[int, int, GateSet]] = []
             for smaller in (gates - {number} for gates in level for number in sorted(gates - core)):
                 if smaller in seen:
                     continue
                 seen.add(smaller)
-                count = len(self.cuts(smaller))
+                count = len(self.wires_into(smaller))
                 # One wire too many may still be led back to one gate.
                 if count > MAX_CUTS + 1 or self.missing_row_count(smaller):
                     continue
-                found = self.shown(smaller)
+                found = self.cone_if_valid(smaller)
                 if found:
                     return found
                 ranked.append((count, len(ranked), smaller))
-            level = [gates for _, _, gates in sorted(ranked, key=lambda own: own[:2])[:WIDTH]]
+            level = [gates for _, _, gates in sorted(ranked, key=lambda own: own[:2])[:BEAM_WIDTH]]
         return None
 
-    def with_sources(self, gates: Gates) -> Gates:
+    def with_source_gates(self, gates: GateSet) -> GateSet:
         """Returns gates with the sources of their wires, which need no wire themselves."""
-        makers = [self.circuit.maker.get(wire) for wire in self.cuts(gates)]
+        makers = [self.circuit.maker.get(wire) for wire in self.wires_into(gates)]
         return gates | {maker.number for maker in makers if maker and not maker.ins}
 
-    def cut_off(self, core: Gates) -> Gates:
+    def minimum_cut_gates(self, core: GateSet) -> GateSet:
         """Returns the fewest gates with a core that the fewest wires cut off (Ford and Fulkerson 1956: a flow of one
         unit for each wire)."""
         flow: set[str] = set()
         while True:
-            reached, wire = self.reached(core, flow)
+            reached, wire = self.gates_with_spare_flow(core, flow)
             if wire is None:
-                return self.with_sources(frozenset(reached))
+                return self.with_source_gates(frozenset(reached))
             number = self.consumer[wire]
             flow ^= {wire}
             while number not in core:
                 number, own = reached[number]
                 flow ^= {own}
 
-    def reached(self, core: Gates, flow: set[str]) -> tuple[dict[int, tuple[int, str]], str | None]:
+    def gates_with_spare_flow(self, core: GateSet, flow: set[str]) -> tuple[dict[int, tuple[int, str]], str | None]:
         """Returns the gates from which more can flow to a core, each with the next gate and the wire to it, and an
         input from which it can."""
         reached, todo = {number: (number, "") for number in core}, sorted(core)

@@ -9,11 +9,11 @@ from ..texts.circuits import Circuit, Gate
 from .netlists.naming import NameBook
 
 # Words that no qubit of OpenQASM 3 can be called: its keywords, and the gates of `stdgates.inc`.
-RESERVED = set("""angle array barrier bit bool box break cal case complex const continue cal ch cp cphase creg crx cry
-crz cswap ctrl cu cx cy cz ccx def default defcal defcalgrammar delay duration durationof else end euler export extern
-false float for gate gphase h i id if im in include input int inv let measure mod mutable negctrl nop opaque output p
-phase phi pi pow pragma qreg qubit readonly reset return rx ry rz s sdg sizeof stretch swap switch sx t tau tdg true u
-u1 u2 u3 uint void while x y z""".split())
+QASM_KEYWORDS = set("""angle array barrier bit bool box break cal case complex const continue cal ch cp cphase creg crx
+cry crz cswap ctrl cu cx cy cz ccx def default defcal defcalgrammar delay duration durationof else end euler export
+extern false float for gate gphase h i id if im in include input int inv let measure mod mutable negctrl nop opaque
+output p phase phi pi pow pragma qreg qubit readonly reset return rx ry rz s sdg sizeof stretch swap switch sx t tau
+tdg true u u1 u2 u3 uint void while x y z""".split())
 
 
 class LineNetwork:
@@ -33,24 +33,24 @@ class LineNetwork:
         self.at = {name: name for name in circuit.inputs}
         self.free: list[str] = []
         for gate in circuit.gates:
-            self.add(gate)
+            self.add_gate(gate)
         self.ends = {self.at[name]: name for name in circuit.outputs}
 
-    def constant(self, name: str, bit: int) -> str:
+    def add_constant_line(self, name: str, bit: int) -> str:
         """Adds a line that begins with a constant."""
         self.lines.append(name)
         self.constants[name] = bit
         return name
 
-    def zero(self) -> str:
+    def zero_line(self) -> str:
         """Returns a line that is 0."""
-        return self.free.pop() if self.free else self.constant(self.book.fresh_name("zero"), 0)
+        return self.free.pop() if self.free else self.add_constant_line(self.book.fresh_name("zero"), 0)
 
-    def add(self, gate: Gate) -> None:
+    def add_gate(self, gate: Gate) -> None:
         """Adds the steps of a gate."""
         ins, word = [self.at[name] for name in gate.ins], gate.kind
         if word == "source":
-            outs = [self.constant(gate.outs[0], gate.parameter or 0)]
+            outs = [self.add_constant_line(gate.outs[0], gate.parameter or 0)]
         elif word == "delay":
             outs = ins
         elif word in ("fredkin", "cswap"):
@@ -59,7 +59,7 @@ class LineNetwork:
             outs = [control, other, one] if word == "fredkin" else ins
         elif word == "switch":
             control, other = ins
-            outs = [control, self.zero(), other]
+            outs = [control, self.zero_line(), other]
             self.steps.append(([control], [other, outs[1]]))
         elif word == "unswitch":
             control, high, low = ins
@@ -68,7 +68,7 @@ class LineNetwork:
             self.free.append(high)
         elif word == "interact":
             one, other = ins
-            both, again = self.zero(), self.zero()
+            both, again = self.zero_line(), self.zero_line()
             self.steps += [([one, other], [both]), ([both], [again]), ([both], [one]), ([both], [other])]
             outs = [both, other, one, again]
         else:
@@ -102,10 +102,10 @@ def qasm_text(circuit: Circuit) -> str:
     """
     network = LineNetwork(circuit)
     book = NameBook()
-    book.taken.update(RESERVED)
+    book.taken.update(QASM_KEYWORDS)
     def fresh(name: str) -> str:
         """Returns a new name that is no reserved word."""
-        return book.fresh_name(f"{name}_" if name in RESERVED else name)
+        return book.fresh_name(f"{name}_" if name in QASM_KEYWORDS else name)
 
     qubits = {line: fresh(line) for line in circuit.inputs}
     bits = {line: fresh(name) for line, name in network.ends.items()}

@@ -9,34 +9,34 @@ from ..physics.simulation import lowest_bit
 from ..texts.circuits import Circuit, Gate, Valuation, evaluate_choices
 
 MAX_INPUTS = 12
-SAMPLES = 256
+SAMPLE_COUNT = 256
 # How many inputs that are on are named.
-MAX_NAMED = 12
+MAX_NAMED_INPUTS = 12
 
 
-def missing_row(circuit: Circuit) -> str | None:
+def first_gate_without_row(circuit: Circuit) -> str | None:
     """Returns the first gate that has no row, with the values that it gets and inputs that give them.
 
     None if none was found.
     """
     if not any(gate.is_inverse for gate in circuit.gates):
         return None
-    values = evaluate_choices(circuit, MAX_INPUTS, SAMPLES)
+    values = evaluate_choices(circuit, MAX_INPUTS, SAMPLE_COUNT)
     before = values.full
     for gate in circuit.gates:
         missing = before & ~values.rows[gate.number]
         if missing:
-            return row_words(values, gate, lowest_bit(missing))
+            return missing_row_words(values, gate, lowest_bit(missing))
         before = values.rows[gate.number]
     return None
 
 
-def row_words(values: Valuation, gate: Gate, column: int) -> str:
+def missing_row_words(values: Valuation, gate: Gate, column: int) -> str:
     """Says under which inputs a gate gets which values without a row."""
     given = " ".join(f"{name}={values.tables[name] >> column & 1}" for name in gate.ins)
-    on = values.names_of(column)
-    more = f" and {len(on) - MAX_NAMED} more" if len(on) > MAX_NAMED else ""
-    inputs = f"with {' '.join(on[:MAX_NAMED])}{more} on" if on else "with no input on"
+    on = values.true_names(column)
+    more = f" and {len(on) - MAX_NAMED_INPUTS} more" if len(on) > MAX_NAMED_INPUTS else ""
+    inputs = f"with {' '.join(on[:MAX_NAMED_INPUTS])}{more} on" if on else "with no input on"
     return (f"gate {gate.number} (`{gate.kind}`, line {gate.line}) has no row for {given}, which it gets {inputs}: the "
             "circuit has no values "
             "there, so no layout computes it")

@@ -6,13 +6,13 @@ Each wire gets a literal, by the rules of `netlists.graph`: wires with one liter
 
 from ..texts.circuits import Circuit, Gate
 from .cones import keeping_cone
-from .gate_lines import outputs_without_control, read_circuit
+from .gate_lines import outputs_without_control, reread_circuit
 from .inverting import require_rows
 from .netlists.graph import FALSE, TRUE, Graph, Literal
 
 # The most passes, each of which makes the circuit smaller, and the most inverse gates that are searched for a cone.
 MAX_PASSES = 200
-MAX_SEARCHED = 1000
+MAX_SEARCHED_GATES = 1000
 
 
 class ConstantFolder:
@@ -32,17 +32,17 @@ class ConstantFolder:
     def run(self) -> Circuit:
         """Returns the circuit after the pass."""
         for gate in self.before.gates:
-            ins = [self.wire(name) for name in gate.ins]
-            if not self.try_fold(gate, ins) and not self.try_undo(gate, ins):
-                self.emit(gate.kind, gate.parameter, ins, gate.outs)
-        gates = [Gate(gate.kind, tuple(map(self.wire, gate.ins)), gate.outs, gate.parameter)
+            ins = [self.replacement_of(name) for name in gate.ins]
+            if not self.try_fold(gate, ins) and not self.try_cancel_pair(gate, ins):
+                self.add_gate(gate.kind, gate.parameter, ins, gate.outs)
+        gates = [Gate(gate.kind, tuple(map(self.replacement_of, gate.ins)), gate.outs, gate.parameter)
                  for gate in self.gates
                  if gate is not None]
-        outputs, spills = (tuple(map(self.wire, names)) for names in (
+        outputs, spills = (tuple(map(self.replacement_of, names)) for names in (
             self.before.outputs, (*self.before.spills, *self.dropped)))
-        return with_names(Circuit(self.before.inputs, tuple(gates), outputs, spills), self.before.outputs)
+        return with_output_names(Circuit(self.before.inputs, tuple(gates), outputs, spills), self.before.outputs)
 
-    def wire(self, name: str) -> str:
+    def replacement_of(self, name: str) -> str:
         """Returns what a wire became."""
         first = name
         while name in self.became:
@@ -51,22 +51,22 @@ class ConstantFolder:
             self.became[first], first = name, self.became[first]
         return name
 
-    def alias(self, outs: list[str], ins: list[str]) -> None:
+    def replace_outputs(self, outs: list[str], ins: list[str]) -> None:
         """Replaces outputs of a gate that is left out by inputs with their values."""
         self.became.update(zip(outs, ins))
 
-    def constant(self, bit: int, *outs: str) -> None:
+    def make_constants(self, bit: int, *outs: str) -> None:
         """Makes outputs constants."""
         for name in outs:
-            self.emit("source", bit, [], (name,))
+            self.add_gate("source", bit, [], (name,))
 
-    def emit(self, word: str, parameter: int | None, ins: list[str], outs: tuple[str, ...]) -> None:
+    def add_gate(self, word: str, parameter: int | None, ins: list[str], outs: tuple[str, ...]) -> None:
         """Adds a gate."""
         self.place.update((name, len(self.gates)) for name in outs)
         self.gates.append(Gate(word, tuple(ins), outs, parameter))
-        self.literals.update(zip(outs, self.values(word, parameter, [self.literals[name] for name in ins])))
+        self.literals.update(zip(outs, self.output_literals(word, parameter, [self.literals[name] for name in ins])))
 
-    def values(self, word: str, parameter: int | None, ins: list[Literal]) -> list[Literal]:
+    def output_literals(self, word: str, parameter: int | None, ins: list[Literal]) -> list[Literal]:
         """Returns the literals of a gate's outputs."""
         graph = self.graph
         if word == "source":
@@ -89,7 +89,7 @@ class ConstantFolder:
         """Replaces a gate whose inputs are constant, alike or opposite. Returns whether it did."""
         outs, known = list(gate.outs), [self.literals[name] for name in ins]
         if gate.kind == "delay" and known[0] in (FALSE, TRUE):
-            self.alias(outs, ins)
+            self.replace_outputs(outs, ins)
         elif gate.kind == "switch":
             return self.try_fold_switch(outs, ins, known)
         elif gate.kind == "interact":
@@ -99,13 +99,13 @@ class ConstantFolder:
         elif gate.kind == "unswitch" and (known[0] in (FALSE, TRUE) or FALSE in known[1:]):
             taken = 1 if known[0] == TRUE or known[0] != FALSE and known[2] == FALSE else 2
             self.dropped.append(ins[3 - taken])
-            self.alias(outs, [ins[0], ins[taken]])
+            self.replace_outputs(outs, [ins[0], ins[taken]])
         elif gate.kind == "uninteract" and FALSE in (known[0], known[3]):
             self.dropped += [ins[0], ins[3]]
-            self.alias(outs, [ins[2], ins[1]])
+            self.replace_outputs(outs, [ins[2], ins[1]])
         elif gate.kind == "uninteract" and known[1] == known[2] == FALSE:
             self.dropped += [ins[1], ins[2]]
-            self.alias(outs, [ins[0], ins[3]])
+            self.replace_outputs(outs, [ins[0], ins[3]])
         else:
             return False
         return True
@@ -114,11 +114,11 @@ class ConstantFolder:
         """Replaces a switch whose control or input is constant, or which are alike or opposite."""
         control, other = known
         if control == TRUE or other == control:
-            self.alias(outs[:2], ins)
-            self.constant(0, outs[2])
+            self.replace_outputs(outs[:2], ins)
+            self.make_constants(0, outs[2])
         elif control == FALSE or other in (FALSE, control ^ 1):
-            self.alias([outs[0], outs[2]], ins)
-            self.constant(0, outs[1])
+            self.replace_outputs([outs[0], outs[2]], ins)
+            self.make_constants(0, outs[1])
         else:
             return False
         return True
@@ -127,17 +127,17 @@ class ConstantFolder:
         """Replaces an interaction of which one input is constant, or whose inputs are alike or opposite."""
         one, other = known
         if FALSE in known or one == other ^ 1:
-            self.alias([outs[2], outs[1]], ins)
-            self.constant(0, outs[0], outs[3])
+            self.replace_outputs([outs[2], outs[1]], ins)
+            self.make_constants(0, outs[0], outs[3])
         elif one == other:
-            self.alias([outs[0], outs[3]], ins)
-            self.constant(0, outs[1], outs[2])
+            self.replace_outputs([outs[0], outs[3]], ins)
+            self.make_constants(0, outs[1], outs[2])
         elif one == TRUE:
-            self.emit("switch", None, ins[::-1], (outs[0], outs[3], outs[2]))
-            self.constant(0, outs[1])
+            self.add_gate("switch", None, ins[::-1], (outs[0], outs[3], outs[2]))
+            self.make_constants(0, outs[1])
         elif other == TRUE:
-            self.emit("switch", None, ins, (outs[0], outs[3], outs[1]))
-            self.constant(0, outs[2])
+            self.add_gate("switch", None, ins, (outs[0], outs[3], outs[1]))
+            self.make_constants(0, outs[2])
         else:
             return False
         return True
@@ -147,20 +147,20 @@ class ConstantFolder:
         these is 0."""
         control, high, low = known
         if control == FALSE:
-            self.alias(outs, [ins[0], ins[2], ins[1]])
+            self.replace_outputs(outs, [ins[0], ins[2], ins[1]])
         elif control == TRUE or high == low:
-            self.alias(outs, ins)
+            self.replace_outputs(outs, ins)
         elif low == FALSE:
             self.dropped.append(ins[2])
-            self.emit("switch", None, ins[:2], tuple(outs))
+            self.add_gate("switch", None, ins[:2], tuple(outs))
         elif high == FALSE:
             self.dropped.append(ins[1])
-            self.emit("switch", None, [ins[0], ins[2]], (outs[0], outs[2], outs[1]))
+            self.add_gate("switch", None, [ins[0], ins[2]], (outs[0], outs[2], outs[1]))
         else:
             return False
         return True
 
-    def try_undo(self, gate: Gate, ins: list[str]) -> bool:
+    def try_cancel_pair(self, gate: Gate, ins: list[str]) -> bool:
         """Removes a gate and the earlier one that it undoes. Returns whether it did."""
         parts = ins[1:] if gate.kind in ("switch", "unswitch", "fredkin", "cswap") else ins
         places = {self.place.get(name, -1) for name in parts}
@@ -168,24 +168,26 @@ class ConstantFolder:
         before = self.gates[place] if place >= 0 else None
         if before is None or not parts:
             return False
-        now, wires = [self.wire(name) for name in before.ins], [self.wire(name) for name in before.outs]
+        now = [self.replacement_of(name) for name in before.ins]
+        wires = [self.replacement_of(name) for name in before.outs]
         control = before.kind in ("switch", "unswitch", "fredkin", "cswap")
         if control and self.literals[now[0]] | 1 != self.literals[ins[0]] | 1:
             return False
         is_opposite = control and self.literals[now[0]] != self.literals[ins[0]]
-        found = returned_order(before.kind, gate.kind, parts == wires[control:], parts[::-1] == wires[control:],
-                               is_opposite)
+        found = is_returned_in_order(before.kind, gate.kind, parts == wires[control:], parts[::-1] == wires[control:],
+                                     is_opposite)
         if found is None:
             return False
         back = now[control:] if found else now[control:][::-1]
         if control:
-            self.alias([before.outs[0], gate.outs[0]], [now[0], ins[0] if ins[0] != before.outs[0] else now[0]])
+            self.replace_outputs([before.outs[0], gate.outs[0]],
+                                 [now[0], ins[0] if ins[0] != before.outs[0] else now[0]])
         self.gates[place] = None
-        self.alias(list(gate.outs[control:]), back)
+        self.replace_outputs(list(gate.outs[control:]), back)
         return True
 
 
-def returned_order(first: str, second: str, is_same: bool, is_turned: bool, is_opposite: bool) -> bool | None:
+def is_returned_in_order(first: str, second: str, is_same: bool, is_turned: bool, is_opposite: bool) -> bool | None:
     """Returns whether a gate gives the inputs of an earlier one back in their order, False if in the other one, and
     None if it does not.
 
@@ -201,7 +203,7 @@ def returned_order(first: str, second: str, is_same: bool, is_turned: bool, is_o
     return True if {first, second} == {"interact", "uninteract"} and is_same else None
 
 
-def with_names(lines: Circuit, wanted: tuple[str, ...]) -> Circuit:
+def with_output_names(lines: Circuit, wanted: tuple[str, ...]) -> Circuit:
     """Returns a circuit whose outputs have the wanted names. A delay names an input that leaves at once."""
     renamed = {found: name for found, name in zip(lines.outputs, wanted) if found != name and found not in lines.inputs}
     delays = [Gate("delay", (found,), (name,), 1) for found,
@@ -215,7 +217,7 @@ def with_names(lines: Circuit, wanted: tuple[str, ...]) -> Circuit:
     return Circuit(lines.inputs, (*gates, *delays), wanted, names(lines.spills))
 
 
-def without_dead(lines: Circuit) -> Circuit:
+def without_dead_gates(lines: Circuit) -> Circuit:
     """Returns a circuit without the gates of which nothing is used but the control that they hand on."""
     spare, became, kept = set(lines.spills), dict[str, str](), list[Gate]()
     order = list(lines.spills)
@@ -240,7 +242,7 @@ def without_dead(lines: Circuit) -> Circuit:
     gates = [Gate(gate.kind, tuple(map(wire, gate.ins)), gate.outs, gate.parameter) for gate in reversed(kept)]
     spills = tuple(name for name in dict.fromkeys(order) if name in spare)
     outputs = tuple(map(wire, lines.outputs))
-    return with_names(Circuit(lines.inputs, tuple(gates), outputs, spills), lines.outputs)
+    return with_output_names(Circuit(lines.inputs, tuple(gates), outputs, spills), lines.outputs)
 
 
 def with_shared_garbage(lines: Circuit) -> Circuit:
@@ -249,7 +251,7 @@ def with_shared_garbage(lines: Circuit) -> Circuit:
     literals = folder.literals
     for gate in lines.gates:
         ins = [literals[name] for name in gate.ins]
-        literals.update(zip(gate.outs, folder.values(gate.kind, gate.parameter, ins)))
+        literals.update(zip(gate.outs, folder.output_literals(gate.kind, gate.parameter, ins)))
     born = {name: at for at, gate in enumerate(lines.gates) for name in gate.outs}
     taker = {name: at for at, gate in enumerate(lines.gates) for name in gate.ins}
     pool: dict[Literal, list[str]] = {}
@@ -289,18 +291,20 @@ def with_exchanged_uses(lines: Circuit, swaps: dict[str, str]) -> Circuit:
     return Circuit(lines.inputs, tuple(gates), lines.outputs, named(tuple(spills)))
 
 
-def kept_count(circuit: Circuit) -> int:
+def kept_gate_count(circuit: Circuit) -> int:
     """Returns how many inverse gates a cone keeps, or 0 for a circuit with too many of them."""
     inverse = [gate.number for gate in circuit.gates if gate.is_inverse]
-    return sum(keeping_cone(circuit, number) is not None for number in inverse) if len(inverse) <= MAX_SEARCHED else 0
+    if len(inverse) > MAX_SEARCHED_GATES:
+        return 0
+    return sum(keeping_cone(circuit, number) is not None for number in inverse)
 
 
-def after_passes(lines: Circuit, may_share: bool) -> Circuit:
+def simplified_by_passes(lines: Circuit, may_share: bool) -> Circuit:
     """Returns a circuit after passes that change it no more."""
     for _ in range(MAX_PASSES):
         before = lines
-        lines = without_dead(ConstantFolder(lines).run())
-        lines = without_dead(with_shared_garbage(lines)) if may_share else lines
+        lines = without_dead_gates(ConstantFolder(lines).run())
+        lines = without_dead_gates(with_shared_garbage(lines)) if may_share else lines
         if lines == before:
             break
     return lines
@@ -315,9 +319,9 @@ def simplify(circuit: Circuit) -> Circuit:
     require_rows(circuit, "the circuit")
     lines = circuit
     for may_share in (True, False):
-        found = after_passes(lines, may_share)
-        result = read_circuit(found)
-        lost = sum(gate.is_inverse for gate in result.gates) - kept_count(result)
-        if not lost or lost <= sum(gate.is_inverse for gate in circuit.gates) - kept_count(circuit):
+        found = simplified_by_passes(lines, may_share)
+        result = reread_circuit(found)
+        lost = sum(gate.is_inverse for gate in result.gates) - kept_gate_count(result)
+        if not lost or lost <= sum(gate.is_inverse for gate in circuit.gates) - kept_gate_count(circuit):
             return found
     return lines

@@ -11,17 +11,17 @@ from ..texts.documents import Document
 
 # Up to so many inputs a table has all rows, and two circuits are compared in all.
 MAX_TABLE_INPUTS = 12
-MAX_ALL = 16
-SAMPLES = 4096
+MAX_EXHAUSTIVE_INPUTS = 16
+SAMPLE_COUNT = 4096
 
 
-def rows(circuit: Circuit, on: list[str] | None) -> Iterator[list[str]]:
+def table_rows(circuit: Circuit, on: list[str] | None) -> Iterator[list[str]]:
     """Yields the names of the columns, and then each row: inputs and outputs, or the gate without a row.
 
     The first input changes last.
     """
     inputs = circuit.inputs
-    found = choices(circuit, on)
+    found = inputs_on_by_row(circuit, on)
     yield [*inputs, *circuit.outputs]
     for chosen in found:
         values, undefined = values_under(circuit, chosen)
@@ -33,7 +33,7 @@ def rows(circuit: Circuit, on: list[str] | None) -> Iterator[list[str]]:
             yield [*bits, f"gate {undefined} ({gate.kind}) has no row"]
 
 
-def choices(circuit: Circuit, on: list[str] | None) -> list[set[str]]:
+def inputs_on_by_row(circuit: Circuit, on: list[str] | None) -> list[set[str]]:
     """Returns which inputs are on in each row of a table: one row, or all.
 
     Raises LabError for other names, or for too many rows.
@@ -80,7 +80,7 @@ def circuit_figures(circuit: Circuit) -> list[tuple[str, str]]:
             ("width", str(peak_wire_count(circuit)))]
 
 
-def figures(document: Document) -> list[tuple[str, str]]:
+def text_figures(document: Document) -> list[tuple[str, str]]:
     """Returns the figures of a text's sections."""
     found = circuit_figures(document.circuit) if document.circuit else []
     layout = document.layout
@@ -95,15 +95,15 @@ def figures(document: Document) -> list[tuple[str, str]]:
     return found
 
 
-def both_values(one: Circuit, other: Circuit) -> tuple[Valuation, Valuation]:
+def values_of_both(one: Circuit, other: Circuit) -> tuple[Valuation, Valuation]:
     """Returns the values of two circuits with the same inputs, in all choices of up to 16 inputs, or else in samples.
     """
-    values = evaluate_choices(one, MAX_ALL, SAMPLES)
+    values = evaluate_choices(one, MAX_EXHAUSTIVE_INPUTS, SAMPLE_COUNT)
     free = {name: values.tables[name] for name in one.inputs}
     return values, evaluate_under(other, free, values.full, range(len(other.gates)))
 
 
-def difference(one: Circuit, other: Circuit, is_of_common: bool = False) -> tuple[str, str]:
+def output_difference(one: Circuit, other: Circuit, is_of_common: bool = False) -> tuple[str, str]:
     """Returns how two circuits differ, or nothing, and in which inputs they were compared. Inputs and outputs are
     matched by their names.
 
@@ -117,11 +117,13 @@ def difference(one: Circuit, other: Circuit, is_of_common: bool = False) -> tupl
         alone = sorted(set(names) ^ set(others))
         if alone:
             return f"only one of them has the {kind} {alone[0]}", "the names of inputs and outputs"
-    mine, theirs = both_values(one, other)
+    mine, theirs = values_of_both(one, other)
     for name in common:
-        unequal = (mine.tables[name] ^ theirs.tables[name]) | (mine.defined ^ theirs.defined)
+        unequal = (mine.tables[name] ^ theirs.tables[name]) | (mine.defined_columns ^ theirs.defined_columns)
         if unequal:
             column = (unequal & -unequal).bit_length() - 1
-            on = " ".join(mine.names_of(column)) or "no input"
+            on = " ".join(mine.true_names(column)) or "no input"
             return f"with {on} on, {name} differs", mine.choices_words
-    return "", mine.choices_words if len(one.inputs) <= MAX_ALL else f"in {SAMPLES} sampled choices of the inputs"
+    if len(one.inputs) <= MAX_EXHAUSTIVE_INPUTS:
+        return "", mine.choices_words
+    return "", f"in {SAMPLE_COUNT} sampled choices of the inputs"

@@ -2,7 +2,7 @@
 
 import argparse
 
-from ..certify.certifier import CertificatePlan, certified, checked_boxes
+from ..certify.certifier import CertificatePlan, certified_text, legal_grid_boxes
 from ..host.program import BadProgramError, ProgramTimeout, ask, find_program
 from ..host.terminal import LabError, read_text, tell, write_text
 from ..texts.certificates import MAX_BOX_SIDE
@@ -29,10 +29,10 @@ def run(options: argparse.Namespace) -> int:
                             key=lambda stop: stop.place)
     assert document.layout is not None
     notes: list[str] = []
-    bundle = certified(document, chosen_boxes(options, document.layout), plan, notes)
+    bundle = certified_text(document, chosen_boxes(options, document.layout), plan, notes)
     for note in notes:
         tell(note)
-    status = verdict_status(bundle, options)
+    status = print_verdict(bundle, options)
     write_text(options.output, bundle, [options.file])
     return status
 
@@ -54,13 +54,13 @@ def chosen_boxes(options: argparse.Namespace, layout: Layout) -> list[Box] | Non
             raise LabError(
                 f"--plain takes a layout of at most {MAX_BOX_SIDE} by {MAX_BOX_SIDE} cells, and this one has "
                            f"{layout.width} by {layout.height}", 2)
-        return checked_boxes(layout, layout.width, layout.height)
+        return legal_grid_boxes(layout, layout.width, layout.height)
     if options.grid:
-        return checked_boxes(layout, *options.grid)
-    return boxes_of(options.boxes, layout) if options.boxes else None
+        return legal_grid_boxes(layout, *options.grid)
+    return boxes_of_file(options.boxes, layout) if options.boxes else None
 
 
-def boxes_of(file: str, layout: Layout) -> list[Box]:
+def boxes_of_file(file: str, layout: Layout) -> list[Box]:
     """Returns the boxes of the lines `module X Y W H` of a text."""
     found = []
     for line in read_text(file).split("\n"):
@@ -78,7 +78,7 @@ def boxes_of(file: str, layout: Layout) -> list[Box]:
     return found
 
 
-def verdict_status(bundle: str, options: argparse.Namespace) -> int:
+def print_verdict(bundle: str, options: argparse.Namespace) -> int:
     """Prints on standard error what the program says of the bundle.
 
     Returns 0 after a yes, 1 after a no or a refusal, and 4 without an answer. A yes is status 0 and the line `verdict

@@ -6,21 +6,21 @@ from ..farm.checking import Checker, exit_status, text_files
 from ..farm.progress import Progress
 from ..farm.receipts import ReceiptFolder
 from ..farm.results import WRITERS, ResultWriter
-from ..farm.sharding import in_shard
+from ..farm.sharding import is_in_shard
 from ..host.program import find_program
-from ..host.releases import program_of
+from ..host.releases import identity_of
 from ..host.signals import Stopped
 from ..host.terminal import LabError, tell
 
 
-def source(options: argparse.Namespace) -> Checker:
+def checker_for(options: argparse.Namespace) -> Checker:
     """Returns what checks the files: processes here, or the workers of a Dask cluster."""
     program = find_program(options.program)
     if options.again and not options.receipts:
         raise LabError("--again is for --receipts", 2)
     if options.send_program and options.dask is None:
         raise LabError("--send-program is for --dask", 2)
-    folder = ReceiptFolder(options.receipts, program_of(program), options.again) if options.receipts else None
+    folder = ReceiptFolder(options.receipts, identity_of(program), options.again) if options.receipts else None
     if options.dask is None:
         return Checker(program, options.jobs, options.timeout, folder)
     from ..farm.cluster import ClusterChecker
@@ -29,8 +29,8 @@ def source(options: argparse.Namespace) -> Checker:
 
 def run(options: argparse.Namespace) -> int:
     """Checks all files. A signal ends all programs that run, and the results so far are written."""
-    files = [file for file in text_files(options.files, tell) if in_shard(file, options.shard)]
-    checker = source(options)
+    files = [file for file in text_files(options.files, tell) if is_in_shard(file, options.shard)]
+    checker = checker_for(options)
     if options.only and options.format in ("tap", "junit"):
         raise LabError("--only is for the formats text, json and jsonl: TAP and JUnit count all files", 2)
     writer = WRITERS[options.format](options.only)
@@ -57,10 +57,10 @@ def write_results(checker: Checker, files: list[str], writer: ResultWriter, coun
                 progress.done += 1
                 counts[result.result] = counts.get(result.result, 0) + 1
                 progress.hide()
-                writer.take(result)
+                writer.take_result(result)
                 if result.is_fatal:
                     return True
-            progress.look(result.file if result else "")
+            progress.show_if_due(result.file if result else "")
         return False
     finally:
         checker.stop()

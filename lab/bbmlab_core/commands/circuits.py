@@ -9,37 +9,37 @@ from ..circuits import truth
 from ..circuits.aiger_form import aiger_text
 from ..circuits.circuit_forms import blif_text, dot_text, verilog_text
 from ..circuits.cleaning import clean
-from ..circuits.gate_lines import read_circuit
+from ..circuits.gate_lines import reread_circuit
 from ..circuits.inverting import inverse, values_of
 from ..circuits.line_forms import qasm_text, real_text
-from ..circuits.netlists import Reading
+from ..circuits.netlists import ReadingOptions
 from ..circuits.simplifying import simplify
 from ..host.terminal import LabError, read_text, tell, write_bytes, write_text
 from ..route.command import circuit_of
 from ..texts.circuits import Circuit, evaluate_under
 from ..texts.documents import read_document
-from ..texts.limits import limits_for, with_line
-from ..texts.sections import text_of
+from ..texts.limits import limits_for, with_limits_line
+from ..texts.sections import text_of_section
 
-WRITERS = {"aiger": aiger_text, "blif": blif_text, "dot": dot_text, "qasm": qasm_text, "real": real_text,
-           "verilog": verilog_text}
+TEXT_WRITERS = {"aiger": aiger_text, "blif": blif_text, "dot": dot_text, "qasm": qasm_text, "real": real_text,
+                "verilog": verilog_text}
 
 
 def run_circuit(options: argparse.Namespace) -> int:
     """Writes the circuit of a file: in the one spelling, or in the form of another tool."""
-    text, circuit = circuit_of(options.file, Reading.asked(options))
-    text = with_line(text, limits_for(gates=len(circuit.gates), wires=len(circuit.wires)))
+    text, circuit = circuit_of(options.file, ReadingOptions.from_options(options))
+    text = with_limits_line(text, limits_for(gates=len(circuit.gates), wires=len(circuit.wires)))
     try:
-        for change in changes(options):
+        for change in chosen_changes(options):
             lines, before = change(circuit), circuit
-            text, circuit = text_of(lines), read_circuit(lines)
+            text, circuit = text_of_section(lines), reread_circuit(lines)
             if before.outputs:
                 tell(f"the new circuit was compared with the one before {agreement_words(change, before, circuit)}")
     except LabError as error:
         raise LabError(f"{options.file}: {error}", error.status) from error
     if options.clean and any(name.endswith("_not") for name in circuit.outputs):
         tell("each output that a gate makes also leaves as its complement, with `_not` at its end: no gate makes balls")
-    write_bytes(options.output, (text if options.to is None else WRITERS[options.to](circuit)).encode("latin-1"))
+    write_bytes(options.output, (text if options.to is None else TEXT_WRITERS[options.to](circuit)).encode("latin-1"))
     return 0
 
 
@@ -48,13 +48,14 @@ def agreement_words(change: Callable[[Circuit], Circuit], before: Circuit, after
 
     Raises LabError where it has others.
     """
-    differs, scope = returns_inputs(before, after) if change is inverse else truth.difference(before, after, True)
+    differs, scope = (inverse_difference(before, after) if change is inverse
+                      else truth.output_difference(before, after, True))
     if differs:
         raise LabError(f"the new circuit is wrong: {differs}. This is a fault of the lab", 1)
     return scope
 
 
-def returns_inputs(before: Circuit, after: Circuit) -> tuple[str, str]:
+def inverse_difference(before: Circuit, after: Circuit) -> tuple[str, str]:
     """Returns how the inverse of a circuit fails to give its inputs back, or nothing, and in which inputs they were
     compared."""
     values = values_of(before)
@@ -64,7 +65,7 @@ def returns_inputs(before: Circuit, after: Circuit) -> tuple[str, str]:
     return ("" if wrong is None else f"it does not give `{wrong}` back"), values.choices_words
 
 
-def changes(options: argparse.Namespace) -> list[Callable[[Circuit], Circuit]]:
+def chosen_changes(options: argparse.Namespace) -> list[Callable[[Circuit], Circuit]]:
     """Returns what a circuit is put through, in order.
 
     To `simplify` the second half of a clean circuit is dead, so it comes before.
@@ -75,9 +76,9 @@ def changes(options: argparse.Namespace) -> list[Callable[[Circuit], Circuit]]:
 
 def run_table(options: argparse.Namespace) -> int:
     """Writes the rows of a circuit's values."""
-    _, circuit = circuit_of(options.file, Reading.asked(options))
+    _, circuit = circuit_of(options.file, ReadingOptions.from_options(options))
     on = None if options.on is None else [name for name in options.on.split(",") if name]
-    rows = truth.rows(circuit, on)
+    rows = truth.table_rows(circuit, on)
     out = io.StringIO()
     if options.csv:
         csv.writer(out, lineterminator="\n").writerows(rows)
@@ -102,9 +103,9 @@ def run_stats(options: argparse.Namespace) -> int:
     text = read_text(options.file)
     document = read_document(text, "check")
     if document.circuit is None or document.layout is None or not document.layout.width:
-        found = truth.circuit_figures(circuit_of(options.file, Reading.asked(options), text)[1])
+        found = truth.circuit_figures(circuit_of(options.file, ReadingOptions.from_options(options), text)[1])
     else:
-        found = truth.figures(document)
+        found = truth.text_figures(document)
     longest = max(len(name) for name, _ in found)
     write_text(options.output, "".join(f"{name.ljust(longest)} {value}\n" for name, value in found))
     return 0
@@ -115,6 +116,6 @@ def run_equal(options: argparse.Namespace) -> int:
     if options.file == "-" and options.other == "-":
         raise LabError("only one of two files can be standard input", 2)
     one, other = circuit_of(options.file)[1], circuit_of(options.other)[1]
-    differs, scope = truth.difference(one, other, options.common)
+    differs, scope = truth.output_difference(one, other, options.common)
     print(f"not equal: {differs}" if differs else f"equal {scope}")
     return 1 if differs else 0

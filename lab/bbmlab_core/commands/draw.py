@@ -5,7 +5,7 @@ import argparse
 from ..host.terminal import LabError, write_text
 from ..physics import tracing
 from ..pictures import drawing
-from ..pictures.picture_parts import Look, bring_out, wanted_wires
+from ..pictures.picture_parts import PictureOptions, wanted_wires, with_others_grouped
 from ..texts.circuits import Circuit
 from ..texts.designs import read_design, report_for
 from ..texts.documents import Document
@@ -15,14 +15,14 @@ from ..texts.skimming import boxes_and_uses
 
 
 def picture_of(design: tuple[Document, Layout], names: str | None, time: int | None,
-               report: ReportOrRefusal | None = None, look: Look = Look()) -> str:
+               report: ReportOrRefusal | None = None, look: PictureOptions = PictureOptions()) -> str:
     """Returns the picture of a design at a time, or without a time the ways of its balls."""
     document, layout = design
     is_large = max(layout.width, layout.height) > drawing.LARGE_SIDE
     on = tracing.chosen_inputs(document, names)
     under = f" with {' '.join(on) or 'no input'} on"
     picture = drawing.Drawing(modules=list(document.certificate.modules) if document.certificate and not is_large
-                              else [], view=view_of(look, layout),
+                              else [], view=visible_box(look, layout),
                               ball=look.ball, has_arrows=look.has_arrows)
     if is_large and document.circuit:
         picture.gates = gate_boxes(document.text, document.circuit)
@@ -34,7 +34,7 @@ def picture_of(design: tuple[Document, Layout], names: str | None, time: int | N
         picture.live, picture.title = tracing.state_at(layout, on, time), f"time {time}{under}"
     wanted = wanted_wires(look, document.circuit, tracing.port_names(layout))
     if wanted:
-        picture.ways = bring_out(picture.ways, picture.labels, wanted)
+        picture.ways = with_others_grouped(picture.ways, picture.labels, wanted)
     for finding in report.faults if report else []:
         if "x" in finding.values:
             picture.faults.append(((finding.number("x"), finding.number("y")), finding.text))
@@ -44,7 +44,7 @@ def picture_of(design: tuple[Document, Layout], names: str | None, time: int | N
     return drawing.svg(layout, picture, wires)
 
 
-def view_of(look: Look, layout: Layout) -> Box | None:
+def visible_box(look: PictureOptions, layout: Layout) -> Box | None:
     """Returns the part of the layout that is asked for, as far as it lies in the layout."""
     if look.crop is None:
         return None
@@ -69,9 +69,9 @@ def gate_boxes(text: str, circuit: Circuit) -> list[tuple[Box, list[str]]]:
 def run(options: argparse.Namespace) -> int:
     """Draws a layout. The certificate of a large one is read only for a report, since that takes longer than to draw.
     """
-    look = Look(Box(*options.crop) if options.crop else None, tuple(options.wires.split(",")) if options.wires else (),
-                options.cone, options.arrows,
-                options.ball)
+    look = PictureOptions(Box(*options.crop) if options.crop else None,
+                          tuple(options.wires.split(",")) if options.wires else (), options.cone, options.arrows,
+                          options.ball)
     if (look.wires or look.cone or look.has_arrows) and not options.ways:
         raise LabError("--wires, --cone and --arrows need --ways")
     design = read_design(options.file, has_certificate=bool(options.report))

@@ -6,10 +6,10 @@ from ..circuits.netlists import NetlistFormat, netlist_format
 from ..explain import explaining
 from ..explain.explaining import ExplainedAnswer
 from ..explain.fixing import Fixer, outcome_words
-from ..explain.trials import Budget, Trial
+from ..explain.trials import Budget, TrialRunner
 from ..farm.answering import why_no_verdict
 from ..host.program import Executable, BadProgramError, ask, find_program
-from ..host.terminal import LabError, painted, read_text, tell, wrapped, write_bytes
+from ..host.terminal import LabError, coloured, read_text, tell, wrapped_paragraph, write_bytes
 from ..texts.cell_pictures import LEGEND
 from ..texts.documents import command_for, read_document
 
@@ -42,10 +42,10 @@ def run(options: argparse.Namespace) -> int:
             raise LabError("The lab's reader takes the text, but only the program gives a verdict.")
         output, by_lab = f"refused {refusal.line} {refusal.code}\n", True
     explanation = explaining.explain_answer(text, command, output, options.file,
-                                            Trial(program, Budget(seconds=options.effort, is_of_search=True)))
+                                            TrialRunner(program, Budget(seconds=options.effort, is_of_search=True)))
     if by_lab:
         explanation.headline.append("The program was not found: this is the lab's reading, and no verdict.")
-    return show_explanation(explanation, options)
+    return write_explanation(explanation, options)
 
 
 def program_of(options: argparse.Namespace) -> Executable | None:
@@ -74,17 +74,17 @@ def write_fix(text: str, command: str, program: Executable | None, options: argp
         raise LabError("--fix takes a text with a circuit and a layout", 2)
     if options.in_place and (options.output or options.file == "-"):
         raise LabError("-i writes the file itself: it goes with a file, and without -o", 2)
-    report, trial = Trial(program).report(text), Trial(program, Budget(seconds=options.effort))
+    report, trial = TrialRunner(program).report(text), TrialRunner(program, Budget(seconds=options.effort))
     if report is None:
-        raise LabError(f"{trial.judge} gave no answer")
+        raise LabError(f"{trial.judge_words} gave no answer")
     fixer = Fixer(text, report, trial)
-    fix = None if report.verdict == "yes" else fixer.find()
+    fix = None if report.verdict == "yes" else fixer.find_fix()
     if fix is None and report.verdict != "yes":
-        for line in explaining.tried_words(fixer, trial):
+        for line in explaining.tried_in_vain_words(fixer, trial):
             tell(line)
         return 1
     words = [*fix.words,
-             outcome_words(report, fix)] if fix else [f"{trial.judge} says yes already: there is nothing to fix."]
+             outcome_words(report, fix)] if fix else [f"{trial.judge_words} says yes already: there is nothing to fix."]
     for line in words:
         tell(line)
     data = (fix.text if fix else text).encode("latin-1")
@@ -96,7 +96,7 @@ def write_fix(text: str, command: str, program: Executable | None, options: argp
     return 0 if program and (fix is None or fix.report.verdict == "yes") else 1
 
 
-def show_explanation(explanation: ExplainedAnswer, options: argparse.Namespace) -> int:
+def write_explanation(explanation: ExplainedAnswer, options: argparse.Namespace) -> int:
     """Writes an explanation in the form that is asked for."""
     if options.json:
         print(explaining.as_json(explanation))
@@ -104,34 +104,35 @@ def show_explanation(explanation: ExplainedAnswer, options: argparse.Namespace) 
         for line in explaining.as_gcc(explanation):
             print(line)
     else:
-        print(text_of(explanation))
+        print(explanation_text(explanation))
     return 1 if explanation.verdict in ("no", "refused", "left", "undefined") else 0
 
 
-def text_of(explanation: ExplainedAnswer) -> str:
+def explanation_text(explanation: ExplainedAnswer) -> str:
     """Writes an explanation for people."""
     good = explanation.verdict not in ("no", "refused", "left", "undefined")
-    blocks = ["\n".join([painted(explanation.headline[0], "green" if good else "red"),
-                         *(wrapped(line) for line in explanation.headline[1:])])]
+    blocks = ["\n".join([coloured(explanation.headline[0], "green" if good else "red"),
+                         *(wrapped_paragraph(line) for line in explanation.headline[1:])])]
     told = explanation.refused
     if told:
         blocks.append(f"  line {explanation.line}: {explanation.line_text!r}"[:160] if explanation.line_text
                       else f"  line {explanation.line}")
-        blocks.append("\n".join(wrapped(what, "  ") for what in told.what))
-        blocks.append(wrapped(f"Rule: {told.rule}", "  "))
+        blocks.append("\n".join(wrapped_paragraph(what, "  ") for what in told.what))
+        blocks.append(wrapped_paragraph(f"Rule: {told.rule}", "  "))
         if explanation.fix is None:
-            blocks.append("\n".join(wrapped(hint, f"  {painted('Hint:', 'bold')} ", "        ") for hint in told.hints))
+            blocks.append("\n".join(wrapped_paragraph(hint, f"  {coloured('Hint:', 'bold')} ", "        ")
+                                    for hint in told.hints))
     blocks += fix_blocks(explanation)
     for entry in explanation.entries:
-        lines = [painted(entry.report_line, "bold" if entry.is_against else "dim")]
-        lines += [wrapped(what, "  ") for what in entry.what]
+        lines = [coloured(entry.report_line, "bold" if entry.is_against else "dim")]
+        lines += [wrapped_paragraph(what, "  ") for what in entry.what]
         if explanation.fix is None or entry.fixes != explanation.fix.words:
             lines += labelled_sentences("Fix:", entry.fixes)
         if entry.picture:
             lines += ["", *(f"    {row}" for row in entry.picture)]
         blocks.append("\n".join(lines))
     if any(entry.picture for entry in explanation.entries):
-        blocks.append(painted(LEGEND, "dim"))
+        blocks.append(coloured(LEGEND, "dim"))
     return "\n\n".join(blocks)
 
 
@@ -140,11 +141,11 @@ def fix_blocks(explanation: ExplainedAnswer) -> list[str]:
     if explanation.fix:
         others = [line for words in explanation.fix.others for line in labelled_sentences("Or:", words)]
         return ["\n".join(labelled_sentences("Fix:", explanation.fix.words) + others)]
-    return ["\n".join(wrapped(line, "  ") for line in explanation.tried)] if explanation.tried else []
+    return ["\n".join(wrapped_paragraph(line, "  ") for line in explanation.tried)] if explanation.tried else []
 
 
 def labelled_sentences(label: str, sentences: list[str]) -> list[str]:
     """Returns sentences, one a line, with a label before the first."""
     margin = " " * (len(label) + 3)
-    return [wrapped(sentence, margin if index else f"  {painted(label, 'bold')} ", margin) for index,
+    return [wrapped_paragraph(sentence, margin if index else f"  {coloured(label, 'bold')} ", margin) for index,
             sentence in enumerate(sentences)]

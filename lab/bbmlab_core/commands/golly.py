@@ -17,7 +17,7 @@ def run(options: argparse.Namespace) -> int:
     return 0
 
 
-def run_back(options: argparse.Namespace) -> int:
+def run_from_golly(options: argparse.Namespace) -> int:
     """Writes the layout of a file of Golly."""
     write_text(options.output, golly.layout_from_golly(read_text(options.file)))
     return 0

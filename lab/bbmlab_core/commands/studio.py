@@ -15,7 +15,7 @@ from ..host.terminal import LabError, tell
 from ..studio.answers import Answers
 from ..studio.folder import Folder
 from ..studio.jobs import Jobs
-from ..studio.routes import Routes
+from ..studio.routes import RouteSearches
 from ..studio.server import studio_server
 
 
@@ -29,7 +29,8 @@ def run(options: argparse.Namespace) -> int:
     jobs = routes = None
     try:
         program = find_program(options.program)
-        jobs, routes = Jobs(program, options.timeout or 20.0, options.memory), Routes(str(program), options.memory)
+        jobs = Jobs(program, options.timeout or 20.0, options.memory)
+        routes = RouteSearches(str(program), options.memory)
     except BadProgramError as error:
         tell(f"the studio gives no verdicts: {error}")
     try:
@@ -42,7 +43,7 @@ def run(options: argparse.Namespace) -> int:
     server.on_entry = lambda: print("bbmlab: a browser has opened the studio. Another one gets in by "
                                     f"{server.address}", file=sys.stderr, flush=True)
     if jobs:
-        threading.Thread(target=jobs.warm, daemon=True).start()
+        threading.Thread(target=jobs.start_ahead, daemon=True).start()
     with ExitStack() as ending:
         if jobs:
             ending.callback(jobs.close)
@@ -61,14 +62,14 @@ def open_browser(address: str, ending: ExitStack) -> None:
     Only this user can read the page. All users can list the arguments of a browser, so the address is none.
     """
     try:
-        page = private_page(Path(ending.enter_context(tempfile.TemporaryDirectory(prefix="bbmlab-"))), address)
+        page = write_private_page(Path(ending.enter_context(tempfile.TemporaryDirectory(prefix="bbmlab-"))), address)
     except OSError as error:
         tell(f"no browser is opened, since no page can be written for it: {error.strerror or error}")
         return
     threading.Thread(target=webbrowser.open, args=(page.as_uri(),), daemon=True).start()
 
 
-def private_page(folder: Path, address: str) -> Path:
+def write_private_page(folder: Path, address: str) -> Path:
     """Writes a page that leads to an address, and returns its path. Its folder and the page are this user's alone."""
     path = folder / "studio.html"
     with open(os.open(path, os.O_WRONLY | os.O_CREAT | os.O_EXCL, 0o600), "w", encoding="utf-8") as file:

@@ -21,7 +21,7 @@ def run(options: argparse.Namespace) -> int:
     else:
         on = tracing.chosen_inputs(document, options.on)
         trace = tracing.trace_layout(layout, on, options.start, last)
-        warn_of_difference(options, trace, tracing.run_text(tracing.layout_lines(document), on))
+        warn_of_difference(options, trace, tracing.text_for_run(tracing.layout_lines(document), on))
     mirrors = layout.mirror_cells()
     write_text(options.output, tracing.as_json(trace, mirrors) if options.json
                else tracing.as_text(trace, mirrors, options.pictures))

@@ -4,7 +4,7 @@ import argparse
 import os
 from pathlib import Path
 
-from ..farm.answering import WORDS
+from ..farm.answering import RESULT_WORDS
 from ..farm.checking import exit_status
 from ..farm.receipts import SECTIONS, Receipt, ReceiptError, parse_receipt, section_digests, sha256
 from ..host.program import Answer, ask, find_program
@@ -17,7 +17,7 @@ def read_receipt(name: str) -> Receipt:
     return parse_receipt(read_bytes(name))
 
 
-def differences(receipt: Receipt, text: bytes) -> list[str]:
+def receipt_differences(receipt: Receipt, text: bytes) -> list[str]:
     """Returns why a receipt is of another text, in words."""
     if (len(text), sha256(text)) == (receipt.size, receipt.text):
         return []
@@ -37,23 +37,23 @@ def run(options: argparse.Namespace) -> int:
         print(f"{escape_controls(options.receipt)}: this receipt does not count: {error}")
         return 1
     text = read_bytes(options.file)
-    against = differences(receipt, text)
+    against = receipt_differences(receipt, text)
     if receipt.program.sha256 not in known_releases(tuple(options.release)):
         against.append(f"the program of the receipt ({receipt.program.sha256[:16]}..) is no release that is known here")
     if options.again and not against:
-        against += checked_again(receipt, text, options)
+        against += differences_after_new_run(receipt, text, options)
     for reason in against:
         print(f"{escape_controls(options.file)}: {escape_controls(reason)}")
     if against:
         return 1
     again = ", and the program said the same again" if options.again else ""
-    print(f"{escape_controls(options.file)}: {WORDS[receipt.verdict]}, by "
+    print(f"{escape_controls(options.file)}: {RESULT_WORDS[receipt.verdict]}, by "
           f"{escape_controls(receipt.program.version or 'a release')} on "
           f"{escape_controls(receipt.date)}{again}")
     return 0
 
 
-def checked_again(receipt: Receipt, text: bytes, options: argparse.Namespace) -> list[str]:
+def differences_after_new_run(receipt: Receipt, text: bytes, options: argparse.Namespace) -> list[str]:
     """Runs the program again, and returns what differs from the receipt."""
     program = find_program(options.program)
     if program.sha256 != receipt.program.sha256:
@@ -86,8 +86,9 @@ def run_summary(options: argparse.Namespace) -> int:
         counts[receipt.verdict] = counts.get(receipt.verdict, 0) + 1
         programs[receipt.program.sha256] = programs.get(receipt.program.sha256, 0) + 1
         if receipt.verdict != "yes":
-            print(f"{escape_controls(receipt.name)}: {WORDS[receipt.verdict]}")
-    print(f"{len(files)} receipts: " + ", ".join(f"{counts[word]} {WORDS[word]}" for word in WORDS if counts.get(word)))
+            print(f"{escape_controls(receipt.name)}: {RESULT_WORDS[receipt.verdict]}")
+    print(f"{len(files)} receipts: " + ", ".join(f"{counts[word]} {RESULT_WORDS[word]}" for word in RESULT_WORDS
+                                                 if counts.get(word)))
     if len(programs) > 1:
         print(f"they are of {len(programs)} programs: " + ", ".join(f"{digest[:16]}.. {count}" for digest,
                                                                     count in sorted(programs.items())))

@@ -4,7 +4,7 @@ import argparse
 import os
 
 from ..explain import explaining
-from ..explain.trials import Budget, Trial
+from ..explain.trials import Budget, TrialRunner
 from ..farm.answering import why_no_verdict
 from ..host.program import BadProgramError, ProgramTimeout, ask, find_program
 from ..host.terminal import read_text, tell, write_text
@@ -17,16 +17,16 @@ def run(options: argparse.Namespace) -> int:
     (document, _), explanation = read_design(options.file), None
     if document.certificate:
         try:
-            output = read_text(options.report) if options.report else report_of(document.text, options)
-            explanation = explaining.explain_answer(document.text, "check", output, options.file, trial_of(options),
+            output = read_text(options.report) if options.report else program_report(document.text, options)
+            explanation = explaining.explain_answer(document.text, "check", output, options.file, trial_runner(options),
                                                     document)
         except (BadProgramError, ProgramTimeout) as error:
             tell(f"the page has no report: {error}")
-    write_text(options.output, viewing.page(document, explanation, os.path.basename(options.file)))
+    write_text(options.output, viewing.page_text(document, explanation, os.path.basename(options.file)))
     return 0
 
 
-def report_of(text: str, options: argparse.Namespace) -> str:
+def program_report(text: str, options: argparse.Namespace) -> str:
     """Returns the report or the refusal of the program. Raises BadProgramError if its status is not that of the report.
     """
     answer = ask(find_program(options.program), "check", text.encode("latin-1"), options.timeout)
@@ -36,9 +36,9 @@ def report_of(text: str, options: argparse.Namespace) -> str:
     return answer.output
 
 
-def trial_of(options: argparse.Namespace) -> Trial | None:
+def trial_runner(options: argparse.Namespace) -> TrialRunner | None:
     """Returns who tries fixes: the program, if it is found."""
     try:
-        return Trial(find_program(options.program), Budget(200, 10.0))
+        return TrialRunner(find_program(options.program), Budget(200, 10.0))
     except BadProgramError:
         return None

@@ -8,12 +8,12 @@ from ..texts.certificates import MAX_CUTS, MAX_USES, Module, Stop, line_words
 from ..texts.layouts import Cell
 from ..texts.reports import ReportLine
 from .diagnosis import MAX_SECONDS, Diagnosis
-from .edits import Edit, add, delete, place_in_module, replace
+from .edits import Edit, addition, deletion, insertion_line_in_module, replacement
 from .expected_lines import BorderCheck, CellEdits
 
 Edits = tuple[Edit, ...]
 # The most edits of all borders together.
-MAX_TOGETHER = 400
+MAX_EDITS_TOGETHER = 400
 # How many steps a stop is moved, and how many cells.
 STOP_TIMES = 4
 
@@ -36,33 +36,33 @@ class CertificateEditor:
         self.check = BorderCheck(diagnosis, seconds)
         self.groups: list[CellEdits] = self.check.all_cell_edits()
 
-    def for_all(self, findings: list[ReportLine]) -> Iterator[Proposal]:
+    def proposals_for_report(self, findings: list[ReportLine]) -> Iterator[Proposal]:
         """Yields edits for a whole report: all borders together, then each by itself, then those for each line of the
         report."""
         together = tuple(dict.fromkeys(edit for group in self.groups for edit in group.edits))
-        if together and len(together) <= MAX_TOGETHER:
+        if together and len(together) <= MAX_EDITS_TOGETHER:
             yield Proposal("border lines as the whole run has them", together)
         for finding in findings:
-            yield from self.for_finding(finding)
+            yield from self.proposals_for_line(finding)
 
-    def for_finding(self, finding: ReportLine) -> Iterator[Proposal]:
+    def proposals_for_line(self, finding: ReportLine) -> Iterator[Proposal]:
         """Yields edits for one line of a report."""
         if finding.word == "local":
-            yield from self.for_local(finding)
+            yield from self.proposals_for_local(finding)
         elif finding.word == "keep":
-            yield from self.gates_for_cuts(self.certificate.modules[finding.number("module")])
+            yield from self.propose_gates_for_cuts(self.certificate.modules[finding.number("module")])
         elif finding.word == "border":
-            yield from self.for_border(finding)
+            yield from self.proposals_for_border(finding)
         elif finding.word == "unkept":
             number = finding.number("gate")
             for module in (module for module in self.certificate.modules if number in module.uses):
-                yield Proposal("`keep` lines", (self.added(module, f"keep {number}"),))
+                yield Proposal("`keep` lines", (self.line_addition(module, f"keep {number}"),))
         elif finding.word == "delay":
-            yield from self.for_delay(finding)
+            yield from self.proposals_for_delay(finding)
         elif finding.word == "meet":
-            yield from self.for_meet(finding)
+            yield from self.proposals_for_meet(finding)
 
-    def for_local(self, finding: ReportLine) -> Iterator[Proposal]:
+    def proposals_for_local(self, finding: ReportLine) -> Iterator[Proposal]:
         """Yields edits for a `local` line: the borders of its module up to its time, its stop, and gates in place of
         cuts."""
         module, time = self.diagnosis.module_of(finding), finding.number("time")
@@ -70,7 +70,7 @@ class CertificateEditor:
         if finding.values["kind"] == "stop":
             stop = next((stop for stop in module.stops if (stop.time, stop.cell) == (time, cell)), None)
             if stop:
-                yield from self.for_stop(module, stop)
+                yield from self.proposals_for_stop(module, stop)
         near = [group for group in self.groups if module.number in group.modules and group.time <= time]
         near.sort(key=lambda group: (group.cell != cell, group.time))
         for group in near[:6]:
@@ -80,22 +80,22 @@ class CertificateEditor:
             yield Proposal("border lines as the whole run has them",
                            tuple(dict.fromkeys(edit for group in near for edit in group.edits)))
         if self.diagnosis.occurring_assignments(module) != (1 << (1 << len(module.cuts))) - 1:
-            yield from self.gates_for_cuts(module)
+            yield from self.propose_gates_for_cuts(module)
 
-    def gates_for_cuts(self, module: Module) -> Iterator[Proposal]:
+    def propose_gates_for_cuts(self, module: Module) -> Iterator[Proposal]:
         """Yields `use` lines in place of `cut` lines: for one gate whose outputs are cut, then for all gates back to
         the inputs."""
         makers = {self.circuit.maker[name].number for name in module.cuts if name in self.circuit.maker}
         for number in sorted(makers, reverse=True):
             gate = self.circuit.gates[number]
             cuts = [name for name in module.cuts if name not in gate.outs]
-            cuts += [name for name in gate.ins if name not in self.diagnosis.local(module)]
-            yield from self.wiring(module, cuts, sorted({*module.uses, number}))
+            cuts += [name for name in gate.ins if name not in self.diagnosis.local_wires_of(module)]
+            yield from self.propose_cuts_and_uses(module, cuts, sorted({*module.uses, number}))
         free, used = self.circuit.cone(module.cuts)
         if makers:
-            yield from self.wiring(module, free, sorted({*used, *module.uses}))
+            yield from self.propose_cuts_and_uses(module, free, sorted({*used, *module.uses}))
 
-    def wiring(self, module: Module, cuts: Sequence[str], uses: Sequence[int]) -> Iterator[Proposal]:
+    def propose_cuts_and_uses(self, module: Module, cuts: Sequence[str], uses: Sequence[int]) -> Iterator[Proposal]:
         """Yields the edits after which a module has these `cut` and `use` lines, if they are within its limits."""
         if len(cuts) > MAX_CUTS or len(uses) > MAX_USES:
             return
@@ -105,14 +105,14 @@ class CertificateEditor:
             if kind not in ("cut", "use"):
                 break
             if kind == "cut" and name not in cuts or kind == "use" and int(name) not in uses:
-                edits.append(delete(number))
+                edits.append(deletion(number))
         new = [f"cut {name}" for name in cuts if name not in module.cuts] + [f"use {number}" for number in uses
                                                                              if number not in module.uses]
-        edits += [self.added(module, text) for text in new]
+        edits += [self.line_addition(module, text) for text in new]
         if edits:
             yield Proposal("gates in place of cuts", tuple(edits))
 
-    def for_border(self, finding: ReportLine) -> Iterator[Proposal]:
+    def proposals_for_border(self, finding: ReportLine) -> Iterator[Proposal]:
         """Yields edits of the `halo` line or the `edge` line of a border that do not agree."""
         module, time = self.diagnosis.module_of(finding), finding.number("time")
         cell = finding.number("x"), finding.number("y")
@@ -127,50 +127,50 @@ class CertificateEditor:
             at = place.line_number(kind, other) if other else None
             if line:
                 text = line_words(kind, line)
-                yield Proposal("lines that agree", (replace(at, text) if at else self.added(place, text),))
+                yield Proposal("lines that agree", (replacement(at, text) if at else self.line_addition(place, text),))
             elif at:
-                yield Proposal("lines that agree", (delete(at),))
+                yield Proposal("lines that agree", (deletion(at),))
 
-    def added(self, module: Module, text: str) -> Edit:
+    def line_addition(self, module: Module, text: str) -> Edit:
         """Returns the edit that adds a line to a module."""
-        return add(place_in_module(self.lines, module.line, text), text)
+        return addition(insertion_line_in_module(self.lines, module.line, text), text)
 
-    def carried(self, name: str) -> Table | None:
+    def wire_table(self, name: str) -> Table | None:
         """Returns the table of a wire over the tried inputs."""
         return self.diagnosis.values.tables.get(name)
 
-    def for_stop(self, module: Module, stop: Stop) -> Iterator[Proposal]:
+    def proposals_for_stop(self, module: Module, stop: Stop) -> Iterator[Proposal]:
         """Yields other times and cells for a stop, at which the whole run has its wire, and other wires."""
         spots = [(stop.time + dt, (stop.x + dx, stop.y + dy)) for dt in range(-STOP_TIMES, STOP_TIMES + 1)
                  for dx in (-1, 0, 1) for dy in (-1, 0, 1)]
         spots.sort(key=lambda spot: (spot[1] != stop.cell, abs(spot[0] - stop.time), spot))
         for time, cell in spots:
             if (0 <= time <= self.diagnosis.layout.steps and module.box.has(cell)
-                and self.table_at(time, cell) == self.carried(stop.name)):
-                yield Proposal("stops", self.moved_stop(module, stop, Stop(time, stop.name, *cell)))
-        for name in self.diagnosis.local(module):
-            if name != stop.name and self.table_at(stop.time, stop.cell) == self.carried(name):
-                yield Proposal("stops", (self.renamed(module, stop, name),))
+                and self.table_at(time, cell) == self.wire_table(stop.name)):
+                yield Proposal("stops", self.stop_move_edits(module, stop, Stop(time, stop.name, *cell)))
+        for name in self.diagnosis.local_wires_of(module):
+            if name != stop.name and self.table_at(stop.time, stop.cell) == self.wire_table(name):
+                yield Proposal("stops", (self.stop_renaming(module, stop, name),))
 
-    def renamed(self, module: Module, stop: Stop, name: str) -> Edit:
+    def stop_renaming(self, module: Module, stop: Stop, name: str) -> Edit:
         """Returns the edit that gives a stop another wire."""
-        return replace(module.line_number("stop", stop), line_words("stop", stop._replace(name=name)))
+        return replacement(module.line_number("stop", stop), line_words("stop", stop._replace(name=name)))
 
     def table_at(self, time: int, cell: Cell) -> Table | None:
         """Returns the table of a cell in the whole run at a time."""
-        field = self.diagnosis.whole_field(time)
+        field = self.diagnosis.whole_run_cells(time)
         return None if field is None else field.live.get(key_of(cell), 0)
 
-    def moved_stop(self, module: Module, old: Stop, new: Stop) -> Edits:
+    def stop_move_edits(self, module: Module, old: Stop, new: Stop) -> Edits:
         """Returns the edits that move a stop to its place in the list."""
         at, text = module.line_number("stop", old), line_words("stop", new)
         rest = [stop for stop in module.stops if stop is not old]
         before = [stop for stop in module.stops if stop.place < old.place]
         if all((stop.place < new.place) == (stop in before) for stop in rest):
-            return (replace(at, text),)
-        return delete(at), self.added(module, text)
+            return (replacement(at, text),)
+        return deletion(at), self.line_addition(module, text)
 
-    def for_delay(self, finding: ReportLine) -> Iterator[Proposal]:
+    def proposals_for_delay(self, finding: ReportLine) -> Iterator[Proposal]:
         """Yields stops at other times for a delay, stops that are missing, and another number of steps in the circuit.
         """
         gate, wanted, found = self.circuit.gates[finding.number("gate")], finding.number(
@@ -178,51 +178,53 @@ class CertificateEditor:
         used, made = self.certificate.stops_of(gate.ins[0]), self.certificate.stops_of(gate.outs[0])
         if used and made:
             if found == "before":
-                yield Proposal("stops", (self.renamed(*used[-1], gate.outs[0]), self.renamed(*made[0], gate.ins[0])))
-            yield from self.retimed(used[-1], made[0][1].time - wanted)
-            yield from self.retimed(made[0], used[-1][1].time + wanted)
+                yield Proposal("stops",
+                               (self.stop_renaming(*used[-1], gate.outs[0]), self.stop_renaming(*made[0], gate.ins[0])))
+            yield from self.propose_stop_moves(used[-1], made[0][1].time - wanted)
+            yield from self.propose_stop_moves(made[0], used[-1][1].time + wanted)
         elif used or made:
             time = used[-1][1].time + wanted if used else made[0][1].time - wanted
-            yield from self.new_stop(gate.outs[0] if used else gate.ins[0], time)
+            yield from self.propose_new_stop(gate.outs[0] if used else gate.ins[0], time)
         else:
             for time in range(self.diagnosis.layout.steps - wanted + 1):
-                pairs = [(first, last) for first in self.new_stop(gate.ins[0], time)
-                         for last in self.new_stop(gate.outs[0], time + wanted)]
+                pairs = [(first, last) for first in self.propose_new_stop(gate.ins[0], time)
+                         for last in self.propose_new_stop(gate.outs[0], time + wanted)]
                 if pairs:
                     yield Proposal("stops", pairs[0][0].edits + pairs[0][1].edits)
                     break
         if isinstance(found, int) and 1 <= found <= 4096:
             yield Proposal("the steps of a delay",
-                           (replace(gate.line, f"delay {found} {gate.ins[0]} -> {gate.outs[0]}"),))
+                           (replacement(gate.line, f"delay {found} {gate.ins[0]} -> {gate.outs[0]}"),))
 
-    def retimed(self, seen: tuple[Module, Stop], time: int) -> Iterator[Proposal]:
+    def propose_stop_moves(self, seen: tuple[Module, Stop], time: int) -> Iterator[Proposal]:
         """Yields moves of a stop to a time, to the nearest cells of its module at which the whole run has its wire."""
         module, stop = seen
-        for cell in self.cells_with(stop.name, time, module, stop.cell)[:2]:
-            yield Proposal("stops", self.moved_stop(module, stop, Stop(time, stop.name, *cell)))
+        for cell in self.cells_carrying(stop.name, time, module, stop.cell)[:2]:
+            yield Proposal("stops", self.stop_move_edits(module, stop, Stop(time, stop.name, *cell)))
 
-    def cells_with(self, name: str, time: int, module: Module, near: Cell) -> list[Cell]:
+    def cells_carrying(self, name: str, time: int, module: Module, near: Cell) -> list[Cell]:
         """Returns the cells of a module that carry a wire at a time, the nearest first."""
         if not 0 <= time <= self.diagnosis.layout.steps:
             return []
-        cells = [cell for cell in module.box.cells() if self.table_at(time, cell) == self.carried(name)]
+        cells = [cell for cell in module.box.cells() if self.table_at(time, cell) == self.wire_table(name)]
         return sorted(cells, key=lambda cell: (abs(cell[0] - near[0]) + abs(cell[1] - near[1]), cell))
 
-    def new_stop(self, name: str, time: int) -> Iterator[Proposal]:
+    def propose_new_stop(self, name: str, time: int) -> Iterator[Proposal]:
         """Yields a stop of a wire at a time, in a module that knows it."""
-        for module in (module for module in self.certificate.modules if name in self.diagnosis.local(module)):
-            for cell in self.cells_with(name, time, module, (module.box.x, module.box.y))[:1]:
-                yield Proposal("stops", (self.added(module, line_words("stop", Stop(time, name, *cell))),))
+        for module in (module for module in self.certificate.modules if name in self.diagnosis.local_wires_of(module)):
+            for cell in self.cells_carrying(name, time, module, (module.box.x, module.box.y))[:1]:
+                yield Proposal("stops", (self.line_addition(module, line_words("stop", Stop(time, name, *cell))),))
 
-    def for_meet(self, finding: ReportLine) -> Iterator[Proposal]:
+    def proposals_for_meet(self, finding: ReportLine) -> Iterator[Proposal]:
         """Yields stops after which the inputs of a gate have their last stops at one time, or only one of them has
         stops."""
         gate = self.circuit.gates[finding.number("gate")]
         last = {name: self.certificate.stops_of(name)[-1] for name in gate.ins if self.certificate.stops_of(name)}
         for name, seen in last.items():
             for time in dict.fromkeys(stop.time for _, stop in last.values()):
-                yield from self.new_stop(name, time) if time > seen[1].time else self.retimed(seen, time)
+                yield from (self.propose_new_stop(name, time) if time > seen[1].time
+                            else self.propose_stop_moves(seen, time))
         for name in last:
             yield Proposal("stops",
-                           tuple(delete(module.line_number("stop", stop)) for other in last if other != name
+                           tuple(deletion(module.line_number("stop", stop)) for other in last if other != name
                                  for module, stop in self.certificate.stops_of(other)))

@@ -11,16 +11,16 @@ from functools import cached_property
 from typing import Callable
 
 from ..host.processor import processor_seconds
-from ..physics.simulation import Fault, Field, ModuleRun, Table, WholeRun, cell_of, end_tables, key_of, lowest_bit
+from ..physics.simulation import Fault, LiveCells, ModuleRun, Table, WholeRun, cell_of, end_tables, key_of, lowest_bit
 from ..texts.certificates import Module, local_wires
 from ..texts.circuits import Circuit, Valuation, evaluate, evaluate_choices
 from ..texts.documents import Document
-from ..texts.layouts import Cell, Layout, row_order
+from ..texts.layouts import Cell, Layout, row_order_key
 from ..texts.reports import ReportLine
 
 MAX_INPUTS = 12
 # How many choices of the inputs are tried where they are more than MAX_INPUTS.
-SAMPLES = 256
+SAMPLE_COUNT = 256
 # The most steps for which the whole run is made under all inputs or samples, and the most seconds that it takes.
 MAX_STEPS = 5000
 MAX_SECONDS = 20.0
@@ -90,7 +90,7 @@ class WholeOutcome:
     is_rim: bool = False
 
     @property
-    def words(self) -> str:
+    def why_no_yes(self) -> str:
         """Why no certificate gets a yes, where `is_right` is NO."""
         if self.is_rim:
             return (f"In the whole run {self.fault}. At odd times before the end the outermost cells must be dead, so "
@@ -112,7 +112,7 @@ class RimWatch:
         # The first time, the cell, and under which assignments.
         self.found: tuple[int, Cell, Table] | None = None
 
-    def look(self, run: WholeRun) -> None:
+    def note_live_rim(self, run: WholeRun) -> None:
         """Looks at the present state. A cell that did not change in two steps was live at the odd time before."""
         if self.found or run.time % 2 == 0 or run.time >= self.steps:
             return
@@ -134,12 +134,12 @@ class Diagnosis:
         self.mirrors = self.layout.mirror_cells()
         # Whether a run of the whole layout took too long.
         self.is_slow = False
-        self._fields: dict[int, Field | None] = {}
+        self._fields: dict[int, LiveCells | None] = {}
         self._local: dict[int, dict[str, None]] = {}
         # The lines whose causes are looked for by runs; None stands for all.
         self.detailed: set[str] | None = None
 
-    def local(self, module: Module) -> dict[str, None]:
+    def local_wires_of(self, module: Module) -> dict[str, None]:
         """Returns the wires that a module knows, as a set in order."""
         if module.number not in self._local:
             self._local[module.number] = local_wires(self.circuit, module)
@@ -148,7 +148,7 @@ class Diagnosis:
     @cached_property
     def values(self) -> Valuation:
         """The tables of all wires over all choices of the inputs, or over samples of them."""
-        return evaluate_choices(self.circuit, MAX_INPUTS, SAMPLES)
+        return evaluate_choices(self.circuit, MAX_INPUTS, SAMPLE_COUNT)
 
     @property
     def choices_words(self) -> str:
@@ -194,14 +194,14 @@ class Diagnosis:
         """Returns the least fault of a module's own run under assignments that are known to occur, or None if there is
         none."""
         run = ModuleRun(self.circuit, self.layout, self.certificate, module)
-        run.restrict(self.occurring_assignments(module))
+        run.restrict_assignments(self.occurring_assignments(module))
         return run.least_fault() if run.full else None
 
     def module_state(self, module: Module, assignment: int, time: int) -> tuple[set[Cell], set[Cell]]:
         """Returns the live cells of a module's own run, and the cells of its halo that it hears to be live then."""
         run = ModuleRun(self.circuit, self.layout, self.certificate, module)
         run.run_to(time)
-        heard = run.halos.at(time) if time % 2 and time < self.layout.steps else {}
+        heard = run.halos.tables_at(time) if time % 2 and time < self.layout.steps else {}
         return run.field.state(assignment), {cell_of(key) for key, table in heard.items() if table >> assignment & 1}
 
     def first_difference(self, module: Module, assignment: int, inputs: dict[str, int],
@@ -210,16 +210,16 @@ class Diagnosis:
         own = ModuleRun(self.circuit, self.layout, self.certificate, module)
         whole = WholeRun(self.layout, {name: value for name, value in inputs.items() if value}, 1)
         keys = {key_of(cell) for cell in module.box.cells()}
-        halo = [cell for cell in sorted(module.box.halo(), key=row_order) if self.layout.has(cell)]
+        halo = [cell for cell in sorted(module.box.halo(), key=row_order_key) if self.layout.has(cell)]
         unheard: list[tuple[Cell, bool]] = []
         for time in range(until + 1):
             candidates = own.field.changed | (whole.field.changed & keys) if time else keys
             differ = [cell_of(key) for key in candidates
                       if (own.field.live.get(key, 0) >> assignment & 1) != whole.field.live.get(key, 0)]
             if differ:
-                return Difference(time, min(differ, key=row_order), time - 1, unheard)
+                return Difference(time, min(differ, key=row_order_key), time - 1, unheard)
             if time % 2 and time < self.layout.steps:
-                said = own.halos.at(time)
+                said = own.halos.tables_at(time)
                 unheard = [(cell, bool(whole.field.live.get(key_of(cell)))) for cell in halo
                            if bool(whole.field.live.get(key_of(cell)))
                            != bool(said.get(key_of(cell), 0) >> assignment & 1)]
@@ -228,7 +228,7 @@ class Diagnosis:
                 whole.step()
         return None
 
-    def whole_field(self, time: int) -> Field | None:
+    def whole_run_cells(self, time: int) -> LiveCells | None:
         """Returns the whole run under the tried inputs at a time, or None where it is too long or leaves the rectangle
         before."""
         if time not in self._fields:
@@ -252,7 +252,7 @@ class Diagnosis:
                 return None
         return run
 
-    def signal_for(self, table: Table) -> Signal:
+    def signal_with_table(self, table: Table) -> Signal:
         """Returns the signal that is true in just these choices of the inputs:
 
         `1`, a wire, or `0` where it is never true.
@@ -266,49 +266,50 @@ class Diagnosis:
 
     def signal_of(self, cell: Cell, time: int) -> Signal:
         """Returns the signal of a cell in the whole run at a time."""
-        field_ = self.whole_field(time)
-        return Signal(Truth.UNKNOWN) if field_ is None else self.signal_for(field_.live.get(key_of(cell), 0))
+        field_ = self.whole_run_cells(time)
+        return Signal(Truth.UNKNOWN) if field_ is None else self.signal_with_table(field_.live.get(key_of(cell), 0))
 
     def can_run_whole(self) -> bool:
         """Whether a run of the whole layout under all inputs, or under samples, takes seconds at most."""
         return self.layout.steps <= MAX_STEPS and not self.is_slow
 
     @cached_property
-    def outcome(self) -> WholeOutcome:
+    def whole_outcome(self) -> WholeOutcome:
         """Whether the whole run ends as the layout asks with a dead rim, whatever the certificate says."""
-        values, rim = self.values, RimWatch(self.layout, self.values.defined)
-        run = self.whole_run_to(self.layout.steps, rim.look)
+        values, rim = self.values, RimWatch(self.layout, self.values.defined_columns)
+        run = self.whole_run_to(self.layout.steps, rim.note_live_rim)
         if run is None:
             return WholeOutcome(Truth.UNKNOWN)
         if run.left is not None:
-            inputs = self.inputs_of(lowest_bit(run.left[1]))
+            inputs = self.inputs_words(lowest_bit(run.left[1]))
             return WholeOutcome(Truth.NO,
                                 f"with {inputs} step {run.left[0]} makes the cell ({run.left[2][0]}, {run.left[2][1]}) "
                                           "outside the rectangle live")
         wanted = {key_of(cell): table for cell, table in end_tables(self.layout, values.tables, values.full).items()}
         for key in sorted(wanted.keys() | run.field.live.keys()):
             table = wanted.get(key, 0)
-            differs = 0 if table is None else (table ^ run.field.live.get(key, 0)) & values.defined
+            differs = 0 if table is None else (table ^ run.field.live.get(key, 0)) & values.defined_columns
             if differs:
-                inputs, (x, y) = self.inputs_of(lowest_bit(differs)), cell_of(key)
+                inputs, (x, y) = self.inputs_words(lowest_bit(differs)), cell_of(key)
                 is_live = run.field.live.get(key, 0) >> lowest_bit(differs) & 1
                 found, asked = ("live", "dead") if is_live else ("dead", "live")
                 return WholeOutcome(Truth.NO,
                                     f"with {inputs} the cell ({x}, {y}) is {found} at the end and should be {asked}")
         if rim.found:
             time, (x, y), table = rim.found
-            return WholeOutcome(Truth.NO, f"with {self.inputs_of(lowest_bit(table))} the cell ({x}, {y}) of the rim is "
+            return WholeOutcome(Truth.NO,
+                                f"with {self.inputs_words(lowest_bit(table))} the cell ({x}, {y}) of the rim is "
                                 f"live at time {time}", True)
         return WholeOutcome(Truth.YES if values.is_all else Truth.UNKNOWN)
 
-    def inputs_of(self, column: int) -> str:
+    def inputs_words(self, column: int) -> str:
         """Returns a tried choice of inputs as `p=1 q=0`; of many inputs only those that are on."""
         names = self.circuit.inputs
         if not names:
             return "no inputs"
         if len(names) <= MAX_INPUTS:
             return " ".join(f"{name}={self.values.tables[name] >> column & 1}" for name in names)
-        on = self.values.names_of(column)
+        on = self.values.true_names(column)
         shown = " ".join(f"{name}=1" for name in on[:MAX_INPUTS])
         return f"{len(on)} of the {len(names)} inputs on" + (f" ({shown}{' ..' if len(on) > MAX_INPUTS else ''})" if on
                                                              else "")

@@ -5,11 +5,11 @@ from collections import Counter
 from dataclasses import dataclass
 from typing import Iterable
 
-from ..texts.spelling import module_key, rank_of, SECTION_ORDERS
+from ..texts.spelling import module_line_key, rank_of, SECTION_ORDERS
 
 ACTIONS = ("add", "replace", "delete")
 # The most lines between the first and the last difference of two texts for which the fewest edits are looked for.
-MAX_COMPARED = 4000
+MAX_COMPARED_LINES = 4000
 # The most pairs of equal lines for that: a search for the longest match looks at all of them, and each match is
 # searched by itself.
 MAX_PAIRS = 40_000
@@ -44,22 +44,22 @@ class Edit:
         return f"Delete line {self.line} (`{old}`)."
 
 
-def add(line: int, text: str) -> Edit:
+def addition(line: int, text: str) -> Edit:
     """Returns an edit that adds a line behind another one."""
     return Edit(line, "add", text)
 
 
-def replace(line: int, text: str) -> Edit:
+def replacement(line: int, text: str) -> Edit:
     """Returns an edit that replaces a line."""
     return Edit(line, "replace", text)
 
 
-def delete(line: int) -> Edit:
+def deletion(line: int) -> Edit:
     """Returns an edit that deletes a line."""
     return Edit(line, "delete")
 
 
-def applied(text: str, edits: Iterable[Edit]) -> str:
+def text_after(text: str, edits: Iterable[Edit]) -> str:
     """Returns the text after all edits. Lines that are added at one place keep the order of the edits."""
     lines = text.split("\n")
     added: dict[int, list[str]] = {}
@@ -95,7 +95,7 @@ def edits_between(old: str, new: str) -> list[Edit]:
     middle, other = before[first:len(before) - last], after[first:len(after) - last]
     # In how many ways a line of one text and an equal line of the other can be chosen.
     counts = Counter(other)
-    if max(len(middle), len(other)) > MAX_COMPARED or sum(counts[line] for line in middle) > MAX_PAIRS:
+    if max(len(middle), len(other)) > MAX_COMPARED_LINES or sum(counts[line] for line in middle) > MAX_PAIRS:
         return hunk_edits(first, len(middle), other)
     edits: list[Edit] = []
     for _, low, high, start, end in difflib.SequenceMatcher(None, middle, other, autojunk=False).get_opcodes():
@@ -107,23 +107,23 @@ def edits_between(old: str, new: str) -> list[Edit]:
 def hunk_edits(before: int, count: int, new: list[str]) -> list[Edit]:
     """Returns edits that put new lines in the place of the `count` lines behind line `before`."""
     both = min(count, len(new))
-    edits = [replace(before + index + 1, new[index]) for index in range(both)]
-    edits += [delete(before + index + 1) for index in range(both, count)]
-    return edits + [add(before + both, text) for text in new[both:]]
+    edits = [replacement(before + index + 1, new[index]) for index in range(both)]
+    edits += [deletion(before + index + 1) for index in range(both, count)]
+    return edits + [addition(before + both, text) for text in new[both:]]
 
 
-def place_in_module(lines: list[str], first: int, text: str) -> int:
+def insertion_line_in_module(lines: list[str], first: int, text: str) -> int:
     """Returns the line behind which a line of a module belongs; `first` is the number of the `module` line."""
-    place, key = first, module_key(text)
+    place, key = first, module_line_key(text)
     while place < len(lines):
         line = lines[place]
-        if line.partition(" ")[0] in ("module", "end", "") or module_key(line) > key:
+        if line.partition(" ")[0] in ("module", "end", "") or module_line_key(line) > key:
             break
         place += 1
     return place
 
 
-def place_in_section(lines: list[str], header: str, text: str) -> int:
+def insertion_line_in_section(lines: list[str], header: str, text: str) -> int:
     """Returns the line behind which a line of the circuit or the layout belongs, as the last of its kind."""
     order = SECTION_ORDERS[header]
     start = next((number for number, line in enumerate(lines, 1) if line.partition(" ")[0] == header), 0)

@@ -11,7 +11,7 @@ from ..physics.simulation import Table, WholeRun, cell_of
 from ..texts.certificates import Border, Module, line_words
 from ..texts.layouts import Cell
 from .diagnosis import MAX_SECONDS, Diagnosis
-from .edits import Edit, add, delete, place_in_module, replace
+from .edits import Edit, addition, deletion, insertion_line_in_module, replacement
 
 # The most lines that one cell gets, and how many wires with the values of a cell are proposed.
 MAX_LINES = 40
@@ -51,11 +51,11 @@ class LiveTimes:
         # The cells that were live or changed up to now: those that are noted, and all of them.
         self.own: set[int] = set()
         self.known: set[int] = set()
-        self.still = {key: live[key] for key in self.noted(set(live))}
+        self.still = {key: live[key] for key in self.noted_among(set(live))}
         self.moving: set[int] = set()
         self.seen: dict[int, dict[int, Table]] = {}
 
-    def noted(self, keys: set[int]) -> set[int]:
+    def noted_among(self, keys: set[int]) -> set[int]:
         """Returns the cells that are noted among some."""
         new = keys - self.known
         if new:
@@ -63,14 +63,14 @@ class LiveTimes:
             self.known |= new
         return keys & self.own
 
-    def note(self, time: int) -> None:
+    def note_state(self, time: int) -> None:
         """Notes the present state, at an odd time."""
         for key in self.moving:
             self.seen.setdefault(key, {})[time] = self.live[key]
 
-    def follow(self, changed: set[int], time: int) -> None:
+    def note_changes(self, changed: set[int], time: int) -> None:
         """Takes the cells that changed in the step to a time."""
-        for key in self.noted(changed):
+        for key in self.noted_among(changed):
             if key in self.still:
                 self.seen[key] = dict.fromkeys(range(1, time, 2), self.still.pop(key))
             if key in self.live:
@@ -78,7 +78,7 @@ class LiveTimes:
             else:
                 self.moving.discard(key)
 
-    def all_seen(self) -> dict[int, dict[int, Table]]:
+    def tables_by_cell(self) -> dict[int, dict[int, Table]]:
         """Returns the tables by cell and odd time, after the last step."""
         shared = {table: dict.fromkeys(range(1, self.steps, 2), table) for table in set(self.still.values())}
         return {**self.seen, **{key: shared[table] for key, table in self.still.items()}}
@@ -94,7 +94,7 @@ class BorderCheck:
         self.lines = diagnosis.document.text.split("\n")
         self.unnamed: list[UnnamedCell] = []
 
-    def owner(self, cell: Cell) -> Module | None:
+    def edge_line_owner(self, cell: Cell) -> Module | None:
         """Returns the module whose `edge` lines may name a cell: the one with the cell in its ring, if it is not on the
         rim."""
         owner = None if self.layout.is_rim(cell) else self.certificate.owner(cell)
@@ -108,17 +108,17 @@ class BorderCheck:
             return None
         values = self.diagnosis.values
         run, end = WholeRun(self.layout, values.tables, values.full), processor_seconds() + self.seconds
-        watch = LiveTimes(run.field.live, lambda cell: self.owner(cell) is not None, self.layout.steps)
+        watch = LiveTimes(run.field.live, lambda cell: self.edge_line_owner(cell) is not None, self.layout.steps)
         while run.time < self.layout.steps:
             if run.time % 2:
-                watch.note(run.time)
+                watch.note_state(run.time)
             if not run.step() or processor_seconds() > end:
                 self.diagnosis.is_slow = run.left is None
                 return None
-            watch.follow(run.field.changed, run.time)
-        return {cell_of(key): times for key, times in watch.all_seen().items() if times}
+            watch.note_changes(run.field.changed, run.time)
+        return {cell_of(key): times for key, times in watch.tables_by_cell().items() if times}
 
-    def table_of(self, signal: str) -> Table:
+    def signal_table(self, signal: str) -> Table:
         """Returns the table of a signal."""
         return self.diagnosis.values.full if signal == "1" else self.diagnosis.values.tables[signal]
 
@@ -141,55 +141,57 @@ class BorderCheck:
 
     def cell_edits(self, cell: Cell, lines: list[tuple[Module, Border]]) -> CellEdits | None:
         """Returns the edits for one cell, or None if its lines are right or no lines would be."""
-        owner = self.owner(cell)
+        owner = self.edge_line_owner(cell)
         if owner is None or self.ring_tables is None:
             return None
         actual = self.ring_tables.get(cell, {})
         hearers = [other for other in self.certificate.neighbours(owner) if other.box.has_in_halo(cell)]
-        wrong = self.wrong_time(owner, actual, lines)
+        wrong = self.first_wrong_time(owner, actual, lines)
         if self.certificate.version == 1:
-            wrong += [time for hearer in hearers for time in self.wrong_time(hearer, actual, lines)]
+            wrong += [time for hearer in hearers for time in self.first_wrong_time(hearer, actual, lines)]
         if not wrong:
             return None
-        edits = [self.edits(cell, owner, hearers, signals)
-                 for signals in self.choices(cell, actual, [owner, *hearers], lines)]
+        edits = [self.edits_to_signals(cell, owner, hearers, signals)
+                 for signals in self.possible_signals(cell, actual, [owner, *hearers], lines)]
         if not edits:
             return None
         return CellEdits(cell, min(wrong), {module.number for module in (owner, *hearers)}, edits[0], edits[1:])
 
-    def edits(self, cell: Cell, owner: Module, hearers: list[Module], signals: dict[int | None, str]) -> list[Edit]:
+    def edits_to_signals(self, cell: Cell, owner: Module, hearers: list[Module],
+                         signals: dict[int | None, str]) -> list[Edit]:
         """Returns the edits after which all modules have just these signals of a cell, and know their wires."""
-        edits = self.written(cell, owner, "edge", signals)
+        edits = self.edits_to_lines(cell, owner, "edge", signals)
         for hearer in hearers:
             if self.certificate.version == 1:
-                edits += self.written(cell, hearer, "halo", signals)
-            edits += self.made_local(hearer, signals)
-        return list(dict.fromkeys(edits + self.made_local(owner, signals)))
+                edits += self.edits_to_lines(cell, hearer, "halo", signals)
+            edits += self.edits_to_local_wires(hearer, signals)
+        return list(dict.fromkeys(edits + self.edits_to_local_wires(owner, signals)))
 
-    def choices(self, cell: Cell, actual: dict[int, Table], modules: list[Module],
-                lines: list[tuple[Module, Border]]) -> list[dict[int | None, str]]:
+    def possible_signals(self, cell: Cell, actual: dict[int, Table], modules: list[Module],
+                         lines: list[tuple[Module, Border]]) -> list[dict[int | None, str]]:
         """Returns the signals that a cell may have, the likeliest first; none if no wire has its values, or if it needs
         too many lines."""
         found: list[dict[int | None, str]] = []
         for rank in range(MAX_WIRES):
-            signals = self.signals(cell, actual, modules, lines, rank)
+            signals = self.expected_signals(cell, actual, modules, lines, rank)
             if signals is None or len(signals) > MAX_LINES or signals in found:
                 break
             found.append(signals)
         return found
 
-    def wrong_time(self, module: Module, actual: dict[int, Table], lines: list[tuple[Module, Border]]) -> list[int]:
+    def first_wrong_time(self, module: Module, actual: dict[int, Table],
+                         lines: list[tuple[Module, Border]]) -> list[int]:
         """Returns the first odd time at which the lines of a module about a cell differ from the run, in a list that
         may be empty."""
-        own = {line.time: self.table_of(line.signal) for other, line in lines if other is module}
+        own = {line.time: self.signal_table(line.signal) for other, line in lines if other is module}
         if None in own:
             return next(([time] for time in range(1, self.layout.steps, 2) if actual.get(time, 0) != own[None]), [])
         times = sorted(time for time in actual.keys() | own.keys() if time is not None)
         return next(([time] for time in times if actual.get(time, 0) != own.get(time, 0)), [])
 
-    def signals(self, cell: Cell, actual: dict[int, Table], modules: list[Module],
-                lines: list[tuple[Module, Border]],
-                rank: int) -> dict[int | None, str] | None:
+    def expected_signals(self, cell: Cell, actual: dict[int, Table], modules: list[Module],
+                         lines: list[tuple[Module, Border]],
+                         rank: int) -> dict[int | None, str] | None:
         """Returns the signals that a cell should have by time, or None if no wire has its values.
 
         Where no line tells it, the wire is the one with this rank among those that have the values, or the last of
@@ -201,7 +203,7 @@ class BorderCheck:
         signals: dict[int | None, str] = {}
         for time, table in sorted(actual.items()):
             told = [line.signal for _, line in lines if line.time in (None, time)
-                    and self.table_of(line.signal) == table]
+                    and self.signal_table(line.signal) == table]
             names = told[:1] or (["1"] if table == full else self.likely_wires(table, modules, cell, time))
             if not names:
                 self.unnamed.append(UnnamedCell(cell, time))
@@ -219,12 +221,12 @@ class BorderCheck:
         if len(wires) < 2:
             return wires
         neighbours = [(cell[0] + dx, cell[1] + dy) for dx in (-1, 0, 1) for dy in (-1, 0, 1) if dx or dy]
-        here, around = self.near_times([cell], time), self.near_times(neighbours, time)
-        far, known = self.layout.steps + 1, [self.diagnosis.local(module) for module in modules]
+        here, around = self.time_distances([cell], time), self.time_distances(neighbours, time)
+        far, known = self.layout.steps + 1, [self.diagnosis.local_wires_of(module) for module in modules]
         return sorted(wires, key=lambda name: (here.get(name, far), -sum(name in local for local in known),
                                                around.get(name, far)))
 
-    def near_times(self, cells: Iterable[Cell], time: int) -> dict[str, int]:
+    def time_distances(self, cells: Iterable[Cell], time: int) -> dict[str, int]:
         """Returns how far from a time the nearest line about one of some cells is, for each signal."""
         found: dict[str, int] = {}
         for line in (line for cell in cells for _, line in self.lines_at.get(cell, ())):
@@ -232,27 +234,27 @@ class BorderCheck:
             found[line.signal] = min(far, found.get(line.signal, far))
         return found
 
-    def written(self, cell: Cell, module: Module, kind: str, signals: dict[int | None, str]) -> list[Edit]:
+    def edits_to_lines(self, cell: Cell, module: Module, kind: str, signals: dict[int | None, str]) -> list[Edit]:
         """Returns the edits after which a module has just these lines about a cell."""
         old = {line.time: (at, line.signal) for at, line in module.numbered(kind) if line.cell == cell}
-        edits = [delete(at) for time, (at, _) in old.items() if time not in signals]
+        edits = [deletion(at) for time, (at, _) in old.items() if time not in signals]
         for time, signal in signals.items():
             text = line_words(kind, Border(time, *cell, signal))
             if time not in old:
-                edits.append(add(place_in_module(self.lines, module.line, text), text))
+                edits.append(addition(insertion_line_in_module(self.lines, module.line, text), text))
             elif old[time][1] != signal:
-                edits.append(replace(old[time][0], text))
+                edits.append(replacement(old[time][0], text))
         return edits
 
-    def made_local(self, module: Module, signals: dict[int | None, str]) -> list[Edit]:
+    def edits_to_local_wires(self, module: Module, signals: dict[int | None, str]) -> list[Edit]:
         """Returns the edits after which a module knows the wires of some signals: a gate that it can use, or else a
         cut."""
-        edits, local = [], self.diagnosis.local(module)
+        edits, local = [], self.diagnosis.local_wires_of(module)
         for name in dict.fromkeys(signals.values()):
             if name == "1" or name in local:
                 continue
             gate = self.circuit.maker.get(name)
             is_made = gate is not None and set(gate.ins) <= local.keys() and local.keys().isdisjoint(gate.outs)
             text = f"use {gate.number}" if gate is not None and is_made else f"cut {name}"
-            edits.append(add(place_in_module(self.lines, module.line, text), text))
+            edits.append(addition(insertion_line_in_module(self.lines, module.line, text), text))
         return edits

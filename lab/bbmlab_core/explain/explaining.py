@@ -11,27 +11,27 @@ from ..texts.circuits import Circuit
 from ..texts.code_names import CODE_NAMES
 from ..texts.designs import require_report_of
 from ..texts.documents import Document, read_document
-from ..texts.refusals import Explained, explain_code, explain_refusal, listed
+from ..texts.refusals import ExplainedRefusal, explain_code, explain_refusal, name_list
 from ..texts.reports import RUN_ANSWER, ReportLine, ReportOrRefusal, ReportError, parse_report
 from .diagnosis import MAX_STEPS, Diagnosis, Truth
 from .edits import Edit
-from .faults import Entry, assignment_words, explain_border, explain_keep, explain_local, cell_words
+from .faults import ExplainedLine, assignment_words, explain_border, explain_keep, explain_local, cell_words
 from .fixing import Fix, Fixer, outcome_words
-from .trials import Trial
+from .trials import TrialRunner
 
 # Of how many modules the faults are told in full, with runs and pictures, and for how many lines of a report a fix is
 # looked for.
-MAX_DETAILED = 12
+MAX_DETAILED_LINES = 12
 # How many mirrors that fall apart are named.
 MAX_MIRRORS = 3
 
 # What the other commands of the program write.
-ANSWERS = {"run": RUN_ANSWER, "value": re.compile(r"([a-z]\w* [01]\n)*(undefined \d+\n)?"),
-           "modules": re.compile(r"(module .*\n)+"), "migrate": re.compile(r"circuit\n.*end\n", re.DOTALL)}
+ANSWER_PATTERNS = {"run": RUN_ANSWER, "value": re.compile(r"([a-z]\w* [01]\n)*(undefined \d+\n)?"),
+                   "modules": re.compile(r"(module .*\n)+"), "migrate": re.compile(r"circuit\n.*end\n", re.DOTALL)}
 
 
 @dataclass
-class FixForm:
+class FixDocument:
     """A fix as a document has it: its edits, whether the certificate is made again after them, who was asked, the
     verdict, and sentences."""
 
@@ -52,13 +52,13 @@ class ExplainedAnswer:
     command: str
     headline: list[str]
     verdict: str
-    entries: list[Entry] = field(default_factory=list)
-    refused: Explained | None = None
+    entries: list[ExplainedLine] = field(default_factory=list)
+    refused: ExplainedRefusal | None = None
     line: int = 0
     code: int = 0
     line_text: str = ""
     # A fix of the whole text, and what was tried if there is none.
-    fix: FixForm | None = None
+    fix: FixDocument | None = None
     tried: list[str] = field(default_factory=list)
     # The text with the fix. JSON documents leave it out.
     fixed: str | None = None
@@ -74,20 +74,20 @@ def stop_words(diagnosis: Diagnosis, wire: str, which: int) -> str:
     return f"the {name} stop of `{wire}` is line {module.line_number('stop', stop)} (`{line_words('stop', stop)}`)"
 
 
-def explain_delay(diagnosis: Diagnosis, finding: ReportLine) -> Entry:
+def explain_delay(diagnosis: Diagnosis, finding: ReportLine) -> ExplainedLine:
     """Returns a `delay` line in words."""
     gate, found, wanted = diagnosis.circuit.gates[finding.number("gate")], finding.values["found"], finding.values[
         "wanted"]
     used, made = gate.ins[0], gate.outs[0]
     seen = f"{stop_words(diagnosis, used, -1)}, and {stop_words(diagnosis, made, 0)}"
-    entry = Entry(finding.text, finding.is_against,
-                  [f"Gate {gate.number} is `delay {wanted} {used} -> {made}` (line {gate.line}): {seen}."],
-                  line=gate.line, facts={"gate": gate.number, "wanted": wanted, "found": found})
+    entry = ExplainedLine(finding.text, finding.is_against,
+                          [f"Gate {gate.number} is `delay {wanted} {used} -> {made}` (line {gate.line}): {seen}."],
+                          line=gate.line, facts={"gate": gate.number, "wanted": wanted, "found": found})
     if not finding.is_against:
         entry.what.append(f"So the delay takes {found} steps, as it says.")
     elif found == "missing":
         missing = [wire for wire in (used, made) if not diagnosis.certificate.stops_of(wire)]
-        entry.what.append(f"So nothing shows how long the delay takes: there is no stop for {listed(missing)}.")
+        entry.what.append(f"So nothing shows how long the delay takes: there is no stop for {name_list(missing)}.")
     elif found == "before":
         entry.what.append("So the output is seen before the input.")
     else:
@@ -95,16 +95,17 @@ def explain_delay(diagnosis: Diagnosis, finding: ReportLine) -> Entry:
     return entry
 
 
-def explain_meet(diagnosis: Diagnosis, finding: ReportLine) -> Entry:
+def explain_meet(diagnosis: Diagnosis, finding: ReportLine) -> ExplainedLine:
     """Returns a `meet` line in words."""
     gate = diagnosis.circuit.gates[finding.number("gate")]
     last = [stops[-1] for stops in map(diagnosis.certificate.stops_of, gate.ins) if stops]
     seen = [(stop, module.line_number("stop", stop)) for module, stop in last]
     told = ", ".join(f"`{stop.name}` at time {stop.time} (line {line})" for stop, line in seen)
-    entry = Entry(finding.text, finding.is_against, [f"Inputs of gate {gate.number} (`{gate.kind}`, line {gate.line}) "
-                                                     f"have their last stops: {told}."],
-                  line=seen[0][1] if seen else None,
-                  facts={"gate": gate.number, "last_stops": {stop.name: stop.time for stop, _ in seen}})
+    entry = ExplainedLine(finding.text, finding.is_against,
+                          [f"Inputs of gate {gate.number} (`{gate.kind}`, line {gate.line}) "
+                           f"have their last stops: {told}."],
+                          line=seen[0][1] if seen else None,
+                          facts={"gate": gate.number, "last_stops": {stop.name: stop.time for stop, _ in seen}})
     if not finding.is_against:
         entry.what.append(f"So they meet at time {finding.values['found']}.")
         return entry
@@ -112,13 +113,14 @@ def explain_meet(diagnosis: Diagnosis, finding: ReportLine) -> Entry:
     return entry
 
 
-def explain_unkept(diagnosis: Diagnosis, finding: ReportLine) -> Entry:
+def explain_unkept(diagnosis: Diagnosis, finding: ReportLine) -> ExplainedLine:
     """Returns an `unkept` line in words."""
     gate = diagnosis.circuit.gates[finding.number("gate")]
     users = [module.number for module in diagnosis.certificate.modules if gate.number in module.uses]
-    entry = Entry(finding.text, True, [f"No module has a line `keep {gate.number}` for the inverse gate {gate.number} "
-                                       f"(`{gate.kind}`, line {gate.line})."],
-                  line=gate.line, cause="unkept", facts={"gate": gate.number, "modules_that_use_it": users})
+    entry = ExplainedLine(finding.text, True,
+                          [f"No module has a line `keep {gate.number}` for the inverse gate {gate.number} "
+                           f"(`{gate.kind}`, line {gate.line})."],
+                          line=gate.line, cause="unkept", facts={"gate": gate.number, "modules_that_use_it": users})
     used = f"Modules that use it: {', '.join(map(str, users))}." if users else "No module uses it."
     entry.what.append(used)
     return entry
@@ -129,7 +131,7 @@ EXPLAINERS = {"local": explain_local, "keep": explain_keep, "border": explain_bo
 
 
 def explain_report(document: Document, report: ReportOrRefusal, file: str,
-                   trial: Trial | None = None) -> ExplainedAnswer:
+                   trial: TrialRunner | None = None) -> ExplainedAnswer:
     """Returns a report in words, with fixes if there is somebody who tries them."""
     if report.refused:
         return explain_refused(document, report, file, trial)
@@ -139,7 +141,7 @@ def explain_report(document: Document, report: ReportOrRefusal, file: str,
     diagnosis = Diagnosis(document)
     faults = sorted((finding for finding in report.faults if finding.word == "local"),
                     key=lambda finding: finding.number("time"))
-    diagnosis.detailed = {finding.text for finding in faults[:MAX_DETAILED]}
+    diagnosis.detailed = {finding.text for finding in faults[:MAX_DETAILED_LINES]}
     entries = [EXPLAINERS[finding.word](diagnosis, finding) for finding in report.findings]
     count = len(report.faults)
     if report.verdict == "yes":
@@ -148,7 +150,7 @@ def explain_report(document: Document, report: ReportOrRefusal, file: str,
         headline = [f"The verdict is no, for {count} reason{'s' if count != 1 else ''}."]
         if len(faults) > 1:
             headline.append(f"Begin with `{faults[0].text}`, which has the least time: others may come of it.")
-        headline += mirror_words(diagnosis)
+        headline += falling_mirror_words(diagnosis)
         headline += whole_run_words(diagnosis, report.faults)
     headline.append(f"The certificate has {report.modules} module{'s' if report.modules != 1 else ''}; its digest is "
                     f"{report.digest[:16]}..")
@@ -167,7 +169,7 @@ def yes_words(count: int) -> str:
     return f"The verdict is yes: for each choice of the {count} inputs the layout computes the circuit."
 
 
-def mirror_words(diagnosis: Diagnosis) -> list[str]:
+def falling_mirror_words(diagnosis: Diagnosis) -> list[str]:
     """Returns which mirrors fall apart by themselves."""
     fallen = falling_mirrors(diagnosis.layout)
     words = [f"The mirror of line {mirror.part.line} (`{diagnosis.document.line(mirror.part.line)}`) falls apart by "
@@ -181,52 +183,52 @@ def mirror_words(diagnosis: Diagnosis) -> list[str]:
     return words
 
 
-def add_fixes(explanation: ExplainedAnswer, diagnosis: Diagnosis, report: ReportOrRefusal, trial: Trial) -> None:
+def add_fixes(explanation: ExplainedAnswer, diagnosis: Diagnosis, report: ReportOrRefusal, trial: TrialRunner) -> None:
     """Adds a fix of the whole text and fixes of lines of the report; each was tried."""
     trial.begin_search()
     fixer = Fixer(diagnosis.document.text, report, trial, diagnosis)
-    whole = fixer.find()
+    whole = fixer.find_fix()
     if whole:
-        explanation.fix, explanation.fixed = fix_form(report, whole), whole.text
+        explanation.fix, explanation.fixed = fix_document(report, whole), whole.text
     else:
-        explanation.tried = tried_words(fixer, trial)
+        explanation.tried = tried_in_vain_words(fixer, trial)
     left = {finding.text for finding in whole.report.faults} if whole else set()
     detailed = [finding for finding in report.faults if finding.word != "local"
-                or finding.text in (diagnosis.detailed or ())][:MAX_DETAILED]
+                or finding.text in (diagnosis.detailed or ())][:MAX_DETAILED_LINES]
     entries = {entry.report_line: entry for entry in explanation.entries}
     for finding in detailed:
-        fix = fixer.find_for(diagnosis, finding)
+        fix = fixer.find_fix_of_line(diagnosis, finding)
         if fix and not (whole and whole.text == fix.text):
-            entries[finding.text].fixes = fix_form(report, fix).words
+            entries[finding.text].fixes = fix_document(report, fix).words
         elif whole and finding.text not in left and explanation.fix:
             entries[finding.text].fixes = explanation.fix.words
 
 
-def fix_form(before: ReportOrRefusal, fix: Fix) -> FixForm:
+def fix_document(before: ReportOrRefusal, fix: Fix) -> FixDocument:
     """Returns a fix as a document has it."""
-    return FixForm(fix.edits, fix.remakes, fix.judge, fix.report.verdict, [*fix.words, outcome_words(before, fix)],
-                   fix.others)
+    return FixDocument(fix.edits, fix.remakes, fix.judge, fix.report.verdict, [*fix.words, outcome_words(before, fix)],
+                       fix.others)
 
 
-def tried_words(fixer: Fixer, trial: Trial) -> list[str]:
+def tried_in_vain_words(fixer: Fixer, trial: TrialRunner) -> list[str]:
     """Returns what was tried in vain."""
     is_cut_short = fixer.is_cut_short or trial.is_over()
     end = " The search was ended by a limit, so some edits were not tried." if is_cut_short else ""
     kinds = [f"Kinds of edits that the search came to: {'; '.join(fixer.kinds)}."] if fixer.kinds else []
     return [f"No fix was found. {trial.tries} text{'s were' if trial.tries != 1 else ' was'} checked by "
-            f"{trial.judge}.{end}", *kinds]
+            f"{trial.judge_words}.{end}", *kinds]
 
 
 def whole_run_words(diagnosis: Diagnosis, faults: list[ReportLine]) -> list[str]:
     """Returns whether the whole run ends as the layout asks with a dead rim: a sentence for yes, no, and what was not
     found out."""
-    outcome, values = diagnosis.outcome, diagnosis.values
+    outcome, values = diagnosis.whole_outcome, diagnosis.values
     if outcome.is_right is Truth.NO:
-        return [outcome.words]
+        return [outcome.why_no_yes]
     if not diagnosis.can_run_whole():
         why = "it takes too long" if diagnosis.is_slow else f"it is longer than {MAX_STEPS} steps"
         return [f"The whole run was not tried to its end here: {why}."]
-    if values.defined != values.full:
+    if values.defined_columns != values.full:
         return ["The circuit has no values under some choices of its inputs. Under the others that were tried "
                 f"({diagnosis.choices_words}) the whole run "
                 "ends as the layout asks."]
@@ -243,15 +245,15 @@ def missing_certificate_words(document: Document) -> list[str]:
     design = replace(document, certificate=Certificate())
     if design.circuit is None or design.layout is None or document.certificate and document.certificate.modules:
         return []
-    outcome = Diagnosis(design).outcome
+    outcome = Diagnosis(design).whole_outcome
     if outcome.is_right is Truth.NO:
-        return [outcome.words]
+        return [outcome.why_no_yes]
     return ["The text has no certificate. In the choices of the inputs that were tried the whole run ends as the "
             "layout asks."]
 
 
 def explain_refused(document: Document, report: ReportOrRefusal, file: str,
-                    trial: Trial | None = None) -> ExplainedAnswer:
+                    trial: TrialRunner | None = None) -> ExplainedAnswer:
     """Returns a refusal in words. Where the lab's reader does not come to the same line and code, only these are told.
     """
     assert report.refused
@@ -265,18 +267,18 @@ def explain_refused(document: Document, report: ReportOrRefusal, file: str,
         explanation.headline += missing_certificate_words(document)
     if trial and same and document.command == "check":
         fixer = Fixer(document.text, report, trial)
-        fix = fixer.find()
+        fix = fixer.find_fix()
         if fix:
-            explanation.fix, explanation.fixed = fix_form(report, fix), fix.text
+            explanation.fix, explanation.fixed = fix_document(report, fix), fix.text
         else:
-            explanation.tried = tried_words(fixer, trial)
+            explanation.tried = tried_in_vain_words(fixer, trial)
     return explanation
 
 
 def explain_run(document: Document, output: str, file: str) -> ExplainedAnswer:
     """Returns the answer of `run` in words."""
     word, count = output.split("\n", 1)[0].split(" ")
-    on = listed(document.on or []) or "none of the inputs"
+    on = name_list(document.on or []) or "none of the inputs"
     if word == "cells":
         headline = [f"With {on} on, {count} cells are live after {document.layout.steps if document.layout else 0} "
                     "steps, all in the rectangle."]
@@ -301,8 +303,8 @@ def explain_value(document: Document, output: str, file: str) -> ExplainedAnswer
     assert document.circuit
     number = undefined_gate(document.circuit, output)
     values = dict(line.split(" ") for line in output.splitlines()[:None if number is None else -1])
-    true = listed([name for name, value in values.items() if value == "1"], 40) or "none"
-    headline = [f"With {listed(document.on or []) or 'none of the inputs'} on, these wires are true: {true}."]
+    true = name_list([name for name, value in values.items() if value == "1"], 40) or "none"
+    headline = [f"With {name_list(document.on or []) or 'none of the inputs'} on, these wires are true: {true}."]
     if number is not None:
         gate = document.circuit.gates[number]
         headline.append(f"Gate {gate.number} (`{gate.kind}`, line {gate.line}) has no row for "
@@ -321,9 +323,9 @@ def explain_listing(command: str, output: str, file: str) -> ExplainedAnswer:
     return ExplainedAnswer(file, command, headline, "read")
 
 
-def require_answer(document: Document, output: str) -> None:
+def require_answer_to_text(document: Document, output: str) -> None:
     """Refuses what no command of the program writes, and an answer to another text: the answer can come from a file."""
-    if not ANSWERS[document.command].fullmatch(output):
+    if not ANSWER_PATTERNS[document.command].fullmatch(output):
         raise ReportError(f"this is no answer of `bbmcheck {document.command}`")
     if document.refusal:
         raise ReportError("the answer is not of this text: the lab's reader refuses the text")
@@ -335,7 +337,7 @@ def require_answer(document: Document, output: str) -> None:
             raise ReportError("the answer is not of this text: it names a gate that the text does not have there")
 
 
-def explain_answer(text: str, command: str, output: str, file: str, trial: Trial | None = None,
+def explain_answer(text: str, command: str, output: str, file: str, trial: TrialRunner | None = None,
                    known: Document | None = None) -> ExplainedAnswer:
     """Returns what a command of the program wrote, in words. Fixes are looked for only if there is a trial.
 
@@ -344,7 +346,7 @@ def explain_answer(text: str, command: str, output: str, file: str, trial: Trial
     document = known if known and (known.text, known.command) == (text, command) else read_document(text, command)
     if output.startswith("refused ") or command == "check":
         return explain_report(document, parse_report(output), file, trial)
-    require_answer(document, output)
+    require_answer_to_text(document, output)
     if command in ("modules", "migrate"):
         return explain_listing(command, output, file)
     return explain_run(document, output, file) if command == "run" else explain_value(document, output, file)
@@ -366,20 +368,20 @@ def as_gcc(explanation: ExplainedAnswer) -> list[str]:
     """
     if explanation.refused:
         hints = [] if explanation.fix else [f"Hint: {hint}" for hint in explanation.refused.hints[:1]]
-        text = " ".join([*explanation.refused.what, *fix_words(explanation.fix.words if explanation.fix else []),
-                         *hints])
+        text = " ".join([*explanation.refused.what,
+                         *labelled_fix_words(explanation.fix.words if explanation.fix else []), *hints])
         return [escape_controls(f"{explanation.file}:{explanation.line}: error: {text} [code {explanation.code}]")]
-    return [escape_controls(f"{explanation.file}:{line_of(entry)}: error: "
-                            f"{' '.join([*entry.what, *fix_words(entry.fixes)])} "
+    return [escape_controls(f"{explanation.file}:{editor_line(entry)}: error: "
+                            f"{' '.join([*entry.what, *labelled_fix_words(entry.fixes)])} "
                   f"[{entry.report_line}]")
             for entry in explanation.entries if entry.is_against]
 
 
-def line_of(entry: Entry) -> int:
+def editor_line(entry: ExplainedLine) -> int:
     """Returns the line of the text that an editor shows for a line of the report: its own, else that of its module."""
     return entry.line or int(entry.facts.get("module_line", 1))
 
 
-def fix_words(fixes: list[str]) -> list[str]:
+def labelled_fix_words(fixes: list[str]) -> list[str]:
     """Returns the sentences of a fix with the word `Fix:` before the first."""
     return [f"Fix: {fixes[0]}", *fixes[1:]] if fixes else []

@@ -3,7 +3,7 @@
 from dataclasses import dataclass, field
 from typing import Any
 
-from ..physics.mirrors import stays
+from ..physics.mirrors import is_stable
 from ..texts.cell_pictures import text_picture
 from ..texts.certificates import Border, Module, Stop, line_words
 from ..texts.circuits import evaluate
@@ -13,7 +13,7 @@ from .diagnosis import Diagnosis, Difference, Occurrence, Signal, Truth
 
 
 @dataclass
-class Entry:
+class ExplainedLine:
     """A line of a report in words. `line` is the line of the text that is meant, if there is one.
 
     `fixes` are sentences on edits after which the line is gone and nothing new is against the text. They were tried.
@@ -30,7 +30,7 @@ class Entry:
 
 
 @dataclass
-class Wanted:
+class WantedState:
     """What a cell is to be: live or dead, in words why, and the line of the text that says so."""
 
     is_live: bool
@@ -57,12 +57,12 @@ def wire_value(diagnosis: Diagnosis, module: Module, name: str, assignment: int)
     return values.tables[name] >> assignment & 1
 
 
-def wanted_of(diagnosis: Diagnosis, module: Module, finding: ReportLine) -> Wanted:
+def wanted_state(diagnosis: Diagnosis, module: Module, finding: ReportLine) -> WantedState:
     """Returns what the cell of a `local` line is to be."""
     cell, time = (finding.number("x"), finding.number("y")), finding.number("time")
     assignment, kind = finding.number("assignment"), finding.values["kind"]
     if kind == "end":
-        return wanted_at_end(diagnosis, module, cell, assignment)
+        return wanted_end_state(diagnosis, module, cell, assignment)
     line: Border | Stop | None
     if kind == "edge":
         line = module.line_at("edge", time, cell)
@@ -72,29 +72,30 @@ def wanted_of(diagnosis: Diagnosis, module: Module, finding: ReportLine) -> Want
         rim = diagnosis.layout.is_rim(cell)
         why = "the cell is on the rim, where nothing may be live at odd times" if rim else \
             f"module {module.number} has no `edge` line for this cell at time {time}"
-        return Wanted(False, why, None)
+        return WantedState(False, why, None)
     name = line.name if isinstance(line, Stop) else line.signal
     value = wire_value(diagnosis, module, name, assignment)
     at, text = module.line_number(str(kind), line), line_words(str(kind), line)
     why = f"line {at} (`{text}`) says: live if and only if `{name}` is true, and `{name}` is {value} here"
     if name == "1":
         why = f"line {at} (`{text}`) says: always live"
-    return Wanted(bool(value), why, at, text)
+    return WantedState(bool(value), why, at, text)
 
 
-def wanted_at_end(diagnosis: Diagnosis, module: Module, cell: Cell, assignment: int) -> Wanted:
+def wanted_end_state(diagnosis: Diagnosis, module: Module, cell: Cell, assignment: int) -> WantedState:
     """Returns what the layout asks of a cell at the last time."""
     part = diagnosis.layout.part_at(cell, ("mirror", "out"))
     if part is None:
-        return Wanted(False, "the layout has no `out`, `waste` or mirror there, so the cell is to be dead at the end",
-                      None)
+        return WantedState(False,
+                           "the layout has no `out`, `waste` or mirror there, so the cell is to be dead at the end",
+                           None)
     text = diagnosis.document.line(part.line)
     if part.kind == "mirror":
-        return Wanted(True, f"a mirror is there (line {part.line}, `{text}`)", part.line, text)
+        return WantedState(True, f"a mirror is there (line {part.line}, `{text}`)", part.line, text)
     value = wire_value(diagnosis, module, part.name or "", assignment)
-    return Wanted(bool(value),
-                  f"line {part.line} (`{text}`) asks for the value of `{part.name}`, which is {value} here", part.line,
-                  text)
+    return WantedState(bool(value),
+                       f"line {part.line} (`{text}`) asks for the value of `{part.name}`, which is {value} here",
+                       part.line, text)
 
 
 def occurrence_words(diagnosis: Diagnosis, occurrence: Occurrence, names: str) -> str:
@@ -110,17 +111,17 @@ def occurrence_words(diagnosis: Diagnosis, occurrence: Occurrence, names: str) -
             else f"{example}.")
 
 
-def explain_local(diagnosis: Diagnosis, finding: ReportLine) -> Entry:
+def explain_local(diagnosis: Diagnosis, finding: ReportLine) -> ExplainedLine:
     """Returns a `local` line in words."""
     module, time = diagnosis.module_of(finding), finding.number("time")
     cell, assignment = (finding.number("x"), finding.number("y")), finding.number("assignment")
-    wanted = wanted_of(diagnosis, module, finding)
+    wanted = wanted_state(diagnosis, module, finding)
     values = module.assignment_names(assignment)
     names = assignment_words(values)
     occurrence = diagnosis.occurrence(module, assignment)
     found, want = ("dead", "live") if wanted.is_live else ("live", "dead")
     last = ", the last time," if finding.values["kind"] == "end" else ""
-    entry = Entry(finding.text, True, [
+    entry = ExplainedLine(finding.text, True, [
         f"Module {module.number} (line {module.line}, box {module.box.words}) was run by itself with {names}.",
         f"At time {time}{last} the cell {cell_words(cell)} is {found} and should be {want}: {wanted.why}.",
         occurrence_words(diagnosis, occurrence, names)], line=wanted.line)
@@ -136,19 +137,19 @@ def explain_local(diagnosis: Diagnosis, finding: ReportLine) -> Entry:
     entry.picture = [f"Module {module.number} by itself at time {time} with {names}:",
                      *text_picture((box.x, box.y, box.width, box.height), live, diagnosis.mirrors, heard, cell)]
     part = diagnosis.layout.part_at(cell, ("mirror",))
-    if part and not stays(part):
+    if part and not is_stable(part):
         entry.what.append(f"The cell is of the mirror of line {part.line} (`{diagnosis.document.line(part.line)}`), "
                           "which by itself does not stay as it is.")
     if occurrence.occurs is Truth.NO:
-        add_never_occurs(diagnosis, module, entry)
+        add_cause_if_never_occurring(diagnosis, module, entry)
     elif occurrence.occurs is Truth.YES:
-        add_cause(diagnosis, module, finding, entry, occurrence)
+        add_cause_if_occurring(diagnosis, module, finding, entry, occurrence)
     else:
         entry.what.append("So it was not tried whether the run of the whole layout has this state too.")
     return entry
 
 
-def add_never_occurs(diagnosis: Diagnosis, module: Module, entry: Entry) -> None:
+def add_cause_if_never_occurring(diagnosis: Diagnosis, module: Module, entry: ExplainedLine) -> None:
     """Adds the cause of a fault under an assignment that never occurs: the cuts, or a fault under assignments that do
     occur."""
     fault = diagnosis.occurring_fault(module)
@@ -164,10 +165,11 @@ def add_never_occurs(diagnosis: Diagnosis, module: Module, entry: Entry) -> None
     entry.facts["fault_that_occurs"] = {"kind": fault.kind, "time": fault.time, "cell": [fault.x, fault.y],
                                         "assignment": module.assignment_names(fault.assignment)}
     finding = parse_finding(f"local {module.number} {fault.report_words()}")
-    add_cause(diagnosis, module, finding, entry, diagnosis.occurrence(module, fault.assignment))
+    add_cause_if_occurring(diagnosis, module, finding, entry, diagnosis.occurrence(module, fault.assignment))
 
 
-def add_cause(diagnosis: Diagnosis, module: Module, finding: ReportLine, entry: Entry, occurrence: Occurrence) -> None:
+def add_cause_if_occurring(diagnosis: Diagnosis, module: Module, finding: ReportLine, entry: ExplainedLine,
+                           occurrence: Occurrence) -> None:
     """Adds the cause of a fault under an assignment that occurs: what the module hears, its line, or the layout."""
     assignment, time = finding.number("assignment"), finding.number("time")
     cell = finding.number("x"), finding.number("y")
@@ -191,7 +193,7 @@ def add_cause(diagnosis: Diagnosis, module: Module, finding: ReportLine, entry: 
         entry.what += signal_words(diagnosis, diagnosis.signal_of(cell, time), "the cell")
 
 
-def add_difference(diagnosis: Diagnosis, module: Module, entry: Entry, difference: Difference) -> None:
+def add_difference(diagnosis: Diagnosis, module: Module, entry: ExplainedLine, difference: Difference) -> None:
     """Adds where a module's run leaves the whole one, and the cells of its halo that it does not hear so."""
     entry.cause = "not_heard"
     entry.facts["differs"] = {"time": difference.time, "cell": list(difference.cell)}
@@ -230,7 +232,7 @@ def signal_words(diagnosis: Diagnosis, signal: Signal, cell: str) -> list[str]:
     return [f"In the whole run {cell} is live then if and only if `{signal.name}` is true{scope}."]
 
 
-def explain_keep(diagnosis: Diagnosis, finding: ReportLine) -> Entry:
+def explain_keep(diagnosis: Diagnosis, finding: ReportLine) -> ExplainedLine:
     """Returns a `keep` line in words."""
     module, gate = diagnosis.module_of(finding), diagnosis.circuit.gates[finding.number("gate")]
     assignment = finding.number("assignment")
@@ -238,7 +240,7 @@ def explain_keep(diagnosis: Diagnosis, finding: ReportLine) -> Entry:
     occurrence = diagnosis.occurrence(module, assignment)
     ins = {name: wire_value(diagnosis, module, name, assignment) for name in gate.ins}
     keeps = module.line_number("keep", gate.number)
-    entry = Entry(finding.text, True, [
+    entry = ExplainedLine(finding.text, True, [
         f"Module {module.number} keeps the inverse gate {gate.number} (`{gate.kind}`, line {gate.line}) "
         f"by line {keeps}.",
         f"With {assignment_words(values)} that gate is fed {assignment_words(ins)}, "
@@ -258,23 +260,23 @@ def explain_keep(diagnosis: Diagnosis, finding: ReportLine) -> Entry:
     return entry
 
 
-def said_words(line: Border | None, kind: str, module: Module) -> str:
+def border_line_words(line: Border | None, kind: str, module: Module) -> str:
     """Returns what a line about a border says."""
     return (f"line {module.line_number(kind, line)} of module {module.number} says `{line_words(kind, line)}`" if line
             else f"module {module.number} has no `{kind}` line for it")
 
 
-def explain_border(diagnosis: Diagnosis, finding: ReportLine) -> Entry:
+def explain_border(diagnosis: Diagnosis, finding: ReportLine) -> ExplainedLine:
     """Returns a `border` line in words."""
     module, time = diagnosis.module_of(finding), finding.number("time")
     cell = finding.number("x"), finding.number("y")
     owner = diagnosis.certificate.owner(cell)
     assert owner is not None
     halo, edge = module.line_at("halo", time, cell), owner.line_at("edge", time, cell)
-    entry = Entry(finding.text, True, [
+    entry = ExplainedLine(finding.text, True, [
         f"At time {time} modules {module.number} and {owner.number} say different things of the cell "
-        f"{cell_words(cell)} on their border: {said_words(halo, 'halo', module)}, and "
-        f"{said_words(edge, 'edge', owner)}."],
+        f"{cell_words(cell)} on their border: {border_line_words(halo, 'halo', module)}, and "
+        f"{border_line_words(edge, 'edge', owner)}."],
         line=module.line_number("halo", halo) if halo else owner.line_number("edge", edge) if edge else None,
         cause="border")
     entry.facts = {"module": module.number, "owner": owner.number, "time": time, "cell": list(cell),

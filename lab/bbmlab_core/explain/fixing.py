@@ -4,7 +4,7 @@ from dataclasses import dataclass, field
 from itertools import chain
 from typing import Iterable, Iterator
 
-from ..certify.certifier import CertificatePlan, certified
+from ..certify.certifier import CertificatePlan, certified_text
 from ..host.processor import processor_seconds
 from ..host.terminal import LabError
 from ..texts.documents import Document, read_document
@@ -13,22 +13,22 @@ from ..texts.reports import ReportLine, ReportOrRefusal
 from ..texts.skimming import design_text
 from .certificate_edits import CertificateEditor
 from .diagnosis import Diagnosis, Truth
-from .edits import Edit, EditError, applied, edits_between
-from .layout_changes import (Bench, Change, ball_changes, circuit_changes, drop_changes, exchange_changes,
-                             larger_changes, mirror_changes,
-                             missing_port_changes, move_changes, port_changes, start_changes, step_changes, wrong_cells)
+from .edits import Edit, EditError, edits_between, text_after
+from .layout_changes import (DesignChange, Testbench, added_ball_changes, added_mirror_changes, circuit_changes,
+                             enlarged_layout_changes, missing_port_changes, moved_part_changes, output_exchanges,
+                             port_changes, removed_part_changes, start_changes, step_count_changes, wrong_cells)
 from .mirror_changes import mirror_place_changes
 from .refusal_edits import refusal_edits
-from .trials import Trial, fault_times, is_yes, removes
+from .trials import TrialRunner, fault_times, has_removed_fault, is_yes
 
 # The most rounds of a search, and the most texts that are tried for one refusal or one line of a report.
 MAX_ROUNDS = 12
-MAX_TEXTS = 80
+MAX_TRIED_TEXTS = 80
 # The most changed layouts that are kept for the program's verdict, and the most edits that a fix names one by one.
-MAX_KEPT = 6
+MAX_KEPT_TEXTS = 6
 MAX_EDITS = 12
 # The most other fixes that are named.
-MAX_OTHERS = 3
+MAX_OTHER_FIXES = 3
 # The share of the seconds that are left which one certificate may take.
 CERTIFY_SHARE = 0.3
 
@@ -61,7 +61,7 @@ class Fix:
     others: list[list[str]] = field(default_factory=list)
 
 
-def step_words(text: str, edits: list[Edit], remakes: bool) -> list[str]:
+def change_words(text: str, edits: list[Edit], remakes: bool) -> list[str]:
     """Returns what a fix changes, a sentence for each edit."""
     lines = text.split("\n")
     words = [edit.words(lines) for edit in edits[:MAX_EDITS]]
@@ -77,7 +77,8 @@ def step_words(text: str, edits: list[Edit], remakes: bool) -> list[str]:
 class Fixer:
     """Looks for fixes of a text whose report is given."""
 
-    def __init__(self, text: str, report: ReportOrRefusal, trial: Trial, diagnosis: Diagnosis | None = None) -> None:
+    def __init__(self, text: str, report: ReportOrRefusal, trial: TrialRunner,
+                 diagnosis: Diagnosis | None = None) -> None:
         # `own` is the diagnosis of the text itself, if there is one: its runs need not be made again.
         self.text, self.report, self.trial, self.own = text, report, trial, diagnosis
         # The kinds of edits that were tried, in words.
@@ -88,19 +89,19 @@ class Fixer:
 
     # ---- the whole text
 
-    def find(self) -> Fix | None:
+    def find_fix(self) -> Fix | None:
         """Returns a fix of the whole text: rounds of edits, up to a yes or to the last text that was better; None if
         there is none."""
         steps = [TriedText(self.text, self.report)]
         while len(steps) <= MAX_ROUNDS and not is_yes(steps[-1].report) and not self.trial.is_over():
-            step = self.improved(steps[-1])
+            step = self.improved_text(steps[-1])
             if step is None:
                 break
             steps.append(step)
         good = [step for step in steps[1:] if not step.report.refused]
         fix = self.fix_of(good[-1], any(step.remakes for step in steps)) if good else None
         if fix and len(steps) == 2:
-            fix.others = [step_words(self.text, edits_between(self.text, text), False) for text in steps[1].others]
+            fix.others = [change_words(self.text, edits_between(self.text, text), False) for text in steps[1].others]
         return fix
 
     def fix_of(self, step: TriedText, remakes: bool) -> Fix | None:
@@ -109,87 +110,88 @@ class Fixer:
         if remakes and old == self.text:
             old, new = (text.rstrip("\n") for text in (old, new))
         edits = edits_between(old, new)
-        if applied(old, edits) != new:
+        if text_after(old, edits) != new:
             return None
-        return Fix(step.text, step.report, edits, remakes, self.trial.judge, step_words(self.text, edits, remakes))
+        return Fix(step.text, step.report, edits, remakes, self.trial.judge_words,
+                   change_words(self.text, edits, remakes))
 
-    def improved(self, step: TriedText) -> TriedText | None:
+    def improved_text(self, step: TriedText) -> TriedText | None:
         """Returns a better text than that of a step."""
         is_own = self.own is not None and step.text == self.text
         document = self.own.document if self.own and is_own else read_document(step.text, "check")
         if step.report.refused:
-            return self.accepted(step, document)
+            return self.accepted_text(step, document)
         if document.refusal or document.circuit is None or document.layout is None or document.certificate is None:
             return None
         diagnosis = self.own if self.own and is_own else Diagnosis(document)
-        if diagnosis.outcome.is_right is Truth.NO:
-            return self.changed_design(step, document) or self.edited(step, diagnosis)
-        return self.edited(step, diagnosis) or self.changed_design(step, document)
+        if diagnosis.whole_outcome.is_right is Truth.NO:
+            return self.text_with_changed_design(step, document) or self.text_with_edited_certificate(step, diagnosis)
+        return self.text_with_edited_certificate(step, diagnosis) or self.text_with_changed_design(step, document)
 
     # ---- refusals
 
-    def accepted(self, step: TriedText, document: Document) -> TriedText | None:
+    def accepted_text(self, step: TriedText, document: Document) -> TriedText | None:
         """Returns a text that is taken, or one that is refused at a later line: a yes if there is one, else one with
         the fewest faults."""
         if document.refusal is None or step.report.refused != (document.refusal.line, document.refusal.code):
             return None
-        changed = self.changed_head(step)
+        changed = self.text_with_other_design(step)
         if changed:
             return changed
         best: TriedText | None = None
         later: TriedText | None = None
-        for text in self.texts_for(step.text, document):
+        for text in self.texts_edited_for_refusal(step.text, document):
             report = self.trial.report(text)
             if report is None or is_yes(report):
                 return TriedText(text, report) if report else best or later
             if report.refused is None and (best is None or len(report.faults) < len(best.report.faults)):
                 best = TriedText(text, report)
-            elif report.refused and later is None and self.is_later(step, text, report):
+            elif report.refused and later is None and self.is_refused_later(step, text, report):
                 later = TriedText(text, report)
-        return best or self.with_ports(step, document) or self.certified_step(step) or later
+        return best or self.text_with_missing_ports(step, document) or self.text_with_first_certificate(step) or later
 
-    def is_later(self, step: TriedText, text: str, report: ReportOrRefusal) -> bool:
+    def is_refused_later(self, step: TriedText, text: str, report: ReportOrRefusal) -> bool:
         """Whether a text is refused at a later line than that of a step, counted from the ends of both texts."""
         assert step.report.refused and report.refused
         was = len(step.text.split("\n")) - step.report.refused[0]
         return len(text.split("\n")) - report.refused[0] < was
 
-    def texts_for(self, text: str, document: Document) -> Iterator[str]:
+    def texts_edited_for_refusal(self, text: str, document: Document) -> Iterator[str]:
         """Yields texts with edits for a refusal."""
         self.kinds["edits of the refused line and of lines that it needs"] = None
         for count, edits in enumerate(refusal_edits(document)):
-            if count == MAX_TEXTS:
+            if count == MAX_TRIED_TEXTS:
                 self.is_cut_short = True
                 return
             try:
-                yield applied(text, edits)
+                yield text_after(text, edits)
             except EditError:
                 continue
 
-    def changed_head(self, step: TriedText) -> TriedText | None:
+    def text_with_other_design(self, step: TriedText) -> TriedText | None:
         """Returns a text with a changed design, if circuit and layout are taken and do not end as the layout asks."""
         head = read_document(design_text(step.text), "design")
         if head.refusal or design_text(step.text) == step.text:
             return None
-        bench = self.bench(step, head)
+        bench = self.testbench_of(step, head)
         is_right = bench.last is not None and not wrong_cells(bench.values, bench.layout, bench.last)
-        return None if is_right or bench.is_over() else self.changed_design(step, head)
+        return None if is_right or bench.is_over() else self.text_with_changed_design(step, head)
 
-    def certified_step(self, step: TriedText) -> TriedText | None:
+    def text_with_first_certificate(self, step: TriedText) -> TriedText | None:
         """Returns a text whose certificate was made by the lab, if circuit and layout are taken; if that fails, with a
         changed design."""
         head = read_document(design_text(step.text), "design")
         if head.refusal:
             return None
-        return self.remade(head) or self.changed_design(step, head)
+        return self.text_with_made_certificate(head) or self.text_with_changed_design(step, head)
 
-    def with_ports(self, step: TriedText, document: Document) -> TriedText | None:
+    def text_with_missing_ports(self, step: TriedText, document: Document) -> TriedText | None:
         """Returns a text with cells for inputs or outputs without one."""
         if document.refusal is None or document.refusal.cause != "port_without_cell":
             return None
-        bench = self.bench(step, document)
+        bench = self.testbench_of(step, document)
         for change in chain(missing_port_changes(bench), start_changes(bench)):
-            text = applied(step.text, change.edits)
+            text = text_after(step.text, change.edits)
             report = self.trial.report(text)
             if report and not report.refused:
                 return TriedText(text, report)
@@ -197,26 +199,26 @@ class Fixer:
 
     # ---- the certificate
 
-    def edited(self, step: TriedText, diagnosis: Diagnosis) -> TriedText | None:
+    def text_with_edited_certificate(self, step: TriedText, diagnosis: Diagnosis) -> TriedText | None:
         """Returns a text with an edited certificate, or one that the lab made again: a yes if there is one, else one
         that is better."""
         editor, best = self.editor_of(diagnosis), None
-        for proposal in editor.for_all(step.report.faults):
+        for proposal in editor.proposals_for_report(step.report.faults):
             self.kinds[proposal.kind] = None
-            text = self.applied_or_none(step.text, proposal.edits)
+            text = self.text_after_or_none(step.text, proposal.edits)
             report = self.trial.report(text) if text else None
             if text and is_yes(report):
                 assert report
                 return TriedText(text, report)
-            if text and report and best is None and removes(step.report, report, None):
+            if text and report and best is None and has_removed_fault(step.report, report, None):
                 best = TriedText(text, report)
             if self.trial.is_over():
                 self.is_cut_short = True
                 break
         if best:
             return best
-        made = self.remade(diagnosis.document)
-        return made if made and removes(step.report, made.report, None) else None
+        made = self.text_with_made_certificate(diagnosis.document)
+        return made if made and has_removed_fault(step.report, made.report, None) else None
 
     def editor_of(self, diagnosis: Diagnosis) -> CertificateEditor:
         """Returns the editor of a certificate.
@@ -229,14 +231,14 @@ class Fixer:
             self._editor = CertificateEditor(diagnosis, self.trial.seconds_left())
         return self._editor
 
-    def applied_or_none(self, text: str, edits: tuple[Edit, ...]) -> str | None:
+    def text_after_or_none(self, text: str, edits: tuple[Edit, ...]) -> str | None:
         """Returns a text after edits, or None if they do not go together."""
         try:
-            return applied(text, edits)
+            return text_after(text, edits)
         except EditError:
             return None
 
-    def remade(self, document: Document) -> TriedText | None:
+    def text_with_made_certificate(self, document: Document) -> TriedText | None:
         """Returns a design with a certificate that the lab made: with the boxes that it has, or else with others."""
         self.kinds["a certificate that is made again"] = None
         certificate = document.certificate
@@ -247,7 +249,7 @@ class Fixer:
                 return None
             try:
                 until = processor_seconds() + self.trial.seconds_left() * CERTIFY_SHARE
-                text = certified(document, boxes, CertificatePlan(version, until=until))
+                text = certified_text(document, boxes, CertificatePlan(version, until=until))
             except LabError:
                 continue
             report = self.trial.report(text)
@@ -264,84 +266,85 @@ class Fixer:
         first = min(faults, key=lambda finding: finding.number("time"), default=None)
         return (first.number("x"), first.number("y")) if first else None
 
-    def bench(self, step: TriedText, document: Document) -> Bench:
+    def testbench_of(self, step: TriedText, document: Document) -> Testbench:
         """Returns what changes of a design are tried on."""
         assert document.circuit and document.layout
-        return Bench(step.text, document.circuit, document.layout, max(0.1, 0.8 * self.trial.seconds_left()),
-                     self.first_fault_cell(step.report))
+        return Testbench(step.text, document.circuit, document.layout, max(0.1, 0.8 * self.trial.seconds_left()),
+                         self.first_fault_cell(step.report))
 
-    def changed_design(self, step: TriedText, document: Document) -> TriedText | None:
+    def text_with_changed_design(self, step: TriedText, document: Document) -> TriedText | None:
         """Returns a text with a changed layout or circuit that gets a yes, with its certificate or with one that the
         lab makes."""
-        bench = self.bench(step, document)
+        bench = self.testbench_of(step, document)
         has_certificate = design_text(step.text) != step.text
-        kept: list[tuple[Change, str]] = []
+        kept: list[tuple[DesignChange, str]] = []
         for change in design_changes(bench, self.kinds):
-            if self.trial.is_over() or bench.is_over() or len(kept) >= MAX_KEPT:
+            if self.trial.is_over() or bench.is_over() or len(kept) >= MAX_KEPT_TEXTS:
                 self.is_cut_short = True
                 break
-            if not bench.holds(change):
+            if not bench.is_fixed_by(change):
                 continue
-            text = applied(step.text, change.edits)
+            text = text_after(step.text, change.edits)
             kept.append((change, text))
             report = self.trial.report(text) if has_certificate else None
             if is_yes(report):
                 assert report
                 return TriedText(text, report, others=self.other_texts(bench, step.text, text))
         for _, text in kept:
-            made = self.remade(read_document(design_text(text), "design"))
+            made = self.text_with_made_certificate(read_document(design_text(text), "design"))
             if made:
                 return made
         return None
 
-    def other_texts(self, bench: Bench, text: str, found: str) -> tuple[str, ...]:
+    def other_texts(self, bench: Testbench, text: str, found: str) -> tuple[str, ...]:
         """Returns other texts with changes of names, ports and gates that get a yes too: which one is meant only the
         designer knows."""
         texts: list[str] = []
-        for change in chain(exchange_changes(bench), port_changes(bench, None, True), circuit_changes(bench)):
-            if len(texts) == MAX_OTHERS or self.trial.is_over() or bench.is_over():
+        for change in chain(output_exchanges(bench), port_changes(bench, None, True), circuit_changes(bench)):
+            if len(texts) == MAX_OTHER_FIXES or self.trial.is_over() or bench.is_over():
                 break
-            other = applied(text, change.edits)
-            if other != found and other not in texts and bench.holds(change) and is_yes(self.trial.report(other)):
+            other = text_after(text, change.edits)
+            if other != found and other not in texts and bench.is_fixed_by(change) and is_yes(self.trial.report(other)):
                 texts.append(other)
         return tuple(texts)
 
     # ---- one line of the report
 
-    def find_for(self, diagnosis: Diagnosis, finding: ReportLine) -> Fix | None:
+    def find_fix_of_line(self, diagnosis: Diagnosis, finding: ReportLine) -> Fix | None:
         """Returns a fix of one line of the report: after its edits the line is gone, and nothing new is against the
         text."""
         if self.trial.is_over():
             return None
         self.own = diagnosis
         best: Fix | None = None
-        for _, proposal in zip(range(MAX_TEXTS), self.editor_of(diagnosis).for_finding(finding)):
-            text = self.applied_or_none(self.text, proposal.edits)
+        for _, proposal in zip(range(MAX_TRIED_TEXTS), self.editor_of(diagnosis).proposals_for_line(finding)):
+            text = self.text_after_or_none(self.text, proposal.edits)
             report = self.trial.report(text) if text else None
-            if text and report and removes(self.report, report, finding) and (best is None or is_yes(report)):
+            if text and report and has_removed_fault(self.report, report, finding) and (best is None or is_yes(report)):
                 edits = list(proposal.edits)
-                best = Fix(text, report, edits, False, self.trial.judge, step_words(self.text, edits, False))
+                best = Fix(text, report, edits, False, self.trial.judge_words, change_words(self.text, edits, False))
             if best and is_yes(best.report) or self.trial.is_over():
                 break
         return best
 
 
-def design_changes(bench: Bench, kinds: dict[str, None]) -> Iterator[Change]:
+def design_changes(bench: Testbench, kinds: dict[str, None]) -> Iterator[DesignChange]:
     """Yields changes of a design, the likeliest first, and notes the kinds that were come to."""
-    families: list[tuple[str, Iterable[Change]]] = [
-        ("mirrors at legal places", mirror_place_changes(bench)), ("other names of outputs", exchange_changes(bench)),
+    families: list[tuple[str, Iterable[DesignChange]]] = [
+        ("mirrors at legal places", mirror_place_changes(bench)), ("other names of outputs", output_exchanges(bench)),
         ("outputs that take each other's cells", port_changes(bench, None, True)),
-        ("outputs at most 2 cells away", port_changes(bench, 2)), ("another number of steps", step_changes(bench)),
+        ("outputs at most 2 cells away", port_changes(bench, 2)),
+        ("another number of steps", step_count_changes(bench)),
         ("one gate line", circuit_changes(bench)),
         ("`in` and `ball` lines from the run backwards", start_changes(bench)),
-        ("one more mirror", mirror_changes(bench, True)),
-        ("ports moved by at most 2 cells", move_changes(bench, ("in", "ball"))),
-        ("a mirror moved by at most 2 cells", move_changes(bench, ("mirror",))),
-        ("a part left out", drop_changes(bench)),
-        ("one more `ball`", ball_changes(bench)), ("outputs at any cell, and `waste`", port_changes(bench, None)),
-        ("a larger layout", larger_changes(bench)), ("one more mirror", mirror_changes(bench, False))]
+        ("one more mirror", added_mirror_changes(bench, True)),
+        ("ports moved by at most 2 cells", moved_part_changes(bench, ("in", "ball"))),
+        ("a mirror moved by at most 2 cells", moved_part_changes(bench, ("mirror",))),
+        ("a part left out", removed_part_changes(bench)),
+        ("one more `ball`", added_ball_changes(bench)), ("outputs at any cell, and `waste`", port_changes(bench, None)),
+        ("a larger layout", enlarged_layout_changes(bench)), ("one more mirror", added_mirror_changes(bench, False))]
     if bench.near and bench.layout.is_rim(bench.near):
-        families.insert(0, ("a larger layout", larger_changes(bench)))
+        families.insert(0, ("a larger layout", enlarged_layout_changes(bench)))
     for kind, changes in families:
         kinds[kind] = None
         yield from changes

@@ -1,8 +1,8 @@
 """Changes of a design that are tried where its whole run does not end as the layout asks: a few lines of the layout or
 of the circuit.
 
-Each kind of change is a generator. A change that passes `Bench.holds` ends as the layout asks, in the choices of the
-inputs that were tried; the program decides.
+Each kind of change is a generator. A change that passes `Testbench.is_fixed_by` ends as the layout asks, in the
+choices of the inputs that were tried; the program decides.
 """
 
 from dataclasses import dataclass, replace as with_fields
@@ -16,21 +16,21 @@ from ..texts.circuits import Circuit, Gate, Valuation, evaluate_all, evaluate_ch
 from ..texts.layouts import Cell, Layout, Part, cells_of
 from ..texts.limits import limits_of
 from .diagnosis import MAX_INPUTS, MAX_STEPS
-from .edits import Edit, add, delete, place_in_section, replace
-from .meeting_places import meeting_places, start_before
+from .edits import Edit, addition, deletion, insertion_line_in_section, replacement
+from .meeting_places import cells_where_runs_differ_least, start_of_wanted_end
 
 # How many samples of the inputs are tried first, if they are more than so many.
-SAMPLES, FEW_INPUTS = 20, 4
+SAMPLE_COUNT, FEW_INPUTS = 20, 4
 # The most lines of one change.
 MAX_LINES = 8
 # How far from a place that is likely wrong a mirror is added, in cells.
-NEAR = 2
+NEAR_CELLS = 2
 # The kinds of parts that take a cell at the start, and at the end.
-STARTS, ENDS = ("mirror", "ball", "in"), ("mirror", "out", "waste")
+START_KINDS, END_KINDS = ("mirror", "ball", "in"), ("mirror", "out", "waste")
 
 
 @dataclass(frozen=True)
-class Change:
+class DesignChange:
     """A change of a design: the edits of its text, and the design after them."""
 
     edits: tuple[Edit, ...]
@@ -38,9 +38,9 @@ class Change:
     layout: Layout
 
 
-def few_values(circuit: Circuit) -> Valuation:
+def values_in_few_choices(circuit: Circuit) -> Valuation:
     """Returns the tables of all wires in at most 20 choices of the inputs, all of them if they are few."""
-    return evaluate_choices(circuit, FEW_INPUTS, SAMPLES)
+    return evaluate_choices(circuit, FEW_INPUTS, SAMPLE_COUNT)
 
 
 def wrong_cells(circuit_values: Valuation, layout: Layout, live: dict[int, Table]) -> dict[int, Table]:
@@ -50,13 +50,13 @@ def wrong_cells(circuit_values: Valuation, layout: Layout, live: dict[int, Table
     wrong = {}
     for key in wanted.keys() | live.keys():
         table = wanted.get(key, 0)
-        differs = 0 if table is None else (table ^ live.get(key, 0)) & circuit_values.defined
+        differs = 0 if table is None else (table ^ live.get(key, 0)) & circuit_values.defined_columns
         if differs:
             wrong[key] = differs
     return wrong
 
 
-class Bench:
+class Testbench:
     """A design, its run under few choices of the inputs, and the changes that are tried on it."""
 
     def __init__(self, text: str, circuit: Circuit, layout: Layout, seconds: float = 20.0,
@@ -66,7 +66,7 @@ class Bench:
         # The cell at which the first fault was found; what lies near it is tried first.
         self.near = near
         self.tried = 0
-        self.values = few_values(circuit)
+        self.values = values_in_few_choices(circuit)
         self.all_values = self.values if self.values.is_all or len(circuit.inputs) > MAX_INPUTS else \
             evaluate_all(circuit)
         self.touched: dict[int, int] = {}
@@ -88,16 +88,17 @@ class Bench:
                     self.touched.setdefault(key, run.time)
         return run.field.live
 
-    def holds(self, change: Change) -> bool:
+    def is_fixed_by(self, change: DesignChange) -> bool:
         """Whether the changed design ends as its layout asks, first in few choices of the inputs, then in all if they
         are at most 4096."""
         self.tried += 1
         for all_of_them in (False, True):
             if change.circuit is self.circuit:
                 values = self.all_values if all_of_them else self.values
+            elif all_of_them and len(self.circuit.inputs) <= MAX_INPUTS:
+                values = evaluate_all(change.circuit)
             else:
-                values = few_values(change.circuit) if not all_of_them or len(self.circuit.inputs) > MAX_INPUTS else \
-                    evaluate_all(change.circuit)
+                values = values_in_few_choices(change.circuit)
             live = self.last_state(change.layout, values)
             if live is None or wrong_cells(values, change.layout, live):
                 return False
@@ -106,15 +107,15 @@ class Bench:
         return True
 
     @cached_property
-    def taken(self) -> tuple[dict[Cell, Part], dict[Cell, Part]]:
+    def parts_by_taken_cell(self) -> tuple[dict[Cell, Part], dict[Cell, Part]]:
         """The parts that take cells at the start, and those that take cells at the end."""
-        starts = {cell: part for part in self.layout.parts if part.kind in STARTS for cell in part.cells()}
-        ends = {cell: part for part in self.layout.parts if part.kind in ENDS for cell in part.cells()}
+        starts = {cell: part for part in self.layout.parts if part.kind in START_KINDS for cell in part.cells()}
+        ends = {cell: part for part in self.layout.parts if part.kind in END_KINDS for cell in part.cells()}
         return starts, ends
 
     def is_possible(self, new: list[Part], removed: set[Part]) -> bool:
         """Whether new parts lie in the rectangle and share no cell that only one part may take."""
-        for kinds, taken in zip((STARTS, ENDS), self.taken):
+        for kinds, taken in zip((START_KINDS, END_KINDS), self.parts_by_taken_cell):
             cells = [cell for part in new if part.kind in kinds for cell in part.cells()]
             if len(set(cells)) < len(cells) or any(cell in taken and taken[cell] not in removed for cell in cells):
                 return False
@@ -122,68 +123,70 @@ class Bench:
                    and part.y + part.height <= self.layout.height
                    for part in new)
 
-    def changes(self, swaps: dict[Part, Part], more: Iterable[Part] = (), gone: Iterable[Part] = ()) -> list[Change]:
+    def part_changes(self, swaps: dict[Part, Part], more: Iterable[Part] = (),
+                     gone: Iterable[Part] = ()) -> list[DesignChange]:
         """Returns the change that moves parts, adds some and drops some, or none if cells would be taken twice or lie
         outside."""
         dropped, added = set(gone), list(more)
         if not self.is_possible([*swaps.values(), *added], dropped | swaps.keys()):
             return []
         parts = [swaps.get(part, part) for part in self.layout.parts if part not in dropped] + added
-        edits = [replace(part.line, str(new)) for part, new in swaps.items()]
-        edits += [delete(part.line) for part in dropped]
-        edits += [add(place_in_section(self.lines, "layout", str(part)), str(part)) for part in added]
-        return [Change(tuple(edits), self.circuit, self.layout.with_parts(parts))]
+        edits = [replacement(part.line, str(new)) for part, new in swaps.items()]
+        edits += [deletion(part.line) for part in dropped]
+        edits += [addition(insertion_line_in_section(self.lines, "layout", str(part)), str(part)) for part in added]
+        return [DesignChange(tuple(edits), self.circuit, self.layout.with_parts(parts))]
 
     @cached_property
-    def places(self) -> list[Cell]:
+    def suspect_cells(self) -> list[Cell]:
         """The cells at which something is likely wrong: where the run and the run backwards from the wanted end are
         nearest to each other."""
-        return [] if self.is_over() else meeting_places(self.layout, self.values)
+        return [] if self.is_over() else cells_where_runs_differ_least(self.layout, self.values)
 
     def distance_to_fault(self, part: Part) -> int:
         """Returns how far a part lies from the places at which something is likely wrong, or from the first fault."""
-        cells = self.places or ([self.near] if self.near else [])
+        cells = self.suspect_cells or ([self.near] if self.near else [])
         return min((max(part.x - cell[0], cell[0] - part.x - part.width + 1, part.y - cell[1],
                         cell[1] - part.y - part.height + 1)
                     for cell in cells), default=0)
 
 
-def shifted(part: Part, dx: int, dy: int) -> Part:
+def shifted_part(part: Part, dx: int, dy: int) -> Part:
     """Returns a part at another place."""
     return part._replace(x=part.x + dx, y=part.y + dy)
 
 
 # ---- the circuit and the ports, by the run that there is
 
-def circuit_changes(bench: Bench) -> Iterator[Change]:
+def circuit_changes(bench: Testbench) -> Iterator[DesignChange]:
     """Yields changes of one gate line: two outputs or two inputs exchanged, the other bit of a source, `fredkin` for
     `cswap`."""
     for gate in bench.circuit.gates:
-        for other in gate_forms(gate):
+        for other in similar_gates(gate):
             gates = (*bench.circuit.gates[:gate.number], other, *bench.circuit.gates[gate.number + 1:])
-            yield Change((replace(gate.line, str(other)),), with_fields(bench.circuit, gates=gates), bench.layout)
+            yield DesignChange((replacement(gate.line, str(other)),), with_fields(bench.circuit, gates=gates),
+                               bench.layout)
 
 
-def gate_forms(gate: Gate) -> Iterator[Gate]:
+def similar_gates(gate: Gate) -> Iterator[Gate]:
     """Yields gates that may be meant in place of a gate."""
     if gate.kind == "source":
         yield with_fields(gate, parameter=1 - (gate.parameter or 0))
     for one, two in combinations(range(len(gate.outs)), 2):
-        yield with_fields(gate, outs=exchanged(gate.outs, one, two))
+        yield with_fields(gate, outs=with_two_exchanged(gate.outs, one, two))
     for one, two in combinations(range(len(gate.ins)), 2):
-        yield with_fields(gate, ins=exchanged(gate.ins, one, two))
+        yield with_fields(gate, ins=with_two_exchanged(gate.ins, one, two))
     if gate.kind in ("fredkin", "cswap"):
         yield with_fields(gate, kind="cswap" if gate.kind == "fredkin" else "fredkin")
 
 
-def exchanged(names: tuple[str, ...], one: int, two: int) -> tuple[str, ...]:
+def with_two_exchanged(names: tuple[str, ...], one: int, two: int) -> tuple[str, ...]:
     """Returns names with two of them exchanged."""
     result = list(names)
     result[one], result[two] = names[two], names[one]
     return tuple(result)
 
 
-def port_changes(bench: Bench, reach: int | None, is_exchange: bool = False) -> Iterator[Change]:
+def port_changes(bench: Testbench, reach: int | None, is_exchange: bool = False) -> Iterator[DesignChange]:
     """Yields the change that puts each wrong `out` where its output is at the end, at most `reach` cells away, and
     `waste` for what is left.
 
@@ -206,16 +209,16 @@ def port_changes(bench: Bench, reach: int | None, is_exchange: bool = False) -> 
         if cell is None:
             return
         taken.add(cell)
-        swaps[part] = shifted(part, cell[0] - part.x, cell[1] - part.y)
+        swaps[part] = shifted_part(part, cell[0] - part.x, cell[1] - part.y)
     covered = {part.cell for part in bench.layout.of_kind("waste")}
     freed = [part for part in bench.layout.of_kind("waste") if part.cell in {new.cell for new in swaps.values()}]
-    wastes = [left_over(bench, cell, table) for cell, table in places if key_of(cell) in wrong
+    wastes = [part_for_stray_ball(bench, cell, table) for cell, table in places if key_of(cell) in wrong
               and cell not in taken | covered]
     if len(swaps) + len(wastes) + len(freed) <= MAX_LINES and (swaps or wastes):
-        yield from bench.changes(swaps, wastes, freed)
+        yield from bench.part_changes(swaps, wastes, freed)
 
 
-def left_over(bench: Bench, cell: Cell, table: Table) -> Part:
+def part_for_stray_ball(bench: Testbench, cell: Cell, table: Table) -> Part:
     """Returns the part for a ball that no line asks for: the second cell of an `out`, or else `waste`."""
     name = next((part.name for part in bench.layout.of_kind("out")
                  if abs(part.x - cell[0]) == abs(part.y - cell[1]) == 2
@@ -223,7 +226,7 @@ def left_over(bench: Bench, cell: Cell, table: Table) -> Part:
     return Part("waste" if name is None else "out", name, *cell)
 
 
-def missing_port_changes(bench: Bench) -> Iterator[Change]:
+def missing_port_changes(bench: Testbench) -> Iterator[DesignChange]:
     """Yields the change that gives each output without a cell the live cells that have its value at the end and that no
     line asks for."""
     if bench.last is None:
@@ -236,10 +239,10 @@ def missing_port_changes(bench: Bench) -> Iterator[Change]:
                  and bench.layout.has(cell_of(key))]
         new += [Part("out", name, *cell) for cell in cells if cell not in {part.cell for part in new}]
     if new and len(new) <= MAX_LINES:
-        yield from bench.changes({}, new)
+        yield from bench.part_changes({}, new)
 
 
-def exchange_changes(bench: Bench) -> Iterator[Change]:
+def output_exchanges(bench: Testbench) -> Iterator[DesignChange]:
     """Yields exchanges of the names of two wrong outputs, whatever the number of their cells."""
     if bench.last is None:
         return
@@ -251,14 +254,14 @@ def exchange_changes(bench: Bench) -> Iterator[Change]:
             swaps = {part: part._replace(name=two if part.name == one else one) for part in outs
                      if part.name in (one, two)}
             if len(swaps) <= MAX_LINES:
-                yield from bench.changes(swaps)
+                yield from bench.part_changes(swaps)
     for one in names:
         for two in bench.circuit.outputs:
             for part in (part for part in outs if part.name == one and two != one):
-                yield from bench.changes({part: part._replace(name=two)})
+                yield from bench.part_changes({part: part._replace(name=two)})
 
 
-def step_changes(bench: Bench) -> Iterator[Change]:
+def step_count_changes(bench: Testbench) -> Iterator[DesignChange]:
     """Yields other numbers of steps at which the run is as the layout asks, the nearest first."""
     steps, good = bench.layout.steps, []
     run = WholeRun(bench.layout, bench.values.tables, bench.values.full)
@@ -270,35 +273,35 @@ def step_changes(bench: Bench) -> Iterator[Change]:
     header = next(number for number, line in enumerate(bench.lines, 1) if line.startswith("layout "))
     for time in sorted(good, key=lambda time: abs(time - steps)):
         if time != steps:
-            edit = replace(header, f"layout {bench.layout.width} {bench.layout.height} {time}")
-            yield Change((edit,), bench.circuit, with_fields(bench.layout, steps=time))
+            edit = replacement(header, f"layout {bench.layout.width} {bench.layout.height} {time}")
+            yield DesignChange((edit,), bench.circuit, with_fields(bench.layout, steps=time))
 
 
-def larger_changes(bench: Bench) -> Iterator[Change]:
+def enlarged_layout_changes(bench: Testbench) -> Iterator[DesignChange]:
     """Yields the layout with two more cells on each side, if something is live on its rim at the start, at the end or
     between."""
     layout = bench.layout
-    if not any(layout.is_rim(cell_of(key)) for key in bench.touched) and not any(layout.is_rim(cell)
-                                                                                 for cell in bench.taken[0]):
+    if not any(layout.is_rim(cell_of(key)) for key in bench.touched) and not any(
+            layout.is_rim(cell) for cell in bench.parts_by_taken_cell[0]):
         return
     if max(layout.width, layout.height) + 4 > bench.limits.max_side:
         return
     header = next(number for number, line in enumerate(bench.lines, 1) if line.startswith("layout "))
-    parts = [shifted(part, 2, 2) for part in layout.parts]
+    parts = [shifted_part(part, 2, 2) for part in layout.parts]
     wide = with_fields(layout, width=layout.width + 4, height=layout.height + 4).with_parts(parts)
-    edits = [replace(header, f"layout {wide.width} {wide.height} {wide.steps}"),
-             *(replace(part.line, str(part)) for part in parts)]
-    yield Change(tuple(edits), bench.circuit, wide)
+    edits = [replacement(header, f"layout {wide.width} {wide.height} {wide.steps}"),
+             *(replacement(part.line, str(part)) for part in parts)]
+    yield DesignChange(tuple(edits), bench.circuit, wide)
 
 
 # ---- the start, by the run backwards
 
-def start_changes(bench: Bench) -> Iterator[Change]:
+def start_changes(bench: Testbench) -> Iterator[DesignChange]:
     """Yields the change of `in` and `ball` lines after which the start is that from which the wanted end comes."""
     if bench.is_over():
         return
     last = bench.last if bench.last is not None else {}
-    start = start_before(bench.layout, bench.values, last)
+    start = start_of_wanted_end(bench.layout, bench.values, last)
     parts = {key_of(part.cell): part for part in bench.layout.of_kind("in") + bench.layout.of_kind("ball")}
     full, mirrors = bench.values.full, {key_of(cell) for cell in bench.layout.mirror_cells()}
     own = {key: full if part.kind == "ball" else bench.values.tables[part.name or ""] for key, part in parts.items()}
@@ -313,22 +316,22 @@ def start_changes(bench: Bench) -> Iterator[Change]:
         if kind == "in" and start[key] not in names:
             return
         new.append(Part(kind, None if kind == "ball" else names[start[key]], *cell_of(key)))
-    yield from paired_changes(bench, [parts[key] for key in differing if key in parts], new)
+    yield from replaced_part_changes(bench, [parts[key] for key in differing if key in parts], new)
 
 
-def paired_changes(bench: Bench, gone: list[Part], new: list[Part]) -> Iterator[Change]:
+def replaced_part_changes(bench: Testbench, gone: list[Part], new: list[Part]) -> Iterator[DesignChange]:
     """Yields the change that drops parts and adds others; parts of one kind and name are moved."""
     swaps: dict[Part, Part] = {}
     for part in list(gone):
         other = next((other for other in new if (other.kind, other.name) == (part.kind, part.name)), None)
         if other:
-            swaps[part] = shifted(part, other.x - part.x, other.y - part.y)
+            swaps[part] = shifted_part(part, other.x - part.x, other.y - part.y)
             gone.remove(part)
             new.remove(other)
-    yield from (change for change in bench.changes(swaps, new, gone) if change.edits)
+    yield from (change for change in bench.part_changes(swaps, new, gone) if change.edits)
 
 
-def move_changes(bench: Bench, kinds: tuple[str, ...], reach: int = 2) -> Iterator[Change]:
+def moved_part_changes(bench: Testbench, kinds: tuple[str, ...], reach: int = 2) -> Iterator[DesignChange]:
     """Yields moves of one part by at most `reach` cells, and of both cells of a ball of two cells together, those near
     the fault first."""
     parts = sorted((part for part in bench.layout.parts if part.kind in kinds), key=bench.distance_to_fault)
@@ -339,9 +342,10 @@ def move_changes(bench: Bench, kinds: tuple[str, ...], reach: int = 2) -> Iterat
                  and abs(other.x - part.x) == abs(other.y - part.y) == 2 and part.kind != "mirror"]
         for group in ([part], *([part, mate] for mate in mates if part.line < mate.line)):
             for dx, dy in offsets:
-                if part.kind == "mirror" and has_mirror_parity(part) and not has_mirror_parity(shifted(part, dx, dy)):
+                if (part.kind == "mirror" and has_mirror_parity(part)
+                        and not has_mirror_parity(shifted_part(part, dx, dy))):
                     continue
-                yield from bench.changes({member: shifted(member, dx, dy) for member in group})
+                yield from bench.part_changes({member: shifted_part(member, dx, dy) for member in group})
 
 
 def has_mirror_parity(part: Part) -> bool:
@@ -349,17 +353,17 @@ def has_mirror_parity(part: Part) -> bool:
     return part.width % 2 == 0 and part.height % 2 == 0 and part.x % 2 != part.y % 2
 
 
-def drop_changes(bench: Bench) -> Iterator[Change]:
+def removed_part_changes(bench: Testbench) -> Iterator[DesignChange]:
     """Yields the layout without one `ball`, one mirror or one of several cells of a port."""
     ports = [part for part in bench.layout.parts if part.kind in ("in", "out")]
     for part in sorted(bench.layout.parts, key=bench.distance_to_fault):
         is_port = part.kind in ("in", "out")
         if part.kind in ("ball", "mirror") or is_port and sum((other.kind, other.name) == (part.kind, part.name)
                                                               for other in ports) > 1:
-            yield from bench.changes({}, (), [part])
+            yield from bench.part_changes({}, (), [part])
 
 
-def ball_changes(bench: Bench) -> Iterator[Change]:
+def added_ball_changes(bench: Testbench) -> Iterator[DesignChange]:
     """Yields the layout with one more `ball`: first the second cell of a ball of two cells, then each cell if they are
     few."""
     parts = sorted(bench.layout.of_kind("ball") + bench.layout.of_kind("in"), key=bench.distance_to_fault)
@@ -367,10 +371,10 @@ def ball_changes(bench: Bench) -> Iterator[Change]:
     if bench.layout.width * bench.layout.height <= 1600:
         cells += [(x, y) for y in range(bench.layout.height) for x in range(bench.layout.width)]
     for cell in dict.fromkeys(cells):
-        yield from bench.changes({}, [Part("ball", None, *cell)])
+        yield from bench.part_changes({}, [Part("ball", None, *cell)])
 
 
-def mirror_changes(bench: Bench, is_near: bool) -> Iterator[Change]:
+def added_mirror_changes(bench: Testbench, is_near: bool) -> Iterator[DesignChange]:
     """Yields the layout with one more mirror of a size that it has, at a place that balls come to.
 
     If `is_near`, only places near those at which something is likely wrong; else all, in the order in which balls come.
@@ -379,8 +383,8 @@ def mirror_changes(bench: Bench, is_near: bool) -> Iterator[Change]:
                           + [(2, 2), (2, 4), (4, 2)])
     keys = sorted(bench.touched, key=lambda key: bench.touched[key])
     if is_near:
-        keys = [key_of((x + dx, y + dy)) for x, y in bench.places for dy in range(-NEAR, NEAR + 1)
-                for dx in range(-NEAR, NEAR + 1)]
+        keys = [key_of((x + dx, y + dy)) for x, y in bench.suspect_cells for dy in range(-NEAR_CELLS, NEAR_CELLS + 1)
+                for dx in range(-NEAR_CELLS, NEAR_CELLS + 1)]
     seen = set()
     for x, y in map(cell_of, keys):
         for width, height in sizes:
@@ -388,4 +392,4 @@ def mirror_changes(bench: Bench, is_near: bool) -> Iterator[Change]:
                 part = Part("mirror", None, u, v, width, height)
                 if part not in seen and has_mirror_parity(part):
                     seen.add(part)
-                    yield from bench.changes({}, [part])
+                    yield from bench.part_changes({}, [part])

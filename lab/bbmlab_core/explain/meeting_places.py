@@ -4,7 +4,7 @@ Each step of the automaton is its own inverse (Margolus 1984), so the wanted end
 missing or wrong, the two runs agree nearly everywhere at the time at which a ball should be at that mirror.
 """
 
-from ..physics.simulation import Field, Table, cell_of, end_tables, key_of, start_tables
+from ..physics.simulation import LiveCells, Table, cell_of, end_tables, key_of, start_tables
 from ..texts.circuits import Valuation
 from ..texts.layouts import Cell, Layout
 
@@ -15,16 +15,16 @@ MAX_PLACES = 24
 State = dict[int, Table]
 
 
-def end_before(layout: Layout, values: Valuation, last: State | None) -> State:
+def wanted_end(layout: Layout, values: Valuation, last: State | None) -> State:
     """Returns the end that the layout asks for; waste cells are as the run left them."""
     wanted = end_tables(layout, values.tables, values.full)
     return {key_of(cell): (last or {}).get(key_of(cell), 0) if table is None else table for cell,
             table in wanted.items()}
 
 
-def start_before(layout: Layout, values: Valuation, last: State | None) -> State:
+def start_of_wanted_end(layout: Layout, values: Valuation, last: State | None) -> State:
     """Returns the start that leads to the end that the layout asks for."""
-    field = Field(end_before(layout, values, last))
+    field = LiveCells(wanted_end(layout, values, last))
     for time in range(layout.steps - 1, -1, -1):
         field.time = time
         field.step()
@@ -36,12 +36,12 @@ def moving_states(layout: Layout, values: Valuation) -> list[State] | None:
 
     A ball that leaves the rectangle flies on.
     """
-    field, touched = Field(start_tables(layout, values.tables, values.full)), set()
+    field, touched = LiveCells(start_tables(layout, values.tables, values.full)), set()
     while field.time < layout.steps:
         field.step()
         touched |= field.changed
     still = {key_of(cell) for cell in layout.mirror_cells()} - touched
-    field, states, kept = Field(start_tables(layout, values.tables, values.full)), [], 0
+    field, states, kept = LiveCells(start_tables(layout, values.tables, values.full)), [], 0
     while True:
         states.append({key: table for key, table in field.live.items() if key not in still})
         kept += len(states[-1])
@@ -52,7 +52,7 @@ def moving_states(layout: Layout, values: Valuation) -> list[State] | None:
         field.step()
 
 
-def meeting_places(layout: Layout, values: Valuation) -> list[Cell]:
+def cells_where_runs_differ_least(layout: Layout, values: Valuation) -> list[Cell]:
     """Returns the cells by which the two runs differ at the times, and under the inputs, at which they differ the
     least.
 
@@ -62,10 +62,10 @@ def meeting_places(layout: Layout, values: Valuation) -> list[Cell]:
     states = moving_states(layout, values)
     if states is None:
         return []
-    field, mirrors = Field(end_before(layout, values, states[-1])), {key_of(cell) for cell in layout.mirror_cells()}
+    field, mirrors = LiveCells(wanted_end(layout, values, states[-1])), {key_of(cell) for cell in layout.mirror_cells()}
     least: dict[int, list[list[int]]] = {}
     for time in range(layout.steps, -1, -1):
-        for column, keys in differences(states[time], field.live, mirrors).items():
+        for column, keys in differing_cells_by_choice(states[time], field.live, mirrors).items():
             if column not in least or len(keys) < len(least[column][0]):
                 least[column] = [keys]
             elif len(keys) == len(least[column][0]):
@@ -81,7 +81,7 @@ def meeting_places(layout: Layout, values: Valuation) -> list[Cell]:
     return list(dict.fromkeys(places))[:2 * MAX_PLACES]
 
 
-def differences(one: State, two: State, mirrors: set[int]) -> dict[int, list[int]]:
+def differing_cells_by_choice(one: State, two: State, mirrors: set[int]) -> dict[int, list[int]]:
     """Returns the cells in which two states differ, by the choice of the inputs; mirror cells that do not move are left
     out."""
     columns: dict[int, list[int]] = {}

@@ -6,49 +6,50 @@ from typing import Any, Callable, Iterable, Iterator
 from ..texts.certificates import Module, local_wires
 from ..texts.circuits import Circuit
 from ..texts.documents import Document
-from ..texts.limits import FIRST, LINE
+from ..texts.limits import FIRST, LIMITS_LINE
 from ..texts.lines import match_line
-from ..texts.spelling import spelled
-from .edits import Edit, add, delete, edits_between, place_in_module, replace
+from ..texts.spelling import spelled_text
+from .edits import Edit, addition, deletion, edits_between, insertion_line_in_module, replacement
 
 Edits = tuple[Edit, ...]
-Finder = Callable[[Document, int, dict[str, Any]], Iterable[Edits]]
+EditFinder = Callable[[Document, int, dict[str, Any]], Iterable[Edits]]
 # The arrows and signs that editors write for those of the formats, as their UTF-8 bytes read as Latin-1.
-SIGNS = {"\xe2\x86\x92": "->", "\xe2\x9f\xb6": "->", "\xe2\x87\x92": "->", "=>": "->", "\xe2\x80\x93>": "->",
-         "\xe2\x88\x92>": "->",
-         "\xe2\x80\x94>": "->", "\xc2\xa0": " ", "\xef\xbb\xbf": "", ",": " ", ";": " ", "\t": " ", "\r": ""}
+SIGN_REPLACEMENTS = {"\xe2\x86\x92": "->", "\xe2\x9f\xb6": "->", "\xe2\x87\x92": "->", "=>": "->",
+                     "\xe2\x80\x93>": "->", "\xe2\x88\x92>": "->",
+                     "\xe2\x80\x94>": "->", "\xc2\xa0": " ", "\xef\xbb\xbf": "", ",": " ", ";": " ", "\t": " ",
+                     "\r": ""}
 # The most names of near spelling, and the most lines that one fix changes in the same way.
-MAX_NEAR = 4
+MAX_SIMILAR = 4
 
 
-def cleaned(line: str) -> str:
+def cleaned_line(line: str) -> str:
     """Returns a line with the signs of the formats in place of those that editors write, and with single spaces."""
-    for sign, plain in SIGNS.items():
+    for sign, plain in SIGN_REPLACEMENTS.items():
         line = line.replace(sign, plain)
-    return spelled(line + "\n").text.rstrip("\n")
+    return spelled_text(line + "\n").text.rstrip("\n")
 
 
 def shape_edits(document: Document, number: int, facts: dict[str, Any]) -> Iterator[Edits]:
     """Yields edits for a line of no form: all lines with such signs cleaned, this one alone, a near keyword, the line
     left out."""
     lines = document.text.split("\n")
-    forms, line = facts["forms"], cleaned(document.line(number))
-    every = [(at, old, cleaned(old)) for at, old in enumerate(lines[:-1], 1)]
-    edits = tuple(replace(at, new) if new else delete(at) for at, old, new in every if old != new)
+    forms, line = facts["forms"], cleaned_line(document.line(number))
+    every = [(at, old, cleaned_line(old)) for at, old in enumerate(lines[:-1], 1)]
+    edits = tuple(replacement(at, new) if new else deletion(at) for at, old, new in every if old != new)
     if edits:
         yield edits
     if line and line != document.line(number):
-        yield (replace(number, line),)
-    for words in near_lines(line.split(" "), forms):
+        yield (replacement(number, line),)
+    for words in similar_lines(line.split(" "), forms):
         near = " ".join(words)
         if match_line(near, forms):
-            yield (replace(number, near),)
-    yield (delete(number),)
+            yield (replacement(number, near),)
+    yield (deletion(number),)
 
 
-def near_lines(words: list[str], forms: dict[str, Any]) -> Iterator[list[str]]:
+def similar_lines(words: list[str], forms: dict[str, Any]) -> Iterator[list[str]]:
     """Yields a line with another keyword, in small letters, without a last word, or with the arrow in its place."""
-    for word in difflib.get_close_matches(words[0].lower(), forms, MAX_NEAR, 0.5):
+    for word in difflib.get_close_matches(words[0].lower(), forms, MAX_SIMILAR, 0.5):
         yield [word, *words[1:]]
         yield [word, *(other.lower() for other in words[1:])]
     if words[0] in forms and "->" in forms[words[0]] and "->" not in words:
@@ -61,26 +62,26 @@ def header_edits(_document: Document, number: int, facts: dict[str, Any]) -> Ite
     """Yields a header that is missing."""
     header = {"certificate": "certificate 2", "layout": ""}.get(facts["section"], facts["section"])
     if header:
-        yield (add(number - 1, header),)
-    yield (delete(number),)
+        yield (addition(number - 1, header),)
+    yield (deletion(number),)
 
 
 def line_deletion(_document: Document, number: int, _facts: dict[str, Any]) -> Iterator[Edits]:
     """Yields the text without the line."""
-    yield (delete(number),)
+    yield (deletion(number),)
 
 
-def consumed_edits(_document: Document, number: int, facts: dict[str, Any]) -> Iterator[Edits]:
+def unconsumed_wire_edits(_document: Document, number: int, facts: dict[str, Any]) -> Iterator[Edits]:
     """Yields `spill` lines for wires that nothing consumes, or the only one as an `output`."""
-    yield tuple(add(number - 1, f"spill {name}") for name in facts["names"])
+    yield tuple(addition(number - 1, f"spill {name}") for name in facts["names"])
 
 
-def local_edits(lines: list[str], circuit: Circuit, module: Module, name: str) -> Iterator[Edit]:
+def edits_to_local_wire(lines: list[str], circuit: Circuit, module: Module, name: str) -> Iterator[Edit]:
     """Yields lines by which a module comes to know a wire: the gate that makes it, if the module knows what it uses,
     and a cut."""
     gate, local = circuit.maker.get(name), local_wires(circuit, module)
     for text in ([f"use {gate.number}"] if gate and all(wire in local for wire in gate.ins) else []) + [f"cut {name}"]:
-        yield add(place_in_module(lines, module.line, text), text)
+        yield addition(insertion_line_in_module(lines, module.line, text), text)
 
 
 def unknown_wire_edits(document: Document, number: int, facts: dict[str, Any]) -> Iterator[Edits]:
@@ -88,14 +89,14 @@ def unknown_wire_edits(document: Document, number: int, facts: dict[str, Any]) -
     assert document.circuit and document.certificate
     lines, module = document.text.split("\n"), document.certificate.modules[facts["module"]]
     for name in [facts["name"]] if "name" in facts else facts["names"]:
-        for edit in local_edits(lines, document.circuit, module, name):
+        for edit in edits_to_local_wire(lines, document.circuit, module, name):
             yield (edit,)
         gate = document.circuit.maker.get(name)
         if gate:
             missing = [wire for wire in gate.ins if wire not in local_wires(document.circuit, module)]
             new = [f"cut {wire}" for wire in missing] + [f"use {gate.number}"]
-            yield tuple(add(place_in_module(lines, module.line, text), text) for text in new)
-    yield (delete(number),)
+            yield tuple(addition(insertion_line_in_module(lines, module.line, text), text) for text in new)
+    yield (deletion(number),)
 
 
 def many_wires_edits(document: Document, number: int, facts: dict[str, Any]) -> Iterator[Edits]:
@@ -103,7 +104,7 @@ def many_wires_edits(document: Document, number: int, facts: dict[str, Any]) -> 
     assert document.certificate
     lines, module = document.text.split("\n"), document.certificate.modules[facts["module"]]
     cuts = [f"cut {name}" for name in facts["names"]]
-    yield tuple(add(place_in_module(lines, module.line, text), text) for text in cuts)
+    yield tuple(addition(insertion_line_in_module(lines, module.line, text), text) for text in cuts)
     yield from unknown_wire_edits(document, number, facts)
 
 
@@ -112,32 +113,32 @@ def port_edits(document: Document, _number: int, facts: dict[str, Any]) -> Itera
     assert document.certificate and document.circuit
     lines, module = document.text.split("\n"), document.certificate.modules[facts["module"]]
     names = list(dict.fromkeys(port.name for port in facts["ports"]))
-    choices = [list(local_edits(lines, document.circuit, module, name)) for name in names]
+    choices = [list(edits_to_local_wire(lines, document.circuit, module, name)) for name in names]
     yield tuple(dict.fromkeys(choice[0] for choice in choices))
     yield tuple(dict.fromkeys(choice[-1] for choice in choices))
 
 
-def heard_edits(document: Document, _number: int, facts: dict[str, Any]) -> Iterator[Edits]:
+def heard_wire_edits(document: Document, _number: int, facts: dict[str, Any]) -> Iterator[Edits]:
     """Yields lines by which modules come to know the wires of the `edge` lines beside them, or the text without these
     lines."""
     assert document.certificate and document.circuit
     lines = document.text.split("\n")
     wanted = dict.fromkeys((number, line.signal) for number, line, _, _ in facts["missing"])
     modules = document.certificate.modules
-    choices = [list(local_edits(lines, document.circuit, modules[number], name)) for number, name in wanted]
+    choices = [list(edits_to_local_wire(lines, document.circuit, modules[number], name)) for number, name in wanted]
     yield tuple(dict.fromkeys(choice[0] for choice in choices))
     yield tuple(dict.fromkeys(choice[-1] for choice in choices))
-    yield tuple(dict.fromkeys(delete(at) for *_, at in facts["missing"]))
+    yield tuple(dict.fromkeys(deletion(at) for *_, at in facts["missing"]))
 
 
 def name_edits(document: Document, number: int, facts: dict[str, Any]) -> Iterator[Edits]:
     """Yields the line with another name: one that is spelt alike, then the others; and the text without the line."""
     known, line = facts["known"], document.line(number)
-    near = difflib.get_close_matches(facts["name"], known, MAX_NEAR, 0.3)
+    near = difflib.get_close_matches(facts["name"], known, MAX_SIMILAR, 0.3)
     for name in dict.fromkeys([*near, *known[:40]]):
         words = [name if word == facts["name"] else word for word in line.split(" ")]
-        yield (replace(number, " ".join(words)),)
-    yield (delete(number),)
+        yield (replacement(number, " ".join(words)),)
+    yield (deletion(number),)
 
 
 def number_edits(document: Document, number: int, facts: dict[str, Any]) -> Iterator[Edits]:
@@ -146,10 +147,10 @@ def number_edits(document: Document, number: int, facts: dict[str, Any]) -> Iter
     for place, word in enumerate(words):
         for step in (1, -1, 2, -2):
             if word.isdecimal() and int(word) + step >= 0:
-                yield (replace(number, " ".join([*words[:place], str(int(word) + step), *words[place + 1:]])),)
+                yield (replacement(number, " ".join([*words[:place], str(int(word) + step), *words[place + 1:]])),)
     if "count" in facts and facts["count"]:
-        yield (replace(number, f"{words[0]} {facts['count'] - 1}"),)
-    yield (delete(number),)
+        yield (replacement(number, f"{words[0]} {facts['count'] - 1}"),)
+    yield (deletion(number),)
 
 
 def place_edits(document: Document, number: int, facts: dict[str, Any]) -> Iterator[Edits]:
@@ -161,11 +162,11 @@ def place_edits(document: Document, number: int, facts: dict[str, Any]) -> Itera
     for dx, dy in steps:
         x, y = int(words[at]) + dx, int(words[at + 1]) + dy
         if min(x, y) >= 0:
-            yield (replace(number, " ".join([*words[:at], str(x), str(y), *words[at + 2:]])),)
+            yield (replacement(number, " ".join([*words[:at], str(x), str(y), *words[at + 2:]])),)
     yield from number_edits(document, number, facts)
 
 
-def consumer_edits(document: Document, number: int, facts: dict[str, Any]) -> Iterator[Edits]:
+def twice_consumed_edits(document: Document, number: int, facts: dict[str, Any]) -> Iterator[Edits]:
     """Yields the line with wires that nothing consumes in the place of one that is consumed already."""
     assert document.circuit
     circuit = document.circuit
@@ -174,27 +175,27 @@ def consumer_edits(document: Document, number: int, facts: dict[str, Any]) -> It
     yield from name_edits(document, number, {"name": facts["name"], "known": free})
 
 
-def ended_edits(document: Document, _number: int, _facts: dict[str, Any]) -> Iterator[Edits]:
+def missing_end_edits(document: Document, _number: int, _facts: dict[str, Any]) -> Iterator[Edits]:
     """Yields the text with the `end` that is missing at its end."""
     lines = document.text.split("\n")
     if lines[-1] == "":
-        yield (add(len(lines) - 1, "end"),)
+        yield (addition(len(lines) - 1, "end"),)
     else:
-        yield (add(len(lines), ""),)
-        yield (add(len(lines), "end"), add(len(lines), ""))
+        yield (addition(len(lines), ""),)
+        yield (addition(len(lines), "end"), addition(len(lines), ""))
 
 
-def rest_deletion(document: Document, number: int, _facts: dict[str, Any]) -> Iterator[Edits]:
+def trailing_lines_deletion(document: Document, number: int, _facts: dict[str, Any]) -> Iterator[Edits]:
     """Yields the text up to its last section."""
     lines = document.text.split("\n")
     count = len(lines) if lines[-1] else len(lines) - 1
-    yield tuple(delete(at) for at in range(number, count + 1))
+    yield tuple(deletion(at) for at in range(number, count + 1))
 
 
 def gap_edits(document: Document, number: int, facts: dict[str, Any]) -> Iterator[Edits]:
     """Yields a module for each part of a gap that is small enough."""
     if all(max(gap.width, gap.height) <= 64 for gap in facts["gaps"]):
-        yield tuple(add(number - 1, f"module {gap.words}") for gap in facts["gaps"])
+        yield tuple(addition(number - 1, f"module {gap.words}") for gap in facts["gaps"])
 
 
 def no_module_edits(document: Document, number: int, facts: dict[str, Any]) -> Iterator[Edits]:
@@ -202,27 +203,27 @@ def no_module_edits(document: Document, number: int, facts: dict[str, Any]) -> I
     width, height = facts["size"]
     if document.circuit and max(width, height) <= 64:
         inputs = document.circuit.inputs
-        cuts = [add(number - 1, f"cut {name}") for name in inputs]
-        uses = [add(number - 1, f"use {gate.number}") for gate in document.circuit.gates]
-        yield (add(number - 1, f"module 0 0 {width} {height}"), *cuts, *uses)
+        cuts = [addition(number - 1, f"cut {name}") for name in inputs]
+        uses = [addition(number - 1, f"use {gate.number}") for gate in document.circuit.gates]
+        yield (addition(number - 1, f"module 0 0 {width} {height}"), *cuts, *uses)
 
 
 def limit_edits(document: Document, number: int, facts: dict[str, Any]) -> Iterator[Edits]:
     """Yields the text with the line that raises its limits, and then the line with another number."""
     if facts["limits"] is FIRST:
-        yield (add(0, LINE),)
+        yield (addition(0, LIMITS_LINE),)
     if "number" in facts:
         yield from number_edits(document, number, facts)
 
 
-FINDERS: dict[str, Finder] = {cause: finder for finder, causes in (
+EDIT_FINDERS: dict[str, EditFinder] = {cause: finder for finder, causes in (
     (shape_edits, "shape"),
     (line_deletion, "kind_after_later_kind gate_not_rising border_not_rising before_first_module second_header "
                     "keep_not_used wire_defined cut_twice use_output_local cut_count"),
     (header_edits, "first_not_header"),
-    (consumed_edits, "wire_not_consumed"),
+    (unconsumed_wire_edits, "wire_not_consumed"),
     (port_edits, "port_not_local"),
-    (heard_edits, "heard_not_local"),
+    (heard_wire_edits, "heard_not_local"),
     (gap_edits, "gap"),
     (no_module_edits, "no_module"),
     (unknown_wire_edits, "wire_not_local"),
@@ -230,11 +231,11 @@ FINDERS: dict[str, Finder] = {cause: finder for finder, causes in (
     (name_edits, "wire_not_defined wire_unknown port_unknown"),
     (number_edits, "gate_unknown keep_not_inverse border_place box_odd box_outside box_overlap box_side "
                    "certificate_version delay_limit"),
-    (consumer_edits, "wire_consumed"),
+    (twice_consumed_edits, "wire_consumed"),
     (limit_edits, "layout_side mirror_side layout_steps wire_count gate_count module_count"),
     (place_edits, "cell_outside cell_taken"),
-    (ended_edits, "text_ended line_not_ended"),
-    (rest_deletion, "text_goes_on"),
+    (missing_end_edits, "text_ended line_not_ended"),
+    (trailing_lines_deletion, "text_goes_on"),
 ) for cause in causes.split()}
 
 
@@ -243,11 +244,11 @@ def refusal_edits(document: Document) -> Iterator[Edits]:
     refusal = document.refusal
     if refusal is None:
         return
-    in_order = edits_between(document.text, spelled(document.text).text)
+    in_order = edits_between(document.text, spelled_text(document.text).text)
     if in_order:
         yield tuple(in_order)
     if refusal.cause == "use_output_local":
-        yield from ((delete(at),) for at in dict.fromkeys(refusal.facts["at"]))
-    finder = FINDERS.get(refusal.cause)
+        yield from ((deletion(at),) for at in dict.fromkeys(refusal.facts["at"]))
+    finder = EDIT_FINDERS.get(refusal.cause)
     if finder:
         yield from finder(document, refusal.line, refusal.facts)

@@ -6,7 +6,7 @@ from dataclasses import dataclass
 
 from ..farm.answering import STATUS_OF
 from ..host.processor import processor_seconds
-from ..host.program import Executable, BadProgramError, ProgramTimeout, ask, opened
+from ..host.program import Executable, BadProgramError, ProgramTimeout, ask, open_program
 from ..physics.own_report import own_report
 from ..texts.documents import read_document
 from ..texts.reports import ReportLine, ReportOrRefusal, ReportError, parse_report
@@ -30,18 +30,18 @@ class Budget:
     is_of_search: bool = False
 
 
-class Trial:
+class TrialRunner:
     """Asks the program about texts; without a program, the lab's reader and its own runs of the modules."""
 
     def __init__(self, program: Executable | str | None, budget: Budget = Budget()) -> None:
-        self.program = None if program is None else opened(program)
+        self.program = None if program is None else open_program(program)
         self.budget = budget
         self.tries = 0
         self.started = processor_seconds()
         self._known: dict[str, ReportOrRefusal | None] = {}
 
     @property
-    def judge(self) -> str:
+    def judge_words(self) -> str:
         """Who is asked, in words."""
         return "the program" if self.program else "the lab"
 
@@ -65,13 +65,13 @@ class Trial:
             if self.is_over():
                 return None
             self.tries += 1
-            self._known[text] = self.answer(text)
+            self._known[text] = self.ask(text)
         return self._known[text]
 
-    def answer(self, text: str) -> ReportOrRefusal | None:
+    def ask(self, text: str) -> ReportOrRefusal | None:
         """Asks about one text."""
         if self.program is None:
-            return self.own_answer(text)
+            return self.own_report(text)
         try:
             # A second at least: a text that was made is worth an answer.
             answer = ask(self.program, "check", text.encode("latin-1"),
@@ -81,7 +81,7 @@ class Trial:
         except (BadProgramError, ProgramTimeout, ReportError):
             return None
 
-    def own_answer(self, text: str) -> ReportOrRefusal | None:
+    def own_report(self, text: str) -> ReportOrRefusal | None:
         """Returns the lab's own report, or None if the runs of its modules would take too long."""
         document = read_document(text, "check")
         layout, certificate = document.layout, document.certificate
@@ -106,7 +106,7 @@ def other_findings(report: ReportOrRefusal) -> set[str]:
     return {finding.text for finding in report.faults if finding.word != "local"}
 
 
-def removes(before: ReportOrRefusal, after: ReportOrRefusal | None, finding: ReportLine | None) -> bool:
+def has_removed_fault(before: ReportOrRefusal, after: ReportOrRefusal | None, finding: ReportLine | None) -> bool:
     """Whether a fault is gone and nothing new is against the text: it is taken, and no module is worse off than before.
 
     Without a finding, some fault is to be gone. A module is worse off if its own run has a fault that it did not have,

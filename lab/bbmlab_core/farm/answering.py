@@ -3,11 +3,12 @@
 import time
 from dataclasses import dataclass
 
-from ..host.program import Answer, Executable, BadProgramError, ProgramTimeout, Running, ask
+from ..host.program import Answer, Executable, BadProgramError, ProgramTimeout, RunningPrograms, ask
 from ..texts.reports import ReportError, parse_report
 
 # The results, from best to worst, with the word that is shown.
-WORDS = {"yes": "yes", "no": "no", "refused": "refused", "timeout": "time-out", "missing": "missing", "error": "error"}
+RESULT_WORDS = {"yes": "yes", "no": "no", "refused": "refused", "timeout": "time-out", "missing": "missing",
+                "error": "error"}
 
 # The status with which the program ends after each kind of report.
 STATUS_OF = {"yes": 0, "no": 1, "refused": 3}
@@ -56,7 +57,8 @@ def why_no_verdict(said: Answer) -> str | None:
     return result.detail if result.result == "error" else None
 
 
-def answer(program: Executable, file: str, text: bytes, timeout: float | None, running: Running) -> Result:
+def check_answer(program: Executable, file: str, text: bytes, timeout: float | None,
+                 running: RunningPrograms) -> Result:
     """Returns what the program says of a text, without the time that it took."""
     try:
         said = ask(program, "check", text, timeout, running)
@@ -69,9 +71,10 @@ def answer(program: Executable, file: str, text: bytes, timeout: float | None, r
     return result_of_report(file, said.status, said.output)
 
 
-def timed_answer(program: Executable, file: str, text: bytes, timeout: float | None, running: Running) -> Result:
+def timed_check_answer(program: Executable, file: str, text: bytes, timeout: float | None,
+                       running: RunningPrograms) -> Result:
     """Returns what the program says of a text, and how many seconds it took."""
     started = time.monotonic()
-    result = answer(program, file, text, timeout, running)
+    result = check_answer(program, file, text, timeout, running)
     result.seconds = round(time.monotonic() - started, 3)
     return result

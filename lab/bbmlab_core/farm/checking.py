@@ -14,17 +14,17 @@ from pathlib import Path
 from types import FrameType
 from typing import Callable, Iterable, Iterator, Protocol
 
-from ..host.program import Executable, ProgramTimeout, Running
-from ..host.signals import beat
+from ..host.program import Executable, ProgramTimeout, RunningPrograms
+from ..host.signals import keep_interrupting
 from ..host.terminal import LabError, read_bytes
-from .answering import WORDS, Result, timed_answer
+from .answering import RESULT_WORDS, Result, timed_check_answer
 
-__all__ = ["WORDS", "Checker", "ResultKeeper", "Result", "counted", "exit_status", "summary", "text_files"]
+__all__ = ["RESULT_WORDS", "Checker", "ResultKeeper", "Result", "result_counts", "exit_status", "summary", "text_files"]
 
 # Seconds between two looks whether a worker has a result, and how long a worker may take to end.
-LOOK_SECONDS, END_SECONDS = 0.2, 2.0
+POLL_SECONDS, GRACE_SECONDS = 0.2, 2.0
 # The results that are kept: what the program said.
-KEPT = ("yes", "no", "refused")
+KEPT_RESULTS = ("yes", "no", "refused")
 
 
 def files_below(folder: str, tell: Callable[[str], None] = lambda _: None) -> list[str]:
@@ -82,21 +82,21 @@ class ResultKeeper(Protocol):
 
 
 @dataclass(frozen=True)
-class Order:
+class WorkerSettings:
     """What each worker does: run a program for at most `timeout` seconds a text, and keep the results."""
 
     program: Executable
     timeout: float | None
     keeper: ResultKeeper | None = None
 
-    def check(self, file: str, given: bytes | None, running: Running) -> Result:
+    def check_file(self, file: str, given: bytes | None, running: RunningPrograms) -> Result:
         """Returns what the program says of a file, or of a text that was read already."""
-        text = text_or_why(file, self.timeout) if given is None else given
+        text = text_or_failure(file, self.timeout) if given is None else given
         if isinstance(text, Result):
             return text
         before = children_seconds()
-        result = timed_answer(self.program, file, text, self.timeout, running)
-        if self.keeper and result.result in KEPT:
+        result = timed_check_answer(self.program, file, text, self.timeout, running)
+        if self.keeper and result.result in KEPT_RESULTS:
             return keep_result(self.keeper, text, result, children_seconds() - before)
         return result
 
@@ -116,10 +116,10 @@ def read_in_time(file: str, timeout: float | None) -> bytes:
     try:
         return read_bytes(file)
     finally:
-        beat()
+        keep_interrupting()
 
 
-def text_or_why(file: str, timeout: float | None) -> bytes | Result:
+def text_or_failure(file: str, timeout: float | None) -> bytes | Result:
     """Returns the bytes of a file, or the result that it has if it cannot be read."""
     try:
         return read_in_time(file, timeout)
@@ -143,28 +143,28 @@ def children_seconds() -> float:
     return sum(os.times()[2:4])
 
 
-def serve(order: Order, own: Connection, others: list[Connection]) -> None:
+def serve_checks(order: WorkerSettings, own: Connection, others: list[Connection]) -> None:
     """Checks one file after another, in a worker process, until the pipe is closed.
 
     SIGTERM and SIGHUP end the program that runs, and the worker.
     """
-    running = Running()
+    running = RunningPrograms()
 
     def stop(_number: int, _frame: FrameType | None) -> None:
         """Ends the program, and lets no other start."""
-        running.stop()
+        running.kill_all()
 
     signal.signal(signal.SIGINT, signal.SIG_IGN)
     for number in (signal.SIGTERM, signal.SIGHUP):
         if signal.getsignal(number) is not signal.SIG_IGN:
             signal.signal(number, stop)
-    beat()
+    keep_interrupting()
     for connection in others:
         connection.close()
     try:
         while not running.is_stopped:
             file, text = own.recv()
-            own.send(order.check(file, text, running))
+            own.send(order.check_file(file, text, running))
     except (EOFError, OSError):
         return
 
@@ -172,17 +172,17 @@ def serve(order: Order, own: Connection, others: list[Connection]) -> None:
 class CheckWorker:
     """A process that checks files, one at a time."""
 
-    def __init__(self, order: Order, others: list["CheckWorker"]) -> None:
+    def __init__(self, order: WorkerSettings, others: list["CheckWorker"]) -> None:
         context = multiprocessing.get_context("fork")
         self.connection, theirs = context.Pipe()
         sys.stdout.flush()
         held = [self.connection, *(other.connection for other in others)]
-        self.process = context.Process(target=serve, args=(order, theirs, held), daemon=True)
+        self.process = context.Process(target=serve_checks, args=(order, theirs, held), daemon=True)
         self.process.start()
         theirs.close()
         self.file = ""
 
-    def give(self, file: str) -> None:
+    def give_file(self, file: str) -> None:
         """Gives a file to check. Standard input is read here: a worker has none."""
         self.file = file
         try:
@@ -191,7 +191,7 @@ class CheckWorker:
             text = None
         self.connection.send((file, text))
 
-    def result(self) -> Result | None:
+    def next_result(self) -> Result | None:
         """Returns the result that is there, or None if the process has ended."""
         try:
             result: Result = self.connection.recv()
@@ -205,7 +205,7 @@ class Checker:
 
     def __init__(self, program: Executable, jobs: int = 1, timeout: float | None = None,
                  keeper: ResultKeeper | None = None) -> None:
-        self.order, self.jobs = Order(program, timeout, keeper), jobs
+        self.order, self.jobs = WorkerSettings(program, timeout, keeper), jobs
         self.workers: list[CheckWorker] = []
 
     def results(self, files: Iterable[str]) -> Iterator[Result | None]:
@@ -219,26 +219,26 @@ class Checker:
                 yield held
                 continue
             while not idle and len(self.workers) >= self.jobs:
-                yield from self.ready(busy, idle)
+                yield from self.ready_results(busy, idle)
             if not idle:
                 idle.append(CheckWorker(self.order, self.workers))
                 self.workers.append(idle[-1])
             worker = idle.pop()
             busy[worker.connection] = worker
-            worker.give(file)
+            worker.give_file(file)
         while busy:
-            yield from self.ready(busy, idle)
+            yield from self.ready_results(busy, idle)
 
-    def ready(self, busy: dict[Connection, CheckWorker], idle: list[CheckWorker]) -> Iterator[Result | None]:
+    def ready_results(self, busy: dict[Connection, CheckWorker], idle: list[CheckWorker]) -> Iterator[Result | None]:
         """Yields the results that are there, or None after a fifth of a second. The workers that gave them become idle.
         """
-        connections = [connection for connection in wait(list(busy), LOOK_SECONDS)
+        connections = [connection for connection in wait(list(busy), POLL_SECONDS)
                        if isinstance(connection, Connection)]
         if not connections:
             yield None
         for connection in connections:
             worker = busy.pop(connection)
-            result = worker.result()
+            result = worker.next_result()
             if result:
                 idle.append(worker)
             else:
@@ -251,7 +251,7 @@ class Checker:
             worker.connection.close()
             worker.process.terminate()
         for worker in self.workers:
-            worker.process.join(END_SECONDS)
+            worker.process.join(GRACE_SECONDS)
             if worker.process.is_alive():
                 worker.process.kill()
 
@@ -259,11 +259,11 @@ class Checker:
 def summary(counts: dict[str, int]) -> str:
     """Returns how many files have each result."""
     total = sum(counts.values())
-    told = ", ".join(f"{counts[word]} {WORDS[word]}" for word in WORDS if counts.get(word))
+    told = ", ".join(f"{counts[word]} {RESULT_WORDS[word]}" for word in RESULT_WORDS if counts.get(word))
     return f"{total} file{'s' if total != 1 else ''}: {told or 'none was checked'}"
 
 
-def counted(results: Iterable[Result]) -> dict[str, int]:
+def result_counts(results: Iterable[Result]) -> dict[str, int]:
     """Returns how many results there are of each kind."""
     return Counter(result.result for result in results)
 

@@ -10,22 +10,22 @@ import time
 from typing import Any, Iterable, Iterator
 
 from ..host import sealed
-from ..host.own_digest import foreign_report
+from ..host.own_digest import why_not_report_of
 from ..host.program import Executable
 from ..host.terminal import LabError
 from . import remote
 from .answering import Result, result_of_report
-from .checking import KEPT, Checker, keep_result, text_or_why
+from .checking import KEPT_RESULTS, Checker, keep_result, text_or_failure
 from .receipts import ReceiptFolder, sha256
 
 # How many groups of texts are on their way for each thread of the workers, and seconds between two looks.
-AHEAD, LOOK_SECONDS = 4, 0.2
+GROUPS_AHEAD, POLL_SECONDS = 4, 0.2
 # A group of texts that is sent at once: about as many seconds of work, and at most so many texts and bytes.
 GROUP_SECONDS, GROUP_TEXTS, GROUP_BYTES = 0.25, 50, 1 << 20
 # How often a group is sent that no worker answers, since a worker may end with a result that was not fetched.
-TRIES = 3
+MAX_TRIES = 3
 # Seconds until the threads of the workers are counted again, since this asks the scheduler.
-COUNT_SECONDS = 1.0
+THREAD_COUNT_SECONDS = 1.0
 
 # Seconds to wait for the scheduler, and for a first worker.
 CONNECT_SECONDS = 10
@@ -39,7 +39,7 @@ class FileGroup:
         self.sent = 0
 
 
-def connected(address: str, jobs: int, program: Executable) -> Any:
+def connect(address: str, jobs: int, program: Executable) -> Any:
     """Returns a client of the scheduler at an address, or of a cluster of processes here if the address is empty, with
     the program."""
     try:
@@ -62,7 +62,7 @@ def connected(address: str, jobs: int, program: Executable) -> Any:
     return client
 
 
-def outcome(future: Any) -> tuple[list[remote.Said], str]:
+def answers_or_reason(future: Any) -> tuple[list[remote.RemoteAnswer], str]:
     """Returns the answers of a worker, and why there are none.
 
     A worker that was killed may take along a result that was ready.
@@ -83,14 +83,14 @@ class ClusterChecker(Checker):
                  folder: ReceiptFolder | None, sends: bool) -> None:
         super().__init__(program, jobs, timeout, folder)
         self.digest = program.sha256
-        self.client = connected(address, jobs, program)
+        self.client = connect(address, jobs, program)
         self.said: dict[str, str] = {}
         # The groups that came back, how many are on their way, and what the texts of those that came back took.
         self.done: "queue.SimpleQueue[tuple[FileGroup, Any]]" = queue.SimpleQueue()
         self.flying, self.answered, self.worked = 0, 0, 0.0
         self.thread_count, self.counted_until = 1, 0.0
         if sends:
-            self.client.run(remote.store_program, program.data(), self.digest)
+            self.client.run(remote.store_program, program.program_bytes(), self.digest)
         for complaint in sorted(set(self.client.run(remote.complaint_about, self.digest).values()) - {""}):
             self.stop()
             raise LabError(complaint)
@@ -103,26 +103,26 @@ class ClusterChecker(Checker):
             if ready:
                 yield ready
             elif self.is_full(group):
-                self.send(group)
+                self.send_group(group)
                 group = FileGroup()
-                while self.flying >= AHEAD * self.threads():
+                while self.flying >= GROUPS_AHEAD * self.worker_thread_count():
                     yield from self.finished_results()
         if group.files:
-            self.send(group)
+            self.send_group(group)
         while self.flying:
             yield from self.finished_results()
 
-    def threads(self) -> int:
+    def worker_thread_count(self) -> int:
         """Returns how many threads the workers have, or had a second ago."""
         now = time.monotonic()
         if now >= self.counted_until:
             self.thread_count = max(1, sum(int(count) for count in self.client.nthreads().values()))
-            self.counted_until = now + COUNT_SECONDS
+            self.counted_until = now + THREAD_COUNT_SECONDS
         return self.thread_count
 
     def add_file(self, file: str, group: FileGroup) -> Result | None:
         """Adds a file to a group. Returns a result only if it can't be read."""
-        text = text_or_why(file, self.order.timeout)
+        text = text_or_failure(file, self.order.timeout)
         if isinstance(text, Result):
             return text
         group.files.append((file, text))
@@ -134,10 +134,10 @@ class ClusterChecker(Checker):
         return len(group.files) >= min(max(wanted, 1), GROUP_TEXTS) or sum(len(text) for _,
                                                                            text in group.files) >= GROUP_BYTES
 
-    def send(self, group: FileGroup) -> None:
+    def send_group(self, group: FileGroup) -> None:
         """Sends a group to a worker."""
-        future = self.client.submit(remote.answers, self.digest, [text for _, text in group.files], self.order.timeout,
-                                    pure=False)
+        future = self.client.submit(remote.run_on_texts, self.digest, [text for _, text in group.files],
+                                    self.order.timeout, pure=False)
         future.add_done_callback(lambda ended: self.done.put((group, ended)))
         group.sent += 1
         self.flying += 1
@@ -145,14 +145,14 @@ class ClusterChecker(Checker):
     def finished_results(self) -> Iterator[Result | None]:
         """Yields the results of a group that has come, or None after a fifth of a second."""
         try:
-            group, future = self.done.get(timeout=LOOK_SECONDS)
+            group, future = self.done.get(timeout=POLL_SECONDS)
         except queue.Empty:
             yield None
             return
         self.flying -= 1
-        answers, why = outcome(future)
-        if why and group.sent < TRIES:
-            self.send(group)
+        answers, why = answers_or_reason(future)
+        if why and group.sent < MAX_TRIES:
+            self.send_group(group)
             return
         if why:
             yield from (Result(file, "error", f"no worker answered: {why}", 0) for file, _ in group.files)
@@ -162,7 +162,7 @@ class ClusterChecker(Checker):
             self.worked += max(said[3], 0.001, self.order.timeout or 0 if said[4] == "timeout" else 0)
             yield self.keep_answer(file, text, said)
 
-    def keep_answer(self, file: str, text: bytes, said: remote.Said) -> Result:
+    def keep_answer(self, file: str, text: bytes, said: remote.RemoteAnswer) -> Result:
         """Returns the result that an answer stands for, and keeps it.
 
         Two answers to one text end the run, and so does another program.
@@ -171,7 +171,7 @@ class ClusterChecker(Checker):
         if kind:
             return Result(file, "timeout" if kind == "timeout" else "error", complaint, 0,
                           is_fatal=kind == "other program")
-        why = foreign_report(text, output)
+        why = why_not_report_of(text, output)
         result = Result(file, "error", f"on {host}: {why}", 0) if why else result_of_report(file, status, output)
         result.seconds = round(seconds, 3)
         other = self.said.setdefault(sha256(text), output)
@@ -179,7 +179,7 @@ class ClusterChecker(Checker):
             return Result(file, "error", f"two answers to {file} by one program: {other!r} and {output!r} (on {host})",
                           0, is_fatal=True)
         keeper = self.order.keeper
-        return keep_result(keeper, text, result, seconds) if keeper and result.result in KEPT else result
+        return keep_result(keeper, text, result, seconds) if keeper and result.result in KEPT_RESULTS else result
 
     def stop(self) -> None:
         """Lets the cluster go: one that was started here ends."""

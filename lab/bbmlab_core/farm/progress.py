@@ -5,10 +5,10 @@ import time
 
 from ..host.terminal import escape_controls
 
-BAR = 24
+BAR_WIDTH = 24
 # Seconds between two lines where there is no terminal, and between two looks of the bar.
 LINE_SECONDS = 10.0
-LOOK_SECONDS = 0.1
+SHOW_SECONDS = 0.1
 
 
 def minutes_words(seconds: float) -> str:
@@ -35,10 +35,10 @@ class Progress:
             sys.stderr.flush()
             self.is_shown = False
 
-    def look(self, what: str = "") -> None:
+    def show_if_due(self, what: str = "") -> None:
         """Shows how far it is, if it is time to."""
         now = time.monotonic()
-        if sys.stderr is None or now - self.last < (LOOK_SECONDS if self.is_terminal else LINE_SECONDS):
+        if sys.stderr is None or now - self.last < (SHOW_SECONDS if self.is_terminal else LINE_SECONDS):
             return
         self.last = now
         rate = self.done / (now - self.began)
@@ -46,8 +46,8 @@ class Progress:
         if not self.is_terminal:
             print(f"bbmlab: {self.done} of {self.total}, {rate:.3g} a second{left}", file=sys.stderr, flush=True)
             return
-        filled = BAR * self.done // max(1, self.total)
-        line = (f"[{'#' * filled}{'.' * (BAR - filled)}] {self.done}/{self.total}  {rate:.3g} a second{left}  "
+        filled = BAR_WIDTH * self.done // max(1, self.total)
+        line = (f"[{'#' * filled}{'.' * (BAR_WIDTH - filled)}] {self.done}/{self.total}  {rate:.3g} a second{left}  "
                 f"{escape_controls(what)}")
         sys.stderr.write("\r\033[K" + line[:79])
         sys.stderr.flush()

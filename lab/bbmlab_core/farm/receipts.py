@@ -13,7 +13,7 @@ from dataclasses import dataclass
 from typing import Any
 from urllib.parse import quote
 
-from ..host.releases import Program
+from ..host.releases import ProgramIdentity
 from ..host.replacing import replace_file
 from ..host.terminal import LabError, read_bytes
 from ..texts.limits import SECOND
@@ -23,9 +23,9 @@ from .checking import Contradiction
 
 FORMAT = "bbmlab receipt 1"
 SECTIONS = ("circuit", "layout", "certificate")
-HEADER = re.compile(rb"(circuit|layout|certificate)(?: |\n)")
+SECTION_HEADER = re.compile(rb"(circuit|layout|certificate)(?: |\n)")
 # The most characters of a name of a file that stand in the name of its receipt.
-MAX_NAME = 180
+MAX_NAME_BYTES = 180
 DIGEST = re.compile(r"[0-9a-f]{64}\Z")
 
 
@@ -45,7 +45,7 @@ def section_digests(text: bytes) -> dict[str, str | None]:
     front = SECOND.head.encode()
     start = len(front) if text.startswith(front) else 0
     for name in SECTIONS:
-        header = HEADER.match(text, start)
+        header = SECTION_HEADER.match(text, start)
         end = text.find(b"\nend\n", start)
         if not header or header[1].decode() != name or end < 0:
             break
@@ -70,7 +70,7 @@ class Receipt:
     report: str
     verdict: str
     status: int
-    program: Program
+    program: ProgramIdentity
     workers: int
     seconds: float
     date: str
@@ -89,7 +89,7 @@ class Receipt:
 
 
 
-def receipt_of(text: bytes, result: Result, program: Program, seconds: float) -> Receipt:
+def receipt_of(text: bytes, result: Result, program: ProgramIdentity, seconds: float) -> Receipt:
     """Returns the receipt of a result that is a verdict or a refusal."""
     date = time.strftime("%Y-%m-%dT%H:%M:%SZ", time.gmtime())
     return Receipt(result.file, len(text), sha256(text), section_digests(text), result.output, result.result,
@@ -107,7 +107,7 @@ def member(document: Any, name: str, kind: Any) -> Any:
     return value
 
 
-def digest_of(document: Any, name: str) -> str:
+def digest_member(document: Any, name: str) -> str:
     """Returns a member that is a digest."""
     value: str = member(document, name, str)
     if not DIGEST.match(value):
@@ -115,7 +115,7 @@ def digest_of(document: Any, name: str) -> str:
     return value
 
 
-def seconds_of(document: Any) -> float:
+def seconds_member(document: Any) -> float:
     """Returns the member `processor_seconds`."""
     try:
         return float(member(document, "processor_seconds", (int, float)))
@@ -136,19 +136,19 @@ def parse_receipt(data: bytes) -> Receipt:
     nothing = type(None)
     name, report, status = member(text, "name", str), member(document, "report", str), member(document, "status", int)
     receipt = Receipt(
-        name, member(text, "bytes", int), digest_of(text, "sha256"),
+        name, member(text, "bytes", int), digest_member(text, "sha256"),
         {name: member(sections, name, (str, nothing)) for name in SECTIONS}, report, member(document, "verdict", str),
         status,
-        Program(digest_of(program, "sha256"), member(program, "version", (str, nothing)),
-                member(program, "kit", (str, nothing)),
-                member(program, "sources_sha256", (str, nothing))),
-        member(document, "workers", int), seconds_of(document), member(document, "date", str),
+        ProgramIdentity(digest_member(program, "sha256"), member(program, "version", (str, nothing)),
+                        member(program, "kit", (str, nothing)),
+                        member(program, "sources_sha256", (str, nothing))),
+        member(document, "workers", int), seconds_member(document), member(document, "date", str),
         result_of_report(name, status, report))
-    require_same_report(receipt, digest_of(document, "report_sha256"))
+    require_consistent(receipt, digest_member(document, "report_sha256"))
     return receipt
 
 
-def require_same_report(receipt: Receipt, digest: str) -> None:
+def require_consistent(receipt: Receipt, digest: str) -> None:
     """Raises ReceiptError unless report, digest, verdict and status of a receipt are of each other."""
     if sha256(receipt.report.encode("latin-1", "replace")) != digest:
         raise ReceiptError("its report was changed: the digest of the report is another one")
@@ -164,10 +164,10 @@ def require_same_report(receipt: Receipt, digest: str) -> None:
 class ReceiptFolder:
     """The receipts of texts in a folder, one a file. With `again`, none is used in place of a run."""
 
-    def __init__(self, folder: str, program: Program, again: bool = False) -> None:
+    def __init__(self, folder: str, program: ProgramIdentity, again: bool = False) -> None:
         self.folder, self.program, self.again = folder, program, again
 
-    def path(self, file: str) -> str:
+    def receipt_path(self, file: str) -> str:
         """Returns the name of the receipt of a file: its own name, with `%2F` for `/`, or with a digest if it is long.
 
         The name is that seen from where the folder of receipts is. So a file has one receipt, wherever the lab runs,
@@ -175,14 +175,14 @@ class ReceiptFolder:
         """
         seen = os.path.relpath(file, os.path.dirname(os.path.abspath(self.folder))) if file != "-" else "standard input"
         name = quote(os.fsencode(seen), safe=" ")
-        if len(name) > MAX_NAME:
-            name = f"{name[-MAX_NAME:].lstrip('%')}-{sha256(os.fsencode(seen))[:16]}"
+        if len(name) > MAX_NAME_BYTES:
+            name = f"{name[-MAX_NAME_BYTES:].lstrip('%')}-{sha256(os.fsencode(seen))[:16]}"
         return os.path.join(self.folder, f"{name}.json")
 
-    def stored(self, file: str) -> Receipt | None:
+    def stored_receipt(self, file: str) -> Receipt | None:
         """Returns the receipt of a file, or None if there is none that can be read."""
         try:
-            return parse_receipt(read_bytes(self.path(file)))
+            return parse_receipt(read_bytes(self.receipt_path(file)))
         except (LabError, ReceiptError):
             return None
 
@@ -190,7 +190,7 @@ class ReceiptFolder:
         """Returns the result of a file if its receipt is of the same bytes and the same program."""
         if self.again or not os.path.isfile(file):
             return None
-        receipt = self.stored(file)
+        receipt = self.stored_receipt(file)
         if not receipt or receipt.program.sha256 != self.program.sha256:
             return None
         try:
@@ -205,12 +205,12 @@ class ReceiptFolder:
     def keep(self, text: bytes, result: Result, seconds: float) -> None:
         """Writes the receipt of a result. An earlier one of the same text and program must have the same report."""
         receipt = receipt_of(text, result, self.program, seconds)
-        earlier = self.stored(result.file)
+        earlier = self.stored_receipt(result.file)
         if (earlier and (earlier.text, earlier.program.sha256) == (receipt.text, receipt.program.sha256)
             and earlier.report != receipt.report):
             raise Contradiction(f"two answers to {result.file} by one program: {earlier.report!r} (in its receipt) and "
                                 f"{receipt.report!r}")
-        name = self.path(result.file)
+        name = self.receipt_path(result.file)
         try:
             os.makedirs(self.folder, exist_ok=True)
             replace_file(name, str(receipt).encode())

@@ -9,12 +9,12 @@ import socket
 import subprocess
 import tempfile
 
-from ..host.sealed import path_of, sealed_copy
+from ..host.sealed import descriptor_path, sealed_copy
 
 
 # What a program on a worker said of a text: the host, the status, the output, the processor seconds, and the kind of an
 # error and its sentence, both empty if there is an answer. Kinds: "timeout", "other program", "failed".
-Said = tuple[str, int, str, float, str, str]
+RemoteAnswer = tuple[str, int, str, float, str, str]
 
 
 def digest_of(path: str) -> str:
@@ -23,7 +23,7 @@ def digest_of(path: str) -> str:
         return hashlib.sha256(file.read()).hexdigest()
 
 
-def sent_program(digest: str) -> str:
+def stored_program_path(digest: str) -> str:
     """Returns where a program that is sent is stored: under its digest, in the user's cache."""
     cache = os.environ.get("XDG_CACHE_HOME") or os.path.join(os.path.expanduser("~"), ".cache")
     return os.path.join(cache, "bbmlab", digest, "bbmcheck")
@@ -31,7 +31,7 @@ def sent_program(digest: str) -> str:
 
 def store_program(data: bytes, digest: str) -> str:
     """Stores a program under its digest, and returns where the worker now has it."""
-    place = sent_program(digest)
+    place = stored_program_path(digest)
     if not os.path.isfile(place) or digest_of(place) != digest:
         os.makedirs(os.path.dirname(place), exist_ok=True)
         number, beside = tempfile.mkstemp(dir=os.path.dirname(place))
@@ -42,14 +42,14 @@ def store_program(data: bytes, digest: str) -> str:
     return f"{socket.gethostname()}: {place}"
 
 
-def program_with(digest: str) -> tuple[str, bytes, str]:
+def program_with_digest(digest: str) -> tuple[str, bytes, str]:
     """Returns the path and the bytes of the program with a digest that this worker has, and a sentence about what it
     has if it has none."""
     host = socket.gethostname()
     # The worker's own program: $BBMCHECK, or bbmcheck on PATH.
     own = shutil.which(os.environ.get("BBMCHECK") or "bbmcheck")
     found = ""
-    for place in (sent_program(digest), own):
+    for place in (stored_program_path(digest), own):
         if place and os.path.isfile(place):
             with open(place, "rb") as file:
                 data = file.read()
@@ -63,31 +63,31 @@ def program_with(digest: str) -> tuple[str, bytes, str]:
 
 def complaint_about(digest: str) -> str:
     """Returns why this worker has no program with a digest, or nothing if it has one."""
-    return program_with(digest)[2]
+    return program_with_digest(digest)[2]
 
 
-def answers(digest: str, texts: list[bytes], timeout: float | None) -> list[Said]:
+def run_on_texts(digest: str, texts: list[bytes], timeout: float | None) -> list[RemoteAnswer]:
     """Runs the program with a digest on some texts, one after another.
 
     The bytes that have the digest are those that run.
     """
-    path, data, complaint = program_with(digest)
+    path, data, complaint = program_with_digest(digest)
     if complaint:
         return [(socket.gethostname(), 70, "", 0, "other program", complaint)]
     copy = sealed_copy(data)
     try:
-        return [answer(path, copy, text, timeout) for text in texts]
+        return [run_copy(path, copy, text, timeout) for text in texts]
     finally:
         os.close(copy)
 
 
-def answer(program: str, copy: int, text: bytes, timeout: float | None) -> Said:
+def run_copy(program: str, copy: int, text: bytes, timeout: float | None) -> RemoteAnswer:
     """Runs the copy of a program on a text."""
     host = socket.gethostname()
     before = sum(os.times()[2:4])
     try:
-        process = subprocess.Popen([program, "check"], executable=path_of(copy), pass_fds=[copy], stdin=subprocess.PIPE,
-                                   stdout=subprocess.PIPE,
+        process = subprocess.Popen([program, "check"], executable=descriptor_path(copy), pass_fds=[copy],
+                                   stdin=subprocess.PIPE, stdout=subprocess.PIPE,
                                    stderr=subprocess.PIPE, start_new_session=True)
     except OSError as error:
         return host, 70, "", 0, "failed", f"{program} can't be run on {host}: {error.strerror or error}"

@@ -4,10 +4,10 @@ import json
 import sys
 from typing import Any
 
-from ..host.terminal import painted, escape_controls
+from ..host.terminal import coloured, escape_controls
 from ..texts.code_names import CODE_NAMES
-from .answering import WORDS, Result
-from .checking import counted, summary
+from .answering import RESULT_WORDS, Result
+from .checking import result_counts, summary
 
 COLOURS = {"yes": "green", "no": "red", "refused": "red"}
 
@@ -15,27 +15,28 @@ COLOURS = {"yes": "green", "no": "red", "refused": "red"}
 class ResultWriter:
     """Writes results:
 
-    `begin` before the first, `take` for each as it comes, and `end` with the signal that stopped the run, if one did.
-    Only some kinds of results are listed if words are given. The summary and the status are those of all files.
+    `begin` before the first, `take_result` for each as it comes, and `end` with the signal that stopped the run, if
+    one did. Only some kinds of results are listed if words are given. The summary and the status are those of all
+    files.
     """
 
     def __init__(self, words: list[str] | None = None) -> None:
         self.words = words
 
-    def take(self, result: Result) -> None:
+    def take_result(self, result: Result) -> None:
         """Takes one result."""
         if self.words is None or result.result in self.words:
-            self.add(result)
+            self.list_result(result)
         else:
-            self.count(result)
+            self.count_result(result)
 
     def begin(self, files: list[str]) -> None:
         """Begins with the names of all files."""
 
-    def add(self, result: Result) -> None:
+    def list_result(self, result: Result) -> None:
         """Lists one result."""
 
-    def count(self, result: Result) -> None:
+    def count_result(self, result: Result) -> None:
         """Counts one result without listing it."""
 
     def end(self, stopped: str | None) -> None:
@@ -51,16 +52,16 @@ class TextWriter(ResultWriter):
         self.total, self.held = len(files), 0
         self.width = min(max((len(escape_controls(file)) for file in files), default=0), 60)
 
-    def add(self, result: Result) -> None:
+    def list_result(self, result: Result) -> None:
         """Writes a line, unless the result is a yes that a receipt holds."""
-        self.count(result)
+        self.count_result(result)
         if result.held and result.result == "yes":
             return
-        word = painted(WORDS[result.result].ljust(8), COLOURS.get(result.result, "yellow"))
+        word = coloured(RESULT_WORDS[result.result].ljust(8), COLOURS.get(result.result, "yellow"))
         name, detail = escape_controls(result.file).ljust(self.width), escape_controls(result.detail)
         print(f"{name}  {word}  {result.seconds:7.2f} s  {detail}".rstrip(), flush=True)
 
-    def count(self, result: Result) -> None:
+    def count_result(self, result: Result) -> None:
         """Counts one result without listing it."""
         self.results[result.result] = self.results.get(result.result, 0) + 1
         self.held += result.held
@@ -81,14 +82,14 @@ class TapWriter(ResultWriter):
         self.number = 0
         print(f"TAP version 13\n1..{len(files)}", flush=True)
 
-    def add(self, result: Result) -> None:
+    def list_result(self, result: Result) -> None:
         """Writes a line."""
         self.number += 1
         file = escape_controls(result.file).replace("\\", "\\\\").replace("#", "\\#")
         if result.result == "yes":
             print(f"ok {self.number} - {file}", flush=True)
         else:
-            print(f"not ok {self.number} - {file}: {WORDS[result.result]}, {escape_controls(result.detail)}",
+            print(f"not ok {self.number} - {file}: {RESULT_WORDS[result.result]}, {escape_controls(result.detail)}",
                   flush=True)
 
     def end(self, stopped: str | None) -> None:
@@ -97,14 +98,14 @@ class TapWriter(ResultWriter):
             print(f"Bail out! stopped by {stopped}", flush=True)
 
 
-def row(result: Result) -> dict[str, Any]:
+def result_json(result: Result) -> dict[str, Any]:
     """Returns a result as JSON values."""
     return {"file": result.file, "result": result.result, "detail": result.detail, "seconds": result.seconds,
             "modules": result.modules,
-            "output": result.output, **({"held": True} if result.held else {}), **refusal_row(result)}
+            "output": result.output, **({"held": True} if result.held else {}), **refusal_json(result)}
 
 
-def refusal_row(result: Result) -> dict[str, Any]:
+def refusal_json(result: Result) -> dict[str, Any]:
     """Returns the line, the code and the code's name of a refusal, so that nobody need parse them."""
     if result.result != "refused":
         return {}
@@ -112,16 +113,16 @@ def refusal_row(result: Result) -> dict[str, Any]:
     return {"refusal": {"line": line, "code": code, "name": CODE_NAMES.get(code, "")}}
 
 
-class LinesWriter(ResultWriter):
+class JsonLinesWriter(ResultWriter):
     """A JSON object for each file as soon as its result is there, each in a line of its own. A run that was stopped has
     fewer lines."""
 
-    def add(self, result: Result) -> None:
+    def list_result(self, result: Result) -> None:
         """Writes a line."""
-        print(json.dumps(row(result)), flush=True)
+        print(json.dumps(result_json(result)), flush=True)
 
 
-class WholeWriter(ResultWriter):
+class DocumentWriter(ResultWriter):
     """Keeps all results and writes one document at the end, in the order of the files."""
 
     def begin(self, files: list[str]) -> None:
@@ -130,11 +131,11 @@ class WholeWriter(ResultWriter):
         self.results: dict[str, Result] = {}
         self.left: dict[str, int] = {}
 
-    def add(self, result: Result) -> None:
+    def list_result(self, result: Result) -> None:
         """Keeps a result."""
         self.results[result.file] = result
 
-    def count(self, result: Result) -> None:
+    def count_result(self, result: Result) -> None:
         """Counts one result without listing it."""
         self.left[result.result] = self.left.get(result.result, 0) + 1
 
@@ -148,21 +149,21 @@ class WholeWriter(ResultWriter):
         raise NotImplementedError
 
 
-class JsonWriter(WholeWriter):
+class JsonWriter(DocumentWriter):
     """One JSON document."""
 
     def document(self, results: list[Result], stopped: str | None) -> str:
         """Returns the document. `stopped` is there only if a signal ended the run."""
-        is_all_yes = not stopped and {*counted(results), *self.left} == {"yes"}
+        is_all_yes = not stopped and {*result_counts(results), *self.left} == {"yes"}
         left = sum(self.left.values())
         more: dict[str, Any] = {"stopped": stopped,
                                 "not_checked": len(self.files) - len(results) - left} if stopped else {}
         more |= {"left_out": self.left} if left else {}
         return json.dumps({"format": "bbmlab check 1", "all_yes": is_all_yes, **more,
-                           "results": [row(result) for result in results]}, indent=2) + "\n"
+                           "results": [result_json(result) for result in results]}, indent=2) + "\n"
 
 
-class JunitWriter(WholeWriter):
+class JunitWriter(DocumentWriter):
     """JUnit's XML. A no and a refusal are failures, all else but a yes is an error."""
 
     def document(self, results: list[Result], stopped: str | None) -> str:
@@ -171,7 +172,7 @@ class JunitWriter(WholeWriter):
         missing = [] if not stopped else [Result(file, "error", f"not checked: stopped by {stopped}", 0)
                                           for file in self.files if file not in self.results]
         rows = [*results, *missing]
-        counts = counted(rows)
+        counts = result_counts(rows)
         failures, errors = (sum(counts.get(word, 0) for word in words)
                             for words in (("no", "refused"), ("timeout", "missing", "error")))
         lines = ['<?xml version="1.0" encoding="UTF-8"?>',
@@ -192,4 +193,4 @@ class JunitWriter(WholeWriter):
 
 
 WRITERS: dict[str, type[ResultWriter]] = {
-    "text": TextWriter, "json": JsonWriter, "jsonl": LinesWriter, "tap": TapWriter, "junit": JunitWriter}
+    "text": TextWriter, "json": JsonWriter, "jsonl": JsonLinesWriter, "tap": TapWriter, "junit": JunitWriter}

@@ -13,7 +13,7 @@ class Shard(NamedTuple):
     parts: int
 
 
-def shard(word: str) -> Shard:
+def shard_of_word(word: str) -> Shard:
     """Returns a part, written K/N."""
     number, slash, count = word.partition("/")
     if not slash or not (number.isdecimal() and count.isdecimal()) or max(len(number),
@@ -23,7 +23,7 @@ def shard(word: str) -> Shard:
     return Shard(int(number), int(count))
 
 
-def in_shard(file: str, part: Shard | None) -> bool:
+def is_in_shard(file: str, part: Shard | None) -> bool:
     """Whether a file is in a part: the digest of its name as it was given, modulo the number of parts.
 
     Without a part all are.

@@ -5,7 +5,7 @@ import hashlib
 HEADER = b"\ncertificate "
 
 
-def foreign_report(text: bytes, output: str) -> str | None:
+def why_not_report_of(text: bytes, output: str) -> str | None:
     """Returns why a report is not of a bundle, or None if it is, or if it is no report."""
     lines = output.split("\n", 2)
     word, _, digest = lines[1].partition(" ") if len(lines) > 2 else ("", "", "")

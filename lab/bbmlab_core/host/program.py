@@ -11,9 +11,9 @@ from contextlib import suppress
 from dataclasses import dataclass
 from pathlib import Path
 
-from .own_digest import foreign_report
-from .sealed import path_of, sealed_copy
-from .signals import stop_allowed, stop_delayed
+from .own_digest import why_not_report_of
+from .sealed import descriptor_path, sealed_copy
+from .signals import allow_stop, delay_stop
 
 HERE = Path(__file__).resolve().parent.parent
 
@@ -53,30 +53,30 @@ class Executable:
         with suppress(OSError):
             os.close(self.descriptor)
 
-    def data(self) -> bytes:
+    def program_bytes(self) -> bytes:
         """Returns the bytes."""
         return os.pread(self.descriptor, os.fstat(self.descriptor).st_size, 0)
 
     def start(self, *words: str) -> "subprocess.Popen[bytes]":
         """Starts the program in a session of its own. A script gets the descriptor's path as its own name."""
-        return subprocess.Popen([self.path, *words], executable=path_of(self.descriptor), pass_fds=[self.descriptor],
-                                stdin=subprocess.PIPE,
+        return subprocess.Popen([self.path, *words], executable=descriptor_path(self.descriptor),
+                                pass_fds=[self.descriptor], stdin=subprocess.PIPE,
                                 stdout=subprocess.PIPE, stderr=subprocess.PIPE, start_new_session=True)
 
 
-def opened(program: Executable | str) -> Executable:
+def open_program(program: Executable | str) -> Executable:
     """Opens the program at a path, unless it is open already. Raises BadProgramError if it cannot be read."""
     if isinstance(program, Executable):
         return program
     try:
-        path = behind_wrapper(program)
+        path = program_behind_wrapper(program)
         data = Path(path).read_bytes()
         return Executable(path, sealed_copy(data), hashlib.sha256(data).hexdigest())
     except OSError as error:
         raise BadProgramError(f"{program} can't be run: {error.strerror or error}") from error
 
 
-def candidates(given: str | None) -> list[str]:
+def program_candidates(given: str | None) -> list[str]:
     """Returns the places where the program may be, in the order in which they count."""
     if given:
         return [given]
@@ -89,7 +89,7 @@ def candidates(given: str | None) -> list[str]:
     return [*(str(place) for place in own if place.is_file()), "bbmcheck"]
 
 
-def behind_wrapper(found: str) -> str:
+def program_behind_wrapper(found: str) -> str:
     """Returns the program that the repository's wrapper runs, so that its choice is made once.
 
     Any other program is returned as it is.
@@ -109,11 +109,11 @@ def find_program(given: str | None = None) -> Executable:
 
     `given`, else $BBMCHECK, else the repository's wrapper or that of the same installation, else PATH's.
     """
-    tried = candidates(given)
+    tried = program_candidates(given)
     for place in tried:
         found = shutil.which(place)
         if found and os.path.isfile(found):
-            return opened(os.path.abspath(found))
+            return open_program(os.path.abspath(found))
     is_named = given or os.environ.get("BBMCHECK")
     where = (f"there is no program at {tried[0]}" if is_named
              else "no program was found in the clone, next to bbmlab or on PATH")
@@ -122,7 +122,7 @@ def find_program(given: str | None = None) -> Executable:
                        "does not contain it")
 
 
-class Running:
+class RunningPrograms:
     """The runs of the program that have not ended, each with the processes that it started.
 
     All can be stopped from any thread.
@@ -148,7 +148,7 @@ class Running:
             raise BadProgramError("stopped")
         return process
 
-    def end(self, process: "subprocess.Popen[bytes]") -> None:
+    def kill(self, process: "subprocess.Popen[bytes]") -> None:
         """Kills a program and what it started, if it still runs, and forgets it."""
         with self.lock:
             self.processes.discard(process)
@@ -160,7 +160,7 @@ class Running:
                 if pipe:
                     pipe.close()
 
-    def stop(self) -> None:
+    def kill_all(self) -> None:
         """Kills all programs. None can be started later."""
         with self.lock:
             self.is_stopped = True
@@ -170,7 +170,7 @@ class Running:
 
 # The runs that `ask` starts if it is not told otherwise. A process that can be stopped from outside sets it once, at
 # its start.
-SHARED: Running | None = None
+SHARED_PROGRAMS: RunningPrograms | None = None
 
 
 def kill_session(process: "subprocess.Popen[bytes]") -> None:
@@ -181,35 +181,36 @@ def kill_session(process: "subprocess.Popen[bytes]") -> None:
         process.kill()
 
 
-def command_answer(program: Executable, command: str, text: bytes, timeout: float | None, running: Running) -> Answer:
+def command_answer(program: Executable, command: str, text: bytes, timeout: float | None,
+                   running: RunningPrograms) -> Answer:
     """Returns what a command of the program writes, whatever its status is.
 
     A signal is heard only when the program can be ended.
     """
-    with stop_delayed():
+    with delay_stop():
         try:
             process = running.start(program, command)
         except OSError as error:
             raise BadProgramError(f"{program} can't be run: {error.strerror or error}") from error
         try:
-            with stop_allowed():
+            with allow_stop():
                 output, written = process.communicate(text, timeout)
         except subprocess.TimeoutExpired as late:
             raise ProgramTimeout(f"no answer within {timeout:g} seconds") from late
         finally:
-            running.end(process)
+            running.kill(process)
     return Answer(process.returncode, output.decode("latin-1"), written.decode("utf-8", "replace").strip())
 
 
 def ask(program: Executable | str, command: str, text: bytes, timeout: float | None = None,
-        running: Running | None = None) -> Answer:
+        running: RunningPrograms | None = None) -> Answer:
     """Runs a command of the program on a text. The program is opened already, or a path."""
-    program = opened(program)
-    answer = command_answer(program, command, text, timeout, running or SHARED or Running())
+    program = open_program(program)
+    answer = command_answer(program, command, text, timeout, running or SHARED_PROGRAMS or RunningPrograms())
     if answer.status not in (0, 1, 3, 4, 5):
         raise BadProgramError(f"{program} ended with status {answer.status}: "
                            f"{answer.errors.splitlines()[0] if answer.errors else 'no message'}")
-    why = foreign_report(text, answer.output) if command == "check" else None
+    why = why_not_report_of(text, answer.output) if command == "check" else None
     if why:
         raise BadProgramError(f"{program} gave the report of another text: {why}")
     return answer

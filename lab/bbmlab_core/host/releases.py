@@ -7,15 +7,15 @@ from .program import HERE, Executable, BadProgramError, kill_session
 from .terminal import LabError, read_bytes
 
 # Where a MANIFEST may be: in the repository, and in an installation.
-PLACES = [*(HERE.parent.parent / "release" / target / "MANIFEST"
-            for target in ("x86_64-linux-gnu", "x86_64-v3-linux-gnu")),
-          HERE.parent.parent.parent / "share" / "doc" / "bbmcheck" / "MANIFEST"]
+MANIFEST_PATHS = [*(HERE.parent.parent / "release" / target / "MANIFEST"
+                    for target in ("x86_64-linux-gnu", "x86_64-v3-linux-gnu")),
+                  HERE.parent.parent.parent / "share" / "doc" / "bbmcheck" / "MANIFEST"]
 # How long `--version` may take.
 VERSION_SECONDS = 10.0
 
 
 @dataclass(frozen=True)
-class Program:
+class ProgramIdentity:
     """A program by its SHA-256. `version` is what `--version` prints first. `kit` and `sources` are of its release, or
     None if it is none that is known here."""
 
@@ -33,7 +33,7 @@ def manifest_lines(text: str) -> dict[str, str]:
 def known_releases(more: tuple[str, ...] = ()) -> dict[str, dict[str, str]]:
     """Returns the releases that are known here, by the SHA-256 of their program. `more` are names of other MANIFESTs.
     """
-    texts = [place.read_text(encoding="utf-8", errors="replace") for place in PLACES if place.is_file()]
+    texts = [place.read_text(encoding="utf-8", errors="replace") for place in MANIFEST_PATHS if place.is_file()]
     for name in more:
         text = read_bytes(name).decode("utf-8", "replace")
         if "program_sha256" not in manifest_lines(text):
@@ -43,11 +43,11 @@ def known_releases(more: tuple[str, ...] = ()) -> dict[str, dict[str, str]]:
     return {lines["program_sha256"]: lines for lines in found if "program_sha256" in lines}
 
 
-def program_of(program: Executable) -> Program:
+def identity_of(program: Executable) -> ProgramIdentity:
     """Returns which program was opened: by the digest of its copy, of which the copy itself is asked for its version.
     """
     release = known_releases().get(program.sha256, {})
-    return Program(program.sha256, version_of(program), release.get("kit"), release.get("sources_sha256"))
+    return ProgramIdentity(program.sha256, version_of(program), release.get("kit"), release.get("sources_sha256"))
 
 
 def version_of(program: Executable) -> str | None:

@@ -26,7 +26,7 @@ def replace_file(name: str, data: bytes, before: bytes | None = None, follows: b
     ones stay beside it. A link is followed only if `follows`. Raises OSError.
     """
     target = os.path.realpath(name) if follows else os.path.abspath(name)
-    old = status_of(target)
+    old = file_status(target)
     if old and not stat.S_ISREG(old.st_mode):
         write_device(target, data, old)
         return
@@ -46,7 +46,7 @@ def replace_file(name: str, data: bytes, before: bytes | None = None, follows: b
             os.unlink(beside)
 
 
-def status_of(path: str) -> os.stat_result | None:
+def file_status(path: str) -> os.stat_result | None:
     """Returns the status of what is at a path, a link itself, or None if nothing is there."""
     try:
         return os.lstat(path)
@@ -86,7 +86,7 @@ def write_beside(target: str, data: bytes, old: os.stat_result | None) -> str:
             file.write(data)
             file.flush()
             if old:
-                take_owner(descriptor, old)
+                copy_owner(descriptor, old)
                 os.fchmod(descriptor, stat.S_IMODE(old.st_mode))
             # Otherwise a crash of the machine may leave the new name without its bytes.
             os.fsync(descriptor)
@@ -96,7 +96,7 @@ def write_beside(target: str, data: bytes, old: os.stat_result | None) -> str:
     return beside
 
 
-def take_owner(descriptor: int, old: os.stat_result) -> None:
+def copy_owner(descriptor: int, old: os.stat_result) -> None:
     """Gives a file the owner and the group of another one, as far as this user may."""
     for owner, group in ((old.st_uid, -1), (-1, old.st_gid)):
         try:

@@ -57,6 +57,6 @@ def nameless_copy(data: bytes) -> int:
         return descriptor_above_streams(os.open(path, os.O_RDONLY | os.O_CLOEXEC))
 
 
-def path_of(descriptor: int) -> str:
+def descriptor_path(descriptor: int) -> str:
     """Returns the path by which a child process that inherits a descriptor executes its file."""
     return f"/proc/self/fd/{descriptor}"

@@ -4,9 +4,9 @@ ends `cat`.
 Python runs a handler in the main thread, between two of its instructions. Two gaps follow, and both are closed here:
 
 - A signal that comes after the last instruction and before a system call does not interrupt the call, so the handler
-  waits for its end. `beat` interrupts each call after half a second.
+  waits for its end. `keep_interrupting` interrupts each call after half a second.
 - The exception may be raised where a program was started and nothing knows it yet, or in the middle of its end.
-  `stop_delayed` delays it.
+  `delay_stop` delays it.
 """
 
 import atexit
@@ -20,13 +20,13 @@ from typing import Iterator, NoReturn
 
 # SIGHUP comes when the terminal is closed. Without the exception the program would go on, since it has a session of its
 # own.
-ENDING = (signal.SIGINT, signal.SIGTERM, signal.SIGHUP)
+ENDING_SIGNALS = (signal.SIGINT, signal.SIGTERM, signal.SIGHUP)
 # The longest time that a signal waits for the end of a system call.
 BEAT_SECONDS = 0.5
 
 
 class Stopped(KeyboardInterrupt):
-    """One of `ENDING`. `status` is the exit status that a shell gives for it."""
+    """One of `ENDING_SIGNALS`. `status` is the exit status that a shell gives for it."""
 
     def __init__(self, number: int) -> None:
         super().__init__(number)
@@ -34,65 +34,65 @@ class Stopped(KeyboardInterrupt):
         self.status = 128 + number
 
 
-class Delay:
+class StopDelay:
     """How many parts of the main thread delay the exception, and the signal that came meanwhile."""
 
     depth = 0
     number = 0
 
 
-def stop(number: int, _frame: FrameType | None) -> None:
+def handle_signal(number: int, _frame: FrameType | None) -> None:
     """Raises `Stopped`, or leaves that to the end of a delay.
 
     A second SIGINT or SIGTERM ends the process at once. A second SIGHUP does nothing: the kernel and the shell send one
     each.
     """
-    for own in ENDING:
+    for own in ENDING_SIGNALS:
         signal.signal(own, signal.SIG_IGN if own == signal.SIGHUP else signal.SIG_DFL)
-    Delay.number = number
-    if not Delay.depth:
+    StopDelay.number = number
+    if not StopDelay.depth:
         raise_delayed()
 
 
 def raise_delayed() -> None:
     """Raises `Stopped` for a signal that came and was not raised yet."""
-    number, Delay.number = Delay.number, 0
+    number, StopDelay.number = StopDelay.number, 0
     if number:
         raise Stopped(number)
 
 
 @contextmanager
-def stop_delayed() -> Iterator[None]:
+def delay_stop() -> Iterator[None]:
     """Delays `Stopped` in the main thread to the end of a block. Other threads never get it."""
     if threading.current_thread() is not threading.main_thread():
         yield
         return
-    depth = Delay.depth
-    Delay.depth = depth + 1
+    depth = StopDelay.depth
+    StopDelay.depth = depth + 1
     try:
         yield
     finally:
-        Delay.depth = depth
+        StopDelay.depth = depth
     if not depth:
         raise_delayed()
 
 
 @contextmanager
-def stop_allowed() -> Iterator[None]:
+def allow_stop() -> Iterator[None]:
     """Raises `Stopped` in a block, also if the signal came before it, although the code around it is in
-    `stop_delayed`."""
+    `delay_stop`."""
     if threading.current_thread() is not threading.main_thread():
         yield
         return
-    depth, Delay.depth = Delay.depth, 0
+    depth, StopDelay.depth = StopDelay.depth, 0
     try:
         raise_delayed()
         yield
     finally:
-        Delay.depth = depth
+        StopDelay.depth = depth
 
 
-def beat() -> None:
+def keep_interrupting() -> None:
     """Interrupts the system calls of the main thread again and again.
 
     Python repeats them, after the handlers that wait.
@@ -103,12 +103,12 @@ def beat() -> None:
     signal.setitimer(signal.ITIMER_REAL, BEAT_SECONDS, BEAT_SECONDS)
 
 
-def listen() -> None:
-    """Makes the signals of `ENDING` raise `Stopped`, unless they are ignored, as `nohup` does."""
-    for number in ENDING:
+def install_handlers() -> None:
+    """Makes the signals of `ENDING_SIGNALS` raise `Stopped`, unless they are ignored, as `nohup` does."""
+    for number in ENDING_SIGNALS:
         if signal.getsignal(number) is not signal.SIG_IGN:
-            signal.signal(number, stop)
-    beat()
+            signal.signal(number, handle_signal)
+    keep_interrupting()
 
 
 def end_by_pipe() -> NoReturn:

@@ -6,7 +6,7 @@ from typing import IO, BinaryIO, Iterable
 
 from .replacing import replace_file
 
-CODES = {"red": "31", "green": "32", "yellow": "33", "bold": "1", "dim": "2"}
+COLOUR_CODES = {"red": "31", "green": "32", "yellow": "33", "bold": "1", "dim": "2"}
 
 
 class LabError(Exception):
@@ -23,9 +23,9 @@ def has_colour(stream: IO[str] | None) -> bool:
         "TERM") != "dumb"
 
 
-def painted(text: str, colour: str, stream: IO[str] | None = None) -> str:
+def coloured(text: str, colour: str, stream: IO[str] | None = None) -> str:
     """Returns a text in a colour where the stream has colours."""
-    return f"\033[{CODES[colour]}m{text}\033[0m" if has_colour(stream or sys.stdout) else text
+    return f"\033[{COLOUR_CODES[colour]}m{text}\033[0m" if has_colour(stream or sys.stdout) else text
 
 
 def escape_controls(text: str) -> str:
@@ -35,10 +35,10 @@ def escape_controls(text: str) -> str:
     """
     if text.isprintable():
         return text
-    return "".join(char if char.isprintable() else escaped(ord(char)) for char in text)
+    return "".join(char if char.isprintable() else escaped_character(ord(char)) for char in text)
 
 
-def escaped(code: int) -> str:
+def escaped_character(code: int) -> str:
     """Returns the escape of a character that is not shown."""
     if 0xDC80 <= code <= 0xDCFF:
         return f"\\x{code - 0xDC00:02x}"
@@ -50,7 +50,7 @@ def tell(words: object) -> None:
     print(f"bbmlab: {escape_controls(str(words))}", file=sys.stderr)
 
 
-def wrapped(text: str, first: str = "", rest: str | None = None, width: int = 100) -> str:
+def wrapped_paragraph(text: str, first: str = "", rest: str | None = None, width: int = 100) -> str:
     """Returns a paragraph in lines of at most `width` columns."""
     import textwrap
     return textwrap.fill(escape_controls(text), width, initial_indent=first,

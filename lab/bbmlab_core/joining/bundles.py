@@ -3,23 +3,23 @@
 from typing import Iterator
 
 from ..route.certificate import rectangles
-from ..route.design import corner_numbers
+from ..route.design import outermost_cell_numbers
 from ..route.netlist import RouterNetlist
 from ..route.paths import Path
-from ..route.search import Routed
-from ..route.world import RIM, ROW, TILE, number_cell
-from ..texts.layouts import Cell, row_order
-from ..texts.limits import limits_for, with_line
-from .composing import Composed
+from ..route.search import RoutedBundle
+from ..route.world import RIM_CELLS, ROW_STRIDE, TILE, cell_of_number
+from ..texts.layouts import Cell, row_order_key
+from ..texts.limits import limits_for, with_limits_line
+from .composing import Composition
 from .modules import JoinedModules
-from .parts import ALWAYS
+from .parts import ALWAYS_SIGNAL
 from .planning import JoinPlan, PlacedPart
 
 
 class JoinedLayout:
     """The layout of a join. `wires` has the wire of each `in` and `out` cell."""
 
-    def __init__(self, composed: Composed, plan: JoinPlan, paths: list[Path]) -> None:
+    def __init__(self, composed: Composition, plan: JoinPlan, paths: list[Path]) -> None:
         self.composed, self.plan, self.paths = composed, plan, paths
         self.netlist = RouterNetlist(composed.circuit)
         self.starts: dict[str, list[Cell]] = {}
@@ -31,7 +31,7 @@ class JoinedLayout:
                 self.starts.setdefault(job.wire, []).extend(path.start.cells())
             if job.goal is None:
                 self.ends.setdefault(job.wire, []).extend(path.end.cells())
-        self.add_dead_ends()
+        self.add_never_true_outputs()
 
     def add_part(self, placed: PlacedPart) -> None:
         """Adds the ports of a part that begin at time 0 or end at the last time: they stay where they are."""
@@ -41,14 +41,15 @@ class JoinedLayout:
         if placed.time == 0:
             for own in layout.parts:
                 if own.kind in ("in", "ball") and own.name not in taken:
-                    self.starts.setdefault(part.wire(own.name or ALWAYS), []).append(placed.cell(own.cell))
+                    self.starts.setdefault(part.joined_wire(own.name or ALWAYS_SIGNAL),
+                                           []).append(placed.cell(own.cell))
         if placed.end == self.plan.end:
             for own in (own for own in layout.of_kind("out") if own.name not in given):
-                self.ends.setdefault(part.wire(own.name or ""), []).append(placed.cell(own.cell))
+                self.ends.setdefault(part.joined_wire(own.name or ""), []).append(placed.cell(own.cell))
             for own in layout.of_kind("waste"):
                 self.ends.setdefault("", []).append(placed.cell(own.cell))
 
-    def add_dead_ends(self) -> None:
+    def add_never_true_outputs(self) -> None:
         """Gives each output that is never true and has no cell a cell of the first rows, where nothing moves."""
         dead = 0
         for wire in self.composed.circuit.outputs:
@@ -62,24 +63,24 @@ class JoinedLayout:
         yield f"layout {plan.width} {plan.height} {plan.end}"
         for x, y, width, height in rectangles(self.mirrors()):
             yield f"mirror {x} {y} {width} {height}"
-        for x, y in sorted(self.starts.get(ALWAYS, []), key=row_order):
+        for x, y in sorted(self.starts.get(ALWAYS_SIGNAL, []), key=row_order_key):
             yield f"ball {x} {y}"
         for wire in circuit.inputs:
-            for x, y in sorted(self.starts.get(wire, []), key=row_order):
+            for x, y in sorted(self.starts.get(wire, []), key=row_order_key):
                 yield f"in {wire} {x} {y}"
         outs = set(circuit.outputs)
         for wire in circuit.outputs:
-            for x, y in sorted(self.ends[wire], key=row_order):
+            for x, y in sorted(self.ends[wire], key=row_order_key):
                 yield f"out {wire} {x} {y}"
         wastes = [cell for wire, cells in self.ends.items() if wire not in outs for cell in cells]
-        for x, y in sorted(wastes, key=row_order):
+        for x, y in sorted(wastes, key=row_order_key):
             yield f"waste {x} {y}"
         yield "end"
 
     def mirrors(self) -> set[Cell]:
         """Returns the cells of all mirrors."""
         found = {cell for placed in self.plan.placed for cell in map(placed.placing.cell, placed.part.mirror_cells())}
-        return found | {number_cell(number) for path in self.paths for number in path.item.mirrors}
+        return found | {cell_of_number(number) for path in self.paths for number in path.item.mirrors}
 
     def ports(self) -> Iterator[tuple[Cell, str]]:
         """Yields the cells of inputs and outputs with their wires."""
@@ -90,18 +91,20 @@ class JoinedLayout:
                     yield cell, wire
 
 
-def crop(plan: JoinPlan, paths: list[Path]) -> None:
+def crop_plane(plan: JoinPlan, paths: list[Path]) -> None:
     """Leaves out whole tiles of a plane at the right and below that nothing reaches."""
-    numbers = [number for path in paths for number in corner_numbers(path.item)]
-    right = max([0, *(number % ROW + RIM for number in numbers), *(own.x + own.area.width for own in plan.placed)])
-    bottom = max([0, *(number // ROW + RIM for number in numbers), *(own.y + own.area.height for own in plan.placed)])
+    numbers = [number for path in paths for number in outermost_cell_numbers(path.item)]
+    right = max([0, *(number % ROW_STRIDE + RIM_CELLS for number in numbers),
+                 *(own.x + own.area.width for own in plan.placed)])
+    bottom = max([0, *(number // ROW_STRIDE + RIM_CELLS for number in numbers),
+                  *(own.y + own.area.height for own in plan.placed)])
     plan.width = min(plan.side, (right // TILE + 1) * TILE)
     plan.height = min(plan.side, (bottom // TILE + 1) * TILE)
 
 
-def joined_bundle(composed: Composed, plan: JoinPlan, modules: JoinedModules, paths: list[Path]) -> Routed:
+def joined_bundle(composed: Composition, plan: JoinPlan, modules: JoinedModules, paths: list[Path]) -> RoutedBundle:
     """Returns the bundle of a join whose balls are all led; raises NoRouteError if a module needs too many wires."""
-    crop(plan, paths)
+    crop_plane(plan, paths)
     layout = JoinedLayout(composed, plan, paths)
     modules.note_lines(paths, layout.ports())
     texts, count, most_cuts = ["certificate 2\n"], 0, 0
@@ -110,6 +113,6 @@ def joined_bundle(composed: Composed, plan: JoinPlan, modules: JoinedModules, pa
         count, most_cuts = count + 1, max(most_cuts, len(module.cuts))
     circuit, side = composed.circuit, max(plan.width, plan.height)
     limits = limits_for(side, plan.end, count, len(circuit.gates), len(circuit.wires))
-    text = with_line("".join([composed.section, "\n".join(layout.lines()), "\n", *texts, "end\n"]), limits)
+    text = with_limits_line("".join([composed.section, "\n".join(layout.lines()), "\n", *texts, "end\n"]), limits)
     gates = sum(gate.kind not in ("source", "delay") for gate in circuit.gates)
-    return Routed(text, "", plan.width, plan.height, plan.end, len(layout.mirrors()), count, most_cuts, gates)
+    return RoutedBundle(text, "", plan.width, plan.height, plan.end, len(layout.mirrors()), count, most_cuts, gates)

@@ -12,39 +12,39 @@ from typing import Callable, Iterable, Iterator, NamedTuple
 from ..route.balls import BOUNCE_STEPS, Ball, Leg, Turn, bounce, reversed_legs
 from ..route.bit_rows import BitJoiner
 from ..route.paths import PathFinder, is_in_reach
-from ..route.world import MARGIN, ROW, TILE, Item, World, path_item
+from ..route.world import MARGIN_CELLS, ROW_STRIDE, TILE, Item, World, path_item
 from ..texts.layouts import Box
 from .coils import Coil, coils_of, least_width
 
 # The cells between two coils, and between a coil and other paths: balls pass between coils.
-STREET = 24
-PATH_STREET = 4
+STREET_CELLS = 24
+PATH_STREET_CELLS = 4
 # A coil is sought among so many rows above and below a ball.
-REACH = 1100
+MAX_ROWS_AWAY = 1100
 # The bounces that a search tries at most, the longest leg, and the cells in which it comes to a place once.
 MOST_BOUNCES = 2000
-LONGEST = 150
-PLACE = 4
+LONGEST_LEG = 150
+PLACE_CELLS = 4
 # The steps of a leg at which a bounce is tried: all for the first bounces, as a ball has few ways out of its part.
-ALL_BOUNCES = 40
-STRIDE = 8
+EVERY_STEP_BOUNCES = 40
+LEG_STRIDE = 8
 # The cost of a bounce in cells, and how much dearer than in steps the way that is left is taken to be.
-BOUNCE_CELLS = 10
-LEFT_CELLS = 5
+BOUNCE_COST = 10
+COST_PER_CELL_LEFT = 5
 # A coil begins at least so many steps behind the last bounce.
-LEAST_AHEAD = 12
+LEAST_STEPS_AHEAD = 12
 # The tiles within which the distance to a coil is known.
-FARTHEST = 140
+FARTHEST_TILES = 140
 # A ball can fly at least so many steps on behind a bounce.
-LEAST_ON = 9
+LEAST_STEPS_ON = 9
 # The side of the free squares that are open ground, and the steps to spare with which a ball comes there.
 OPEN_SIDE = 48
-OPEN_SPARE = 110
+OPEN_SPARE_STEPS = 110
 # The first bit of each tile of a row, and the digits 0 and 1 for these numbers.
-FIRST_BITS = sum(1 << column for column in range(0, ROW, TILE))
+FIRST_BITS = sum(1 << column for column in range(0, ROW_STRIDE, TILE))
 DIGITS = bytes.maketrans(b"\0\1", b"01")
 # What a leg takes is less than so many cells away from the rectangle between its ends.
-AROUND_LEG = 12
+AROUND_LEG_CELLS = 12
 # The balls behind bounces, by the direction before them, as seen from the cell of the bounce.
 BALLS_BEHIND = {(dx, dy): [(turn, bounce(Ball(0, 0, dx, dy, 0), turn)[0]) for turn in Turn]
                 for dx in (1, -1) for dy in (1, -1)}
@@ -55,13 +55,13 @@ class CoilGround:
 
     def __init__(self, world: World, boxes: Iterable[Box]) -> None:
         self.world = world
-        whole = (1 << world.size - MARGIN) - (1 << MARGIN)
-        self.rows = [whole if MARGIN <= y < world.size - MARGIN else 0 for y in range(world.size)]
+        whole = (1 << world.size - MARGIN_CELLS) - (1 << MARGIN_CELLS)
+        self.rows = [whole if MARGIN_CELLS <= y < world.size - MARGIN_CELLS else 0 for y in range(world.size)]
         for box in boxes:
-            self.take(box)
+            self.take_box(box)
         self.without_coils = list(self.rows)
 
-    def take(self, box: Box) -> None:
+    def take_box(self, box: Box) -> None:
         """Takes the cells of a box out."""
         own = (1 << max(0, box.x + box.width)) - (1 << max(0, box.x))
         for y in range(max(0, box.y), min(len(self.rows), box.y + box.height)):
@@ -75,20 +75,21 @@ class CoilGround:
 
     def take_coil(self, box: Box) -> None:
         """Takes the cells of a coil and of the street around it out."""
-        self.take(Box(box.x - STREET, box.y - STREET, box.width + 2 * STREET, box.height + 2 * STREET))
+        self.take_box(Box(box.x - STREET_CELLS, box.y - STREET_CELLS, box.width + 2 * STREET_CELLS,
+                          box.height + 2 * STREET_CELLS))
 
     def squares(self, side: int, y: int) -> "Squares":
         """Returns the free squares of a side near a row."""
-        top, bottom = max(0, y - REACH), min(len(self.rows), y + REACH)
-        own = with_square(self.rows[top:bottom], side)
-        wide = side + 2 * PATH_STREET
-        first = max(0, top - PATH_STREET)
-        blocked = self.world.blocked[first:bottom + PATH_STREET]
+        top, bottom = max(0, y - MAX_ROWS_AWAY), min(len(self.rows), y + MAX_ROWS_AWAY)
+        own = square_corners(self.rows[top:bottom], side)
+        wide = side + 2 * PATH_STREET_CELLS
+        first = max(0, top - PATH_STREET_CELLS)
+        blocked = self.world.blocked[first:bottom + PATH_STREET_CELLS]
         whole = (1 << self.world.size) - 1
-        clear = with_square([whole & ~row for row in blocked], wide)
+        clear = square_corners([whole & ~row for row in blocked], wide)
         # A square is clear if the wider one around it is.
-        shift = top - PATH_STREET - first
-        rows = [row & (clear[index + shift] << PATH_STREET if 0 <= index + shift < len(clear) else 0)
+        shift = top - PATH_STREET_CELLS - first
+        rows = [row & (clear[index + shift] << PATH_STREET_CELLS if 0 <= index + shift < len(clear) else 0)
                 for index, row in enumerate(own)]
         return Squares(side, top, rows)
 
@@ -105,16 +106,16 @@ class Squares:
         """Whether a cell is one of them."""
         return x >= 0 and 0 <= y - self.top < len(self.rows) and self.rows[y - self.top] >> x & 1 == 1
 
-    def distances(self) -> "Distances":
+    def tile_distances(self) -> "TileDistances":
         """Returns the distances of tiles to the middles of squares."""
-        half, tiles = self.side // 2, [0] * (ROW // TILE)
+        half, tiles = self.side // 2, [0] * (ROW_STRIDE // TILE)
         for index, row in enumerate(self.rows):
             if row:
                 tiles[(self.top + index + half) // TILE] |= row << half
-        return Distances([tile_bits(row) for row in tiles])
+        return TileDistances([tile_bits(row) for row in tiles])
 
 
-class Distances:
+class TileDistances:
     """The distances of tiles to some tiles, in tiles: each level has the tiles that are at most so far away.
 
     A level is made when it is needed.
@@ -124,7 +125,7 @@ class Distances:
         self.levels, self.is_empty = [rows], not any(rows)
         self.known = dict[tuple[int, int], int]()
 
-    def widen(self) -> None:
+    def add_level(self) -> None:
         """Makes the next level."""
         wide = [0, *(row | row << 1 | row >> 1 for row in self.levels[-1]), 0]
         self.levels.append([above | own | below for above, own, below in zip(wide, wide[1:], wide[2:])])
@@ -134,8 +135,8 @@ class Distances:
         column, row = tile = x // TILE, y // TILE
         found = self.known.get(tile)
         if found is None:
-            while len(self.levels) < FARTHEST and not self.is_empty and not self.levels[-1][row] >> column & 1:
-                self.widen()
+            while len(self.levels) < FARTHEST_TILES and not self.is_empty and not self.levels[-1][row] >> column & 1:
+                self.add_level()
             found = TILE * bisect.bisect_left(self.levels, True, key=lambda own: bool(own[row] >> column & 1))
             self.known[tile] = found
         return found
@@ -146,16 +147,16 @@ def tile_bits(row: int) -> int:
     for shift in (1, 2, 4, 8):
         row |= row >> shift
     # Each tile's bits come together in its first one: a digit of a number with two bytes a tile.
-    words = (row & FIRST_BITS).to_bytes(ROW // 8, "big")
+    words = (row & FIRST_BITS).to_bytes(ROW_STRIDE // 8, "big")
     return int(words[1::2].translate(DIGITS), 2)
 
 
-def with_square(rows: list[int], side: int) -> list[int]:
+def square_corners(rows: list[int], side: int) -> list[int]:
     """Returns the bits that are the upper left ones of squares of set bits."""
-    return with_column(with_run(rows, side), side)
+    return column_starts(run_starts(rows, side), side)
 
 
-def with_run(rows: list[int], length: int) -> list[int]:
+def run_starts(rows: list[int], length: int) -> list[int]:
     """Returns the bits that begin a run of set bits of a length in each row."""
     known = 1
     while known < length:
@@ -165,7 +166,7 @@ def with_run(rows: list[int], length: int) -> list[int]:
     return rows
 
 
-def with_column(rows: list[int], length: int) -> list[int]:
+def column_starts(rows: list[int], length: int) -> list[int]:
     """Returns the bits that begin a column of set bits of a length, downwards."""
     known = 1
     while known < length:
@@ -175,7 +176,7 @@ def with_column(rows: list[int], length: int) -> list[int]:
     return rows
 
 
-class Span(NamedTuple):
+class LegSpan(NamedTuple):
     """What a leg takes, and a rectangle that has it: the first column and the last one, and so for the rows."""
 
     item: Item
@@ -184,7 +185,7 @@ class Span(NamedTuple):
     top: int
     bottom: int
 
-    def meets(self, other: "Span") -> bool:
+    def is_met_by(self, other: "LegSpan") -> bool:
         """Whether mirrors of one leg are where the other one is touched."""
         if self.left > other.right or other.left > self.right or self.top > other.bottom or other.top > self.bottom:
             return False
@@ -192,10 +193,10 @@ class Span(NamedTuple):
                    for number in one.mirrors for part in own.touched_parts)
 
 
-def span_of(item: Item, first: Ball, last: Ball) -> Span:
+def span_of(item: Item, first: Ball, last: Ball) -> LegSpan:
     """Returns what a leg takes that leads from a ball to another one."""
-    return Span(item, min(first.x, last.x) - AROUND_LEG, max(first.x, last.x) + AROUND_LEG,
-                min(first.y, last.y) - AROUND_LEG, max(first.y, last.y) + AROUND_LEG)
+    return LegSpan(item, min(first.x, last.x) - AROUND_LEG_CELLS, max(first.x, last.x) + AROUND_LEG_CELLS,
+                   min(first.y, last.y) - AROUND_LEG_CELLS, max(first.y, last.y) + AROUND_LEG_CELLS)
 
 
 class CoilBounce(NamedTuple):
@@ -207,10 +208,10 @@ class CoilBounce(NamedTuple):
     before: "CoilBounce | None" = None
     leg: Leg = Leg(0, None)
     # What the legs take up to here, or up to the bounce before if it is not known yet.
-    spans: tuple[Span, ...] = ()
+    spans: tuple[LegSpan, ...] = ()
 
     @property
-    def begun(self) -> int:
+    def steps_to_track(self) -> int:
         """The steps until the ball is on its track."""
         return BOUNCE_STEPS if self.before else 0
 
@@ -231,9 +232,9 @@ class CoilOption(NamedTuple):
     turn: Turn
 
 
-def place_of(ball: Ball) -> tuple[int, int, int, int]:
+def search_place(ball: Ball) -> tuple[int, int, int, int]:
     """Returns the place and direction of a ball, about: a search comes to each once."""
-    return ball.x // PLACE, ball.y // PLACE, ball.dx, ball.dy
+    return ball.x // PLACE_CELLS, ball.y // PLACE_CELLS, ball.dx, ball.dy
 
 
 class CoilSearch:
@@ -250,54 +251,54 @@ class CoilSearch:
         self.first = CoilBounce(ball.reversed() if is_backward else ball)
         self.width = width or least_width(end - self.first.ball.time)
         self.squares = ground.squares(self.width + 1, ball.y)
-        self.distances = self.squares.distances()
+        self.distances = self.squares.tile_distances()
         # Nothing is added to the world before the search ends.
-        self.taken = BitJoiner(self.world, finder.chance, finder.settings).taken
+        self.taken = BitJoiner(self.world, finder.chance, finder.settings).taken_columns
         self.seen = set[tuple[int, int, int, int]]()
         self.queue = list[CoilOption]()
         self.tried, self.count = 0, 0
 
     def run(self) -> Iterator[tuple[Coil, list[Leg]]]:
         """Yields coils with the legs up to the end, those of a cheap way first."""
-        for bend, room in self.bends():
+        for bend, room in self.reached_bounces():
             for coil in self.coils_ahead(bend, room):
                 ahead = coil.entry.time - bend.ball.time
                 inner = list(coil.legs(self.end - coil.entry.time))
                 yield coil, [*bend.legs(), Leg(ahead + inner[0].steps, inner[0].turn), *inner[1:]]
 
-    def bends(self) -> Iterator[tuple[CoilBounce, int]]:
+    def reached_bounces(self) -> Iterator[tuple[CoilBounce, int]]:
         """Yields the bounces that the search comes to, and how far the ball can fly on straight."""
         bend: CoilBounce | None = self.first if any(self.squares.rows) else None
         while bend is not None and self.tried < MOST_BOUNCES:
-            self.seen.add(place_of(bend.ball))
+            self.seen.add(search_place(bend.ball))
             self.tried += 1
-            room = self.room(bend)
+            room = self.straight_steps(bend)
             yield bend, room
             for option in self.options_behind(bend, room):
                 heapq.heappush(self.queue, option)
-            bend = self.next_bend()
+            bend = self.next_bounce()
 
-    def next_bend(self) -> CoilBounce | None:
+    def next_bounce(self) -> CoilBounce | None:
         """Returns the next bounce at a place to which the search did not come yet, or None if there is none."""
         while self.queue:
             _, _, cost, before, steps, turn = heapq.heappop(self.queue)
             ball = bounce(before.ball.flown(steps), turn)[0]
-            if place_of(ball) not in self.seen:
-                bend = self.with_item(CoilBounce(ball, cost, before, Leg(steps, turn), before.spans))
+            if search_place(ball) not in self.seen:
+                bend = self.with_leg_item(CoilBounce(ball, cost, before, Leg(steps, turn), before.spans))
                 if bend is not None:
                     return bend
         return None
 
-    def room(self, bend: CoilBounce) -> int:
+    def straight_steps(self, bend: CoilBounce) -> int:
         """Returns how many steps a ball can fly straight on."""
-        most = min(LONGEST, self.end - bend.ball.time)
-        begun = bend.begun
-        return begun + self.world.free_flight(bend.ball.flown(begun), most - begun) if most > begun else 0
+        most = min(LONGEST_LEG, self.end - bend.ball.time)
+        begun = bend.steps_to_track
+        return begun + self.world.free_steps(bend.ball.flown(begun), most - begun) if most > begun else 0
 
-    def places(self, bend: CoilBounce, room: int) -> list[int]:
+    def bounce_steps(self, bend: CoilBounce, room: int) -> list[int]:
         """Returns the steps behind a bounce after which another one is tried."""
-        chance, begun = self.finder.chance, bend.begun
-        stride = 1 if self.tried < ALL_BOUNCES else STRIDE
+        chance, begun = self.finder.chance, bend.steps_to_track
+        stride = 1 if self.tried < EVERY_STEP_BOUNCES else LEG_STRIDE
         found = {*range(begun, room + 1, stride), *range(max(begun, room - 2), room + 1)}
         found |= {chance.randint(begun, room) for _ in range(4)} if room >= begun else set()
         latest = self.end - bend.ball.time - BOUNCE_STEPS
@@ -310,43 +311,43 @@ class CoilSearch:
         low = x if dx > 0 else x - room
         turns = [(turn, *behind, self.taken(bend.ball, turn, dx == dy) >> low & (1 << room + 1) - 1)
                  for turn, behind in BALLS_BEHIND[dx, dy]]
-        for steps in self.places(bend, room):
+        for steps in self.bounce_steps(bend, room):
             column, row, cost = x + steps * dx, y + steps * dy, None
             # This runs most often: no more balls are made than needed.
             for turn, right, down, across, along, _, taken in turns:
                 i, j = column + right, row + down
-                if taken >> column - low & 1 or (i // PLACE, j // PLACE, across, along) in self.seen:
+                if taken >> column - low & 1 or (i // PLACE_CELLS, j // PLACE_CELLS, across, along) in self.seen:
                     continue
                 on = Ball(i + BOUNCE_STEPS * across, j + BOUNCE_STEPS * along, across, along, 0)
-                if self.world.free_flight(on, LEAST_ON) >= LEAST_ON:
+                if self.world.free_steps(on, LEAST_STEPS_ON) >= LEAST_STEPS_ON:
                     if cost is None:
-                        cost = bend.cost + self.world.new_cells(bend.ball, steps) + BOUNCE_CELLS
+                        cost = bend.cost + self.world.new_cell_count(bend.ball, steps) + BOUNCE_COST
                     self.count += 1
-                    yield CoilOption(cost + self.left(i, j), self.count, cost, bend, steps, turn)
+                    yield CoilOption(cost + self.cost_left(i, j), self.count, cost, bend, steps, turn)
 
-    def left(self, x: int, y: int) -> float:
+    def cost_left(self, x: int, y: int) -> float:
         """Returns the cost of the way that is left from a cell, about."""
-        return LEFT_CELLS * self.distances.steps_from(x, y)
+        return COST_PER_CELL_LEFT * self.distances.steps_from(x, y)
 
-    def with_item(self, bend: CoilBounce) -> CoilBounce | None:
+    def with_leg_item(self, bend: CoilBounce) -> CoilBounce | None:
         """Returns a bounce with what the leg before it takes, or None if the leg meets something."""
         assert bend.before is not None
         item = self.leg_item(bend.before, bend.leg)
         if item is None or not self.has_room(item):
             return None
         span = span_of(item, bend.before.ball, bend.ball)
-        if any(span.meets(own) for own in bend.spans) or not self.world.fits(item):
+        if any(span.is_met_by(own) for own in bend.spans) or not self.world.can_add(item):
             return None
         return bend._replace(spans=(*bend.spans, span))
 
     def leg_item(self, bend: CoilBounce, leg: Leg) -> Item | None:
         """Returns what a leg takes behind a bounce."""
-        begun = min(bend.begun, leg.steps)
+        begun = min(bend.steps_to_track, leg.steps)
         if not self.is_backward:
             return path_item(bend.ball, [leg], begun)
         legs = reversed_legs([Leg(leg.steps - begun, leg.turn), Leg(BOUNCE_STEPS, None)])
         goal = bend.ball.flown(begun).reversed()
-        return path_item(self.finder.before(goal, legs), legs)
+        return path_item(self.finder.ball_before(goal, legs), legs)
 
     def coils_ahead(self, bend: CoilBounce, room: int) -> Iterator[Coil]:
         """Yields the first coils that have room on the straight way behind a bounce."""
@@ -354,7 +355,7 @@ class CoilSearch:
         if self.distances.steps_from(ball.x, ball.y) > room + self.width + TILE:
             return
         boxes = [coil.box for coil in coils_of(ball, self.width)]
-        for ahead in range(LEAST_AHEAD, room + 1):
+        for ahead in range(LEAST_STEPS_AHEAD, room + 1):
             right, down = ahead * ball.dx, ahead * ball.dy
             for index, box in enumerate(boxes):
                 if has(box.x + right, box.y + down):
@@ -376,10 +377,10 @@ class OpenSearch(CoilSearch):
     def ways(self) -> Iterator[list[Leg]]:
         """Yields the legs of ways, in their order of time. They end or begin with a straight flight."""
         half = OPEN_SIDE // 2
-        for bend, room in self.bends():
-            for ahead in range(max(LEAST_AHEAD, bend.begun), room + 1, STRIDE):
+        for bend, room in self.reached_bounces():
+            for ahead in range(max(LEAST_STEPS_AHEAD, bend.steps_to_track), room + 1, LEG_STRIDE):
                 ball = bend.ball.flown(ahead)
-                if self.squares.has(ball.x - half, ball.y - half) and is_in_reach(ball, self.goal, OPEN_SPARE):
+                if self.squares.has(ball.x - half, ball.y - half) and is_in_reach(ball, self.goal, OPEN_SPARE_STEPS):
                     item = self.leg_item(bend, Leg(ahead, None))
                     if item is not None and self.has_room(item):
                         legs = [*bend.legs(), Leg(ahead, None)]
@@ -388,9 +389,9 @@ class OpenSearch(CoilSearch):
 
     def options_behind(self, bend: CoilBounce, room: int) -> Iterator[CoilOption]:
         """Yields the bounces that a ball can come to without another one, if the goal can be reached."""
-        if is_in_reach(bend.ball, self.goal, OPEN_SPARE):
+        if is_in_reach(bend.ball, self.goal, OPEN_SPARE_STEPS):
             yield from super().options_behind(bend, room)
 
-    def left(self, x: int, y: int) -> float:
+    def cost_left(self, x: int, y: int) -> float:
         """Returns the cost of the way that is left from a cell, about: to open ground, and then to the goal."""
-        return super().left(x, y) + self.goal_cells * max(abs(x - self.goal.x), abs(y - self.goal.y))
+        return super().cost_left(x, y) + self.goal_cells * max(abs(x - self.goal.x), abs(y - self.goal.y))

@@ -9,26 +9,26 @@ from dataclasses import dataclass
 from typing import Collection
 
 from ..host.program import Executable, ask, find_program
-from ..host.terminal import LabError, painted, escape_controls, read_bytes, require_output, write_text
+from ..host.terminal import LabError, coloured, escape_controls, read_bytes, require_output, write_text
 from ..route.balls import Ball
 from ..route.board import NoRouteError
-from ..route.command import ProgressLine, check_side, verdict_of
-from ..route.estimate import counted
-from ..route.search import Routed
+from ..route.command import ProgressLine, require_side, verdict_line
+from ..route.estimate import plural
+from ..route.search import RoutedBundle
 from ..route.settings import Settings
 from ..route.world import TILE
-from ..texts.documents import without_collector
+from ..texts.documents import pause_garbage_collection
 from ..texts.limits import SECOND
 from .bundles import joined_bundle
-from .composing import Composed, Connection, composed
+from .composing import Composition, Connection, compose
 from .modules import JoinedModules
 from .parts import PartText, read_part
-from .planning import SPARES, JoinPlan, estimated_side, first_spares, made_plan
-from .slack import Cut, Slack
+from .planning import SPARES, JoinPlan, estimated_side, first_spares, make_plan
+from .slack import LoneWayCuts, WayCut
 from .wiring import JoinWiring, TightError, ball_words
 
-NAME = re.compile(r"[a-z][a-z0-9_]{0,15}")
-CONNECTION = re.compile(r"(\w+)\.(\w+)=(\w+)\.(\w+)")
+PART_NAME = re.compile(r"[a-z][a-z0-9_]{0,15}")
+CONNECTION_PATTERN = re.compile(r"(\w+)\.(\w+)=(\w+)\.(\w+)")
 SETTINGS = Settings(wander_detour=0.07, wander_options=16)
 # By how much the plane grows after an attempt that failed.
 GROWTH = 1.12
@@ -43,13 +43,13 @@ class JoinOptions:
     effort: float
 
 
-def part_words(words: list[str]) -> dict[str, str]:
+def part_files(words: list[str]) -> dict[str, str]:
     """Returns the file of each part by its name: NAME=FILE, or FILE for a part that is named by its place."""
     found: dict[str, str] = {}
     for index, word in enumerate(words):
         given, sign, file = word.partition("=")
         name = given.lower()
-        if not sign or not NAME.fullmatch(name):
+        if not sign or not PART_NAME.fullmatch(name):
             name, file = letter_name(index), word
         if name in found:
             raise LabError(f"{word}: there is a part {name} already: name this one by NAME=FILE", 2)
@@ -62,9 +62,9 @@ def letter_name(index: int) -> str:
     return string.ascii_lowercase[index % 26] + (str(index // 26) if index >= 26 else "")
 
 
-def connection_of(word: str) -> Connection:
+def parse_connection(word: str) -> Connection:
     """Returns a connection that is written A.OUT=B.IN, also with capitals for parts; raises LabError if it is none."""
-    found = CONNECTION.fullmatch(word)
+    found = CONNECTION_PATTERN.fullmatch(word)
     if found is None:
         raise LabError(f"--connect {word}: it is A.OUT=B.IN: an output of a part, and the input of another one", 2)
     source, output, target, given = found.groups()
@@ -95,7 +95,7 @@ def read_parts(files: dict[str, str], connected: Collection[str], program: Execu
     return parts
 
 
-def require_balls(made: Composed) -> None:
+def require_leadable_balls(made: Composition) -> None:
     """Raises LabError if balls of a part cannot be led to it or from it."""
     texts = {part.name: part.text for part in made.parts}
     for own in made.connections:
@@ -108,7 +108,7 @@ def require_balls(made: Composed) -> None:
                 raise LabError(f"{own}: {why}: `join` leads one ball of two cells", 1)
 
 
-def require_open(plan: JoinPlan) -> None:
+def require_whole_balls(plan: JoinPlan) -> None:
     """Raises LabError if a part that begins after time 0, or ends before the last time, has no whole balls there."""
     for placed in plan.placed:
         text, name = placed.part.text, placed.part.name
@@ -123,7 +123,7 @@ class JoinSearch:
     """The attempts to join parts. `spares` has the spare steps of each connection, and `side` is the next plane's side.
     """
 
-    made: Composed
+    made: Composition
     asked: JoinOptions
     line: ProgressLine
     attempts: int = 0
@@ -131,10 +131,10 @@ class JoinSearch:
     def __post_init__(self) -> None:
         self.deadline = time.monotonic() + self.asked.effort
         self.spares = first_spares(self.made)
-        self.closed, self.moved = set[Cut](), list[Cut]()
+        self.closed, self.moved = set[WayCut](), list[WayCut]()
         self.side = self.asked.side or estimated_side(self.made, self.spares)
 
-    def run(self) -> tuple[Routed | None, str]:
+    def run(self) -> tuple[RoutedBundle | None, str]:
         """Returns the bundle, or None with the reason."""
         why = ""
         while self.attempts == 0 or time.monotonic() < self.deadline:
@@ -142,14 +142,14 @@ class JoinSearch:
                 return self.attempt(), ""
             except TightError as error:
                 why = str(error)
-                self.loosen(error.connections)
+                self.add_spare_steps(error.connections)
             except NoRouteError as error:
                 why = str(error)
                 if not self.asked.side:
                     self.side = min(SECOND.max_side, int(self.side * GROWTH) // (2 * TILE) * 2 * TILE)
         return None, why
 
-    def loosen(self, connections: list[int]) -> None:
+    def add_spare_steps(self, connections: list[int]) -> None:
         """Gives some balls between two parts more steps, and has them leave their lone ways elsewhere.
 
         If one of them gets none by that, since another ball decides when its part begins, all balls get more.
@@ -164,19 +164,19 @@ class JoinSearch:
 
     def steps_between(self) -> list[int]:
         """Returns the steps that each ball between two parts would get."""
-        plan = made_plan(self.made, self.side, self.spares)
-        return [job.steps for job in self.slack(plan).planned().jobs if job.is_between] if plan else []
+        plan = make_plan(self.made, self.side, self.spares)
+        return [job.steps for job in self.lone_way_cuts(plan).plan_with_cuts().jobs if job.is_between] if plan else []
 
-    def slack(self, plan: JoinPlan) -> Slack:
+    def lone_way_cuts(self, plan: JoinPlan) -> LoneWayCuts:
         """Returns where balls with time to spare leave their lone ways."""
-        return Slack(self.made, plan, self.spares, self.closed)
+        return LoneWayCuts(self.made, plan, self.spares, self.closed)
 
-    def attempt(self) -> Routed:
+    def attempt(self) -> RoutedBundle:
         """Returns the bundle of one attempt; raises NoRouteError."""
-        plan, modules, wiring = self.prepared()
+        plan, modules, wiring = self.prepare_attempt()
         self.attempts += 1
         if self.attempts == 1:
-            counts = f"{counted(len(plan.placed), 'part')}, {counted(len(plan.jobs), 'ball')} to lead"
+            counts = f"{plural(len(plan.placed), 'part')}, {plural(len(plan.jobs), 'ball')} to lead"
             print(f"bbmlab: {counts}, {plan.end} steps: first side {self.side}.", file=sys.stderr, flush=True)
         loose = [index for index, spare in enumerate(self.spares) if spare < len(SPARES) - 1]
         paths = wiring.run(lambda led, total: self.line.show(self.attempts, self.side, led, total), loose)
@@ -184,17 +184,17 @@ class JoinSearch:
         del wiring
         return joined_bundle(self.made, plan, modules, paths)
 
-    def prepared(self) -> tuple[JoinPlan, JoinedModules, JoinWiring]:
+    def prepare_attempt(self) -> tuple[JoinPlan, JoinedModules, JoinWiring]:
         """Returns what an attempt begins with. At first ports whose inner balls cannot leave get their lone ways back.
         """
         while True:
-            plan = made_plan(self.made, self.side, self.spares)
+            plan = make_plan(self.made, self.side, self.spares)
             if plan is None:
                 raise LabError(f"the parts have no room on a plane of {self.side} by {self.side} cells", 1)
             require_steps(plan.end)
-            require_open(plan)
-            slack = self.slack(plan)
-            plan = slack.planned()
+            require_whole_balls(plan)
+            slack = self.lone_way_cuts(plan)
+            plan = slack.plan_with_cuts()
             modules = JoinedModules(self.made, plan)
             modules.require_meetings()
             seed = self.asked.seed * 1_000_003 + self.attempts + 1
@@ -211,7 +211,7 @@ class JoinSearch:
             self.made = with_whole_ports(self.made, plan, closed)
 
 
-def with_whole_ports(made: Composed, plan: JoinPlan, closed: list[tuple[int, Ball, int]]) -> Composed:
+def with_whole_ports(made: Composition, plan: JoinPlan, closed: list[tuple[int, Ball, int]]) -> Composition:
     """Returns a join in which ports with a closed inner end keep their lone ways; raises LabError if another end is
     closed."""
     whole: set[tuple[str, str]] = set()
@@ -227,7 +227,7 @@ def with_whole_ports(made: Composed, plan: JoinPlan, closed: list[tuple[int, Bal
                            f"for a bounce {where}: route the part with --open-ends", 1)
         whole.add(port)
     missing = {(part.name, port.wire) for part in made.parts for port in (*part.text.starts, *part.text.ends)} - ways
-    return composed({part.name: part.text for part in made.parts}, made.connections, whole | missing)
+    return compose({part.name: part.text for part in made.parts}, made.connections, whole | missing)
 
 
 def require_steps(steps: int) -> None:
@@ -238,23 +238,23 @@ def require_steps(steps: int) -> None:
 
 def join_command(options: argparse.Namespace) -> int:
     """Runs `bbmlab join`."""
-    check_side(options.size)
-    files = part_words(options.files)
+    require_side(options.size)
+    files = part_files(options.files)
     require_output(options.output, list(files.values()))
-    connections = [connection_of(word) for word in options.connect]
+    connections = [parse_connection(word) for word in options.connect]
     program, begun = find_program(options.program), time.monotonic()
     line = ProgressLine(options.effort, "balls led", "writing the bundle")
-    with without_collector():
+    with pause_garbage_collection():
         connected = {wire for own in connections for wire in (own.output, own.input)}
-        made = composed(read_parts(files, connected, program, options.timeout), connections)
-        require_balls(made)
+        made = compose(read_parts(files, connected, program, options.timeout), connections)
+        require_leadable_balls(made)
     # The collector is on while paths are searched, which leaves cycles behind.
     search = JoinSearch(made, JoinOptions(options.seed, options.size, options.effort), line)
     routed, why = search.run()
     attempts = search.attempts
     line.clear()
     if routed is None:
-        tried = f"{counted(attempts, 'attempt')} and {options.effort:g} seconds"
+        tried = f"{plural(attempts, 'attempt')} and {options.effort:g} seconds"
         print(f"bbmlab: no join in {tried}: {escape_controls(why)}", file=sys.stderr)
         return 1
     answer = ask(program, "check", routed.text.encode("latin-1"), options.timeout)
@@ -264,8 +264,8 @@ def join_command(options: argparse.Namespace) -> int:
           f"steps {routed.steps}, gates placed {routed.gates}, mirror cells {routed.mirrors}, "
           f"modules {routed.modules}, most cuts {routed.most_cuts}, attempts {attempts}, seconds {spent:.1f}",
           file=sys.stderr)
-    verdict = verdict_of(answer)
-    print(painted(verdict, "green" if verdict == "verdict yes" else "red", sys.stderr), file=sys.stderr)
+    verdict = verdict_line(answer)
+    print(coloured(verdict, "green" if verdict == "verdict yes" else "red", sys.stderr), file=sys.stderr)
     if verdict != "verdict yes":
         print("bbmlab: the program does not accept this bundle: this is an error of the lab. "
               "Please report the parts and the seed.", file=sys.stderr)

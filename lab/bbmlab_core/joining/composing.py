@@ -4,18 +4,18 @@ from dataclasses import dataclass, field
 from functools import cached_property
 from typing import Collection, Iterator
 
-from ..circuits.gate_lines import read_circuit
-from ..circuits.netlists.naming import MAX_NAME
+from ..circuits.gate_lines import reread_circuit
+from ..circuits.netlists.naming import MAX_NAME_BYTES
 from ..host.terminal import LabError
 from ..route.balls import Ball
 from ..route.netlist import RouterNetlist
 from ..route.world import Item, cell_number
 from ..texts.circuits import Circuit, Gate
 from ..texts.layouts import Cell
-from ..texts.limits import sections_after_line
-from ..texts.sections import text_of
+from ..texts.limits import text_without_limits_line
+from ..texts.sections import text_of_section
 from .lone_ways import LoneWay
-from .parts import ALWAYS, PartText, PartPort, part_item
+from .parts import ALWAYS_SIGNAL, PartText, PartPort, part_item
 
 
 @dataclass(frozen=True)
@@ -57,17 +57,17 @@ class NamedPart:
             return self.text.item
         key = frozenset((wire, way.ball.time) for wire, way in self.ways.items())
         if key not in self.text.shapes:
-            self.text.shapes[key] = self.shape()
+            self.text.shapes[key] = self.make_item()
         return self.text.shapes[key]
 
-    def shape(self) -> Item:
+    def make_item(self) -> Item:
         """Returns what the part takes without the lone ways."""
         claims = self.text.item.claims.difference(*(way.claims for way in self.ways.values()))
         left = {cell_number(cell) for way in self.ways.values() for cell in way.mirrors}
         return part_item(self.text.item.mirrors - left, claims)
 
     @cached_property
-    def missing(self) -> set[tuple[int | None, Cell]]:
+    def left_out_lines(self) -> set[tuple[int | None, Cell]]:
         """The times and cells of border lines that are left out with the lone ways; None is the time of a mirror."""
         found: set[tuple[int | None, Cell]] = {cell for way in self.ways.values() for cell in way.moving}
         return found | {(None, cell) for way in self.ways.values() for cell in way.mirrors}
@@ -76,13 +76,13 @@ class NamedPart:
         """Returns the cells of the mirrors that stay."""
         return self.text.layout.mirror_cells().difference(*(way.mirrors for way in self.ways.values()))
 
-    def wire(self, own: str) -> str:
+    def joined_wire(self, own: str) -> str:
         """Returns what the join calls a wire of the part. A ball that is always there has no wire."""
-        return own if own == ALWAYS else self.wires[own]
+        return own if own == ALWAYS_SIGNAL else self.wires[own]
 
 
 @dataclass(frozen=True)
-class Composed:
+class Composition:
     """The circuit of a join, with its parts in an order in which each comes after those that feed it."""
 
     parts: list[NamedPart]
@@ -91,14 +91,14 @@ class Composed:
     circuit: Circuit
 
 
-def composed(parts: dict[str, PartText], connections: list[Connection],
-             whole: Collection[tuple[str, str]] = ()) -> Composed:
+def compose(parts: dict[str, PartText], connections: list[Connection],
+            whole: Collection[tuple[str, str]] = ()) -> Composition:
     """Returns the circuit of parts whose ports are connected; raises LabError if that is none.
 
     The ports of `whole`, each a part and its own wire, keep their lone ways.
     """
     require_connections(parts, connections)
-    order = ordered(list(parts), connections)
+    order = feeding_order(list(parts), connections)
     named = [NamedPart(name, parts[name]) for name in order]
     fed = {(own.target, own.input): own for own in connections}
     by_name = {part.name: part for part in named}
@@ -110,7 +110,7 @@ def composed(parts: dict[str, PartText], connections: list[Connection],
             own = fed.get((part.name, wire))
             part.wires[wire] = by_name[own.source].wires[own.output] if own else joined_name(part.name, wire)
     lines = circuit_lines(named, connections)
-    return Composed(named, connections, sections_after_line(text_of(lines)), read_circuit(lines))
+    return Composition(named, connections, text_without_limits_line(text_of_section(lines)), reread_circuit(lines))
 
 
 def connected_ways(part: NamedPart, connections: list[Connection]) -> Iterator[tuple[str, LoneWay]]:
@@ -120,14 +120,14 @@ def connected_ways(part: NamedPart, connections: list[Connection]) -> Iterator[t
     for ports, wires in ((part.text.starts, taken), (part.text.ends, given)):
         for port in ports:
             if port.wire in wires and port.run is not None:
-                yield port.wire, part.text.way(port.wire, port.run, port.run.balls[0])
+                yield port.wire, part.text.lone_way(port.wire, port.run, port.run.cut_balls[0])
 
 
 def joined_name(part: str, wire: str) -> str:
     """Returns the name of a part's wire in the join; raises LabError if it is too long."""
     name = f"{part}_{wire}"
-    if len(name) > MAX_NAME:
-        raise LabError(f"the wire {wire} of {part} would be {name}; names have at most {MAX_NAME} characters: "
+    if len(name) > MAX_NAME_BYTES:
+        raise LabError(f"the wire {wire} of {part} would be {name}; names have at most {MAX_NAME_BYTES} characters: "
                        "give the part a shorter name", 1)
     return name
 
@@ -152,7 +152,7 @@ def require_connections(parts: dict[str, PartText], connections: list[Connection
             raise LabError(f"{own}: {what}, which `join` does not lead to an input", 1)
 
 
-def ordered(names: list[str], connections: list[Connection]) -> list[str]:
+def feeding_order(names: list[str], connections: list[Connection]) -> list[str]:
     """Returns the parts so that each comes soon after those that feed it; raises LabError if there is a loop."""
     left, order = list(names), list[str]()
     targets = {own.target for own in connections}
@@ -173,7 +173,7 @@ def circuit_lines(parts: list[NamedPart], connections: list[Connection]) -> Circ
     taken = {(own.target, own.input) for own in connections}
     inputs, gates, outputs, spills = list[str](), list[Gate](), list[str](), list[str]()
     for part in parts:
-        circuit, wire = part.text.circuit, part.wire
+        circuit, wire = part.text.circuit, part.joined_wire
         inputs += [wire(own) for own in circuit.inputs if (part.name, own) not in taken]
         gates += [Gate(gate.kind, tuple(map(wire, gate.ins)), tuple(map(wire, gate.outs)), gate.parameter)
                   for gate in circuit.gates]

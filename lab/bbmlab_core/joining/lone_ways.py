@@ -12,11 +12,11 @@ from functools import cached_property
 from typing import Callable, Container, Iterable, Iterator, Mapping
 
 from ..route.balls import Ball, block_cells, run_exactly, start_state
-from ..route.world import ROW, STEP, cell_number, number_cell
+from ..route.world import ROW_STRIDE, STEP_STRIDE, cell_number, cell_of_number
 from ..texts.layouts import Cell
 
 
-def balls_of(cells: Iterable[Cell], time: int) -> list[Ball] | None:
+def whole_balls_of(cells: Iterable[Cell], time: int) -> list[Ball] | None:
     """Returns the balls that some cells are at a time, or None if they are not whole balls.
 
     A cell's place and the time tell its direction.
@@ -77,25 +77,25 @@ class LoneRun:
         """Yields the blocks at times that the run claims, each with its time."""
         for time, corners in self.corners.items():
             for x, y in corners:
-                yield time * STEP + y * ROW + x, time
+                yield time * STEP_STRIDE + y * ROW_STRIDE + x, time
 
     def is_alone(self, time: int, corner: Cell, live: Container[Cell]) -> bool:
         """Whether the ball's own cells alone are live in a block."""
         own = self.states[time]
         return all((cell in live) == (cell in own) for cell in block_cells(corner))
 
-    def times(self) -> range:
+    def cut_times(self) -> range:
         """Returns the times at which the way may be cut, the best first."""
         if self.is_output:
             return range(self.bound, max(self.states) + 1)
         return range(self.bound, -1, -1)
 
     @cached_property
-    def balls(self) -> list[Ball]:
+    def cut_balls(self) -> list[Ball]:
         """The balls at which the way may be cut, the best first. The last one leaves nothing out."""
-        return [ball for time in self.times() for ball in [lone_ball(self.states[time], time)] if ball]
+        return [ball for time in self.cut_times() for ball in [lone_ball(self.states[time], time)] if ball]
 
-    def steps(self, cut: int) -> range:
+    def left_out_steps(self, cut: int) -> range:
         """Returns the times of the steps that are left out if the way is cut at a time."""
         return range(cut, max(self.states)) if self.is_output else range(cut)
 
@@ -110,52 +110,52 @@ class LoneRuns:
             for claim, _ in run.claims():
                 self.claimants.setdefault(claim, []).append(run)
 
-    def compare(self, time: int, claims: Iterable[int], live: Container[Cell]) -> None:
+    def compare_blocks(self, time: int, claims: Iterable[int], live: Container[Cell]) -> None:
         """Compares the blocks in which something moves in the step from a time."""
         for claim in self.claimants.keys() & claims:
             for run in self.claimants[claim]:
-                if not run.is_alone(time, number_cell(claim % STEP), live):
+                if not run.is_alone(time, cell_of_number(claim % STEP_STRIDE), live):
                     run.note_meeting(time)
 
 
 def removable_way(run: LoneRun, ball: Ball, counts: Mapping[int, int], mirrors: set[Cell]) -> LoneWay:
     """Returns what a run leaves out if it is cut at a ball. `counts` has for each block how often the part claims it.
     """
-    steps = run.steps(ball.time)
+    steps = run.left_out_steps(ball.time)
     moving = frozenset((time, cell) for time in steps for cell in run.states[time])
     own = frozenset(claim for claim, time in run.claims() if time in steps)
-    own_counts = Counter(claim % STEP for claim in own)
-    beside = {cell for corner in own_counts for cell in block_cells(number_cell(corner))} & mirrors
+    own_counts = Counter(claim % STEP_STRIDE for claim in own)
+    beside = {cell for corner in own_counts for cell in block_cells(cell_of_number(corner))} & mirrors
 
     def is_claimed(corner: int) -> bool:
         """Whether something else claims a block."""
         return counts.get(corner, 0) > own_counts[corner]
 
-    return LoneWay(ball, moving, own, frozenset(free_mirrors(beside, is_claimed, mirrors)))
+    return LoneWay(ball, moving, own, frozenset(unclaimed_mirrors(beside, is_claimed, mirrors)))
 
 
 def lone_ball(cells: frozenset[Cell], time: int) -> Ball | None:
     """Returns the ball that some cells are at a time, or None during a bounce."""
-    balls = balls_of(cells, time)
+    balls = whole_balls_of(cells, time)
     return balls[0] if balls and len(balls) == 1 else None
 
 
-def free_mirrors(beside: set[Cell], is_claimed: Callable[[int], bool], mirrors: set[Cell]) -> set[Cell]:
+def unclaimed_mirrors(beside: set[Cell], is_claimed: Callable[[int], bool], mirrors: set[Cell]) -> set[Cell]:
     """Returns the whole mirrors with some cells that no claimed block touches."""
     left, found = set(beside), set[Cell]()
     pieces = list[set[Cell]]()
     while left:
-        pieces.append(piece_of(left.pop(), mirrors))
+        pieces.append(mirror_piece_of(left.pop(), mirrors))
         left -= pieces[-1]
     near = {cell_number((x - i, y - j)) for piece in pieces for x, y in piece for i in (0, 1) for j in (0, 1)}
-    touched = {cell for corner in filter(is_claimed, near) for cell in block_cells(number_cell(corner))}
+    touched = {cell for corner in filter(is_claimed, near) for cell in block_cells(cell_of_number(corner))}
     for piece in pieces:
         if piece.isdisjoint(touched):
             found |= piece
     return found
 
 
-def piece_of(cell: Cell, mirrors: set[Cell]) -> set[Cell]:
+def mirror_piece_of(cell: Cell, mirrors: set[Cell]) -> set[Cell]:
     """Returns the cells of mirrors that hang together with a cell. No block has cells of two such pieces."""
     found, left = {cell}, [cell]
     while left:

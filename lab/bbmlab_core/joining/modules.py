@@ -11,27 +11,27 @@ from typing import Callable, Iterable, Iterator
 from ..circuits.cones import few_cuts_and_uses
 from ..host.terminal import LabError
 from ..route.balls import moving_cells
-from ..route.board import Bound, NoRouteError
+from ..route.board import FailureKind, NoRouteError
 from ..route.netlist import RouterNetlist
 from ..route.paths import Path
-from ..route.world import ROW, STEP, TILE, Item, entering, number_cell, tiles_of
+from ..route.world import ROW_STRIDE, STEP_STRIDE, TILE, Item, cell_of_number, cells_entering_tiles, tiles_of
 from ..texts.certificates import MAX_CUTS, MAX_USES, Border, Module, ModuleDraft, Stop, local_wires
 from ..texts.layouts import Box, Cell
 from ..texts.limits import SECOND
 from ..texts.owners import NOBODY, Owners
-from .composing import Composed
-from .parts import ALWAYS
+from .composing import Composition
+from .parts import ALWAYS_SIGNAL
 from .planning import JoinPlan, PlacedPart
 
 # Tiles that nothing reaches become boxes of so many tiles in each direction.
 QUIET_TILES = 4
 # A line of a path is a number: its place by the order of lines, times this number, plus the number of the path. A line
 # of a mirror has the number of no path.
-PATHS = 1 << 14
-NO_PATH = PATHS - 1
+MAX_PATHS = 1 << 14
+NO_PATH = MAX_PATHS - 1
 NO_WIRES: frozenset[str] = frozenset()
 # How far the cells at the corners of a cell's surroundings are from it.
-CORNERS = (ROW + 1, ROW - 1, 1 - ROW, -ROW - 1)
+CORNER_OFFSETS = (ROW_STRIDE + 1, ROW_STRIDE - 1, 1 - ROW_STRIDE, -ROW_STRIDE - 1)
 
 
 class JoinedModules:
@@ -40,26 +40,26 @@ class JoinedModules:
     The first modules are those of the parts, and `origins` has them with their parts. The others are tiles.
     """
 
-    def __init__(self, composed: Composed, plan: JoinPlan) -> None:
+    def __init__(self, composed: Composition, plan: JoinPlan) -> None:
         self.circuit, self.netlist, self.plan = composed.circuit, RouterNetlist(composed.circuit), plan
         self.owners = Owners(plan.side, plan.side)
         self.boxes: list[Box] = []
         self.origins: list[tuple[PlacedPart, Module]] = []
         for placed in plan.placed:
             for own in placed.part.text.certificate.modules:
-                self.add(placed.placing.box(own.box))
+                self.add_box(placed.placing.box(own.box))
                 self.origins.append((placed, own))
         for box in self.tiles_between():
-            self.add(box)
-        self.known = [frozenset(local_wires(self.circuit, ModuleDraft(box, cuts=self.cuts(number),
-                                                                      uses=self.uses(number))))
+            self.add_box(box)
+        self.known = [frozenset(local_wires(self.circuit, ModuleDraft(box, cuts=self.own_cuts(number),
+                                                                      uses=self.own_uses(number))))
                       for number, box in enumerate(self.boxes[:len(self.origins)])]
         self.extra: dict[int, Counter[str]] = defaultdict(Counter)
         self.lines: dict[int, array[int]] = defaultdict(lambda: array("q"))
 
-    def add(self, box: Box) -> None:
+    def add_box(self, box: Box) -> None:
         """Adds the box of a module."""
-        self.owners.take(box, len(self.boxes))
+        self.owners.take_blocks(box, len(self.boxes))
         self.boxes.append(box)
 
     def tiles_between(self) -> Iterator[Box]:
@@ -79,21 +79,21 @@ class JoinedModules:
 
     # --- the part's own lines -----------------------------------------------------------------------------------------
 
-    def cuts(self, number: int) -> list[str]:
+    def own_cuts(self, number: int) -> list[str]:
         """Returns the cuts that a module brings from its part, as the join calls them."""
         if number >= len(self.origins):
             return []
         placed, own = self.origins[number]
         return [placed.part.wires[wire] for wire in own.cuts]
 
-    def uses(self, number: int) -> list[int]:
+    def own_uses(self, number: int) -> list[int]:
         """Returns the gates that a module uses in its part, as the join numbers them."""
         if number >= len(self.origins):
             return []
         placed, own = self.origins[number]
         return [placed.part.first_gate + gate for gate in own.uses]
 
-    def local(self, number: int) -> frozenset[str]:
+    def own_local_wires(self, number: int) -> frozenset[str]:
         """Returns the wires that a module knows without paths."""
         return self.known[number] if number < len(self.known) else NO_WIRES
 
@@ -106,15 +106,16 @@ class JoinedModules:
         part, time, cell = placed.part, placed.time, placed.placing.cell
         module.keeps = [part.first_gate + number for number in own.keeps]
         module.edges = [Border(None if line.time is None else line.time + time, *cell(line.cell),
-                               part.wire(line.signal))
-                        for line in own.edges if (line.time, line.cell) not in part.missing]
+                               part.joined_wire(line.signal))
+                        for line in own.edges if (line.time, line.cell) not in part.left_out_lines]
         module.stops = [Stop(line.time + time, part.wires[line.name], *cell(line.cell)) for line in own.stops]
 
     # --- wires --------------------------------------------------------------------------------------------------------
 
     def signal(self, wire: str) -> str:
         """Returns the signal of a wire: `1` if it is always true."""
-        return ALWAYS if wire == ALWAYS or self.netlist.constants.get(self.netlist.root(wire)) == 1 else wire
+        is_always = wire == ALWAYS_SIGNAL or self.netlist.constants.get(self.netlist.root(wire)) == 1
+        return ALWAYS_SIGNAL if is_always else wire
 
     def hearers(self, cell: Cell) -> set[int]:
         """Returns the modules that have a cell in their box or its halo."""
@@ -135,28 +136,29 @@ class JoinedModules:
 
     def has_room_for(self, wire: str, numbers: Iterable[int]) -> bool:
         """Whether some modules have room for a wire."""
-        if self.signal(wire) == ALWAYS:
+        if self.signal(wire) == ALWAYS_SIGNAL:
             return True
         for number in numbers:
             extra = self.extra.get(number, Counter())
-            if wire in self.local(number) or extra[wire]:
+            if wire in self.own_local_wires(number) or extra[wire]:
                 continue
-            if len(self.cuts(number)) + len(+extra) >= MAX_CUTS:
-                cuts, uses = self.wiring(number, [wire])
+            if len(self.own_cuts(number)) + len(+extra) >= MAX_CUTS:
+                cuts, uses = self.cuts_and_uses(number, [wire])
                 if len(cuts) > MAX_CUTS or len(uses) > MAX_USES:
                     return False
         return True
 
-    def room_for(self, wire: str) -> Callable[[Item], bool]:
+    def room_test(self, wire: str) -> Callable[[Item], bool]:
         """Returns what tells whether the modules that touch an item have room for a wire, as long as none changes."""
         known: dict[int, bool] = {}
 
         def has_room(item: Item) -> bool:
             """Whether the modules have room."""
-            cells = (number for part in item.touched_parts for own in CORNERS for number in entering(part, own))
+            cells = (number for part in item.touched_parts for own in CORNER_OFFSETS
+                     for number in cells_entering_tiles(part, own))
             for tile in tiles_of(cells):
                 if tile not in known:
-                    number = self.owners.owner_at((tile % ROW * TILE, tile // ROW * TILE))
+                    number = self.owners.owner_at((tile % ROW_STRIDE * TILE, tile // ROW_STRIDE * TILE))
                     known[tile] = number == NOBODY or self.has_room_for(wire, [number])
                 if not known[tile]:
                     return False
@@ -164,50 +166,51 @@ class JoinedModules:
 
         return has_room
 
-    def count(self, wire: str, numbers: Iterable[int], change: int) -> None:
+    def count_wire(self, wire: str, numbers: Iterable[int], change: int) -> None:
         """Notes that a path brings a wire to modules, or no longer does."""
-        for number in numbers if self.signal(wire) != ALWAYS else ():
-            if wire not in self.local(number):
+        for number in numbers if self.signal(wire) != ALWAYS_SIGNAL else ():
+            if wire not in self.own_local_wires(number):
                 self.extra[number][wire] += change
 
-    def wiring(self, number: int, more: Iterable[str] = ()) -> tuple[list[str], list[int]]:
+    def cuts_and_uses(self, number: int, more: Iterable[str] = ()) -> tuple[list[str], list[int]]:
         """Returns the cuts of a module and the gates that it uses. The part's own stay if there is room."""
-        own, own_uses = self.cuts(number), self.uses(number)
-        extra = sorted(({*+self.extra.get(number, Counter()), *more}) - self.local(number), key=self.circuit.rank)
+        own, own_uses = self.own_cuts(number), self.own_uses(number)
+        extra = sorted(({*+self.extra.get(number, Counter()), *more}) - self.own_local_wires(number),
+                       key=self.circuit.rank)
         constants = [wire for wire in extra if self.netlist.root(wire) in self.netlist.constants]
         used = {*own_uses, *self.circuit.cone(constants)[1]} if constants else set(own_uses)
         plain = [wire for wire in extra if wire not in constants]
-        if len(own) + len(plain) <= MAX_CUTS and not any(self.follows(wire, number) for wire in plain):
+        if len(own) + len(plain) <= MAX_CUTS and not any(self.is_delay_of_known(wire, number) for wire in plain):
             return [*own, *plain], sorted(used)
         cuts, uses = few_cuts_and_uses(self.circuit, {*own, *extra}, used)
         return sorted(cuts, key=self.circuit.rank), sorted(uses)
 
-    def follows(self, wire: str, number: int) -> bool:
+    def is_delay_of_known(self, wire: str, number: int) -> bool:
         """Whether a wire is on one ball with a wire that a module knows, by delays: then it must not be free."""
         root = self.netlist.root(wire)
-        return root != wire and any(self.netlist.root(own) == root for own in self.local(number))
+        return root != wire and any(self.netlist.root(own) == root for own in self.own_local_wires(number))
 
     # --- the certificate ----------------------------------------------------------------------------------------------
 
     def note_lines(self, paths: list[Path], ports: Iterable[tuple[Cell, str]]) -> None:
         """Notes the lines of all paths and of their mirrors, and the wires of ports."""
         for cell, wire in ports:
-            self.need(wire, self.owners.owner_at(cell))
+            self.make_wire_local(wire, self.owners.owner_at(cell))
         for index, path in enumerate(paths):
             for time, (x, y), number in self.edge_cells(path):
                 if time < self.plan.end:
-                    self.lines[number].append(((time + 1) * STEP + y * ROW + x) * PATHS + index)
+                    self.lines[number].append(((time + 1) * STEP_STRIDE + y * ROW_STRIDE + x) * MAX_PATHS + index)
             for cell_number in path.item.mirrors:
-                cell = number_cell(cell_number)
+                cell = cell_of_number(cell_number)
                 number = self.owners.owner_at(cell)
                 if self.boxes[number].has_in_ring(cell):
-                    self.lines[number].append(cell_number * PATHS + NO_PATH)
+                    self.lines[number].append(cell_number * MAX_PATHS + NO_PATH)
 
-    def line_of(self, number: int, signals: list[str]) -> Border:
+    def border_line_of(self, number: int, signals: list[str]) -> Border:
         """Returns the line of a number, with the signals of all paths."""
-        place, index = divmod(number, PATHS)
-        time, (x, y) = place // STEP - 1, number_cell(place % STEP)
-        return Border(None, x, y, ALWAYS) if index == NO_PATH else Border(time, x, y, signals[index])
+        place, index = divmod(number, MAX_PATHS)
+        time, (x, y) = place // STEP_STRIDE - 1, cell_of_number(place % STEP_STRIDE)
+        return Border(None, x, y, ALWAYS_SIGNAL) if index == NO_PATH else Border(time, x, y, signals[index])
 
     def modules(self, paths: list[Path]) -> Iterator[Module]:
         """Yields the modules with all their lines, one box in place of many where no box has any line; raises
@@ -219,12 +222,12 @@ class JoinedModules:
                 module.number = number
                 if number < len(self.origins):
                     self.add_own_lines(module)
-                module.edges += [self.line_of(own, signals) for own in self.lines.get(number, ())]
+                module.edges += [self.border_line_of(own, signals) for own in self.lines.get(number, ())]
                 module.edges.sort(key=lambda line: line.place)
-                module.cuts, module.uses = self.wiring(number)
+                module.cuts, module.uses = self.cuts_and_uses(number)
                 if len(module.cuts) > MAX_CUTS or len(module.uses) > MAX_USES:
                     raise NoRouteError(f"the box at ({box.x}, {box.y}) needs {len(module.cuts)} wires; "
-                                       f"{MAX_CUTS} is the most", Bound.WIRES)
+                                       f"{MAX_CUTS} is the most", FailureKind.WIRES)
             yield module.module()
 
     def require_meetings(self) -> None:
@@ -241,9 +244,9 @@ class JoinedModules:
                 what = f"gate {gate.number} ({gate.kind}) would get inputs with stops at different times, {words}"
                 raise LabError(f"{what}: an output with a delay is led to a gate with another delayed input", 1)
 
-    def need(self, wire: str, number: int) -> None:
+    def make_wire_local(self, wire: str, number: int) -> None:
         """Has a module know the wire of a port."""
-        if wire not in self.local(number):
+        if wire not in self.own_local_wires(number):
             self.extra[number][wire] += 1
 
     def kept_boxes(self) -> list[tuple[int | None, Box]]:

@@ -6,9 +6,9 @@ from dataclasses import dataclass, field, replace
 from typing import Collection
 from ..host.terminal import LabError
 from ..physics.simulation import local_values
-from ..route.balls import Ball, block_corner, stepped
+from ..route.balls import Ball, block_corner, state_after_step
 from ..route.netlist import RouterNetlist
-from ..route.world import ROW, STEP, Item, cell_number
+from ..route.world import ROW_STRIDE, STEP_STRIDE, Item, cell_number
 from ..texts.certificates import Certificate, Module
 from ..texts.circuits import Circuit
 from ..texts.documents import read_document
@@ -16,10 +16,10 @@ from ..texts.gates import Table
 from ..texts.layouts import Cell, Layout
 from ..texts.owners import Owners
 from ..texts.refusals import refusal_words
-from .lone_ways import LoneRun, LoneRuns, LoneWay, balls_of, removable_way
+from .lone_ways import LoneRun, LoneRuns, LoneWay, removable_way, whole_balls_of
 
 # The wire of a ball that is always there.
-ALWAYS = "1"
+ALWAYS_SIGNAL = "1"
 
 
 @dataclass(frozen=True)
@@ -60,7 +60,7 @@ class PartText:
         """Whether it takes fewer steps of balls to begin the part later than to lead its balls on."""
         return not self.start_fault and len(self.starts) < len(self.ends)
 
-    def way(self, wire: str, run: LoneRun, ball: Ball) -> LoneWay:
+    def lone_way(self, wire: str, run: LoneRun, ball: Ball) -> LoneWay:
         """Returns the lone way of a wire's run that is cut at a ball."""
         key = wire, ball.time
         if key not in self.ways:
@@ -87,7 +87,7 @@ def read_part(name: str, text: str, connected: Collection[str] = ()) -> PartText
     ends, end_fault = end_ports(circuit, layout, run.wires_at_end(last))
     starts = [replace(port, run=lone.get(("in", port.wire))) for port in starts]
     ends = [replace(port, run=lone.get(("out", port.wire))) for port in ends]
-    counts = Counter(claim % STEP for claim in run.claims)
+    counts = Counter(claim % STEP_STRIDE for claim in run.claims)
     return PartText(circuit, layout, certificate, starts, ends, item, start_fault, end_fault, counts)
 
 
@@ -106,7 +106,7 @@ def lone_runs(circuit: Circuit, layout: Layout, certificate: Certificate,
             cells[part.kind, part.name or ""].append(part.cell)
     runs = {}
     for (kind, wire), own in cells.items():
-        balls = balls_of(own, layout.steps if kind == "out" else 0) or []
+        balls = whole_balls_of(own, layout.steps if kind == "out" else 0) or []
         if len(balls) == 1 and not netlist.is_zero(wire):
             runs[kind, wire] = LoneRun(mirrors, balls[0], layout.steps, kind == "out")
     return runs
@@ -117,7 +117,7 @@ def start_ports(layout: Layout) -> tuple[list[PartPort], str]:
     cells: dict[str, list[Cell]] = defaultdict(list)
     for part in layout.parts:
         if part.kind in ("in", "ball"):
-            cells[part.name or ALWAYS].append(part.cell)
+            cells[part.name or ALWAYS_SIGNAL].append(part.cell)
     return ports_of(cells, 0, "start")
 
 
@@ -139,10 +139,10 @@ def ports_of(cells: dict[str, list[Cell]], time: int, what: str) -> tuple[list[P
     """Returns the balls of the cells of each wire, and why they are none if that is so."""
     ports: list[PartPort] = []
     for wire, own in cells.items():
-        balls = balls_of(own, time)
+        balls = whole_balls_of(own, time)
         if balls is None:
             x, y = own[0]
-            name = "constants" if wire == ALWAYS else wire
+            name = "constants" if wire == ALWAYS_SIGNAL else wire
             return [], f"the cells of {name} at its {what}, such as ({x}, {y}), are not balls of two cells"
         ports += [PartPort(wire, ball) for ball in balls]
     return ports, ""
@@ -150,8 +150,8 @@ def ports_of(cells: dict[str, list[Cell]], time: int, what: str) -> tuple[list[P
 
 def part_item(mirrors: frozenset[int], claims: set[int]) -> Item:
     """Returns what a part takes whose balls claim some blocks at times."""
-    corners = {claim % STEP for claim in claims}
-    touched = {corner + offset for corner in corners for offset in (0, 1, ROW, ROW + 1)} - mirrors
+    corners = {claim % STEP_STRIDE for claim in claims}
+    touched = {corner + offset for corner in corners for offset in (0, 1, ROW_STRIDE, ROW_STRIDE + 1)} - mirrors
     return Item(mirrors, (array("q", sorted(touched)),), (array("q", sorted(claims)),))
 
 
@@ -166,7 +166,7 @@ class PartRun:
         self.starts: dict[int, dict[Cell, str]] = defaultdict(dict)
         for part in layout.parts:
             if part.kind in ("in", "ball"):
-                self.starts[self.owners.owner_at(part.cell)][part.cell] = part.name or ALWAYS
+                self.starts[self.owners.owner_at(part.cell)][part.cell] = part.name or ALWAYS_SIGNAL
         # What each module hears, by time.
         self.heard: dict[int, dict[int, dict[Cell, str]]] = defaultdict(lambda: defaultdict(dict))
         for module in certificate.modules:
@@ -199,7 +199,7 @@ class PartRun:
         full = values.full
         for table in values.rows.values():
             full &= table
-        tables = {name: table & full for name, table in values.tables.items()} | {ALWAYS: full}
+        tables = {name: table & full for name, table in values.tables.items()} | {ALWAYS_SIGNAL: full}
         live = {cell: tables[wire] for cell, wire in starts.items() if tables[wire]}
         time = 0
         while time < steps:
@@ -213,10 +213,10 @@ class PartRun:
             if time % 2 and time in heard:
                 now.update((cell, tables[wire]) for cell, wire in heard[time].items() if tables[wire])
             corners = {block_corner(cell, time) for cell in now}
-            claims = {time * STEP + y * ROW + x for x, y in corners}
+            claims = {time * STEP_STRIDE + y * ROW_STRIDE + x for x, y in corners}
             self.claims |= claims
-            self.lone.compare(time, claims, now.keys())
-            following = stepped(self.mirrors, now, full, corners)
+            self.lone.compare_blocks(time, claims, now.keys())
+            following = state_after_step(self.mirrors, now, full, corners)
             if following is None:
                 raise LabError("a module of a bundle with a yes does not run: this is an error of the lab")
             live, time = {cell: table for cell, table in following.items() if box.has(cell)}, time + 1
@@ -236,7 +236,7 @@ class PartRun:
                 full &= rows
             names = [name for name, own in values.tables.items() if own & full == table]
             names.sort(key=lambda name: (name not in spills, self.circuit.rank(name)))
-            wire = names[0] if names else (ALWAYS if table == full else None)
-            wires[part.cell] = ALWAYS if wire is not None and netlist.constants.get(netlist.root(wire)) else wire
+            wire = names[0] if names else (ALWAYS_SIGNAL if table == full else None)
+            wires[part.cell] = ALWAYS_SIGNAL if wire is not None and netlist.constants.get(netlist.root(wire)) else wire
         return wires
 

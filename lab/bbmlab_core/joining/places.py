@@ -11,7 +11,7 @@ from typing import Iterator, Sequence
 from ..route.world import TILE
 
 # The cells between a part and the border, and between two parts: at least, and at most.
-GAP = 2 * TILE
+LEAST_GAP = 2 * TILE
 MOST_GAP = 24 * TILE
 
 
@@ -22,7 +22,7 @@ class Area:
     width: int
     height: int
 
-    def turned(self) -> "Area":
+    def transposed(self) -> "Area":
         """Returns the area with columns and rows exchanged."""
         return Area(self.height, self.width)
 
@@ -38,7 +38,7 @@ def all_places(areas: Sequence[Area], side: int, can_turn: bool = False) -> Iter
     """
     choices = (False,) if can_turn else (False, True)
     for is_column, is_mirrored, is_flipped, more in itertools.product(*(choices,) * 3, range(len(areas))):
-        found = rows_of_places([own.turned() for own in areas] if is_column else areas, side, more)
+        found = rows_of_places([own.transposed() for own in areas] if is_column else areas, side, more)
         if found is None:
             continue
         places = [(y, x) for x, y in found] if is_column else found
@@ -56,14 +56,14 @@ def rows_of_places(areas: Sequence[Area], side: int, more: int = 0) -> list[Plac
     if len(rows) != count:
         return None
     heights = [max(own.height for own in row) for row in rows]
-    if any(sum(own.width + GAP for own in row) + GAP > side for row in rows):
+    if any(sum(own.width + LEAST_GAP for own in row) + LEAST_GAP > side for row in rows):
         return None
-    if sum(height + GAP for height in heights) + GAP > side:
+    if sum(height + LEAST_GAP for height in heights) + LEAST_GAP > side:
         return None
     places: list[Place] = []
-    for index, (row, y) in enumerate(zip(rows, spread(heights, side))):
+    for index, (row, y) in enumerate(zip(rows, spread_starts(heights, side))):
         own = row[::-1] if index % 2 else row
-        found = [(x, y) for x in spread([area.width for area in own], side)]
+        found = [(x, y) for x in spread_starts([area.width for area in own], side)]
         places += found[::-1] if index % 2 else found
     return places
 
@@ -73,14 +73,14 @@ def filled_rows(areas: Sequence[Area], side: int, most: int) -> list[list[Area]]
     rows: list[list[Area]] = []
     for own in areas:
         is_full = not rows or len(rows[-1]) == most
-        if not is_full and sum(other.width + GAP for other in rows[-1]) + own.width + 2 * GAP <= side:
+        if not is_full and sum(other.width + LEAST_GAP for other in rows[-1]) + own.width + 2 * LEAST_GAP <= side:
             rows[-1].append(own)
         else:
             rows.append([own])
     return rows
 
 
-def spread(lengths: list[int], side: int) -> list[int]:
+def spread_starts(lengths: list[int], side: int) -> list[int]:
     """Returns where lengths in a row begin, in the middle of a side and with equal gaps of whole tiles."""
     gap = min(MOST_GAP, (side - sum(lengths)) // (len(lengths) + 1)) // TILE * TILE
     first = (side - sum(lengths) - gap * (len(lengths) - 1)) // 2 // TILE * TILE

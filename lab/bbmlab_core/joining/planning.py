@@ -10,8 +10,8 @@ from ..route.balls import Ball
 from ..route.world import TILE
 from ..texts.layouts import Cell
 from ..texts.limits import SECOND
-from .composing import Composed, NamedPart
-from .places import GAP, Area, Place, all_places
+from .composing import Composition, NamedPart
+from .places import LEAST_GAP, Area, Place, all_places
 from .turning import TURNINGS, UPRIGHT, Placing, Turning
 
 # The part of the plane between the parts that may be taken by estimate, and the cells that a ball newly touches in a
@@ -32,10 +32,10 @@ class Spare:
 
     def steps_between(self, first: Ball, last: Ball) -> int:
         """Returns the steps from a ball to another one."""
-        return int((1 + self.detour) * max(ways_between(first, last))) + self.steps
+        return int((1 + self.detour) * max(offsets_between(first, last))) + self.steps
 
 
-def ways_between(first: Ball, last: Ball) -> tuple[int, int]:
+def offsets_between(first: Ball, last: Ball) -> tuple[int, int]:
     """Returns the columns and rows from a ball to another one."""
     return abs(first.x - last.x), abs(first.y - last.y)
 
@@ -43,15 +43,15 @@ def ways_between(first: Ball, last: Ball) -> tuple[int, int]:
 # The steps to spare of each ball between two parts: the next ones if it could not be led, or if the columns or rows of
 # its way are more than a part of the others: it has few ways to go.
 SPARES = (Spare(0.1, 60), Spare(0.2, 100), Spare(0.35, 150), Spare(0.35, 250), Spare(0.35, 350))
-SLANTED = 0.6
+SLANTED_SHARE = 0.6
 # A ball that is led deeper into its part than so many cells gets a step to spare for each further cell.
-SHALLOW = 150
+SHALLOW_CELLS = 150
 # The place of the first spare steps in `SPARES` if a ball is led so deep.
-DEEP_SPARE = 2
+DEEP_SPARE_INDEX = 2
 # How often all parts are turned anew.
 TURNS = 2
 # For each connection the place of its spare steps in `SPARES`.
-Spares = list[int]
+SpareIndices = list[int]
 
 
 @dataclass
@@ -85,10 +85,10 @@ class PlacedPart:
         return Area(-(-layout.width // TILE) * TILE, -(-layout.height // TILE) * TILE)
 
     def cells_too_deep(self, ball: Ball) -> int:
-        """Returns how many cells deeper than `SHALLOW` a ball is in the part, or 0."""
+        """Returns how many cells deeper than `SHALLOW_CELLS` a ball is in the part, or 0."""
         area = self.area
         return max(0, min(ball.x - self.x, self.x + area.width - ball.x,
-                          ball.y - self.y, self.y + area.height - ball.y) - SHALLOW)
+                          ball.y - self.y, self.y + area.height - ball.y) - SHALLOW_CELLS)
 
     @property
     def end(self) -> int:
@@ -97,7 +97,7 @@ class PlacedPart:
 
 
 @dataclass
-class Job:
+class BallJob:
     """A ball to lead: from a ball or from any place at time 0, to a ball or to any place at the last time.
 
     `wire` is the wire of the ball in the join, or ALWAYS.
@@ -129,20 +129,20 @@ class JoinPlan:
     side: int
     end: int
     placed: list[PlacedPart]
-    jobs: list[Job]
+    jobs: list[BallJob]
     width: int
     height: int
 
 
-def first_spares(composed: Composed) -> Spares:
+def first_spares(composed: Composition) -> SpareIndices:
     """Returns the spare steps of the first plan: more if some ball is led deep into its part."""
     parts = {part.name: PlacedPart(part) for part in composed.parts}
     goals = ((parts[own.target], start_ball(parts[own.target], own.input)) for own in composed.connections)
     is_deep = any(part.cells_too_deep(goal) for part, goal in goals)
-    return [DEEP_SPARE if is_deep else 0] * len(composed.connections)
+    return [DEEP_SPARE_INDEX if is_deep else 0] * len(composed.connections)
 
 
-def made_plan(composed: Composed, side: int, spares: Spares) -> JoinPlan | None:
+def make_plan(composed: Composition, side: int, spares: SpareIndices) -> JoinPlan | None:
     """Returns a plan on a plane with a side that takes few steps, or None if the parts have no room there.
 
     Balls between parts get some steps to spare. A part that feeds no other one begins as late as it can, if fewer balls
@@ -150,7 +150,7 @@ def made_plan(composed: Composed, side: int, spares: Spares) -> JoinPlan | None:
     """
     areas = [PlacedPart(part).area for part in composed.parts]
     can_turn = all(turnings_of(PlacedPart(part)) == TURNINGS for part in composed.parts)
-    found = [turned_at(composed, places, spares) for places in all_places(areas, side, can_turn)]
+    found = [parts_turned_at(composed, places, spares) for places in all_places(areas, side, can_turn)]
     if not found:
         return None
     placed = min(found, key=last_time)
@@ -167,7 +167,7 @@ def last_time(placed: list[PlacedPart]) -> int:
     return max(own.end for own in placed)
 
 
-def turned_at(composed: Composed, places: list[Place], spares: Spares) -> list[PlacedPart]:
+def parts_turned_at(composed: Composition, places: list[Place], spares: SpareIndices) -> list[PlacedPart]:
     """Returns the parts at some places, each turned so that the last one ends early."""
     placed = [PlacedPart(part, x, y) for part, (x, y) in zip(composed.parts, places)]
     set_times(composed, placed, spares)
@@ -191,7 +191,7 @@ def turnings_of(placed: PlacedPart) -> list[Turning]:
     return [own for own in TURNINGS if area.width == area.height or not own.is_turned]
 
 
-def set_times(composed: Composed, placed: list[PlacedPart], spares: Spares) -> None:
+def set_times(composed: Composition, placed: list[PlacedPart], spares: SpareIndices) -> None:
     """Sets the times of placed parts: each is as early as its balls can come."""
     by_name = {own.part.name: own for own in placed}
     for own in placed:
@@ -206,8 +206,8 @@ def set_times(composed: Composed, placed: list[PlacedPart], spares: Spares) -> N
 
 def steps_needed(target: PlacedPart, first: Ball, last: Ball, spare: int) -> int:
     """Returns the steps for which a ball is led from a part to another one, by the place of its spare steps."""
-    ways = sorted(ways_between(first, last))
-    own = SPARES[min(len(SPARES) - 1, spare + (ways[0] > SLANTED * ways[1]))]
+    ways = sorted(offsets_between(first, last))
+    own = SPARES[min(len(SPARES) - 1, spare + (ways[0] > SLANTED_SHARE * ways[1]))]
     return own.steps_between(first, last) + target.cells_too_deep(last)
 
 
@@ -221,7 +221,7 @@ def start_ball(placed: PlacedPart, wire: str) -> Ball:
     return placed.ball(placed.part.inner_ball(placed.part.text.starts, wire))
 
 
-def jobs_of(composed: Composed, placed: dict[str, PlacedPart], end: int) -> list[Job]:
+def jobs_of(composed: Composition, placed: dict[str, PlacedPart], end: int) -> list[BallJob]:
     """Returns the balls to lead: between parts, to parts that begin later, and from parts that end earlier."""
     given = {(own.source, own.output) for own in composed.connections}
     taken = {(own.target, own.input) for own in composed.connections}
@@ -229,23 +229,23 @@ def jobs_of(composed: Composed, placed: dict[str, PlacedPart], end: int) -> list
     for own in composed.connections:
         goal = start_ball(placed[own.target], own.input)
         source = placed[own.source]
-        jobs.append(Job(source.part.wire(own.output), end_ball(source, own.output), goal, goal.time))
+        jobs.append(BallJob(source.part.joined_wire(own.output), end_ball(source, own.output), goal, goal.time))
     for name, part in placed.items():
-        text, wire = part.part.text, part.part.wire
+        text, wire = part.part.text, part.part.joined_wire
         for port in text.starts:
             if part.time > 0 and (name, port.wire) not in taken:
-                jobs.append(Job(wire(port.wire), None, part.ball(port.ball), part.time))
+                jobs.append(BallJob(wire(port.wire), None, part.ball(port.ball), part.time))
         for port in text.ends:
             if part.end < end and (name, port.wire) not in given:
-                jobs.append(Job(wire(port.wire), part.ball(port.ball), None, end))
+                jobs.append(BallJob(wire(port.wire), part.ball(port.ball), None, end))
     return jobs
 
 
-def estimated_side(composed: Composed, spares: Spares) -> int:
+def estimated_side(composed: Composition, spares: SpareIndices) -> int:
     """Returns the side of a plane on which all ways have room by estimate, at most the largest one."""
-    side = GAP
+    side = LEAST_GAP
     while side < SECOND.max_side:
-        plan = made_plan(composed, side, spares)
+        plan = make_plan(composed, side, spares)
         if plan is not None:
             free = side ** 2 - sum(own.area.width * own.area.height for own in plan.placed)
             if STEP_CELLS * sum(job.steps for job in plan.jobs) <= FILL * free:

@@ -8,20 +8,20 @@ from dataclasses import replace
 from typing import Callable, Collection, Iterable, NamedTuple
 
 from ..route.balls import Ball
-from .composing import Composed, Connection, NamedPart
+from .composing import Composition, Connection, NamedPart
 from .lone_ways import LoneRun
 from .parts import PartPort
-from .planning import JoinPlan, PlacedPart, Spares, end_ball, jobs_of, start_ball, steps_needed
+from .planning import JoinPlan, PlacedPart, SpareIndices, end_ball, jobs_of, start_ball, steps_needed
 
 # A ball with at most so many more steps than it needs is led as it is. Others keep at least the spare steps of this
 # place.
 LEAST_SLACK = 300
-SPARE = 2
+LEAST_SPARE_INDEX = 2
 # The steps around a cut from which its ball could not leave: no other cut is made there.
 CLOSED_STEPS = 160
 
 
-class Cut(NamedTuple):
+class WayCut(NamedTuple):
     """Where the lone way of a connection's output is cut, or that of its input, by the time of the part."""
 
     connection: int
@@ -29,31 +29,32 @@ class Cut(NamedTuple):
     time: int
 
 
-def is_closed(cut: Cut, closed: Iterable[Cut]) -> bool:
+def is_closed(cut: WayCut, closed: Iterable[WayCut]) -> bool:
     """Whether a cut is near one from which no ball can leave."""
     return any(own[:2] == cut[:2] and abs(own.time - cut.time) <= CLOSED_STEPS for own in closed)
 
 
-def run_of(part: NamedPart, ports: list[PartPort], wire: str) -> LoneRun | None:
+def lone_run_of(part: NamedPart, ports: list[PartPort], wire: str) -> LoneRun | None:
     """Returns the lone run of a port whose lone way is left out."""
     return next((port.run for port in ports if port.wire == wire and wire in part.ways), None)
 
 
-class Slack:
+class LoneWayCuts:
     """The cuts of a join's lone ways in a plan. `closed` has those from which no ball can leave."""
 
-    def __init__(self, made: Composed, plan: JoinPlan, spares: Spares, closed: Collection[Cut]) -> None:
+    def __init__(self, made: Composition, plan: JoinPlan, spares: SpareIndices, closed: Collection[WayCut]) -> None:
         self.made, self.plan, self.spares, self.closed = made, plan, spares, closed
         self.placed = {own.part.name: own for own in plan.placed}
         # The balls at which lone ways are cut, by the names of parts and their own wires.
         self.cuts: dict[tuple[str, str], tuple[LoneRun, Ball]] = {}
-        self.moved: list[Cut] = []
+        self.moved: list[WayCut] = []
         for index, own in enumerate(made.connections):
-            self.cut(index, own)
+            self.cut_connection(index, own)
 
-    def cut(self, index: int, own: Connection) -> None:
+    def cut_connection(self, index: int, own: Connection) -> None:
         """Cuts the ways of a connection if its ball has much time to spare."""
-        source, target, spare = self.placed[own.source], self.placed[own.target], max(SPARE, self.spares[index])
+        source, target = self.placed[own.source], self.placed[own.target]
+        spare = max(LEAST_SPARE_INDEX, self.spares[index])
         first, last = end_ball(source, own.output), start_ball(target, own.input)
 
         def has_time(begin: Ball, end: Ball, slack: int = 0) -> bool:
@@ -62,38 +63,39 @@ class Slack:
 
         if not has_time(first, last, LEAST_SLACK + 1):
             return
-        moved = self.moved_ball(index, source, source.part.text.ends, own.output, lambda ball: has_time(ball, last))
+        moved = self.cut_at_last_ball(index, source, source.part.text.ends, own.output,
+                                      lambda ball: has_time(ball, last))
         first = moved or first
-        self.moved_ball(index, target, target.part.text.starts, own.input, lambda ball: has_time(first, ball))
+        self.cut_at_last_ball(index, target, target.part.text.starts, own.input, lambda ball: has_time(first, ball))
 
-    def moved_ball(self, index: int, placed: PlacedPart, ports: list[PartPort], wire: str,
-                   has_time: Callable[[Ball], bool]) -> Ball | None:
+    def cut_at_last_ball(self, index: int, placed: PlacedPart, ports: list[PartPort], wire: str,
+                         has_time: Callable[[Ball], bool]) -> Ball | None:
         """Cuts the lone way of a port at the last ball that has time enough and can leave. Returns that ball, or None.
         """
-        run = run_of(placed.part, ports, wire)
-        for ball in reversed(run.balls) if run else ():
-            if has_time(placed.ball(ball)) and self.move(index, (placed.part.name, wire), run, ball):
+        run = lone_run_of(placed.part, ports, wire)
+        for ball in reversed(run.cut_balls) if run else ():
+            if has_time(placed.ball(ball)) and self.cut_at_ball(index, (placed.part.name, wire), run, ball):
                 return placed.ball(ball)
         return None
 
-    def move(self, index: int, port: tuple[str, str], run: LoneRun | None, ball: Ball) -> bool:
+    def cut_at_ball(self, index: int, port: tuple[str, str], run: LoneRun | None, ball: Ball) -> bool:
         """Cuts the lone way of a port at a ball, if a ball can leave there; returns whether that is so."""
         assert run is not None
-        cut = Cut(index, run.is_output, ball.time)
+        cut = WayCut(index, run.is_output, ball.time)
         if is_closed(cut, self.closed):
             return False
-        if ball != run.balls[0]:
+        if ball != run.cut_balls[0]:
             self.cuts[port] = run, ball
             self.moved.append(cut)
         return True
 
-    def planned(self) -> JoinPlan:
+    def plan_with_cuts(self) -> JoinPlan:
         """Returns the plan with parts that are cut so, and their balls."""
-        placed = [replace(own, part=self.part(own.part)) for own in self.plan.placed]
+        placed = [replace(own, part=self.part_with_cuts(own.part)) for own in self.plan.placed]
         jobs = jobs_of(self.made, {own.part.name: own for own in placed}, self.plan.end)
         return replace(self.plan, placed=placed, jobs=jobs)
 
-    def part(self, part: NamedPart) -> NamedPart:
+    def part_with_cuts(self, part: NamedPart) -> NamedPart:
         """Returns a part that is cut so."""
         cuts = {wire: cut for (name, wire), cut in self.cuts.items() if name == part.name}
-        return replace(part, ways=part.ways | {wire: part.text.way(wire, *cut) for wire, cut in cuts.items()})
+        return replace(part, ways=part.ways | {wire: part.text.lone_way(wire, *cut) for wire, cut in cuts.items()})

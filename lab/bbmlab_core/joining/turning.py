@@ -9,7 +9,7 @@ from array import array
 from typing import Iterable, NamedTuple
 
 from ..route.balls import Ball
-from ..route.world import ROW, STEP, cell_number
+from ..route.world import ROW_STRIDE, STEP_STRIDE, cell_number
 from ..texts.layouts import Box, Cell
 
 
@@ -35,13 +35,14 @@ class NumberMap(NamedTuple):
 
     def __call__(self, number: int) -> int:
         """Returns what a number becomes."""
-        at = number % STEP
-        return self.first + number - at + self.column * (at % ROW) + self.row * (at // ROW)
+        at = number % STEP_STRIDE
+        return self.first + number - at + self.column * (at % ROW_STRIDE) + self.row * (at // ROW_STRIDE)
 
     def of_all(self, numbers: Iterable[int]) -> "array[int]":
         """Returns what numbers become, as calls would one by one."""
         first, column, row = self
-        return array("q", [first + number // STEP * STEP + column * (number % ROW) + row * (number % STEP // ROW)
+        return array("q", [first + number // STEP_STRIDE * STEP_STRIDE + column * (number % ROW_STRIDE) +
+                           row * (number % STEP_STRIDE // ROW_STRIDE)
                            for number in numbers])
 
     def of_range(self, own: range) -> range:
@@ -52,10 +53,11 @@ class NumberMap(NamedTuple):
 
     def inverse(self) -> "NumberMap":
         """Returns the map that leads back. A number of a cell outside the part becomes no number of the part's."""
-        columns = {abs(self.column): 1 if self.column > 0 else -1, abs(self.row): ROW if self.row > 0 else -ROW}
-        at = self.first % STEP
-        back = NumberMap(at - self.first, columns[1], columns[ROW])
-        return back._replace(first=back.first - (back.column * (at % ROW) + back.row * (at // ROW)))
+        columns = {abs(self.column): 1 if self.column > 0 else -1,
+                   abs(self.row): ROW_STRIDE if self.row > 0 else -ROW_STRIDE}
+        at = self.first % STEP_STRIDE
+        back = NumberMap(at - self.first, columns[1], columns[ROW_STRIDE])
+        return back._replace(first=back.first - (back.column * (at % ROW_STRIDE) + back.row * (at // ROW_STRIDE)))
 
 
 class Placing(NamedTuple):
@@ -94,14 +96,14 @@ class Placing(NamedTuple):
 
     def cell_numbers(self) -> NumberMap:
         """Returns what becomes of the numbers of cells."""
-        return self.numbers(1)
+        return self.square_numbers(1)
 
     def block_numbers(self) -> NumberMap:
         """Returns what becomes of the numbers of blocks at times."""
-        own = self.numbers(2)
-        return own._replace(first=own.first + self.time * STEP)
+        own = self.square_numbers(2)
+        return own._replace(first=own.first + self.time * STEP_STRIDE)
 
-    def numbers(self, side: int) -> NumberMap:
+    def square_numbers(self, side: int) -> NumberMap:
         """Returns what becomes of the numbers of squares of some cells by their upper left ones."""
         first, column, row = (cell_number(self.box(Box(*corner, side, side))[:2])
                               for corner in ((0, 0), (1, 0), (0, 1)))

@@ -11,16 +11,16 @@ from dataclasses import dataclass
 from itertools import chain, islice
 from typing import Callable, Collection, Iterable, NamedTuple
 
-from ..route.balls import Ball, Leg, follow, reversed_legs
-from ..route.board import Bound, NoRouteError
+from ..route.balls import Ball, Leg, follow_legs, reversed_legs
+from ..route.board import FailureKind, NoRouteError
 from ..route.paths import Path, PathFinder, Trail
 from ..route.settings import Settings
-from ..route.world import STEP, TILE, Item, World, cell_number, number_cell, path_item
+from ..route.world import STEP_STRIDE, TILE, Item, World, cell_number, cell_of_number, path_item
 from ..texts.layouts import Box
 from .coil_ways import CoilGround, CoilSearch, OpenSearch
 from .modules import JoinedModules
-from .parts import ALWAYS
-from .planning import SHALLOW, Job, JoinPlan, PlacedPart
+from .parts import ALWAYS_SIGNAL
+from .planning import SHALLOW_CELLS, BallJob, JoinPlan, PlacedPart
 from .turning import NumberMap
 
 # The steps at the open ends of balls that wait which are kept free, the first that fit.
@@ -42,27 +42,27 @@ GOAL_CELLS = (4.0, 1.0, 12.0)
 LEAVING_STEPS = 80
 # The paths that are tried for a ball before others make room, and how often that may happen for each ball.
 TRIES = 4
-RIPS = 2
+RIPS_PER_BALL = 2
 # The cost of a step inside a part, in cells, and that of a step away from its border. Outside a step touches at most
 # three new cells.
 INSIDE_CELLS = 5
 OUTWARD_CELLS = 3
 # The columns and rows around an open end in which other paths make room if none crosses its way.
-NEAR = 70
+NEAR_CELLS = 70
 # The steps of the straight way of a ball from which other paths are taken.
 WAY_STEPS = 76
 
 # A ball with at least so many steps to wait goes to a coil. A coil keeps so many cells off parts: balls have to leave
 # them.
 LEAST_COILED = 400
-CLEAR = 80
+CLEAR_CELLS = 80
 
 
 class TightError(NoRouteError):
     """Some balls between two parts could not be led in the time that they got. `connections` has their numbers."""
 
     def __init__(self, message: str, connections: list[int]) -> None:
-        super().__init__(message, Bound.PATH)
+        super().__init__(message, FailureKind.PATH)
         self.connections = connections
 
 
@@ -74,26 +74,27 @@ class CoiledPath(Path):
     box: Box
 
 
-def taken_by(path: Path) -> Item:
+def item_of_path(path: Path) -> Item:
     """Returns what a path takes in the world."""
     return path.sealed if isinstance(path, CoiledPath) else path.item
 
 
 def sealed_item(item: Item, box: Box) -> Item:
     """Returns what a path takes whose coil no other ball can enter: the ring of its box is closed as by mirrors."""
-    claims = tuple(part for part in map(compact_part, item.claim_parts)
-                   if not all(box.has(number_cell(number % STEP)) for number in (part[0], part[-1])))
+    claims = tuple(part for part in map(compact_numbers, item.claim_parts)
+                   if not all(box.has(cell_of_number(number % STEP_STRIDE)) for number in (part[0], part[-1])))
     return Item(item.mirrors.union(map(cell_number, box.ring())), item.touched_parts, claims)
 
 
-def compact_part(part: Iterable[int]) -> "range | array[int]":
+def compact_numbers(part: Iterable[int]) -> "range | array[int]":
     """Returns numbers in little memory."""
     return part if isinstance(part, range) else array("q", part)
 
 
 def compact_item(item: Item) -> Item:
     """Returns an item in little memory."""
-    return Item(item.mirrors, tuple(map(compact_part, item.touched_parts)), tuple(map(compact_part, item.claim_parts)))
+    return Item(item.mirrors, tuple(map(compact_numbers, item.touched_parts)),
+                tuple(map(compact_numbers, item.claim_parts)))
 
 
 class PartClaims(NamedTuple):
@@ -104,7 +105,7 @@ class PartClaims(NamedTuple):
     numbers: NumberMap
     claims: set[int]
 
-    def meets(self, part: "range | array[int]", corners: tuple[int, int, int, int]) -> bool:
+    def has_claim_of(self, part: "range | array[int]", corners: tuple[int, int, int, int]) -> bool:
         """Whether some claims between two corners meet those of the part."""
         left, top, right, bottom = self.corners
         x, y, far, low = corners
@@ -140,15 +141,15 @@ class JoinWorld(World):
         claims = self.claim_sets.setdefault(id(item), item.claims)
         self.part_claims.append(PartClaims(corners, placed.placing.block_numbers().inverse(), claims))
 
-    def fits(self, item: Item) -> bool:
+    def can_add(self, item: Item) -> bool:
         """Whether an item may be added: it meets nothing that is there, neither in space nor in time."""
-        return super().fits(item) and not any(map(self.meets_parts, map(compact_part, item.claim_parts)))
+        return super().can_add(item) and not any(map(self.has_claim_of_part, map(compact_numbers, item.claim_parts)))
 
-    def meets_parts(self, claims: "range | array[int]") -> bool:
+    def has_claim_of_part(self, claims: "range | array[int]") -> bool:
         """Whether some claims on a straight way, or near each other, meet those of a part."""
-        (x, y), (far, low) = number_cell(claims[0] % STEP), number_cell(claims[-1] % STEP)
+        (x, y), (far, low) = cell_of_number(claims[0] % STEP_STRIDE), cell_of_number(claims[-1] % STEP_STRIDE)
         corners = min(x, far), min(y, low), max(x, far), max(y, low)
-        return any(own.meets(claims, corners) for own in self.part_claims)
+        return any(own.has_claim_of(claims, corners) for own in self.part_claims)
 
     def depth(self, x: int, y: int) -> int:
         """Returns how far a cell is from the border of the part that it is in, or 0."""
@@ -158,12 +159,12 @@ class JoinWorld(World):
         left, top, right, bottom = box
         return min(x - left, right - x, y - top, bottom - y)
 
-    def new_cells(self, ball: Ball, steps: int) -> int:
+    def new_cell_count(self, ball: Ball, steps: int) -> int:
         """Returns the cost of a straight flight: the cells that it newly touches, but more inside a part."""
         depth, far = self.depth(ball.x, ball.y), self.depth(ball.x + steps * ball.dx, ball.y + steps * ball.dy)
         if depth or far:
             return INSIDE_CELLS * steps + OUTWARD_CELLS * (far - depth)
-        return super().new_cells(ball, steps)
+        return super().new_cell_count(ball, steps)
 
 
 class JoinWiring:
@@ -177,7 +178,7 @@ class JoinWiring:
         self.chance = random.Random(seed)
         self.finder = PathFinder(self.world, self.chance, settings)
         self.finder.check_time = self.check_time
-        around = [Box(x - CLEAR, y - CLEAR, far - x + 2 * CLEAR, low - y + 2 * CLEAR)
+        around = [Box(x - CLEAR_CELLS, y - CLEAR_CELLS, far - x + 2 * CLEAR_CELLS, low - y + 2 * CLEAR_CELLS)
                   for x, y, far, low in self.world.boxes]
         self.ground = CoilGround(self.world, around)
         self.stubs: dict[int, list[Item]] = {}
@@ -186,7 +187,7 @@ class JoinWiring:
     def check_time(self) -> None:
         """Raises NoRouteError when the time is over."""
         if time.monotonic() > self.deadline:
-            raise NoRouteError("the time was over", Bound.TIME)
+            raise NoRouteError("the time was over", FailureKind.TIME)
 
     def run(self, progress: Callable[[int, int], None], can_loosen: Collection[int] = ()) -> list[Path]:
         """Returns the paths of all balls; raises NoRouteError.
@@ -195,9 +196,9 @@ class JoinWiring:
         """
         jobs, tight, taken_back = self.plan.jobs, list[int](), set[int]()
         for index in range(len(jobs)):
-            self.reserve(index)
+            self.reserve_ends(index)
         queue = sorted(range(len(jobs)), key=lambda index: (not jobs[index].is_between, -jobs[index].steps))
-        left = RIPS * len(jobs)
+        left = RIPS_PER_BALL * len(jobs)
         while queue:
             self.check_time()
             index = queue.pop(0)
@@ -212,7 +213,7 @@ class JoinWiring:
             crossing = self.paths_across(index)
             left -= 1 + len(crossing)
             if left <= 0 or not crossing:
-                raise NoRouteError(self.words(index), Bound.END)
+                raise NoRouteError(self.failure_words(index), FailureKind.END)
             for other in crossing:
                 self.take_back(other)
             taken_back.update(crossing)
@@ -220,10 +221,10 @@ class JoinWiring:
             between = [other for other in crossing if jobs[other].is_between]
             queue = [index, *between, *queue, *(other for other in crossing if other not in between)]
         if tight:
-            raise TightError(self.words(tight[0]), tight)
+            raise TightError(self.failure_words(tight[0]), tight)
         return [self.paths[index] for index in range(len(jobs))]
 
-    def words(self, index: int) -> str:
+    def failure_words(self, index: int) -> str:
         """Says which ball could not be led."""
         job = self.plan.jobs[index]
         ends = [f"{what} ({ball.x}, {ball.y}) at time {ball.time}"
@@ -235,7 +236,7 @@ class JoinWiring:
         job = self.plan.jobs[index]
         assert job.start is not None and job.goal is not None
         ends = (job.start, job.goal) if is_start else (job.goal, job.start)
-        search = OpenSearch(self.finder, self.ground, *ends, not is_start, self.modules.room_for(job.wire),
+        search = OpenSearch(self.finder, self.ground, *ends, not is_start, self.modules.room_test(job.wire),
                             GOAL_CELLS[0])
         return next(search.ways(), None) is None
 
@@ -257,22 +258,22 @@ class JoinWiring:
         """Whether a ball can fly some steps on, or some steps come before it if `sign` is -1."""
         trail = Trail(self.world, ball, is_backward=sign < 0)
         found = self.finder.wander(trail, sign * ball.time + LEAVING_STEPS)
-        trail.clear()
+        trail.clear_legs()
         return found
 
     # --- one ball -----------------------------------------------------------------------------------------------------
 
-    def reserve(self, index: int) -> None:
+    def reserve_ends(self, index: int) -> None:
         """Keeps the next steps at the open ends of a ball that waits free."""
         job, own = self.plan.jobs[index], list[Item]()
         for ball, sign in ((job.start, 1), (job.goal, -1)):
-            stub = self.stub(ball, sign) if ball else None
+            stub = self.stub_item(ball, sign) if ball else None
             if stub is not None:
                 self.world.add(stub)
                 own.append(stub)
         self.stubs[index] = own
 
-    def stub(self, ball: Ball, sign: int) -> Item | None:
+    def stub_item(self, ball: Ball, sign: int) -> Item | None:
         """Returns what a way with one bounce takes behind a ball, or before it if `sign` is -1.
 
         If there is none it is a way of a few straight steps, or None.
@@ -284,7 +285,7 @@ class JoinWiring:
             far = ball.flown(sign * steps)
             if self.world.is_inside(far.x, far.y):
                 item = path_item(ball if sign > 0 else far, [Leg(steps, None)])
-                if item is not None and self.world.fits(item):
+                if item is not None and self.world.can_add(item):
                     return item
         return None
 
@@ -294,16 +295,16 @@ class JoinWiring:
             self.world.remove(stub)
         job = self.plan.jobs[index]
         for tried in range(TRIES):
-            path = self.found(job, tried)
+            path = self.find_path(job, tried)
             numbers = self.modules.modules_of(path) if path else set[int]()
             if path is not None and self.modules.has_room_for(job.wire, numbers):
-                self.world.add(taken_by(path))
+                self.world.add(item_of_path(path))
                 if isinstance(path, CoiledPath):
                     self.ground.take_coil(path.box)
-                self.modules.count(job.wire, numbers, 1)
+                self.modules.count_wire(job.wire, numbers, 1)
                 self.paths[index] = path
                 return True
-        self.reserve(index)
+        self.reserve_ends(index)
         return False
 
     def lead_first(self, index: int) -> bool:
@@ -315,72 +316,73 @@ class JoinWiring:
                 self.world.remove(stub)
         done = self.lead(index)
         for other in near:
-            self.reserve(other)
+            self.reserve_ends(other)
         return done
 
     def is_beside(self, index: int, balls: list[Ball]) -> bool:
         """Whether a ball that waits has an open end near one of some balls."""
         job = self.plan.jobs[index]
         ends = [ball for ball in (job.start, job.goal) if ball is not None]
-        return any(abs(end.x - ball.x) < NEAR and abs(end.y - ball.y) < NEAR for end in ends for ball in balls)
+        return any(abs(end.x - ball.x) < NEAR_CELLS and abs(end.y - ball.y) < NEAR_CELLS for end in ends
+                   for ball in balls)
 
-    def found(self, job: Job, tried: int = 0) -> Path | None:
+    def find_path(self, job: BallJob, tried: int = 0) -> Path | None:
         """Returns a path for a ball, or None. A coil is sought only at the first try."""
         self.finder.known_departures.clear()
-        coiled = self.coiled(job) if not tried and not job.is_between and job.steps >= LEAST_COILED else None
+        coiled = self.find_coiled_path(job) if not tried and not job.is_between and job.steps >= LEAST_COILED else None
         if coiled is not None:
             return coiled
         if job.goal is None:
             assert job.start is not None
-            return self.finder.lead_on(job.wire, job.start, job.end)
+            return self.finder.path_on_from(job.wire, job.start, job.end)
         if job.start is None:
-            return self.finder.lead_here(job.wire, job.goal)
-        is_deep = max(self.world.depth(ball.x, ball.y) for ball in (job.start, job.goal)) > SHALLOW
-        path = self.connected_outside(job.wire, job.start, job.goal) if is_deep and not tried else None
-        path = path or self.connected(job.wire, job.start, job.goal)
-        return path or (self.connected_outside(job.wire, job.start, job.goal) if not is_deep and not tried else None)
+            return self.finder.path_from_anywhere(job.wire, job.goal)
+        is_deep = max(self.world.depth(ball.x, ball.y) for ball in (job.start, job.goal)) > SHALLOW_CELLS
+        path = self.find_path_outside(job.wire, job.start, job.goal) if is_deep and not tried else None
+        path = path or self.find_connecting_path(job.wire, job.start, job.goal)
+        return path or (self.find_path_outside(job.wire, job.start, job.goal) if not is_deep and not tried else None)
 
-    def coiled(self, job: Job) -> Path | None:
+    def find_coiled_path(self, job: BallJob) -> Path | None:
         """Returns a path to a coil in which a ball waits, or None. Without a start the ball comes from a coil."""
         ball, end = job.start, job.end
         if ball is None:
             assert job.goal is not None
             ball, end = job.goal, 0
-        has_room = self.modules.room_for(job.wire)
+        has_room = self.modules.room_test(job.wire)
         for coil, legs in CoilSearch(self.finder, self.ground, ball, end, job.start is None, has_room).run():
             if job.start is None:
                 legs = reversed_legs(legs)
-            start = job.start or self.finder.before(ball, legs)
-            path = self.finder.complete(job.wire, start, follow(start, legs)[0], legs)
+            start = job.start or self.finder.ball_before(ball, legs)
+            path = self.finder.path_of_legs(job.wire, start, follow_legs(start, legs)[0], legs)
             if path is not None:
                 item = compact_item(path.item)
                 return CoiledPath(job.wire, start, path.end, path.legs, item, sealed_item(item, coil.box), coil.box)
         return None
 
-    def connected(self, wire: str, start: Ball, goal: Ball) -> Path | None:
+    def find_connecting_path(self, wire: str, start: Ball, goal: Ball) -> Path | None:
         """Returns a path between two parts: it wanders back from the goal and on from the start, and joins the two."""
         for _ in range(CONNECT_TRIES):
             back, on = Trail(self.world, goal, is_backward=True), Trail(self.world, start)
             legs = self.legs_between(back, on, start, goal)
-            back.clear()
-            on.clear()
-            path = self.finder.complete(wire, start, goal, legs) if legs else None
+            back.clear_legs()
+            on.clear_legs()
+            path = self.finder.path_of_legs(wire, start, goal, legs) if legs else None
             if path is not None:
                 return path
         return None
 
-    def connected_outside(self, wire: str, start: Ball, goal: Ball) -> Path | None:
+    def find_path_outside(self, wire: str, start: Ball, goal: Ball) -> Path | None:
         """Returns a path between two parts whose ends are led to open ground by a search, and joined there."""
-        has_room = self.modules.room_for(wire)
+        has_room = self.modules.room_test(wire)
         for cells in GOAL_CELLS:
             search = OpenSearch(self.finder, self.ground, goal, start, True, has_room, cells)
             for behind in islice(search.ways(), OPEN_WAYS):
-                back, last = Trail(self.world, goal, is_backward=True), self.finder.before(goal, behind)
+                back, last = Trail(self.world, goal, is_backward=True), self.finder.ball_before(goal, behind)
                 turns = [leg.turn for leg in reversed(behind[:-1])]
-                is_free = all(back.push(leg.steps, turn) for leg, turn in zip(reversed(behind), [*turns, None]))
+                is_free = all(back.push_leg(leg.steps, turn) for leg, turn in zip(reversed(behind), [*turns, None]))
                 legs = self.legs_to_open(start, last, has_room, cells) if is_free else None
-                back.clear()
-                path = self.finder.complete(wire, start, goal, linked(legs, behind)) if legs else None
+                back.clear_legs()
+                path = self.finder.path_of_legs(wire, start, goal, linked_legs(legs, behind)) if legs else None
                 if path is not None and self.modules.has_room_for(wire, self.modules.modules_of(path)):
                     return path
         return None
@@ -390,10 +392,10 @@ class JoinWiring:
         search = OpenSearch(self.finder, self.ground, start, last, False, has_room, cells)
         for ahead in islice(search.ways(), OPEN_WAYS):
             on = Trail(self.world, start)
-            legs = self.legs_outside(on.ball, last) if all(on.push(*leg) for leg in ahead) else None
-            on.clear()
+            legs = self.legs_outside(on.ball, last) if all(on.push_leg(*leg) for leg in ahead) else None
+            on.clear_legs()
             if legs:
-                return linked(ahead, legs)
+                return linked_legs(ahead, legs)
         return None
 
     def legs_outside(self, start: Ball, last: Ball) -> list[Leg] | None:
@@ -405,34 +407,34 @@ class JoinWiring:
             if stop > start.time and self.finder.wander(on, stop, last):
                 legs = on.legs()
             middle = self.finder.connect_short(on.ball, last, self.settings.path_tries)
-            on.clear()
+            on.clear_legs()
             if middle:
-                return linked(legs, middle)
+                return linked_legs(legs, middle)
         return None
 
     def legs_between(self, back: Trail, on: Trail, start: Ball, goal: Ball) -> list[Leg] | None:
         """Returns legs from a start to a goal by two trails, or None."""
         finder, chance = self.finder, self.chance
-        deep = max(0, self.world.depth(goal.x, goal.y) - SHALLOW)
+        deep = max(0, self.world.depth(goal.x, goal.y) - SHALLOW_CELLS)
         before = goal.time - chance.randint(BACK_STEPS[0] + deep, BACK_STEPS[1] + 2 * deep)
         if before <= start.time or not finder.wander(back, -before):
             return None
         last, behind = back.ball.reversed(), back.legs()
         stop = last.time - chance.randint(*JOIN_STEPS)
-        if stop <= start.time or not finder.can_come(start, last) or not finder.wander(on, stop, last):
+        if stop <= start.time or not finder.can_reach(start, last) or not finder.wander(on, stop, last):
             return None
         finder.known_departures.clear()
         middle = finder.connect_short(on.ball, last, self.settings.path_tries)
-        return linked(linked(on.legs(), middle), behind) if middle else None
+        return linked_legs(linked_legs(on.legs(), middle), behind) if middle else None
 
     def take_back(self, index: int) -> None:
         """Takes the path of a ball back, which waits again."""
         path = self.paths.pop(index)
-        self.world.remove(taken_by(path))
+        self.world.remove(item_of_path(path))
         if isinstance(path, CoiledPath):
             self.ground.take_coils(own.box for own in self.paths.values() if isinstance(own, CoiledPath))
-        self.modules.count(path.wire, self.modules.modules_of(path), -1)
-        self.reserve(index)
+        self.modules.count_wire(path.wire, self.modules.modules_of(path), -1)
+        self.reserve_ends(index)
 
     def paths_across(self, index: int) -> list[int]:
         """Returns the balls whose paths cross or touch the straight way of a ball that waits."""
@@ -444,24 +446,24 @@ class JoinWiring:
                  if not touched.isdisjoint(chain(path.item.mirrors, *path.item.touched_parts))]
         return found or [other for other, path in self.paths.items() if self.is_near(path, job)]
 
-    def is_near(self, path: Path, job: Job) -> bool:
+    def is_near(self, path: Path, job: BallJob) -> bool:
         """Whether a path has a mirror near an open end of a ball."""
         balls = [ball for ball in (job.start, job.goal) if ball is not None]
-        return any(abs(ball.x - mirror.x) < NEAR and abs(ball.y - mirror.y) < NEAR
+        return any(abs(ball.x - mirror.x) < NEAR_CELLS and abs(ball.y - mirror.y) < NEAR_CELLS
                    for mirror in path.mirrors() for ball in balls)
 
     def straight_way(self, ball: Ball, sign: int) -> set[int]:
         """Returns the cells of the straight way behind a ball, or before it, up to the first mirror and a little on."""
-        room = 6 + self.world.free_flight(ball if sign > 0 else ball.reversed(), WAY_STEPS)
+        room = 6 + self.world.free_steps(ball if sign > 0 else ball.reversed(), WAY_STEPS)
         way = path_item(ball if sign > 0 else ball.flown(-room), [Leg(room, None)])
         return way.touched if way else set()
 
 
-def ball_words(job: Job) -> str:
+def ball_words(job: BallJob) -> str:
     """Says which ball is led."""
-    return "a constant ball" if job.wire == ALWAYS else f"the ball of wire {job.wire}"
+    return "a constant ball" if job.wire == ALWAYS_SIGNAL else f"the ball of wire {job.wire}"
 
 
-def linked(legs: list[Leg], more: list[Leg]) -> list[Leg]:
+def linked_legs(legs: list[Leg], more: list[Leg]) -> list[Leg]:
     """Returns legs and those that follow them: the last leg goes on as the first one of the others."""
     return [*legs[:-1], Leg(legs[-1].steps + more[0].steps, more[0].turn), *more[1:]]

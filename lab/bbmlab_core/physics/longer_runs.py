@@ -7,10 +7,10 @@ These are runs of the lab under all inputs at once, and nothing here is proved.
 
 from ..texts.circuits import Circuit, evaluate_all
 from ..texts.layouts import Cell, Layout
-from .simulation import Field, Table, cell_of, end_tables, key_of, start_tables
+from .simulation import LiveCells, Table, cell_of, end_tables, key_of, start_tables
 
 
-def flown(cell: Cell, time: int, steps: int) -> Cell:
+def flown_cell(cell: Cell, time: int, steps: int) -> Cell:
     """Returns where a lone cell of a time is some steps later, or earlier if `steps` is negative."""
     x, y = cell
     return x + (-steps if (x + time) % 2 else steps), y + (-steps if (y + time) % 2 else steps)
@@ -27,14 +27,14 @@ def undisturbed_steps(mirrors: set[Cell], live: dict[Cell, Table], time: int, fu
     # A field's coordinates are at least -2, and a move by even numbers keeps the blocks.
     room = tried + tried % 2
     still = {key_of((x + room, y + room)): full for x, y in mirrors}
-    field = Field(still | {key_of((x + room, y + room)): table for (x, y), table in balls})
+    field = LiveCells(still | {key_of((x + room, y + room)): table for (x, y), table in balls})
     # A step backwards turns the blocks of the step before, whose time has the parity of the next one.
     field.time = time if sign > 0 else time + 1
     for steps in range(1, tried + 1):
         field.step()
         wanted = dict(still)
         for cell, table in balls:
-            x, y = flown(cell, time, sign * steps)
+            x, y = flown_cell(cell, time, sign * steps)
             key = key_of((x + room, y + room))
             if wanted.get(key, 0) & table:
                 return steps - 1
@@ -53,7 +53,7 @@ def longer_runs(circuit: Circuit, layout: Layout) -> tuple[int | None, int | Non
     """
     values = evaluate_all(circuit)
     mirrors, tried = set(layout.mirror_cells()), max(layout.width, layout.height)
-    field = Field(start_tables(layout, values.tables, values.full))
+    field = LiveCells(start_tables(layout, values.tables, values.full))
     start = {cell_of(key): table for key, table in field.live.items()}
     before = undisturbed_steps(mirrors, start, 0, values.full, -1, tried)
     while field.time < layout.steps:

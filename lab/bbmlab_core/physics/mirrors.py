@@ -35,7 +35,7 @@ def moved_cell(part: Part, is_odd: int) -> Cell | None:
     return None
 
 
-def stays(part: Part) -> bool:
+def is_stable(part: Part) -> bool:
     """Whether a mirror by itself stays as it is under both partitions."""
     return moved_cell(part, 0) is None and moved_cell(part, 1) is None
 
@@ -48,7 +48,7 @@ def falling_mirrors(layout: Layout) -> list[FallingMirror]:
     found, cells = [], layout.mirror_cells()
     for part in layout.of_kind("mirror"):
         for step in (1, 2):
-            cell = None if stays(part) else unstable_cell(part, step - 1, cells)
+            cell = None if is_stable(part) else unstable_cell(part, step - 1, cells)
             if cell is not None:
                 found.append(FallingMirror(part, step, cell))
                 break
@@ -67,7 +67,7 @@ def unstable_cell(part: Part, is_odd: int, live: set[Cell]) -> Cell | None:
     return None
 
 
-def legal_places(part: Part, reach: int = 1) -> list[Part]:
+def stable_mirrors_near(part: Part, reach: int = 1) -> list[Part]:
     """Returns mirrors that stay, next to one that does not: moved by at most `reach` cells, or one cell larger or
     smaller; nearest first."""
     found = []
@@ -76,6 +76,6 @@ def legal_places(part: Part, reach: int = 1) -> list[Part]:
             for dy in range(-reach, reach + 1):
                 for dx in range(-reach, reach + 1):
                     other = Part("mirror", None, part.x + dx, part.y + dy, part.width + dw, part.height + dh, part.line)
-                    if min(other.x, other.y) >= 0 and min(other.width, other.height) >= 1 and stays(other):
+                    if min(other.x, other.y) >= 0 and min(other.width, other.height) >= 1 and is_stable(other):
                         found.append((abs(dw) + abs(dh), abs(dx) + abs(dy), other))
     return [other for _, _, other in sorted(found, key=lambda row: row[:2])]

@@ -16,36 +16,37 @@ from ..texts.layouts import Box, Cell, Layout
 Table = int
 # A cell as one number: y + 2 above the lowest 13 bits, x + 2 in them, which is enough for the largest side. So a
 # block's other cells are 1, ROW and DIAGONAL further.
-ROW = 8192
-DIAGONAL = ROW + 1
+ROW_STRIDE = 8192
+DIAGONAL_STRIDE = ROW_STRIDE + 1
 # After so many steps without a change of a module, both kinds of steps with what it hears were tried twice.
 QUIET_STEPS = 4
 
 
 def key_of(cell: Cell) -> int:
     """Returns the number of a cell with coordinates from -2 to 8189."""
-    return (cell[1] + 2) * ROW + cell[0] + 2
+    return (cell[1] + 2) * ROW_STRIDE + cell[0] + 2
 
 
 def cell_of(key: int) -> Cell:
     """Returns the cell of a number."""
-    return key % ROW - 2, key // ROW - 2
+    return key % ROW_STRIDE - 2, key // ROW_STRIDE - 2
 
 
 def block_of(key: int, is_odd: int) -> int:
     """Returns the number of the upper left cell of the block that has the cell."""
     if is_odd:
-        return ((key - DIAGONAL) & ~DIAGONAL) + DIAGONAL
-    return key & ~DIAGONAL
+        return ((key - DIAGONAL_STRIDE) & ~DIAGONAL_STRIDE) + DIAGONAL_STRIDE
+    return key & ~DIAGONAL_STRIDE
 
 
 def keys_of(box: Box) -> list[int]:
     """Returns the numbers of the cells of a box, row by row."""
     first = key_of((box.x, box.y))
-    return [key for row in range(first, first + box.height * ROW, ROW) for key in range(row, row + box.width)]
+    return [key for row in range(first, first + box.height * ROW_STRIDE, ROW_STRIDE)
+            for key in range(row, row + box.width)]
 
 
-class Field:
+class LiveCells:
     """The live cells of a pattern at one time after another."""
 
     def __init__(self, live: dict[int, Table]) -> None:
@@ -62,17 +63,17 @@ class Field:
         changed: set[int] = set()
         for corner in corners:
             a, b = live.get(corner, 0), live.get(corner + 1, 0)
-            c, d = live.get(corner + ROW, 0), live.get(corner + DIAGONAL, 0)
+            c, d = live.get(corner + ROW_STRIDE, 0), live.get(corner + DIAGONAL_STRIDE, 0)
             one, other = a | d, b | c
             # Where one diagonal is empty: a single ball crosses the block, and two change to the other diagonal.
             both, both_other = a & d & ~other, b & c & ~one
             flip, flip_other = one & ~other | both_other, other & ~one | both
             if flip:
-                live[corner], live[corner + DIAGONAL] = a ^ flip, d ^ flip
-                changed.update((corner, corner + DIAGONAL))
+                live[corner], live[corner + DIAGONAL_STRIDE] = a ^ flip, d ^ flip
+                changed.update((corner, corner + DIAGONAL_STRIDE))
             if flip_other:
-                live[corner + 1], live[corner + ROW] = b ^ flip_other, c ^ flip_other
-                changed.update((corner + 1, corner + ROW))
+                live[corner + 1], live[corner + ROW_STRIDE] = b ^ flip_other, c ^ flip_other
+                changed.update((corner + 1, corner + ROW_STRIDE))
         for key in changed:
             if not live.get(key):
                 live.pop(key, None)
@@ -96,7 +97,7 @@ class WholeRun:
 
     def __init__(self, layout: Layout, tables: dict[str, Table], full: Table) -> None:
         self.layout, self.full = layout, full
-        self.field = Field(start_tables(layout, tables, full))
+        self.field = LiveCells(start_tables(layout, tables, full))
         # The first step that leaves the rectangle, under which assignments, and a cell outside.
         self.left: tuple[int, Table, Cell] | None = None
 
@@ -158,13 +159,13 @@ def lowest_bit(table: Table) -> int:
 
 
 @dataclass
-class Borders:
+class BorderTables:
     """What is said of cells at odd times: tables for all times, and tables by time."""
 
     always: dict[int, Table] = field(default_factory=dict)
     timed: dict[int, dict[int, Table]] = field(default_factory=dict)
 
-    def at(self, time: int) -> dict[int, Table]:
+    def tables_at(self, time: int) -> dict[int, Table]:
         """Returns the tables of the cells that are named at an odd time."""
         timed = self.timed.get(time)
         return {**self.always, **timed} if timed else self.always
@@ -181,27 +182,27 @@ class ModuleRun:
         for table in self.values.rows.values():
             self.full &= table
         self.tables = {name: table & self.full for name, table in self.values.tables.items()} | {"1": self.full}
-        self.field = Field(start_tables(self.layout, self.tables, self.full))
+        self.field = LiveCells(start_tables(self.layout, self.tables, self.full))
         self.inside = set(keys_of(module.box))
-        self.edges = self.borders(module.edges)
-        self.halos = self.borders(certificate.halo_lines(module))
+        self.edges = self.border_tables(module.edges)
+        self.halos = self.border_tables(certificate.halo_lines(module))
         self.ring = {key_of(cell) for cell in module.box.ring()}
         self.stops: dict[int, list[tuple[Cell, str]]] = {}
         for stop in module.stops:
             self.stops.setdefault(stop.time, []).append((stop.cell, stop.name))
         self.heard: list[int] = []
 
-    def restrict(self, assignments: Table) -> None:
+    def restrict_assignments(self, assignments: Table) -> None:
         """Leaves only some assignments. It is called before the first step."""
         self.full &= assignments
         self.tables = {name: table & self.full for name, table in self.tables.items()}
-        self.field = Field(start_tables(self.layout, self.tables, self.full))
-        self.edges = self.borders(self.module.edges)
-        self.halos = self.borders(self.certificate.halo_lines(self.module))
+        self.field = LiveCells(start_tables(self.layout, self.tables, self.full))
+        self.edges = self.border_tables(self.module.edges)
+        self.halos = self.border_tables(self.certificate.halo_lines(self.module))
 
-    def borders(self, lines: Iterable[Border]) -> Borders:
+    def border_tables(self, lines: Iterable[Border]) -> BorderTables:
         """Returns what edge or halo lines say, by the tables of the wires that are local here."""
-        said = Borders()
+        said = BorderTables()
         for line in lines:
             where = said.always if line.time is None else said.timed.setdefault(line.time, {})
             where[key_of(line.cell)] = self.tables.get(line.signal, 0)
@@ -217,7 +218,7 @@ class ModuleRun:
         if self.time % 2 == 0:
             self.field.step()
             return
-        said = {key: table for key, table in self.halos.at(self.time).items() if table}
+        said = {key: table for key, table in self.halos.tables_at(self.time).items() if table}
         self.field.live.update(said)
         self.field.step([*said, *self.heard])
         self.heard = list(said)
@@ -234,7 +235,7 @@ class ModuleRun:
         """Yields the faults at the present time: the kind's rank, the cell, and under which assignments."""
         live, last = self.field.live, self.time == self.layout.steps
         if self.time % 2 and not last:
-            said = self.edges.at(self.time)
+            said = self.edges.tables_at(self.time)
             for key in said.keys() | live.keys() & self.ring:
                 table = live.get(key, 0) ^ said.get(key, 0)
                 if table:

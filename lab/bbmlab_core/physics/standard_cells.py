@@ -10,14 +10,14 @@ from pathlib import Path
 from ..host.terminal import LabError
 from ..texts.circuits import Circuit
 from ..texts.documents import Document, read_document
-from ..texts.layouts import Cell, Layout, row_order
+from ..texts.layouts import Cell, Layout, row_order_key
 from .longer_runs import longer_runs
 
 HERE = Path(__file__).resolve().parent.parent
 # The cells of a clone or of `make install`, else those of a Python package.
-FOLDER = HERE.parent / "cells" if (HERE.parent / "cells").is_dir() else HERE / "cells"
+CELLS_FOLDER = HERE.parent / "cells" if (HERE.parent / "cells").is_dir() else HERE / "cells"
 # What each cell does, in the order in which they are listed.
-ABOUT = {
+CELL_DESCRIPTIONS = {
     "turn_left": "turns a ball to its left by one mirror",
     "turn_right": "turns a ball to its right by one mirror",
     "turn_back": "sends a ball back on its own track by two mirrors",
@@ -78,11 +78,11 @@ class StandardCell:
 
     def text(self) -> str:
         """Returns what `bbmlab cells` lists of the cell."""
-        layout, circuit = parts_of(self.document)
+        layout, circuit = layout_and_circuit(self.document)
         gates = ", ".join(gate.kind for gate in circuit.gates) or "none"
         width, height = self.mirror_box
         mirrors = f"mirrors within {width} by {height} cells" if width else "no mirrors"
-        lines = [f"{self.name} {ABOUT.get(self.name, 'has no description')}",
+        lines = [f"{self.name} {CELL_DESCRIPTIONS.get(self.name, 'has no description')}",
                  f"  layout of {layout.width} by {layout.height} cells, {layout.steps} steps, {mirrors}",
                  f"  gates: {gates}; constants: {self.constants}; garbage: {self.garbage}",
                  f"  {longer_runs_text(circuit, layout)}"]
@@ -109,7 +109,7 @@ def parity_word(number: int) -> str:
     return "odd" if number % 2 else "even"
 
 
-def parts_of(document: Document) -> tuple[Layout, Circuit]:
+def layout_and_circuit(document: Document) -> tuple[Layout, Circuit]:
     """Returns the layout and the circuit of a bundle. Raises LabError if it has none."""
     if document.refusal or document.layout is None or document.circuit is None:
         raise LabError("the text of the cell is refused", 1)
@@ -126,7 +126,7 @@ def port_of(role: str, name: str, time: int, cells: list[Cell]) -> CellPort:
 
 def ports_of(document: Document) -> list[CellPort]:
     """Returns the ports of a bundle: each wire with stops, at its last stop if it is an input, else at its first."""
-    _, circuit = parts_of(document)
+    _, circuit = layout_and_circuit(document)
     stops: dict[str, dict[int, list[Cell]]] = {}
     for module in document.certificate.modules if document.certificate else []:
         for stop in module.stops:
@@ -137,7 +137,7 @@ def ports_of(document: Document) -> list[CellPort]:
                 if name in circuit.spills else "inner")
         times = sorted(stops[name])
         for time in times if role == "in" and name in circuit.outputs else [times[-1] if role == "in" else times[0]]:
-            ports.append(port_of(role, name, time, sorted(stops[name][time], key=row_order)))
+            ports.append(port_of(role, name, time, sorted(stops[name][time], key=row_order_key)))
             role = "out"
     return ports
 
@@ -145,7 +145,7 @@ def ports_of(document: Document) -> list[CellPort]:
 def standard_cell(name: str, text: str) -> StandardCell:
     """Returns a cell from its bundle."""
     document = read_document(text)
-    layout, circuit = parts_of(document)
+    layout, circuit = layout_and_circuit(document)
     mirrors = layout.mirror_cells()
     columns, rows = [x for x, _ in mirrors], [y for _, y in mirrors]
     box = (max(columns) - min(columns) + 1, max(rows) - min(rows) + 1) if mirrors else (0, 0)
@@ -154,15 +154,15 @@ def standard_cell(name: str, text: str) -> StandardCell:
 
 def cell_path(name: str) -> Path:
     """Returns the file of a cell. Raises LabError if there is no cell of this name."""
-    path = FOLDER / f"{name}.txt"
-    if name not in ABOUT or not path.exists():
+    path = CELLS_FOLDER / f"{name}.txt"
+    if name not in CELL_DESCRIPTIONS or not path.exists():
         raise LabError(f"there is no cell `{name}`; the cells are {', '.join(cell_names())}", 2)
     return path
 
 
 def cell_names() -> list[str]:
     """Returns the names of the cells in the order of the list."""
-    return [name for name in ABOUT if (FOLDER / f"{name}.txt").exists()]
+    return [name for name in CELL_DESCRIPTIONS if (CELLS_FOLDER / f"{name}.txt").exists()]
 
 
 def read_cell(name: str) -> StandardCell:

@@ -7,7 +7,7 @@ from typing import Any
 from ..host.terminal import LabError
 from ..texts.cell_pictures import text_picture
 from ..texts.documents import Document
-from ..texts.layouts import Cell, Layout, row_order
+from ..texts.layouts import Cell, Layout, row_order_key
 from ..texts.reports import RUN_ANSWER, ReportError
 from .simulation import ModuleRun, Table, cell_of, key_of, run_layout
 
@@ -58,7 +58,7 @@ class MirrorWatch:
         self.balls = live.keys() - self.mirrors
         self.gone = self.mirrors - live.keys()
 
-    def follow(self, changed: set[int]) -> None:
+    def note_changes(self, changed: set[int]) -> None:
         """Takes the cells that changed in a step."""
         for key in changed:
             differing = self.gone if key in self.mirrors else self.balls
@@ -103,7 +103,7 @@ def trace_layout(layout: Layout, on: list[str], first: int, last: int, is_whole:
     watch = MirrorWatch(run.field.live, trace.mirrors)
     for time in range((layout.steps if is_whole else min(last, layout.steps)) + 1):
         if time:
-            watch.follow(run.field.changed)
+            watch.note_changes(run.field.changed)
         if first <= time <= last:
             trace.moments.append(watch.moment())
         if time == layout.steps:
@@ -141,7 +141,7 @@ def trace_module(document: Document, number: int, assignment: int, first: int, l
     for time in range(min(last, layout.steps) + 1):
         if time >= first:
             state = run.field.state(assignment)
-            said = run.halos.at(time) if time % 2 and time < layout.steps else {}
+            said = run.halos.tables_at(time) if time % 2 and time < layout.steps else {}
             heard = {cell_of(key) for key, table in said.items() if table >> assignment & 1}
             trace.moments.append(Moment(state - mirrors, mirrors - state, heard))
         if time < layout.steps:
@@ -149,17 +149,17 @@ def trace_module(document: Document, number: int, assignment: int, first: int, l
     return trace
 
 
-def cells_text(cells: set[Cell]) -> list[list[int]]:
+def sorted_cells(cells: set[Cell]) -> list[list[int]]:
     """Returns cells in order of y and then x."""
-    return [list(cell) for cell in sorted(cells, key=row_order)]
+    return [list(cell) for cell in sorted(cells, key=row_order_key)]
 
 
 def as_json(trace: Trace, mirrors: set[Cell]) -> str:
     """Writes a trace as one JSON document."""
     document: dict[str, Any] = {"format": "bbmlab trace 1", "title": trace.title, "box": list(trace.box),
                                 "left": trace.left,
-                                "mirrors": cells_text(mirrors)}
-    states = (json.dumps({"time": time, "live": cells_text(trace.live(moment)), "heard": cells_text(moment.heard)})
+                                "mirrors": sorted_cells(mirrors)}
+    states = (json.dumps({"time": time, "live": sorted_cells(trace.live(moment)), "heard": sorted_cells(moment.heard)})
               for time, moment in enumerate(trace.moments, trace.first))
     return f'{json.dumps(document)[:-1]}, "states": [{", ".join(states)}]}}\n'
 
@@ -168,8 +168,8 @@ def as_text(trace: Trace, mirrors: set[Cell], pictures: bool) -> str:
     """Writes a trace: a line for each time with the live cells that are no mirror's, or pictures."""
     lines = [f"# {trace.title}"]
     for time, moment in enumerate(trace.moments, trace.first):
-        shown = " ".join(f"{x},{y}" for x, y in sorted(moment.balls, key=row_order)) or "none"
-        missing = (f"; dead mirror cells: {' '.join(f'{x},{y}' for x, y in sorted(moment.gone, key=row_order))}"
+        shown = " ".join(f"{x},{y}" for x, y in sorted(moment.balls, key=row_order_key)) or "none"
+        missing = (f"; dead mirror cells: {' '.join(f'{x},{y}' for x, y in sorted(moment.gone, key=row_order_key))}"
                    if moment.gone else "")
         lines.append(f"{time:>5}: {shown}{missing}")
         if pictures:
@@ -199,7 +199,7 @@ def compare_with_run(trace: Trace, output: str) -> str | None:
     return f"the program's run differs at {sorted(differ)[0]}" if differ else None
 
 
-def run_text(layout_lines: list[str], on: list[str]) -> bytes:
+def text_for_run(layout_lines: list[str], on: list[str]) -> bytes:
     """Returns the text that the program's `run` reads."""
     return ("\n".join([*layout_lines, "assign", *(f"on {name}" for name in on), "end"]) + "\n").encode("latin-1")
 

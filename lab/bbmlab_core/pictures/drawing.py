@@ -10,18 +10,18 @@ from ..texts.circuits import Circuit, evaluate_all, evaluate_samples, sampled_ta
 from ..texts.documents import Document
 from ..texts.gates import input_tables
 from ..texts.layouts import Box, Cell, Layout, Part
-from .label_places import Name, Rect, leader, place_names
-from .picture_parts import OTHERS, chevrons, pieces_within
+from .label_places import NameToPlace, Rect, leader_line, place_names
+from .picture_parts import OTHER_WIRES_LABEL, chevrons, pieces_within
 from .ways import Piece, directed_ways, joined_pieces, ways_of
 
-CELL = 12
+CELL_PX = 12
 MARGIN = 30
 # The middle of the first cell.
-MIDDLE = MARGIN + CELL // 2
+MIDDLE_OFFSET = MARGIN + CELL_PX // 2
 NAME_SIZE = 8
 # Up to this many inputs all choices are tried, and else so many samples of them.
 MAX_INPUTS = 12
-SAMPLES = 256
+SAMPLE_COUNT = 256
 # Larger layouts get larger letters and wider ways, so that they can be read at the width of a page. Above `LARGE_SIDE`
 # ways stay as wide as they are at that side in a picture of one size: balls of the router keep four cells apart.
 PLAIN_SIDE = 64
@@ -40,7 +40,7 @@ MAX_NUMBERED = 64
 COLOURS = ["#0072b2", "#d55e00", "#009e73", "#cc79a7", "#e69f00", "#56b4e9", "#8c510a", "#5e3c99"]
 DARK_COLOURS = ["#4aa8e0", "#f0803c", "#2cc79a", "#e3a1c4", "#f5b942", "#8fd0f5", "#c98f4e", "#a98be0"]
 DASHES = ["", "6 2", "2 2", "8 2 2 2", "4 4", "1 3", "10 3", "6 2 1 2 1 2"]
-SEVERAL, FAINT = 8, 9
+SEVERAL_COLOUR, FAINT_COLOUR = 8, 9
 
 STYLE = """text{font:7px sans-serif;fill:#222}.name{font-weight:bold;font-size:8px;stroke:#f7f7f4;stroke-width:2px;
 stroke-linejoin:round;paint-order:stroke}.leader{stroke:#222;stroke-width:.7}.in{fill:none;stroke:#222}
@@ -78,14 +78,14 @@ class Drawing:
     ball: float = 0.0
     has_arrows: bool = False
 
-    def view_of(self, layout: Layout) -> Box:
+    def shown_box(self, layout: Layout) -> Box:
         """Returns the part of a layout that is shown."""
         return self.view or Box(0, 0, layout.width, layout.height)
 
 
-def centre(cell: Cell) -> tuple[float, float]:
+def cell_centre(cell: Cell) -> tuple[float, float]:
     """Returns the middle of a cell in the picture."""
-    return MARGIN + cell[0] * CELL + CELL / 2, MARGIN + cell[1] * CELL + CELL / 2
+    return MARGIN + cell[0] * CELL_PX + CELL_PX / 2, MARGIN + cell[1] * CELL_PX + CELL_PX / 2
 
 
 def short(number: float) -> str:
@@ -93,10 +93,10 @@ def short(number: float) -> str:
     return f"{number:.1f}".rstrip("0").rstrip(".")
 
 
-def rectangle(kind: str, x: int, y: int, width: int, height: int) -> str:
+def rectangle_element(kind: str, x: int, y: int, width: int, height: int) -> str:
     """Returns a rectangle of cells."""
-    return (f'<rect class="{kind}" x="{MARGIN + x * CELL}" y="{MARGIN + y * CELL}" width="{width * CELL}" '
-            f'height="{height * CELL}"/>')
+    return (f'<rect class="{kind}" x="{MARGIN + x * CELL_PX}" y="{MARGIN + y * CELL_PX}" width="{width * CELL_PX}" '
+            f'height="{height * CELL_PX}"/>')
 
 
 def number_step(size: int) -> int:
@@ -109,19 +109,19 @@ def multiples(first: int, count: int, step: int) -> range:
     return range(-(-first // step) * step, first + count, step)
 
 
-def plane(view: Box) -> list[str]:
+def plane_parts(view: Box) -> list[str]:
     """Returns the background with the lines of even blocks and the numbers of columns and rows."""
-    parts = [rectangle("plane", view.x, view.y, view.width, view.height)]
-    left, top = MARGIN + view.x * CELL, MARGIN + view.y * CELL
+    parts = [rectangle_element("plane", view.x, view.y, view.width, view.height)]
+    left, top = MARGIN + view.x * CELL_PX, MARGIN + view.y * CELL_PX
     if max(view.width, view.height) <= 128:
-        right, bottom = left + view.width * CELL, top + view.height * CELL
-        lines = [f"M{MARGIN + x * CELL} {top}V{bottom}" for x in multiples(view.x, view.width + 1, 2)]
-        lines += [f"M{left} {MARGIN + y * CELL}H{right}" for y in multiples(view.y, view.height + 1, 2)]
+        right, bottom = left + view.width * CELL_PX, top + view.height * CELL_PX
+        lines = [f"M{MARGIN + x * CELL_PX} {top}V{bottom}" for x in multiples(view.x, view.width + 1, 2)]
+        lines += [f"M{left} {MARGIN + y * CELL_PX}H{right}" for y in multiples(view.y, view.height + 1, 2)]
         parts.append(f'<path class="line" d="{"".join(lines)}"/>')
     for x in multiples(view.x, view.width, number_step(view.width)):
-        parts.append(f'<text x="{short(centre((x, 0))[0])}" y="{top - 6}" text-anchor="middle">{x}</text>')
+        parts.append(f'<text x="{short(cell_centre((x, 0))[0])}" y="{top - 6}" text-anchor="middle">{x}</text>')
     for y in multiples(view.y, view.height, number_step(view.height)):
-        parts.append(f'<text x="{left - 6}" y="{short(centre((0, y))[1] + 2.5)}" text-anchor="end">{y}</text>')
+        parts.append(f'<text x="{left - 6}" y="{short(cell_centre((0, y))[1] + 2.5)}" text-anchor="end">{y}</text>')
     return parts
 
 
@@ -137,21 +137,21 @@ def labelled_cells(layout: Layout) -> dict[tuple[Cell, str], list[str]]:
     labels: dict[tuple[Cell, str], list[str]] = {}
     for (kind, name), cells in ports.items():
         if len(cells) == 2 and all(abs(one - other) == 2 for one, other in zip(*cells)):
-            way = direction(cells[0], 0 if kind == "in" else layout.steps)
+            way = flight_direction(cells[0], 0 if kind == "in" else layout.steps)
             cells = [(max if kind == "out" else min)(cells, key=lambda cell: cell[0] * way[0] + cell[1] * way[1])]
         for cell in cells:
             labels.setdefault((cell, kind), []).append(name)
     return labels
 
 
-def direction(cell: Cell, time: int) -> tuple[int, int]:
+def flight_direction(cell: Cell, time: int) -> tuple[int, int]:
     """Returns the direction in which a lone cell moves in the step from a time: dx and dy, each 1 or -1."""
     return -1 if (cell[0] + time) % 2 else 1, -1 if (cell[1] + time) % 2 else 1
 
 
 def cell_rect(x: int, y: int, width: int = 1, height: int = 1) -> Rect:
     """Returns the place of some cells in the picture."""
-    return Rect(MARGIN + x * CELL, MARGIN + y * CELL, width * CELL, height * CELL)
+    return Rect(MARGIN + x * CELL_PX, MARGIN + y * CELL_PX, width * CELL_PX, height * CELL_PX)
 
 
 def port_labels(layout: Layout, view: Box, scale: float) -> list[str]:
@@ -165,7 +165,7 @@ def port_labels(layout: Layout, view: Box, scale: float) -> list[str]:
     if len(labels) > MAX_NAMES:
         return []
     # Bold letters are about 0.64 of their size wide, and an arrow is as wide as it is high.
-    names = [Name(cell, size * (0.64 * len(mark) + 0.5), size, kind == "in") for cell, kind, mark in labels]
+    names = [NameToPlace(cell, size * (0.64 * len(mark) + 0.5), size, kind == "in") for cell, kind, mark in labels]
     named = {(name.cell.x, name.cell.y) for name in names}
     # The second cell of a ball of two cells has no name of its own, and is a port too.
     ports = [cell_rect(*part.cell) for part in layout.parts if part.kind in ("in", "out")]
@@ -173,10 +173,10 @@ def port_labels(layout: Layout, view: Box, scale: float) -> list[str]:
     signs = [cell_rect(*part.cell) for part in layout.parts if part.kind in ("waste", "ball")]
     walls = [cell_rect(part.x, part.y, part.width, part.height) for part in layout.of_kind("mirror")]
     room, lines, parts = MARGIN * scale, [], []
-    bounds = Rect(MARGIN + view.x * CELL - room, MARGIN + view.y * CELL - room, view.width * CELL + 2 * room,
-                  view.height * CELL + 2 * room)
+    bounds = Rect(MARGIN + view.x * CELL_PX - room, MARGIN + view.y * CELL_PX - room, view.width * CELL_PX + 2 * room,
+                  view.height * CELL_PX + 2 * room)
     for (cell, _, mark), place in zip(labels, place_names(names, signs + walls, bare, bounds)):
-        line = leader(place, cell)
+        line = leader_line(place, cell)
         if line:
             (x, y), (u, v) = line
             lines.append(f'<path class="leader" d="M{short(x)} {short(y)}L{short(u)} {short(v)}"/>')
@@ -189,9 +189,9 @@ def port_labels(layout: Layout, view: Box, scale: float) -> list[str]:
 def mirror_parts(mirrors: list[Part]) -> list[str]:
     """Returns mirrors: each by itself, or one path for very many."""
     if len(mirrors) <= MAX_MIRRORS:
-        return [rectangle("mirror", part.x, part.y, part.width, part.height) for part in mirrors]
-    boxes = (f"M{MARGIN + part.x * CELL} "
-             f"{MARGIN + part.y * CELL}h{part.width * CELL}v{part.height * CELL}h-{part.width * CELL}z"
+        return [rectangle_element("mirror", part.x, part.y, part.width, part.height) for part in mirrors]
+    boxes = (f"M{MARGIN + part.x * CELL_PX} "
+             f"{MARGIN + part.y * CELL_PX}h{part.width * CELL_PX}v{part.height * CELL_PX}h-{part.width * CELL_PX}z"
              for part in mirrors)
     return [f'<path class="mirror" d="{"".join(boxes)}"/>']
 
@@ -199,9 +199,9 @@ def mirror_parts(mirrors: list[Part]) -> list[str]:
 def layout_parts(layout: Layout) -> list[str]:
     """Returns mirrors, ports and waste cells."""
     parts = mirror_parts(layout.of_kind("mirror"))
-    parts += [rectangle("out", part.x, part.y, 1, 1) for part in layout.of_kind("out")]
-    parts += [f'<rect class="in" x="{MARGIN + part.x * CELL + 1.5}" y="{MARGIN + part.y * CELL + 1.5}" '
-              f'width="{CELL - 3}" height="{CELL - 3}"/>'
+    parts += [rectangle_element("out", part.x, part.y, 1, 1) for part in layout.of_kind("out")]
+    parts += [f'<rect class="in" x="{MARGIN + part.x * CELL_PX + 1.5}" y="{MARGIN + part.y * CELL_PX + 1.5}" '
+              f'width="{CELL_PX - 3}" height="{CELL_PX - 3}"/>'
               for part in layout.of_kind("in")]
     parts += [waste_sign(part) for part in layout.of_kind("waste")]
     return parts
@@ -209,8 +209,8 @@ def layout_parts(layout: Layout) -> list[str]:
 
 def waste_sign(part: Part) -> str:
     """Returns a cross in a waste cell."""
-    x, y = MARGIN + part.x * CELL + 2, MARGIN + part.y * CELL + 2
-    side = CELL - 4
+    x, y = MARGIN + part.x * CELL_PX + 2, MARGIN + part.y * CELL_PX + 2
+    side = CELL_PX - 4
     return f'<path class="waste" d="M{x} {y}l{side} {side}m0-{side}l-{side} {side}"/>'
 
 
@@ -219,17 +219,17 @@ def module_parts(modules: Sequence[Module]) -> list[str]:
     is_numbered, parts = len(modules) <= MAX_NUMBERED, []
     for module in modules:
         box = module.box
-        parts.append(rectangle("box" if is_numbered else "box faint", box.x, box.y, box.width, box.height))
+        parts.append(rectangle_element("box" if is_numbered else "box faint", box.x, box.y, box.width, box.height))
         if is_numbered:
-            parts.append(f'<text class="number" x="{MARGIN + box.x * CELL + 3}" '
-                         f'y="{MARGIN + box.y * CELL + 9}">{module.number}</text>')
+            parts.append(f'<text class="number" x="{MARGIN + box.x * CELL_PX + 3}" '
+                         f'y="{MARGIN + box.y * CELL_PX + 9}">{module.number}</text>')
     return parts
 
 
 def gate_parts(gates: list[tuple[Box, list[str]]]) -> list[str]:
     """Returns the boxes of modules that use gates, with what is said of them."""
     return ['<g><title>a module that uses '
-            f'{escape(", ".join(names))}</title>{rectangle("gate", box.x, box.y, box.width, box.height)}</g>'
+            f'{escape(", ".join(names))}</title>{rectangle_element("gate", box.x, box.y, box.width, box.height)}</g>'
             for box, names in gates]
 
 
@@ -238,8 +238,8 @@ def gate_names(gates: list[tuple[Box, list[str]]], scale: float) -> list[str]:
     parts, largest = [], NAME_SIZE * scale
     for box, names in gates:
         shown = names[0] + (f" +{len(names) - 1}" if len(names) > 1 else "")
-        size = min(largest, box.width * CELL / (0.62 * len(shown)), box.height * CELL)
-        x, y = MARGIN + (box.x + box.width / 2) * CELL, MARGIN + (box.y + box.height / 2) * CELL + size / 3
+        size = min(largest, box.width * CELL_PX / (0.62 * len(shown)), box.height * CELL_PX)
+        x, y = MARGIN + (box.x + box.width / 2) * CELL_PX, MARGIN + (box.y + box.height / 2) * CELL_PX + size / 3
         if size >= LEAST_NAME * largest:
             parts.append(f'<text class="gate-name" x="{short(x)}" y="{short(y)}" '
                          f'style="font-size:{short(size)}px">{escape(shown)}</text>')
@@ -250,26 +250,26 @@ def ball_parts(layout: Layout, live: set[Cell], least: float) -> list[str]:
     """Returns the live cells that are no mirror's as discs of a least size in cells, and dead cells of mirrors as
     holes."""
     mirrors = layout.mirror_cells()
-    parts, radius = [], CELL * max(0.33, least / 2)
+    parts, radius = [], CELL_PX * max(0.33, least / 2)
     for cell in sorted(live - mirrors):
-        x, y = centre(cell)
+        x, y = cell_centre(cell)
         parts.append(f'<circle class="ball" cx="{short(x)}" cy="{short(y)}" r="{radius:.1f}"/>')
     if live:
-        parts += [rectangle("plane", *cell, 1, 1) for cell in sorted(mirrors - live)]
+        parts += [rectangle_element("plane", *cell, 1, 1) for cell in sorted(mirrors - live)]
     return parts
 
 
 def wire_style(wires: list[str]) -> dict[str, tuple[int, str]]:
     """Returns the number of a colour, and a dash, for each wire."""
     styles = {wire: (index % 8, DASHES[index // 8 % 8]) for index,
-              wire in enumerate(wire for wire in wires if wire not in ("", OTHERS))}
-    return styles | {"": (SEVERAL, "1 2"), OTHERS: (FAINT, "")}
+              wire in enumerate(wire for wire in wires if wire not in ("", OTHER_WIRES_LABEL))}
+    return styles | {"": (SEVERAL_COLOUR, "1 2"), OTHER_WIRES_LABEL: (FAINT_COLOUR, "")}
 
 
 def way_order(drawing: Drawing, wires: list[str]) -> list[str]:
     """Returns the wires that have a way: first those that are faint, then others in their order, then the constants,
     and then what is no wire's."""
-    return [wire for wire in [OTHERS, *wires, "1", ""] if wire in drawing.ways]
+    return [wire for wire in [OTHER_WIRES_LABEL, *wires, "1", ""] if wire in drawing.ways]
 
 
 def label_of(drawing: Drawing, wire: str) -> str:
@@ -287,15 +287,18 @@ def way_parts(drawing: Drawing, wires: list[str], widening: float) -> list[str]:
         # seen itself.
         thinnest = 1.6 if widening == 1 else 2.6
         width = (5 - (5 - thinnest) * index / max(1, len(order) - 1)) * widening
-        path = "".join([f"M{MIDDLE + CELL * x} {MIDDLE + CELL * y}L{MIDDLE + CELL * u} {MIDDLE + CELL * v}"
+        path = "".join([f"M{MIDDLE_OFFSET + CELL_PX * x} {MIDDLE_OFFSET + CELL_PX * y}"
+                        f"L{MIDDLE_OFFSET + CELL_PX * u} {MIDDLE_OFFSET + CELL_PX * v}"
                         for (x, y), (u, v) in joined_pieces(drawing.ways[wire])])
         dashes = f' stroke-dasharray="{" ".join(short(int(part) * widening) for part in dash.split())}"' if dash else ""
         title = escape(label_of(drawing, wire))
         parts.append(f'<path class="way w{colour}" style="stroke-width:{short(width)}"{dashes} '
                      f'd="{path}"><title>{title}</title></path>')
-        heads = chevrons(drawing.ways[wire], 3 * width / CELL) if drawing.has_arrows and wire != OTHERS else []
+        has_arrows = drawing.has_arrows and wire != OTHER_WIRES_LABEL
+        heads = chevrons(drawing.ways[wire], 3 * width / CELL_PX) if has_arrows else []
         if heads:
-            path = "".join("M" + "L".join(f"{short(MARGIN + x * CELL)} {short(MARGIN + y * CELL)}" for x, y in head)
+            path = "".join("M" + "L".join(f"{short(MARGIN + x * CELL_PX)} {short(MARGIN + y * CELL_PX)}" for x, y
+                                          in head)
                            for head in heads)
             parts.append(f'<path class="way w{colour}" style="stroke-width:{short(width)}" d="{path}"/>')
     return parts
@@ -328,18 +331,18 @@ def clip_to_view(layout: Layout, drawing: Drawing) -> Layout:
     drawing.ways = {wire: found for wire, pieces in drawing.ways.items() if (found := pieces_within(pieces, view))}
     drawing.live = {cell for cell in drawing.live if view.has(cell)}
     drawing.faults = [fault for fault in drawing.faults if view.has(fault[0])]
-    drawing.modules = [module for module in drawing.modules if overlaps(module.box, view)]
-    drawing.gates = [gate for gate in drawing.gates if overlaps(gate[0], view)]
+    drawing.modules = [module for module in drawing.modules if has_overlap(module.box, view)]
+    drawing.gates = [gate for gate in drawing.gates if has_overlap(gate[0], view)]
     return layout.clipped(view)
 
 
-def overlaps(one: Box, other: Box) -> bool:
+def has_overlap(one: Box, other: Box) -> bool:
     """Returns whether two boxes share a cell."""
     return (one.x < other.x + other.width and other.x < one.x + one.width and one.y < other.y + other.height
             and other.y < one.y + one.height)
 
 
-def more_style(drawing: Drawing, scale: float) -> str:
+def extra_style(drawing: Drawing, scale: float) -> str:
     """Returns the style that only some pictures need: of larger letters, of gates and of faint ways."""
     letters = (f"g.plan text{{font-size:{short(7 * scale)}px}}g.plan .name{{font-size:{short(8 * scale)}px}}"
                if scale > 1 else "")
@@ -347,8 +350,9 @@ def more_style(drawing: Drawing, scale: float) -> str:
         letters += (".gate{fill:#7a3db8;fill-opacity:.18}.gate-name{fill:#5c2a92;text-anchor:middle;font-weight:bold;"
                     f"stroke:#f7f7f4;stroke-width:{short(2 * scale)}px;stroke-linejoin:round;paint-order:stroke}}"
                     "@media(prefers-color-scheme:dark){.gate-name{fill:#d3b3ff;stroke:#1e2126}}")
-    if OTHERS in drawing.ways:
-        letters += f".w{FAINT}{{stroke:#cfcfc9}}@media(prefers-color-scheme:dark){{.w{FAINT}{{stroke:#3d424b}}}}"
+    if OTHER_WIRES_LABEL in drawing.ways:
+        letters += (f".w{FAINT_COLOUR}{{stroke:#cfcfc9}}"
+                    f"@media(prefers-color-scheme:dark){{.w{FAINT_COLOUR}{{stroke:#3d424b}}}}")
     return letters
 
 
@@ -357,23 +361,23 @@ def svg(layout: Layout, drawing: Drawing, wires: list[str]) -> str:
 
     Above `PLAIN_SIDE` cells a side, letters and margins grow with the part of the layout that is shown.
     """
-    view, layout = drawing.view_of(layout), clip_to_view(layout, drawing)
+    view, layout = drawing.shown_box(layout), clip_to_view(layout, drawing)
     side = max(view.width, view.height)
     scale = max(1.0, side / PLAIN_SIDE)
     widening, margin = min(scale, MAX_WIDENING) * max(1.0, side / LARGE_SIDE), MARGIN * (scale - 1)
-    width, bottom = 2 * MARGIN * scale + view.width * CELL, MARGIN * scale + view.height * CELL
+    width, bottom = 2 * MARGIN * scale + view.width * CELL_PX, MARGIN * scale + view.height * CELL_PX
     width = max(width, 2 * MARGIN + 256 if drawing.ways else 0)
     keys, key_height = legend(drawing, wires, 24, width / scale)
     height = bottom + (34 + key_height) * scale
     ball = drawing.ball or (side * LARGE_BALL if side > LARGE_SIDE else 0.0)
-    parts = [*plane(view), *layout_parts(layout), *module_parts(drawing.modules), *gate_parts(drawing.gates),
+    parts = [*plane_parts(view), *layout_parts(layout), *module_parts(drawing.modules), *gate_parts(drawing.gates),
              *way_parts(drawing, wires, widening), *gate_names(drawing.gates, scale),
              *ball_parts(layout, drawing.live, ball), *port_labels(layout, view, scale)]
     for cell, about in drawing.faults:
-        x, y = centre(cell)
+        x, y = cell_centre(cell)
         parts.append(f'<circle class="fault" cx="{short(x)}" cy="{short(y)}" '
-                     f'r="{CELL * max(0.75, ball):.1f}"><title>{escape(about)}</title></circle>')
-    style = f"{STYLE}{LIGHT_WAYS}@media(prefers-color-scheme:dark){{{DARK_WAYS}}}{more_style(drawing, scale)}"
+                     f'r="{CELL_PX * max(0.75, ball):.1f}"><title>{escape(about)}</title></circle>')
+    style = f"{STYLE}{LIGHT_WAYS}@media(prefers-color-scheme:dark){{{DARK_WAYS}}}{extra_style(drawing, scale)}"
     count = len(labelled_cells(layout))
     words = escape(drawing.title + (f"; the names of {count} ports are left out" if count > MAX_NAMES else ""))
     title = f'<g transform="scale({short(scale)})"><text x="{MARGIN}" y="12">{words}</text></g>'
@@ -383,7 +387,8 @@ def svg(layout: Layout, drawing: Drawing, wires: list[str]) -> str:
             f'height="{short(height)}" role="img">'
             f"<title>{words}</title>\n<style>{style}</style>\n"
             f'<rect class="back" width="{short(width)}" height="{short(height)}"/>\n'
-            f'<g class="plan" transform="translate({short(margin - view.x * CELL)} {short(margin - view.y * CELL)})">\n'
+            f'<g class="plan" transform="translate({short(margin - view.x * CELL_PX)} '
+            f'{short(margin - view.y * CELL_PX)})">\n'
             + "\n".join(parts)
             + f"\n</g>\n{title}\n{below}\n</svg>\n")
 
@@ -398,9 +403,9 @@ def wire_tables(document: Document, on: list[str]) -> tuple[dict[str, Table], Ta
     inputs = circuit.inputs if circuit else list(dict.fromkeys(part.name or "" for part in layout.of_kind("in")))
     chosen = sum(1 << index for index, name in enumerate(inputs) if name in on)
     if len(inputs) > MAX_INPUTS:
-        full = (1 << SAMPLES) - 1
-        return evaluate_samples(circuit, SAMPLES,
-                                on).tables if circuit else sampled_tables(inputs, SAMPLES, on), full, 0
+        full = (1 << SAMPLE_COUNT) - 1
+        return evaluate_samples(circuit, SAMPLE_COUNT,
+                                on).tables if circuit else sampled_tables(inputs, SAMPLE_COUNT, on), full, 0
     if circuit:
         values = evaluate_all(circuit)
         return values.tables, values.full, chosen
@@ -412,7 +417,7 @@ def sampled_words(document: Document) -> str:
     layout, circuit = document.layout, document.circuit
     assert layout is not None
     count = len(circuit.inputs) if circuit else len({part.name for part in layout.of_kind("in")})
-    return f" in {SAMPLES} sampled choices of the {count} inputs" if count > MAX_INPUTS else ""
+    return f" in {SAMPLE_COUNT} sampled choices of the {count} inputs" if count > MAX_INPUTS else ""
 
 
 def ball_ways(document: Document, on: list[str] | None, until: int,

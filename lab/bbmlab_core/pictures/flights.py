@@ -8,20 +8,20 @@ in flight. So the balls of a line are sorted, and the next one is the first that
 
 from bisect import bisect_left, bisect_right, insort
 
-from ..physics.simulation import DIAGONAL, ROW, key_of
+from ..physics.simulation import DIAGONAL_STRIDE, ROW_STRIDE, key_of
 from ..texts.layouts import Layout
 
 # The directions of moves by the differences of their cells' numbers: along the diagonals, and to the sides after a
 # collision. `direction ^ 1` goes against a direction, `direction ^ 2` goes alike in y and `direction ^ 3` alike in x.
-DIRECTIONS = (DIAGONAL, -DIAGONAL, ROW - 1, 1 - ROW, 1, -1)
+DIRECTIONS = (DIAGONAL_STRIDE, -DIAGONAL_STRIDE, ROW_STRIDE - 1, 1 - ROW_STRIDE, 1, -1)
 FALLING, BACK_FALLING, RISING, BACK_RISING = range(4)
-SPEEDS = ((1, 1), (-1, -1), (-1, 1), (1, -1))
+LINE_SPEEDS = ((1, 1), (-1, -1), (-1, 1), (1, -1))
 # The two other cells of the block that lie at the sides of a ball's move.
-SIDES = ((1, ROW), (-1, -ROW), (-1, ROW), (1, -ROW))
+SIDES = ((1, ROW_STRIDE), (-1, -ROW_STRIDE), (-1, ROW_STRIDE), (1, -ROW_STRIDE))
 # By whether x and y of a ball differ from the parity of the time, the direction in which it flies.
 FLYING = ((FALLING, BACK_RISING), (RISING, BACK_FALLING))
-ROW_BITS = ROW.bit_length() - 1
-LOW = ROW - 1
+ROW_BITS = ROW_STRIDE.bit_length() - 1
+COLUMN_MASK = ROW_STRIDE - 1
 # A shorter flight costs more than its steps.
 LEAST_FLIGHT = 3
 
@@ -34,16 +34,17 @@ def mirror_cells(layout: Layout) -> set[int]:
     cells: set[int] = set()
     for part in layout.of_kind("mirror"):
         first = key_of(part.cell)
-        for row in range(first, first + part.height * ROW, ROW):
+        for row in range(first, first + part.height * ROW_STRIDE, ROW_STRIDE):
             cells.update(range(row, row + part.width))
     return cells
 
 
-def are_firm(cells: set[int]) -> bool:
+def is_firm(cells: set[int]) -> bool:
     """Returns whether no ball can change cells of mirrors: each has a neighbour in its block, not only the opposite
     cell, in both partitions. The block rule changes no block with two such cells."""
-    return all((key ^ 1 in cells or key ^ ROW in cells)
-               and ((key - DIAGONAL ^ 1) + DIAGONAL in cells or (key - DIAGONAL ^ ROW) + DIAGONAL in cells)
+    return all((key ^ 1 in cells or key ^ ROW_STRIDE in cells)
+               and ((key - DIAGONAL_STRIDE ^ 1) + DIAGONAL_STRIDE in cells
+                    or (key - DIAGONAL_STRIDE ^ ROW_STRIDE) + DIAGONAL_STRIDE in cells)
                for key in cells)
 
 
@@ -54,19 +55,20 @@ class Walls:
         # The x of corners by x - y, which is even, and by x + y + 1.
         self.corners: dict[int, list[int]] = {}
         file = self.corners.setdefault
-        for corner in {key & ~DIAGONAL for key in cells} | {(key - DIAGONAL & ~DIAGONAL) + DIAGONAL for key in cells}:
-            x, y = corner & LOW, corner >> ROW_BITS
+        odd = {(key - DIAGONAL_STRIDE & ~DIAGONAL_STRIDE) + DIAGONAL_STRIDE for key in cells}
+        for corner in {key & ~DIAGONAL_STRIDE for key in cells} | odd:
+            x, y = corner & COLUMN_MASK, corner >> ROW_BITS
             file(x - y, []).append(x)
             file(x + y + 1, []).append(x)
         for numbers in self.corners.values():
             numbers.sort()
         last = key_of((layout.width - 1, layout.height - 1))
-        self.right, self.bottom = last & LOW, last >> ROW_BITS
+        self.right, self.bottom = last & COLUMN_MASK, last >> ROW_BITS
 
     def free_steps(self, x: int, y: int, direction: int) -> int:
         """Returns how many steps a ball can fly until its block has a cell of a mirror, or one outside the rectangle.
         """
-        dx, dy = SPEEDS[direction]
+        dx, dy = LINE_SPEEDS[direction]
         right, down = self.right - x if dx > 0 else x - 2, self.bottom - y if dy > 0 else y - 2
         steps = right if right < down else down
         corners = self.corners.get(x + y if direction & 2 else x - y)
@@ -80,7 +82,7 @@ class Walls:
         return steps
 
 
-def meeting(places: list[int], own: int, speed: int, time: int) -> int | None:
+def meeting_time(places: list[int], own: int, speed: int, time: int) -> int | None:
     """Returns when a ball meets the first of those that come against it on its line.
 
     A place is where a ball would have been at the time 0, if it had flown since then.
@@ -110,17 +112,17 @@ class Flights:
 
     def take_off(self, key: int, direction: int, time: int, until: int) -> int | None:
         """Lets a ball fly, at most until a time, and returns its number, or None if it cannot fly."""
-        x, y, lines = key & LOW, key >> ROW_BITS, self.lines
+        x, y, lines = key & COLUMN_MASK, key >> ROW_BITS, self.lines
         steps = self.walls.free_steps(x, y, direction)
         if steps < LEAST_FLIGHT:
             return None
-        dx, dy = SPEEDS[direction]
+        dx, dy = LINE_SPEEDS[direction]
         column, row, end = x - dx * time, y - dy * time, time + steps if time + steps < until else until
         alike_x, alike_y = column << 4 | direction, row << 4 | 4 | direction
         head_on = (x + y if direction & 2 else x - y) << 4 | 8 | direction
         for other, own, speed in ((alike_x ^ 3, row, dy), (alike_y ^ 2, column, dx), (head_on ^ 1, column, dx)):
             if other in lines:
-                met = meeting(lines[other], own, speed, time)
+                met = meeting_time(lines[other], own, speed, time)
                 if met is not None and met < end:
                     end = met
         if end <= time:
@@ -146,7 +148,7 @@ class Flights:
                 del places[bisect_left(places, place)]
         return (number >> 2) + DIRECTIONS[number & 3] * time, time - start
 
-    def offsets(self, time: int) -> tuple[int, int, int, int]:
+    def corner_offsets(self, time: int) -> tuple[int, int, int, int]:
         """Returns the differences of the numbers of balls in a block to 4 times the number of its corner."""
-        fall, rise = DIAGONAL * time, (ROW - 1) * time
-        return -fall * 4, (DIAGONAL + fall) * 4 + 1, (1 - rise) * 4 + 2, (ROW + rise) * 4 + 3
+        fall, rise = DIAGONAL_STRIDE * time, (ROW_STRIDE - 1) * time
+        return -fall * 4, (DIAGONAL_STRIDE + fall) * 4 + 1, (1 - rise) * 4 + 2, (ROW_STRIDE + rise) * 4 + 3

@@ -9,11 +9,11 @@ import re
 
 from ..host.terminal import LabError
 from ..texts.documents import read_document
-from ..texts.layouts import Cell, Layout, row_order
+from ..texts.layouts import Cell, Layout, row_order_key
 from ..texts.limits import SECOND, limits_for
 
 RULE = "BBM-Margolus-emulated"
-SIGNS = ".ABCD"
+STATE_SIGNS = ".ABCD"
 MARGIN = 2
 # The most rows and columns of a file that are read, counted with those that are empty: those of the largest layout with
 # its margin.
@@ -25,13 +25,13 @@ def row_of(y: int, columns: range, live: list[int]) -> str:
 
     `columns` begins at an even one; `live` are the columns of the live cells.
     """
-    row = list(SIGNS[1 if y % 2 == 0 else 2] + SIGNS[2]) * (len(columns) // 2)
+    row = list(STATE_SIGNS[1 if y % 2 == 0 else 2] + STATE_SIGNS[2]) * (len(columns) // 2)
     for x in live:
-        row[x - columns[0]] = SIGNS[3 if x % 2 == 0 and y % 2 == 0 else 4]
+        row[x - columns[0]] = STATE_SIGNS[3 if x % 2 == 0 and y % 2 == 0 else 4]
     return "".join(row)
 
 
-def packed(row: str) -> str:
+def packed_row(row: str) -> str:
     """Returns a row with runs of signs counted."""
     return re.sub(r"(.)\1+", lambda run: f"{len(run[0])}{run[1]}", row)
 
@@ -42,7 +42,7 @@ def golly_text(layout: Layout, live: set[Cell], on: list[str], lines: list[str])
     live_of: dict[int, list[int]] = {}
     for x, y in live:
         live_of.setdefault(y, []).append(x)
-    body = "$\n".join(packed(row_of(y, columns, live_of.get(y, []))) for y in rows)
+    body = "$\n".join(packed_row(row_of(y, columns, live_of.get(y, []))) for y in rows)
     comments = ["#C bbmlab: the start of a layout; states 1 and 3 are the upper left cells of blocks, 3 and 4 are live",
                 f"#C inputs on: {' '.join(on) or 'none'}", *(f"#C layout: {line}" for line in lines)]
     return "\n".join([f"#CXRLE Pos={-MARGIN},{-MARGIN}", *comments,
@@ -64,10 +64,10 @@ def golly_states(text: str) -> tuple[dict[Cell, int], list[str]]:
             body += line
     if header is None:
         raise LabError("this is no RLE file: it has no line `x = .., y = .., rule = ..`")
-    return unpacked(body, corner), comments
+    return unpacked_states(body, corner), comments
 
 
-def unpacked(body: str, corner: Cell) -> dict[Cell, int]:
+def unpacked_states(body: str, corner: Cell) -> dict[Cell, int]:
     """Returns the states that the body of an RLE file gives to cells from a corner on.
 
     A pattern is refused as soon as a row or a column is out of the reach of any layout.
@@ -126,5 +126,5 @@ def layout_from_golly(text: str) -> str:
     width, height = width + width % 2, height + height % 2
     if max(width, height) > SECOND.max_side:
         raise LabError(f"the pattern takes {width} by {height} cells with its margin; {SECOND.max_side} is the most")
-    balls = [f"ball {x - left} {y - top}" for x, y in sorted(live, key=row_order)]
+    balls = [f"ball {x - left} {y - top}" for x, y in sorted(live, key=row_order_key)]
     return limits_for(max(width, height)).head + "\n".join([f"layout {width} {height} 0", *balls, "end"]) + "\n"

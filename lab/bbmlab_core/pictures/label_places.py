@@ -12,7 +12,7 @@ COVERING_COST = 100.0
 MAX_AWAY = 6
 MIN_LEADER_AWAY = 1
 # The least side of the squares in which rectangles are filed. Higher names get larger squares: each touches few.
-BUCKET = 64.0
+BUCKET_SIDE = 64.0
 
 Point = tuple[float, float]
 
@@ -26,7 +26,7 @@ class Rect:
     width: float
     height: float
 
-    def shared(self, other: "Rect") -> float:
+    def shared_area(self, other: "Rect") -> float:
         """Returns the area that two rectangles share."""
         wide = min(self.x + self.width, other.x + other.width) - max(self.x, other.x)
         high = min(self.y + self.height, other.y + other.height) - max(self.y, other.y)
@@ -34,7 +34,7 @@ class Rect:
 
 
 @dataclass(frozen=True)
-class Name:
+class NameToPlace:
     """A name to place: its cell, its size, and whether it is rather above its cell than below."""
 
     cell: Rect
@@ -44,7 +44,7 @@ class Name:
 
 
 @dataclass(frozen=True)
-class Place:
+class NamePlace:
     """A place of a name: its rectangle, and how many lines of text it is away from the nearest place."""
 
     box: Rect
@@ -54,12 +54,12 @@ class Place:
 class Obstacles:
     """Rectangles with the cost of covering them, filed by squares of the picture."""
 
-    def __init__(self, side: float = BUCKET) -> None:
+    def __init__(self, side: float = BUCKET_SIDE) -> None:
         self.side = side
         self.filed: dict[tuple[int, int], list[int]] = {}
         self.rects: list[tuple[Rect, float]] = []
 
-    def squares(self, rect: Rect) -> Iterator[tuple[int, int]]:
+    def touched_squares(self, rect: Rect) -> Iterator[tuple[int, int]]:
         """Yields the squares that a rectangle touches."""
         for row in range(int(rect.y // self.side), int((rect.y + rect.height) // self.side) + 1):
             for column in range(int(rect.x // self.side), int((rect.x + rect.width) // self.side) + 1):
@@ -67,17 +67,17 @@ class Obstacles:
 
     def add(self, rect: Rect, cost: float) -> None:
         """Files a rectangle."""
-        for square in self.squares(rect):
+        for square in self.touched_squares(rect):
             self.filed.setdefault(square, []).append(len(self.rects))
         self.rects.append((rect, cost))
 
     def cost(self, rect: Rect) -> float:
         """Returns what it costs to cover what lies below a rectangle."""
-        near = {number for square in self.squares(rect) for number in self.filed.get(square, [])}
-        return sum(self.rects[number][1] * rect.shared(self.rects[number][0]) for number in sorted(near))
+        near = {number for square in self.touched_squares(rect) for number in self.filed.get(square, [])}
+        return sum(self.rects[number][1] * rect.shared_area(self.rects[number][0]) for number in sorted(near))
 
 
-def places_of(name: Name) -> Iterator[Place]:
+def places_of(name: NameToPlace) -> Iterator[NamePlace]:
     """Yields the places for a name, the best first: above or below, at the sides, at the corners, and then further
     away."""
     cell, first = name.cell, -1 if name.is_above else 1
@@ -90,15 +90,16 @@ def places_of(name: Name) -> Iterator[Place]:
                        (-half, first * lift),
                        (half, -first * lift), (-half, -first * lift), (shift, first * lift), (-shift, first * lift),
                        (shift, -first * lift), (-shift, -first * lift)):
-            yield Place(Rect(x + dx - name.width / 2, y + dy - name.height / 2, name.width, name.height), away)
+            yield NamePlace(Rect(x + dx - name.width / 2, y + dy - name.height / 2, name.width, name.height), away)
 
 
-def place_names(names: list[Name], signs: list[Rect], ports: list[Rect], bounds: Rect | None = None) -> list[Place]:
+def place_names(names: list[NameToPlace], signs: list[Rect], ports: list[Rect],
+                bounds: Rect | None = None) -> list[NamePlace]:
     """Returns a place for each name, within the bounds if it can.
 
     `ports` are the cells of ports that have no name of their own, and `signs` what a name should leave free if it can.
     """
-    obstacles = Obstacles(max([BUCKET, *(name.height for name in names)]))
+    obstacles = Obstacles(max([BUCKET_SIDE, *(name.height for name in names)]))
     for rect in signs:
         obstacles.add(rect, 1.0)
     for rect in [*ports, *(name.cell for name in names)]:
@@ -110,7 +111,7 @@ def place_names(names: list[Name], signs: list[Rect], ports: list[Rect], bounds:
             base = place.away * name.height
             if base >= least:
                 break
-            outside = place.box.width * place.box.height - place.box.shared(bounds) if bounds else 0.0
+            outside = place.box.width * place.box.height - place.box.shared_area(bounds) if bounds else 0.0
             cost = base + COVERING_COST * outside + obstacles.cost(place.box)
             if cost < least:
                 best, least = place, cost
@@ -120,7 +121,7 @@ def place_names(names: list[Name], signs: list[Rect], ports: list[Rect], bounds:
     return found
 
 
-def leader(place: Place, cell: Rect) -> tuple[Point, Point] | None:
+def leader_line(place: NamePlace, cell: Rect) -> tuple[Point, Point] | None:
     """Returns a line from a name to its cell, if the name is so far away that it needs one."""
     if place.away < MIN_LEADER_AWAY:
         return None

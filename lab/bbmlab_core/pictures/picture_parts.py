@@ -9,7 +9,7 @@ from ..texts.layouts import Box
 from .ways import Piece
 
 # The name of the ways that are faint.
-OTHERS = "other wires"
+OTHER_WIRES_LABEL = "other wires"
 # A piece with an arrow is at least so many times as long as the arrow, which is at this part of its length: of two ways
 # on one line that go against each other each shows its own.
 LEAST_ARROWS, ARROW_PLACE = 4, 0.6
@@ -18,7 +18,7 @@ Point = tuple[float, float]
 
 
 @dataclass(frozen=True)
-class Look:
+class PictureOptions:
     """What a reader asks for: a part of the layout, wires whose ways are brought out, one with all on which it depends,
     the least size of a ball."""
 
@@ -75,7 +75,7 @@ def cone_of(circuit: Circuit, name: str) -> list[str]:
     return list(found)
 
 
-def wanted_wires(look: Look, circuit: Circuit | None, names: Iterable[str]) -> set[str]:
+def wanted_wires(look: PictureOptions, circuit: Circuit | None, names: Iterable[str]) -> set[str]:
     """Returns the wires that are brought out. Raises LabError for a name that is no wire's."""
     known = {*names, *(circuit.inputs if circuit else []), *(circuit.maker if circuit else [])}
     for name in [*look.wires, *([look.cone] if look.cone else [])]:
@@ -84,15 +84,16 @@ def wanted_wires(look: Look, circuit: Circuit | None, names: Iterable[str]) -> s
     return {*look.wires, *(cone_of(circuit, look.cone) if look.cone and circuit else [look.cone] if look.cone else [])}
 
 
-def bring_out(ways: dict[str, list[Piece]], labels: dict[str, str], wanted: set[str]) -> dict[str, list[Piece]]:
+def with_others_grouped(ways: dict[str, list[Piece]], labels: dict[str, str],
+                        wanted: set[str]) -> dict[str, list[Piece]]:
     """Returns the ways with all but those of some wires as one group.
 
     `labels` lists the equal wires, with commas between, of a way's own wire.
     """
-    found: dict[str, list[Piece]] = {OTHERS: []}
+    found: dict[str, list[Piece]] = {OTHER_WIRES_LABEL: []}
     for wire, pieces in ways.items():
         if wanted.isdisjoint(labels.get(wire, wire).split(", ")):
-            found[OTHERS].extend(pieces)
+            found[OTHER_WIRES_LABEL].extend(pieces)
         else:
             found[wire] = pieces
     return found

@@ -6,22 +6,22 @@ nothing until it can meet something (`flights`). All other blocks follow the blo
 
 from typing import Iterable, Iterator
 
-from ..physics.simulation import DIAGONAL, ROW, Table, cell_of, key_of
+from ..physics.simulation import DIAGONAL_STRIDE, ROW_STRIDE, Table, cell_of, key_of
 from ..texts.layouts import Box, Cell, Layout
 from .flights import (BACK_FALLING, BACK_RISING, DIRECTIONS, FALLING, FLYING, RISING, ROW_BITS, SIDES, Flights, Walls,
-                      are_firm, mirror_cells)
+                      is_firm, mirror_cells)
 
 # A straight piece of a way: its first and its last cell.
 Piece = tuple[Cell, Cell]
 # A piece that is not complete: its first cell, its table, and when it begins.
-Begun = tuple[int, Table, int]
+OpenPiece = tuple[int, Table, int]
 DIRECTION_OF = {step: number for number, step in enumerate(DIRECTIONS)}
 
 
 def block_moves(before: dict[int, Table], corner: int) -> list[tuple[int, int, Table]]:
     """Returns the moves in a block: from where, to where, and under which assignments. A collision goes by the sides.
     """
-    a, b, c, d = corner, corner + 1, corner + ROW, corner + DIAGONAL
+    a, b, c, d = corner, corner + 1, corner + ROW_STRIDE, corner + DIAGONAL_STRIDE
     live = {key: before.get(key, 0) for key in (a, b, c, d)}
     moves = []
     for one, two, other in ((a, d, live[b] | live[c]), (b, c, live[a] | live[d])):
@@ -38,7 +38,7 @@ class WayRun:
         # Cells of mirrors that never changed.
         self.steady = mirror_cells(layout)
         # Whether no mirror ever changes.
-        self.is_firm = are_firm(self.steady)
+        self.is_firm = is_firm(self.steady)
         balls = dict.fromkeys([key_of(part.cell) for part in layout.of_kind("ball")], full)
         ins = {key_of(part.cell): table for part in layout.of_kind("in") if (table := tables.get(part.name or "", 0))}
         # What does not fly.
@@ -50,11 +50,11 @@ class WayRun:
         self.outside = {key_of(cell) for cell in Box(0, 0, layout.width, layout.height).halo()}
         self.flights = Flights(Walls(layout, self.steady))
         # The pieces of balls that fly, by their numbers, and cells that they left since the last step.
-        self.flown: dict[int, Begun] = {}
+        self.flown: dict[int, OpenPiece] = {}
         self.vacated: list[int] = []
         self.time = self.move_count = 0
         # By the number of its last cell and its direction, a piece that may go on; and pieces that ended.
-        self.open: dict[int, Begun] = {}
+        self.open: dict[int, OpenPiece] = {}
         self.ended: list[tuple[int, int, Table, int]] = []
 
     def fly(self, count: int) -> bool:
@@ -98,52 +98,53 @@ class WayRun:
         """Makes a step of what does not fly, and returns whether everything stays in the rectangle."""
         get, flown, moving, left = self.live.get, self.flown, list[int](), self.vacated
         # The corner of a cell's block, as `block_of` has it: a call for each cell would take a third of the time.
-        odd = DIAGONAL if self.time & 1 else 0
-        a_number, d_number, b_number, c_number = self.flights.offsets(self.time)
-        for corner in {(key - odd & ~DIAGONAL) + odd for keys in (self.moving, *self.left) for key in keys}:
+        odd = DIAGONAL_STRIDE if self.time & 1 else 0
+        a_number, d_number, b_number, c_number = self.flights.corner_offsets(self.time)
+        for corner in {(key - odd & ~DIAGONAL_STRIDE) + odd for keys in (self.moving, *self.left) for key in keys}:
             first = corner * 4
             if (first + a_number in flown or first + b_number in flown or first + c_number in flown
                     or first + d_number in flown):
-                for offset in self.flights.offsets(self.time):
+                for offset in self.flights.corner_offsets(self.time):
                     if corner * 4 + offset in flown:
                         self.land(corner * 4 + offset)
-            a, d = get(corner, 0), get(corner + DIAGONAL, 0)
-            b, c = get(corner + 1, 0), get(corner + ROW, 0)
+            a, d = get(corner, 0), get(corner + DIAGONAL_STRIDE, 0)
+            b, c = get(corner + 1, 0), get(corner + ROW_STRIDE, 0)
             if (b or c) and (a or d or b and c) or a and d:
-                self.turn(corner, (a, b, c, d), moving, left)
+                self.turn_block(corner, (a, b, c, d), moving, left)
             elif b:
-                self.cross(corner + 1, corner + ROW, RISING, left)
-                moving.append(corner + ROW)
+                self.move_lone_cell(corner + 1, corner + ROW_STRIDE, RISING, left)
+                moving.append(corner + ROW_STRIDE)
             elif c:
-                self.cross(corner + ROW, corner + 1, BACK_RISING, left)
+                self.move_lone_cell(corner + ROW_STRIDE, corner + 1, BACK_RISING, left)
                 moving.append(corner + 1)
             elif a:
-                self.cross(corner, corner + DIAGONAL, FALLING, left)
-                moving.append(corner + DIAGONAL)
+                self.move_lone_cell(corner, corner + DIAGONAL_STRIDE, FALLING, left)
+                moving.append(corner + DIAGONAL_STRIDE)
             elif d:
-                self.cross(corner + DIAGONAL, corner, BACK_FALLING, left)
+                self.move_lone_cell(corner + DIAGONAL_STRIDE, corner, BACK_FALLING, left)
                 moving.append(corner)
         self.moving, self.left, self.vacated, self.time = moving, (left, self.left[0]), [], self.time + 1
         return self.outside.isdisjoint(moving)
 
-    def cross(self, start: int, end: int, direction: int, left: list[int]) -> None:
+    def move_lone_cell(self, start: int, end: int, direction: int, left: list[int]) -> None:
         """Moves the only live cell of a block."""
         table = self.live[end] = self.live.pop(start)
         if not self.is_firm:
             left.append(start)
             self.steady.discard(start)
-        self.note(start, end, direction, table, self.time)
+        self.note_move(start, end, direction, table, self.time)
 
-    def turn(self, corner: int, before: tuple[Table, Table, Table, Table], moving: list[int], left: list[int]) -> None:
+    def turn_block(self, corner: int, before: tuple[Table, Table, Table, Table], moving: list[int],
+                   left: list[int]) -> None:
         """Applies the block rule to a block with more than one live cell."""
-        keys, live, steady = (corner, corner + 1, corner + ROW, corner + DIAGONAL), self.live, self.steady
+        keys, live, steady = (corner, corner + 1, corner + ROW_STRIDE, corner + DIAGONAL_STRIDE), self.live, self.steady
         a, b, c, d = before
         one, other = a | d, b | c
         both, both_other = a & d & ~other, b & c & ~one
         flip, flip_other = one & ~other | both_other, other & ~one | both
         if flip or flip_other:
             for start, end, table in block_moves(dict(zip(keys, before)), corner):
-                self.note(start, end, DIRECTION_OF[end - start], table, self.time)
+                self.note_move(start, end, DIRECTION_OF[end - start], table, self.time)
             for key, old, change in zip(keys, before, (flip, flip_other, flip_other, flip)):
                 if change:
                     if not self.is_firm:
@@ -154,13 +155,13 @@ class WayRun:
                         del live[key]
         moving += [key for key in keys if key in live and key not in steady]
 
-    def note(self, start: int, end: int, direction: int, table: Table, time: int) -> None:
+    def note_move(self, start: int, end: int, direction: int, table: Table, time: int) -> None:
         """Notes moves in a direction that begin at a time."""
         begun = self.piece_to(start, direction, table, time)
         self.move_count += 1
         self.keep_open(end * 8 + direction, begun)
 
-    def piece_to(self, start: int, direction: int, table: Table, time: int) -> Begun:
+    def piece_to(self, start: int, direction: int, table: Table, time: int) -> OpenPiece:
         """Returns the piece that a move from a cell goes on with: the one that comes there just then, or a new one."""
         piece = self.open.pop(start * 8 + direction, None)
         if piece is None:
@@ -170,7 +171,7 @@ class WayRun:
         self.ended.append((piece[0], start, piece[1], piece[2]))
         return start, table, time
 
-    def keep_open(self, number: int, begun: Begun) -> None:
+    def keep_open(self, number: int, begun: OpenPiece) -> None:
         """Notes the last cell and the direction of a piece that may go on."""
         old = self.open.get(number)
         if old is not None:

@@ -8,7 +8,7 @@ from typing import Callable
 
 from ..texts.circuits import Gate
 from .balls import Ball, Leg
-from .board import Board, Bound, NoRouteError, Placement, Waiting
+from .board import Board, FailureKind, NoRouteError, Placement, WaitingBall
 from .design import Design, forward_design
 from .netlist import RouterNetlist
 from .paths import Path
@@ -55,7 +55,7 @@ class Attempt:
     def check_time(self) -> None:
         """Raises OutOfTimeError when the time is over, with what was done then."""
         if time.monotonic() > self.deadline:
-            raise OutOfTimeError(f"the time was over while {self.doing}", Bound.TIME)
+            raise OutOfTimeError(f"the time was over while {self.doing}", FailureKind.TIME)
 
     def run(self, progress: Callable[[int, int], None] = no_progress) -> Design:
         """Places all gates and leads all balls to the end; raises NoRouteError."""
@@ -63,21 +63,21 @@ class Attempt:
         while True:
             self.check_time()
             if not self.todo:
-                why = self.led_to_the_end()
+                why = self.try_to_lead_to_the_end()
                 if why is None:
                     return self.design()
                 self.take_back(NO_GATE, why)
                 continue
             gate = self.next_gate()
             self.doing = f"gate {gate.number} ({gate.kind} {' '.join(gate.ins)}) was placed"
-            step = self.placed(gate)
+            step = self.find_placement(gate)
             if step is not None:
-                self.board.commit(step)
+                self.board.add_placement(step)
             elif not self.settings.rips or not self.way_maker.make_way(gate):
-                self.take_back(gate.number, self.reason(gate))
+                self.take_back(gate.number, self.failure_reason(gate))
                 continue
             step = self.board.steps[-1]
-            self.placer.horizon = max(self.placer.horizon, self.placer.done(step))
+            self.placer.horizon = max(self.placer.horizon, self.placer.estimated_end(step))
             self.placer.park_outputs(step)
             del self.todo[gate.number]
             if total - len(self.todo) > self.most_placed:
@@ -85,7 +85,7 @@ class Attempt:
                     self.board.steps)
             progress(total - len(self.todo), total)
 
-    def placed(self, gate: Gate) -> Placement | None:
+    def find_placement(self, gate: Gate) -> Placement | None:
         """Returns a way to place a gate, or None. If it found no room, the plane grows and it is tried again."""
         step = self.placer.place_gate(gate)
         for _ in range(self.settings.growths):
@@ -100,12 +100,12 @@ class Attempt:
         reasons = self.placer.reasons
         return 2 * reasons["no path"] <= reasons["tries"] or 2 * reasons["no room"] > reasons.total()
 
-    def adopt(self, steps: list[Placement]) -> str:
+    def adopt_placements(self, steps: list[Placement]) -> str:
         """Adds gates that another attempt placed, maybe with others; returns the wire of a ball that has no room to
         wait, or no name."""
         for step in steps:
             del self.todo[step.gate.number]
-        return self.board.adopt(steps)
+        return self.board.adopt_placements(steps)
 
     def next_gate(self) -> Gate:
         """Returns the gate to place next: its inputs are there early, and its results are needed early.
@@ -118,7 +118,7 @@ class Attempt:
         def rank(gate: Gate) -> tuple[bool, bool, bool, float, int]:
             balls = [waiting[netlist.root(wire)].ball for wire in gate.ins if not netlist.is_zero(wire)]
             times = [ball.time for ball in balls if ball is not None]
-            is_alone = not times and self.placer.partner(gate, []) is None
+            is_alone = not times and self.placer.partner_ball(gate, []) is None
             need = max(times, default=0) - self.weight * netlist.tails[gate.number]
             return gate.number in netlist.late_gates, not times, is_alone, need, gate.number
 
@@ -126,25 +126,25 @@ class Attempt:
                  if all(netlist.is_zero(wire) or netlist.root(wire) in waiting for wire in gate.ins)]
         return min(ready, key=rank)
 
-    def reason(self, gate: Gate) -> str:
+    def failure_reason(self, gate: Gate) -> str:
         """Returns a sentence on why a gate could not be placed."""
         reasons = self.placer.reasons
         main = max((name for name in reasons if name != "tries"), key=lambda name: reasons[name], default="no room")
         return f"gate {gate.number} ({gate.kind} {' '.join(gate.ins)}) found no place: {main}"
 
-    def bound(self, number: int) -> Bound:
+    def failure_kind(self, number: int) -> FailureKind:
         """Returns what kept a gate from its place, or a ball from the end if the number is that of no gate."""
         if number == NO_GATE:
-            return Bound.END
+            return FailureKind.END
         reasons = self.placer.reasons
-        return Bound.PATH if 2 * reasons["no path"] > reasons["tries"] > 0 else Bound.ROOM
+        return FailureKind.PATH if 2 * reasons["no path"] > reasons["tries"] > 0 else FailureKind.ROOM
 
     def take_back(self, number: int, why: str) -> None:
         """Takes some of the last gates back, and moves the failed gate's makers; raises NoRouteError after too many
         failures."""
         self.failures[number] += 1
         if sum(self.failures.values()) > self.settings.failures or not self.board.steps:
-            raise NoRouteError(why, self.bound(number))
+            raise NoRouteError(why, self.failure_kind(number))
         count = self.chance.randint(1, min(8, 2 + self.failures[number]))
         blame = self.placer.blame
         if blame and self.chance.random() < 0.7 and self.take_maker_out(max(blame, key=lambda name: blame[name])):
@@ -157,7 +157,7 @@ class Attempt:
         for _ in range(min(count, len(self.board.steps))):
             step = self.board.take_back()
             self.todo[step.gate.number] = self.netlist.lines[step.gate.number]
-        self.placer.horizon = max((self.placer.done(step) for step in self.board.steps), default=0)
+        self.placer.horizon = max((self.placer.estimated_end(step) for step in self.board.steps), default=0)
 
     def take_maker_out(self, wire: str) -> bool:
         """Takes back the gate that makes a wire which could not be led, with the few gates that follow from it.
@@ -175,7 +175,7 @@ class Attempt:
             if not self.board.take_out(step):
                 return step is not steps[-1]
             self.todo[step.gate.number] = self.netlist.lines[step.gate.number]
-        self.placer.horizon = max((self.placer.done(step) for step in self.board.steps), default=0)
+        self.placer.horizon = max((self.placer.estimated_end(step) for step in self.board.steps), default=0)
         return bool(steps)
 
     # --- the end ------------------------------------------------------------------------------------------------------
@@ -186,14 +186,14 @@ class Attempt:
         end = max([2, *(netlist.least_steps(wire) for wire in netlist.delayed if netlist.is_zero(wire))])
         for root, waiting in self.board.waiting.items():
             start = waiting.ball.time + 1 if waiting.ball else 0
-            end = max(end, start + netlist.least_steps(netlist.chain(root)[-1]))
+            end = max(end, start + netlist.least_steps(netlist.wires_of_ball(root)[-1]))
         for step in self.board.steps if netlist.is_backward else []:
             zeros = [wire for wire in netlist.lines[step.gate.number].outs if netlist.is_zero(wire)]
-            last = step.gate.time + step.gate.cell.length
-            end = max([end, *(last + netlist.least_steps(netlist.chain(wire)[-1]) for wire in zeros)])
+            last = step.gate.time + step.gate.cell.step_count
+            end = max([end, *(last + netlist.least_steps(netlist.wires_of_ball(wire)[-1]) for wire in zeros)])
         return end | 1 if netlist.is_backward else end
 
-    def led_to_the_end(self) -> str | None:
+    def try_to_lead_to_the_end(self) -> str | None:
         """Leads all waiting balls on to the last time; returns a sentence if that failed.
 
         The plane grows before, so that all these ways have room by estimate. If that was not enough it grows again.
@@ -224,8 +224,8 @@ class Attempt:
         """
         board, end = self.board, self.end_time()
         self.doing = f"balls were led to the last time, {end}"
-        queue = sorted(board.waiting, key=lambda root: self.begin(board.waiting[root]))
-        before: dict[str, Waiting] = {}
+        queue = sorted(board.waiting, key=lambda root: self.end_order_key(board.waiting[root]))
+        before: dict[str, WaitingBall] = {}
         first: set[str] = set()
         left, ways = self.settings.end_rips, Counter[str]()
         self.placer.stuck.clear()
@@ -233,18 +233,18 @@ class Attempt:
             self.check_time()
             root = queue.pop(0)
             before[root] = board.stop_waiting(root)
-            path = self.last_path(root, before[root].ball, end)
+            path = self.add_last_path(root, before[root].ball, end)
             if path is None and ways[root] < self.settings.end_ways:
                 ways[root] += 1
-                path = self.path_through(root, before[root].ball, end)
+                path = self.add_path_through(root, before[root].ball, end)
             if path is not None:
                 board.ends.append(path)
                 continue
-            board.wait(root, before.pop(root))
+            board.add_waiting(root, before.pop(root))
             if left > 0 and self.put_enclosed_first(queue, root, first):
                 left -= 1
                 continue
-            crossing = self.ends_across(board.waiting[root].ball)
+            crossing = self.end_paths_across(board.waiting[root].ball)
             left -= 1 + len(crossing)
             if left <= 0 or not crossing or not self.take_ends_back(crossing, before):
                 self.placer.blame.clear()
@@ -272,7 +272,7 @@ class Attempt:
             queue[:0] = [enclosed, root]
         return True
 
-    def take_ends_back(self, paths: list[Path], before: dict[str, Waiting]) -> bool:
+    def take_ends_back(self, paths: list[Path], before: dict[str, WaitingBall]) -> bool:
         """Takes some paths to the last time back; returns whether all their balls have room to wait."""
         for path in paths:
             self.board.ends.remove(path)
@@ -283,30 +283,30 @@ class Attempt:
             del before[path.wire]
         return True
 
-    def clear_ends(self, before: dict[str, Waiting]) -> None:
+    def clear_ends(self, before: dict[str, WaitingBall]) -> None:
         """Takes all paths to the last time back; raises NoRouteError if a ball has no room to wait."""
         for path in self.board.ends:
             self.board.remove_path(path)
         self.board.ends.clear()
         for root, waiting in before.items():
             if not self.board.wait_again(root, waiting):
-                raise NoRouteError(f"the ball of wire {root} has no room to wait", Bound.ROOM)
+                raise NoRouteError(f"the ball of wire {root} has no room to wait", FailureKind.ROOM)
 
-    def ends_across(self, ball: Ball | None) -> list[Path]:
+    def end_paths_across(self, ball: Ball | None) -> list[Path]:
         """Returns the paths to the last time that cross or touch the straight way of a ball that waits."""
         if ball is None:
             return []
-        room = self.board.world.free_flight(ball, 70) + 6
+        room = self.board.world.free_steps(ball, 70) + 6
         way = path_item(ball, [Leg(room, None)])
         touched = way.touched if way else set()
         return [path for path in self.board.ends
                 if not touched.isdisjoint(chain(path.item.mirrors, *path.item.touched_parts))]
 
-    def begin(self, waiting: Waiting) -> tuple[bool, int]:
+    def end_order_key(self, waiting: WaitingBall) -> tuple[bool, int]:
         """Returns the key by which balls are led to the end: those that wait since long come first."""
         return waiting.ball is None, waiting.ball.time if waiting.ball else 0
 
-    def last_path(self, root: str, ball: Ball | None, end: int) -> Path | None:
+    def add_last_path(self, root: str, ball: Ball | None, end: int) -> Path | None:
         """Adds a path from a waiting ball, or from any place, to the last time, and returns it.
 
         It encloses no other ball.
@@ -314,26 +314,26 @@ class Attempt:
         finder, board = self.placer.finder, self.board
         self.placer.enclosed = ""
         for _ in range(self.settings.end_tries if ball else 5 * self.settings.end_tries):
-            path = finder.lead_on(root, ball or self.free_start(), end, stays=True)
+            path = finder.path_on_from(root, ball or self.random_start(), end, stays=True)
             if path is None:
                 continue
             if not board.has_room_for(root, path.item.tiles):
                 board.world.remove(path.item)
                 continue
             board.add_path(path, is_there=True)
-            if self.placer.leaves_others([(mirror.x, mirror.y) for mirror in path.mirrors()]):
+            if self.placer.can_others_turn([(mirror.x, mirror.y) for mirror in path.mirrors()]):
                 return path
             board.remove_path(path)
             self.placer.note_stuck()
         return None
 
-    def path_through(self, root: str, ball: Ball | None, end: int) -> Path | None:
+    def add_path_through(self, root: str, ball: Ball | None, end: int) -> Path | None:
         """Adds a path from a waiting ball to the last time for which paths to gates make way, and returns it."""
         if ball is None or self.placer.enclosed:
             return None
-        return self.way_maker.lead_through(ball, lambda: self.last_path(root, ball, end))
+        return self.way_maker.lead_through(ball, lambda: self.add_last_path(root, ball, end))
 
-    def free_start(self) -> Ball:
+    def random_start(self) -> Ball:
         """Returns a ball at time 0 at a random place."""
         chance, board = self.chance, self.board
         x, y = chance.randrange(4, board.size // 2 - 4), chance.randrange(4, board.height // 2 - 4)

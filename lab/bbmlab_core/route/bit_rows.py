@@ -13,13 +13,13 @@ from typing import Iterator, NamedTuple
 
 from .balls import BOUNCE_STEPS, Ball, Leg, Turn, bounce, bounce_before
 from .settings import Settings
-from .world import ROW, World
+from .world import ROW_STRIDE, World
 
 # The cells of a mirror as seen from the cell of the ball that it turns.
 MIRROR_OFFSETS = {(turn, dx, dy): bounce(Ball(0, 0, dx, dy, 0), turn)[1].cells() for turn in Turn for dx in (1, -1)
            for dy in (1, -1)}
 # The most paths that are yielded for one last bounce.
-MOST_FOUND = 3
+MAX_FOUND_LEGS = 3
 
 
 class Bend(NamedTuple):
@@ -31,7 +31,7 @@ class Bend(NamedTuple):
     ball: Ball
 
 
-class Middle(NamedTuple):
+class MiddleLegs(NamedTuple):
     """The legs between a first bounce and a last one: away from the start's diagonal, along it, and back."""
 
     out: int
@@ -39,7 +39,7 @@ class Middle(NamedTuple):
     back: int
 
 
-def middle_of(first: Bend, last: Bend, most: int) -> Middle | None:
+def middle_of(first: Bend, last: Bend, most: int) -> MiddleLegs | None:
     """Returns the legs between two bounces if they fit place and time, and those that take up time have at most `most`
     steps."""
     ball, goal, is_flat = first.ball, last.ball, first.turn is Turn.FLAT
@@ -51,10 +51,10 @@ def middle_of(first: Bend, last: Bend, most: int) -> Middle | None:
     rest = goal.time - ball.time - along
     out, odd = divmod(rest + (u + v) // 2, 2)
     back = rest - out
-    return None if odd or min(out, back) < BOUNCE_STEPS or max(out, back) > most else Middle(out, along, back)
+    return None if odd or min(out, back) < BOUNCE_STEPS or max(out, back) > most else MiddleLegs(out, along, back)
 
 
-def bits_from(bits: int, x: int, dx: int, low: int, high: int) -> Iterator[int]:
+def unset_bit_steps(bits: int, x: int, dx: int, low: int, high: int) -> Iterator[int]:
     """Yields the steps from `low` to `high`, in order of x, after which a ball in column x is at a bit that is not set.
     """
     free = ~(bits >> (x + low if dx > 0 else x - high)) & (1 << high - low + 1) - 1
@@ -71,13 +71,13 @@ class BitJoiner:
         self.world, self.chance, self.settings = world, chance, settings
         self.known: dict[tuple[int, bool, Turn, int, int], int] = {}
 
-    def taken(self, ball: Ball, turn: Turn, is_falling: bool) -> int:
+    def taken_columns(self, ball: Ball, turn: Turn, is_falling: bool) -> int:
         """Returns in which columns a ball that comes in this direction to a cell of a diagonal finds no room for its
         mirror, as bits.
 
         The diagonal is that through the ball's cell, falling or rising; the ball need not fly along it.
         """
-        line = ball.y - ball.x + ROW if is_falling else ball.y + ball.x
+        line = ball.y - ball.x + ROW_STRIDE if is_falling else ball.y + ball.x
         key = line, is_falling, turn, ball.dx, ball.dy
         if key not in self.known:
             lines, bits = self.world.blocked_falling if is_falling else self.world.blocked_rising, 0
@@ -87,9 +87,9 @@ class BitJoiner:
             self.known[key] = bits
         return self.known[key]
 
-    def room(self, ball: Ball) -> int:
+    def steps_inside(self, ball: Ball) -> int:
         """Returns the steps after which a ball can bounce inside the plane, at most those of the longest leg."""
-        return min(self.world.free_flight(ball, self.settings.longest_leg), self.world.room(ball))
+        return min(self.world.free_steps(ball, self.settings.longest_leg), self.world.steps_to_margin(ball))
 
     def shuffled(self, found: list[tuple[int, Turn]]) -> Iterator[tuple[int, Turn]]:
         """Yields the members of a list in random order, without shuffling them all at once."""
@@ -101,37 +101,38 @@ class BitJoiner:
 
     def first_bends(self, ball: Ball, least: int) -> Iterator[Bend]:
         """Yields the bounces on the straight way of a ball for which a mirror has room, in random order."""
-        most, is_falling = self.room(ball), ball.dx == ball.dy
+        most, is_falling = self.steps_inside(ball), ball.dx == ball.dy
         found = [(steps, turn) for turn in Turn if most >= least
-                 for steps in bits_from(self.taken(ball, turn, is_falling), ball.x, ball.dx, least, most)]
+                 for steps in unset_bit_steps(self.taken_columns(ball, turn, is_falling), ball.x, ball.dx, least, most)]
         for steps, turn in self.shuffled(found):
             yield Bend(steps, turn, bounce(ball.flown(steps), turn)[0])
 
     def last_bends(self, goal: Ball) -> Iterator[Bend]:
         """Yields the bounces from which a ball flies straight to a goal and for which a mirror has room, in random
         order."""
-        most, is_falling = self.room(goal.reversed()), goal.dx == goal.dy
+        most, is_falling = self.steps_inside(goal.reversed()), goal.dx == goal.dy
         found: list[tuple[int, Turn]] = []
         for turn in Turn:
             if most < BOUNCE_STEPS:
                 break
             before = bounce_before(goal, turn)[0]
-            found += ((steps, turn) for steps in bits_from(self.taken(before, turn, is_falling), before.x, -goal.dx,
-                                                           BOUNCE_STEPS, most))
+            found += ((steps, turn)
+                      for steps in unset_bit_steps(self.taken_columns(before, turn, is_falling), before.x, -goal.dx,
+                                                       BOUNCE_STEPS, most))
         for steps, turn in self.shuffled(found):
             yield Bend(steps, turn, bounce_before(goal.flown(-steps), turn)[0])
 
-    def joins(self, start: Ball, goal: Ball, begun: int, count: int) -> Iterator[list[Leg]]:
+    def joining_legs(self, start: Ball, goal: Ball, begun: int, count: int) -> Iterator[list[Leg]]:
         """Yields legs from a ball to a ball with four bounces, the last of them at `count` random places."""
-        if start.dx * start.dy != goal.dx * goal.dy or self.room(start) < begun:
+        if start.dx * start.dy != goal.dx * goal.dy or self.steps_inside(start) < begun:
             return
         firsts = [Bend(begun, turn, bounce(start.flown(begun), turn)[0]) for turn in Turn]
         for last in islice(self.last_bends(goal), count):
             for first in firsts:
                 if (first.ball.dx, first.ball.dy) == (-last.ball.dx, -last.ball.dy):
-                    yield from islice(self.joined(start, first, last), MOST_FOUND)
+                    yield from islice(self.legs_with_bends(start, first, last), MAX_FOUND_LEGS)
 
-    def joined(self, start: Ball, first: Bend, last: Bend) -> Iterator[list[Leg]]:
+    def legs_with_bends(self, start: Ball, first: Bend, last: Bend) -> Iterator[list[Leg]]:
         """Yields legs with given turns and a given last bounce. `first` is the earliest first bounce."""
         world, middle = self.world, middle_of(first, last, self.settings.longest_detour)
         if middle is None:
@@ -143,31 +144,32 @@ class BitJoiner:
             return
         # The third bounce stays where it is, so the second one is at most as far from it as a ball flies back from
         # there.
-        reach = world.free_flight(Ball(third.x, third.y, -third.dx, -third.dy, 0), middle.along)
+        reach = world.free_steps(Ball(third.x, third.y, -third.dx, -third.dy, 0), middle.along)
         low = max(first.steps, first.steps + middle.along - reach - BOUNCE_STEPS)
-        high = min(self.room(start), first.steps + middle.along - BOUNCE_STEPS)
+        high = min(self.steps_inside(start), first.steps + middle.along - BOUNCE_STEPS)
         if low > high:
             return
         is_falling = start.dx == start.dy
         shift = second.x - first.steps * start.dx - start.x
-        others = self.taken(second, first.turn, is_falling)
-        taken = self.taken(start, first.turn, is_falling) | (others >> shift if shift >= 0 else others << -shift)
-        for steps in bits_from(taken, start.x, start.dx, low, high):
+        others = self.taken_columns(second, first.turn, is_falling)
+        taken = self.taken_columns(start, first.turn, is_falling)
+        taken |= others >> shift if shift >= 0 else others << -shift
+        for steps in unset_bit_steps(taken, start.x, start.dx, low, high):
             more = steps - first.steps
-            if self.is_open(beside(first.ball, start, more),
-                            middle.out) and self.is_inside(beside(second, start, more)):
+            if self.is_open(ball_beside(first.ball, start, more),
+                            middle.out) and self.is_inside(ball_beside(second, start, more)):
                 yield [Leg(steps, first.turn), Leg(middle.out, first.turn), Leg(middle.along - more, first.turn.other),
                        Leg(middle.back, last.turn), Leg(last.steps, None)]
 
     def is_open(self, ball: Ball, steps: int) -> bool:
         """Whether no mirror is in the way of a ball that has just bounced, for some steps."""
-        return self.world.free_flight(ball.flown(BOUNCE_STEPS), steps - BOUNCE_STEPS) >= steps - BOUNCE_STEPS
+        return self.world.free_steps(ball.flown(BOUNCE_STEPS), steps - BOUNCE_STEPS) >= steps - BOUNCE_STEPS
 
     def is_inside(self, ball: Ball) -> bool:
         """Whether a ball is inside the plane."""
         return self.world.is_inside(ball.x, ball.y)
 
 
-def beside(ball: Ball, start: Ball, steps: int) -> Ball:
+def ball_beside(ball: Ball, start: Ball, steps: int) -> Ball:
     """Returns a ball that is moved along the direction of a start."""
     return ball._replace(x=ball.x + steps * start.dx, y=ball.y + steps * start.dy)

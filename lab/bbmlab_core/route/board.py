@@ -12,10 +12,10 @@ from .cells import GateCell
 from .netlist import RouterNetlist
 from .paths import Path
 from .settings import Settings
-from .world import ROW, TILE, Item, World, cell_item, path_item
+from .world import ROW_STRIDE, TILE, Item, World, cell_item, path_item
 
 
-class Bound(Enum):
+class FailureKind(Enum):
     """What ended an attempt."""
 
     TIME = "the time was over"
@@ -30,7 +30,7 @@ class Bound(Enum):
 class NoRouteError(Exception):
     """An attempt found no route. The message names the gate or the wire, and the reason."""
 
-    def __init__(self, message: str, bound: Bound = Bound.ERROR) -> None:
+    def __init__(self, message: str, bound: FailureKind = FailureKind.ERROR) -> None:
         super().__init__(message, bound)
         self.bound = bound
 
@@ -55,17 +55,17 @@ class PlacedGate:
     box: TileBox
     item: Item
 
-    def out(self, name: str) -> Ball:
+    def output_ball(self, name: str) -> Ball:
         """Returns the ball of an output."""
         return self.cell.outs[name].moved(self.x, self.y, self.time)
 
-    def into(self, name: str) -> Ball:
+    def input_ball(self, name: str) -> Ball:
         """Returns the ball of an input."""
         return self.cell.ins[name].moved(self.x, self.y, self.time)
 
 
 @dataclass(frozen=True)
-class Waiting:
+class WaitingBall:
     """A ball that waits to be led on, and what is reserved for its next steps.
 
     Without a ball, it may begin anywhere at time 0.
@@ -84,9 +84,9 @@ class Placement:
 
     gate: PlacedGate
     paths: list[Path]
-    outs: dict[str, Waiting] = field(default_factory=dict)
+    outs: dict[str, WaitingBall] = field(default_factory=dict)
     parked: list[Path] = field(default_factory=list)
-    before: dict[str, Waiting] = field(default_factory=dict)
+    before: dict[str, WaitingBall] = field(default_factory=dict)
 
     def with_number(self, number: int) -> "Placement":
         """Returns the step for a gate with another number, before it is added."""
@@ -103,7 +103,7 @@ def box_of(cell: GateCell, x: int, y: int) -> TileBox:
 def tiles_in(box: TileBox) -> list[int]:
     """Returns the tiles of a box."""
     column, row, columns, rows = box
-    return [(row + j) * ROW + column + i for j in range(rows) for i in range(columns)]
+    return [(row + j) * ROW_STRIDE + column + i for j in range(rows) for i in range(columns)]
 
 
 class Board:
@@ -113,7 +113,7 @@ class Board:
         self.netlist, self.settings = netlist, settings
         self.world = World(size, height)
         # The root wires that wait.
-        self.waiting: dict[str, Waiting] = {root: Waiting() for root in netlist.free_roots()}
+        self.waiting: dict[str, WaitingBall] = {root: WaitingBall() for root in netlist.free_roots()}
         self.steps: list[Placement] = []
         self.ends: list[Path] = []
         # For each tile the wires that its box needs, with the number of items for which it does; and the gate that owns
@@ -142,7 +142,7 @@ class Board:
 
     # --- wires of boxes -----------------------------------------------------------------------------------------------
 
-    def count_names(self, wires: Iterable[str], tiles: Iterable[int], change: int) -> None:
+    def count_wire_needs(self, wires: Iterable[str], tiles: Iterable[int], change: int) -> None:
         """Notes that tiles need wires for one more item, or for one less."""
         for tile in tiles:
             names = self.names.setdefault(tile, {})
@@ -155,9 +155,9 @@ class Board:
 
     def wires_of(self, root: str) -> list[str]:
         """Returns the wires by which certificates know the ball of a root: none if it is a constant."""
-        return [] if root in self.netlist.constants else self.netlist.chain(root)
+        return [] if root in self.netlist.constants else self.netlist.wires_of_ball(root)
 
-    def names_in(self, tiles: Iterable[int]) -> set[str]:
+    def wires_needed_in(self, tiles: Iterable[int]) -> set[str]:
         """Returns the wires that some tiles need."""
         return {wire for tile in tiles for wire in self.names.get(tile, ())}
 
@@ -172,49 +172,49 @@ class Board:
             if names and tile not in self.owners and len(names) + len(wires) > MAX_CUTS:
                 if len(few_cuts_and_uses(self.netlist.circuit, {*names, *wires}, ())[0]) > MAX_CUTS:
                     return False
-        return all(self.box_has_room(box, [gate.number], wires) for box, gate in boxes.items())
+        return all(self.has_box_room(box, [gate.number], wires) for box, gate in boxes.items())
 
-    def box_has_room(self, box: TileBox, used: list[int], wires: Iterable[str], spare: int = 0) -> bool:
+    def has_box_room(self, box: TileBox, used: list[int], wires: Iterable[str], spare: int = 0) -> bool:
         """Whether a box that uses gates has room for more wires, and then for `spare` others."""
-        names = self.names_in(tiles_in(box)) | set(wires)
+        names = self.wires_needed_in(tiles_in(box)) | set(wires)
         return len(few_cuts_and_uses(self.netlist.circuit, names, used)[0]) <= MAX_CUTS - spare
 
     # --- waiting balls ------------------------------------------------------------------------------------------------
 
-    def waiting_ball(self, ball: Ball) -> Waiting | None:
+    def waiting_ball(self, ball: Ball) -> WaitingBall | None:
         """Returns a ball that waits, or None if its next steps leave the layout or meet something."""
         for steps in self.settings.reserved_steps:
             far = ball.flown(steps)
             if self.world.is_inside(far.x, far.y) and self.world.is_inside(ball.x, ball.y):
                 item = path_item(ball, [Leg(steps, None)])
-                if item and self.world.fits(item):
-                    return Waiting(ball, item)
+                if item and self.world.can_add(item):
+                    return WaitingBall(ball, item)
         return None
 
-    def wait(self, root: str, waiting: Waiting) -> None:
+    def add_waiting(self, root: str, waiting: WaitingBall) -> None:
         """Makes a root wait."""
         self.waiting[root] = waiting
         if waiting.item is not None:
             self.world.add(waiting.item)
-            self.count_names(self.wires_of(root), waiting.item.tiles, 1)
+            self.count_wire_needs(self.wires_of(root), waiting.item.tiles, 1)
 
-    def wait_again(self, root: str, before: Waiting) -> bool:
+    def wait_again(self, root: str, before: WaitingBall) -> bool:
         """Makes a root wait as before, or with a shorter reservation if something is in the way; returns whether that
         was possible."""
-        waiting: Waiting | None = before
-        if before.ball is not None and (before.item is None or not self.world.fits(before.item)):
+        waiting: WaitingBall | None = before
+        if before.ball is not None and (before.item is None or not self.world.can_add(before.item)):
             waiting = self.waiting_ball(before.ball)
         if waiting is None:
             return False
-        self.wait(root, waiting)
+        self.add_waiting(root, waiting)
         return True
 
-    def stop_waiting(self, root: str) -> Waiting:
+    def stop_waiting(self, root: str) -> WaitingBall:
         """Ends the waiting of a root, and returns it."""
         waiting = self.waiting.pop(root)
         if waiting.item is not None:
             self.world.remove(waiting.item)
-            self.count_names(self.wires_of(root), waiting.item.tiles, -1)
+            self.count_wire_needs(self.wires_of(root), waiting.item.tiles, -1)
         return waiting
 
     # --- paths and gates ----------------------------------------------------------------------------------------------
@@ -223,14 +223,14 @@ class Board:
         """Adds a path, which may be in the world already."""
         if not is_there:
             self.world.add(path.item)
-        self.count_names(self.wires_of(path.wire), path.item.tiles, 1)
+        self.count_wire_needs(self.wires_of(path.wire), path.item.tiles, 1)
 
     def remove_path(self, path: Path) -> None:
         """Removes a path."""
         self.world.remove(path.item)
-        self.count_names(self.wires_of(path.wire), path.item.tiles, -1)
+        self.count_wire_needs(self.wires_of(path.wire), path.item.tiles, -1)
 
-    def place(self, x: int, y: int, time: int, cell: GateCell, number: int) -> PlacedGate:
+    def gate_at(self, x: int, y: int, time: int, cell: GateCell, number: int) -> PlacedGate:
         """Returns a gate's cell at a place and a time, without adding it."""
         return PlacedGate(number, cell, x, y, time, box_of(cell, x, y), cell_item(cell, x, y, time))
 
@@ -244,20 +244,20 @@ class Board:
         self.world.add(gate.item)
         for tile in tiles_in(gate.box):
             self.owners[tile] = gate
-        self.count_names(self.gate_wires(gate), self.gate_tiles(gate), 1)
+        self.count_wire_needs(self.gate_wires(gate), self.gate_tiles(gate), 1)
 
     def remove_gate(self, gate: PlacedGate) -> None:
         """Removes a gate's cell and its box."""
         self.world.remove(gate.item)
         for tile in tiles_in(gate.box):
             del self.owners[tile]
-        self.count_names(self.gate_wires(gate), self.gate_tiles(gate), -1)
+        self.count_wire_needs(self.gate_wires(gate), self.gate_tiles(gate), -1)
 
     def gate_tiles(self, gate: PlacedGate) -> frozenset[int]:
         """Returns the tiles to which a gate's moving cells come."""
         return gate.item.touched_tiles
 
-    def commit(self, step: Placement) -> None:
+    def add_placement(self, step: Placement) -> None:
         """Adds a gate with its paths, and lets its outputs wait."""
         self.add_gate(step.gate)
         for path in step.paths:
@@ -266,10 +266,10 @@ class Board:
         for path in step.parked:
             self.add_path(path)
         for wire, waiting in step.outs.items():
-            self.wait(wire, waiting)
+            self.add_waiting(wire, waiting)
         self.steps.append(step)
 
-    def adopt(self, steps: list[Placement]) -> str:
+    def adopt_placements(self, steps: list[Placement]) -> str:
         """Adds gates and paths, and lets the balls that are left wait; returns the root of a ball that has no room to
         wait, or no name.
 
@@ -286,12 +286,12 @@ class Board:
         left = {root: waiting for root, waiting in self.waiting.items() if waiting.ball}
         return next((root for root, waiting in left.items() if not self.wait_again(root, waiting)), "")
 
-    def park(self, step: Placement, path: Path, waiting: Waiting) -> None:
+    def park_output(self, step: Placement, path: Path, waiting: WaitingBall) -> None:
         """Leads an output of the last gate on, to where it waits from then on."""
         self.add_path(path)
         step.parked.append(path)
         step.outs[path.wire] = waiting
-        self.wait(path.wire, waiting)
+        self.add_waiting(path.wire, waiting)
 
     def take_back(self) -> Placement:
         """Takes the last gate back, and returns it."""
@@ -303,7 +303,7 @@ class Board:
         self.remove_gate(step.gate)
         for wire, waiting in step.before.items():
             if not self.wait_again(wire, waiting):
-                raise NoRouteError(f"the ball of wire {wire} has no room to wait", Bound.ROOM)
+                raise NoRouteError(f"the ball of wire {wire} has no room to wait", FailureKind.ROOM)
         step.before = {}
         return step
 
@@ -331,5 +331,5 @@ class Board:
         for path in [*step.paths, *step.parked]:
             self.add_path(path)
         for wire, waiting in step.outs.items():
-            self.wait(wire, waiting)
+            self.add_waiting(wire, waiting)
         return False

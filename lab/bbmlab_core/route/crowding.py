@@ -15,11 +15,11 @@ from .world import TILE, World
 COLOURS = ("#ffffff", "#e5f0f8", "#c3dcee", "#92c0e0", "#5a9fcf", "#2f7ab5", "#175a93", "#08306b")
 # A picture has at most so many pixels a side, beside its margin and its lines of text.
 PIXELS = 1024
-MARGIN, LINE = 12, 18
+MARGIN, LINE_PX = 12, 18
 # A line of a width in pixels, whatever the scale.
-STEADY = 'vector-effect="non-scaling-stroke"'
+STEADY_STROKE = 'vector-effect="non-scaling-stroke"'
 # How many cells of a byte of bits are taken.
-TAKEN = bytes(number.bit_count() for number in range(256))
+BIT_COUNTS = bytes(number.bit_count() for number in range(256))
 
 
 @dataclass(frozen=True)
@@ -45,7 +45,7 @@ class Crowding:
         return TILE * len(self.taken)
 
     @property
-    def part(self) -> float:
+    def taken_share(self) -> float:
         """The part of all cells that is taken."""
         return 2 * sum(sum(row) for row in self.taken) / (self.side * self.height)
 
@@ -57,7 +57,7 @@ def tile_counts(world: World) -> Iterator[bytes]:
     for first in range(0, world.height // TILE * TILE, TILE):
         counts = [0] * tiles
         for row in world.blocked[first:first + TILE]:
-            parts = (row & (1 << tiles * TILE) - 1).to_bytes(2 * tiles, "little").translate(TAKEN)
+            parts = (row & (1 << tiles * TILE) - 1).to_bytes(2 * tiles, "little").translate(BIT_COUNTS)
             counts = [count + left + right for count, left, right in zip(counts, parts[::2], parts[1::2])]
         yield bytes(count // 2 for count in counts)
 
@@ -68,18 +68,18 @@ def crowding_of(board: Board) -> Crowding:
     return Crowding(board.world.size, tuple(tile_counts(board.world)), gates)
 
 
-def class_of(half: int) -> int:
+def tile_class(half: int) -> int:
     """Returns the class of a tile by half of how many of its cells are taken: 0 is empty, the last one full."""
     last = len(COLOURS) - 1
     return -(-half * last * 2 // TILE ** 2)
 
 
-def runs(row: bytes) -> Iterator[tuple[int, int, int]]:
+def class_runs(row: bytes) -> Iterator[tuple[int, int, int]]:
     """Yields the runs of tiles of one class in a row: class, first column and how many."""
     first = 0
     for column in range(1, len(row) + 1):
-        if column == len(row) or class_of(row[column]) != class_of(row[first]):
-            yield class_of(row[first]), first, column - first
+        if column == len(row) or tile_class(row[column]) != tile_class(row[first]):
+            yield tile_class(row[first]), first, column - first
             first = column
 
 
@@ -87,7 +87,7 @@ def tile_paths(crowding: Crowding) -> Iterator[str]:
     """Yields one path for each class but the empty one, in tiles."""
     moves: list[list[str]] = [[] for _ in COLOURS]
     for line, row in enumerate(crowding.taken):
-        for kind, first, count in runs(row):
+        for kind, first, count in class_runs(row):
             moves[kind].append(f"M{first} {line}h{count}v1h-{count}z")
     for kind, colour in enumerate(COLOURS[1:], 1):
         if moves[kind]:
@@ -100,10 +100,11 @@ def gate_frames(crowding: Crowding, circuit: Circuit) -> Iterator[str]:
         left, top, width, height = placed.box
         gate = circuit.gates[placed.number]
         name = escape(f"gate {placed.number}: {gate.kind} {' '.join(gate.ins)} -> {' '.join(gate.outs)}")
-        yield f'<rect x="{left}" y="{top}" width="{width}" height="{height}" {STEADY}><title>{name}</title></rect>'
+        yield (f'<rect x="{left}" y="{top}" width="{width}" height="{height}" {STEADY_STROKE}>'
+               f"<title>{name}</title></rect>")
 
 
-def legend(top: int) -> Iterator[str]:
+def legend_parts(top: int) -> Iterator[str]:
     """Yields the colours with what they mean."""
     for kind, colour in enumerate(COLOURS):
         yield f'<rect x="{MARGIN + 24 * kind}" y="{top}" width="24" height="12" fill="{colour}" stroke="#888"/>'
@@ -116,15 +117,15 @@ def crowding_picture(crowding: Crowding, circuit: Circuit, title: str) -> str:
     tiles, rows = max(1, crowding.side // TILE), max(1, len(crowding.taken))
     scale = max(1, PIXELS // max(tiles, rows))
     size, bottom, lines = scale * tiles, scale * rows, title.split("\n")
-    top = 2 * MARGIN + LINE * len(lines)
+    top = 2 * MARGIN + LINE_PX * len(lines)
     width, height = max(size, 560) + 2 * MARGIN, top + bottom + 3 * MARGIN
     drawn = [f'<svg xmlns="http://www.w3.org/2000/svg" width="{width}" height="{height}" viewBox="0 0 {width} '
              f'{height}" '
                'font-family="sans-serif" font-size="13">', f'<rect width="{width}" height="{height}" fill="#fff"/>']
-    drawn += [f'<text x="{MARGIN}" y="{MARGIN + LINE * (at + 1) - 6}">{escape(line)}</text>' for at,
+    drawn += [f'<text x="{MARGIN}" y="{MARGIN + LINE_PX * (at + 1) - 6}">{escape(line)}</text>' for at,
               line in enumerate(lines)]
     drawn += [f'<g transform="translate({MARGIN} {top}) scale({scale})">', *tile_paths(crowding),
                 '<g fill="transparent" stroke="#d1495b" stroke-width="2">', *gate_frames(crowding, circuit), "</g>",
-                f'<rect width="{tiles}" height="{rows}" fill="none" stroke="#444" stroke-width="2" {STEADY}/>', "</g>",
-              *legend(top + bottom + MARGIN), "</svg>"]
+                f'<rect width="{tiles}" height="{rows}" fill="none" stroke="#444" stroke-width="2" {STEADY_STROKE}/>',
+              "</g>", *legend_parts(top + bottom + MARGIN), "</svg>"]
     return "\n".join(drawn) + "\n"

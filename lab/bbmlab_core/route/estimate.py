@@ -8,7 +8,7 @@ from .netlist import RouterNetlist
 
 
 @dataclass(frozen=True)
-class Measured:
+class MeasuredCircuits:
     """Circuits that `bench/route` routed on 2026-11-30 (bench/README.md): how many got a yes, and the median of their
     processor seconds.
 
@@ -21,7 +21,7 @@ class Measured:
     seconds: int
 
 
-MEASURED = (Measured(12, 30, 30, 2), Measured(42, 17, 17, 9), Measured(106, 5, 5, 36))
+MEASURED = (MeasuredCircuits(12, 30, 30, 2), MeasuredCircuits(42, 17, 17, 9), MeasuredCircuits(106, 5, 5, 36))
 
 
 @dataclass(frozen=True)
@@ -35,17 +35,17 @@ class Estimate:
 
     def words(self) -> str:
         """Returns the estimate as sentences."""
-        size = (f"{counted(self.gates, 'gate')} in {counted(self.levels, 'level')}, {counted(self.ends, 'ball')} at "
+        size = (f"{plural(self.gates, 'gate')} in {plural(self.levels, 'level')}, {plural(self.ends, 'ball')} at "
                 f"the end: first side {self.side}.")
         like = next((row for row in MEASURED if self.gates <= row.gates), None)
         if like is None:
             return f"{size} No circuit of more than {MEASURED[-1].gates} gates was measured."
-        return (f"{size} When measured, {like.found} of {counted(like.tried, 'circuit')} of up to {like.gates} gates "
+        return (f"{size} When measured, {like.found} of {plural(like.tried, 'circuit')} of up to {like.gates} gates "
                 "got a route. The median took "
-                f"{counted(like.seconds, 'processor second')}.")
+                f"{plural(like.seconds, 'processor second')}.")
 
 
-def counted(count: int, noun: str) -> str:
+def plural(count: int, noun: str) -> str:
     """Returns a number with its noun."""
     return f"{count} {noun}{'' if count == 1 else 's'}"
 

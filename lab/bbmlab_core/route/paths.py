@@ -9,10 +9,10 @@ from dataclasses import dataclass
 from itertools import islice
 from typing import Callable, Iterator, NamedTuple, Sequence
 
-from .balls import BOUNCE_STEPS, Ball, Leg, Mirror, Turn, bounce, bounce_before, follow
+from .balls import BOUNCE_STEPS, Ball, Leg, Mirror, Turn, bounce, bounce_before, follow_legs
 from .bit_rows import Bend, BitJoiner
 from .settings import Settings
-from .world import MARGIN, Item, World, path_item
+from .world import MARGIN_CELLS, Item, World, path_item
 
 # A leg leads on for at least this many steps, if the path goes on so long.
 LEAST_LEG = 12
@@ -40,7 +40,7 @@ class Path:
 
     def mirrors(self) -> list[Mirror]:
         """Returns the mirrors, in the order of time."""
-        return follow(self.start, self.legs)[1]
+        return follow_legs(self.start, self.legs)[1]
 
 
 def joined_path(parts: list[Path]) -> Path:
@@ -59,7 +59,7 @@ def combined_item(item: Item, way: Item) -> Item:
     return Item(item.mirrors | way.mirrors, touched, (*item.claim_parts, *way.claim_parts))
 
 
-class Option(NamedTuple):
+class WanderOption(NamedTuple):
     """A way on for a wandering ball: steps and a bounce, with a cost for each step."""
 
     cost: float
@@ -67,7 +67,7 @@ class Option(NamedTuple):
     turn: Turn
 
 
-class Turned(NamedTuple):
+class EndBounce(NamedTuple):
     """A bounce after or before some steps, with the ball on its other side; or no bounce."""
 
     steps: int
@@ -91,45 +91,45 @@ class Trail:
         self.begun = BOUNCE_STEPS if is_backward else 0
         self.steps: list[tuple[int, Turn | None, Ball, int, Item]] = []
 
-    def turned(self, ball: Ball, turn: Turn) -> tuple[Ball, Mirror]:
+    def after_bounce(self, ball: Ball, turn: Turn) -> tuple[Ball, Mirror]:
         """Returns the ball after a bounce, and its mirror."""
         if not self.is_backward:
             return bounce(ball, turn)
         before, mirror = bounce_before(ball.reversed(), turn)
         return before.reversed(), mirror
 
-    def room(self, most: int) -> int:
+    def free_steps(self, most: int) -> int:
         """Returns how many steps, at most `most`, the ball can fly straight on."""
         begun = 0 if self.is_backward else self.begun
-        return begun + self.world.free_flight(self.ball.flown(begun), most - begun) if most > begun else 0
+        return begun + self.world.free_steps(self.ball.flown(begun), most - begun) if most > begun else 0
 
-    def push(self, steps: int, turn: Turn | None) -> bool:
+    def push_leg(self, steps: int, turn: Turn | None) -> bool:
         """Adds a leg and its bounce if they meet nothing."""
         if steps < self.begun and turn is not None or steps < 0:
             return False
         ball = self.ball.flown(steps)
-        after = self.turned(ball, turn)[0] if turn else ball
+        after = self.after_bounce(ball, turn)[0] if turn else ball
         if self.is_backward:
             first = after.reversed()
             item = path_item(first, [Leg(0, turn), Leg(steps, None)] if turn else [Leg(steps, None)])
         else:
             item = path_item(self.ball, [Leg(steps, turn)], min(self.begun, steps))
-        if item is None or not self.world.fits(item):
+        if item is None or not self.world.can_add(item):
             return False
         self.world.add(item)
         self.steps.append((steps, turn, self.ball, self.begun, item))
         self.ball, self.begun = after, BOUNCE_STEPS
         return True
 
-    def pop(self) -> None:
+    def pop_leg(self) -> None:
         """Takes the last leg away."""
         _, _, self.ball, self.begun, item = self.steps.pop()
         self.world.remove(item)
 
-    def clear(self) -> None:
+    def clear_legs(self) -> None:
         """Takes all legs away."""
         while self.steps:
-            self.pop()
+            self.pop_leg()
 
     def legs(self) -> list[Leg]:
         """Returns the legs in the order of time."""
@@ -148,13 +148,13 @@ class PathFinder:
     def __init__(self, world: World, chance: random.Random, settings: Settings) -> None:
         self.world, self.chance, self.settings = world, chance, settings
         # The departures of waiting balls, while one gate is placed. What a place adds to the world is looked at later.
-        self.known_departures: dict[tuple[Ball, int], dict[Direction, list[Turned]]] = {}
+        self.known_departures: dict[tuple[Ball, int], dict[Direction, list[EndBounce]]] = {}
         # What may raise an exception when the time is over.
         self.check_time: Callable[[], None] = lambda: None
 
     # --- free ends ----------------------------------------------------------------------------------------------------
 
-    def lead_on(self, wire: str, ball: Ball, end: int, stays: bool = False) -> Path | None:
+    def path_on_from(self, wire: str, ball: Ball, end: int, stays: bool = False) -> Path | None:
         """Returns a path from a ball to any place at the time `end`.
 
         If it stays, it is in the world: what its legs took there is its item.
@@ -173,16 +173,16 @@ class PathFinder:
                 self.world.add(way)
                 self.world.add(start)
                 return Path(wire, ball, last, tuple(legs), item)
-        trail.clear()
-        return self.complete(wire, ball, last, legs) if found and not stays else None
+        trail.clear_legs()
+        return self.path_of_legs(wire, ball, last, legs) if found and not stays else None
 
-    def lead_here(self, wire: str, goal: Ball) -> Path | None:
+    def path_from_anywhere(self, wire: str, goal: Ball) -> Path | None:
         """Returns a path that begins at any place at time 0 and comes to a ball."""
         trail = Trail(self.world, goal, is_backward=True)
         found = self.wander(trail, 0)
         legs, first = trail.legs() if trail.steps else [], trail.ball.reversed()
-        trail.clear()
-        path = self.complete(wire, first, goal, legs) if found else None
+        trail.clear_legs()
+        path = self.path_of_legs(wire, first, goal, legs) if found else None
         way = self.open_way(first, -1, self.settings.open_steps, path.item) if path else None
         return Path(wire, first, goal, path.legs, combined_item(path.item, way)) if path and way else None
 
@@ -195,11 +195,11 @@ class PathFinder:
         if not most:
             return NO_ITEM
         for legs in self.legs_past_bounce(ball, sign, most):
-            way = path_item(ball if sign > 0 else self.before(ball, legs), legs)
+            way = path_item(ball if sign > 0 else self.ball_before(ball, legs), legs)
             # A few steps of the straight way keep mirrors so far away that a search sees the bounce.
             steps = OPEN_PAST + (legs[0] if sign > 0 else legs[-1]).steps
             straight = path_item(ball if sign > 0 else ball.flown(-steps), [Leg(steps, None)])
-            if way is None or straight is None or not self.world.fits(way) or not self.world.fits(straight):
+            if way is None or straight is None or not self.world.can_add(way) or not self.world.can_add(straight):
                 continue
             found = combined_item(way, straight)
             if own is None or own.mirrors.isdisjoint(found.touched) and way.mirrors.isdisjoint(own.touched):
@@ -215,86 +215,86 @@ class PathFinder:
         first = 1 if sign > 0 else 3
         rooms = [place - first for place, step in ((ball.x, sign * ball.dx), (ball.y, sign * ball.dy)) if step < 0]
         room = min(rooms, default=most + 1)
-        if OPEN_PAST <= room <= most and max(ball.x, ball.y) + most < self.world.size - MARGIN - 1:
+        if OPEN_PAST <= room <= most and max(ball.x, ball.y) + most < self.world.size - MARGIN_CELLS - 1:
             yield [Leg(room - OPEN_PAST, None)]
-        most = self.world.free_flight(ball if sign > 0 else ball.reversed(), most)
+        most = self.world.free_steps(ball if sign > 0 else ball.reversed(), most)
         for steps in range(0 if sign > 0 else BOUNCE_STEPS, most + 1):
             at = ball.flown(sign * steps)
             for turn in Turn:
                 after, mirror = bounce(at, turn) if sign > 0 else bounce_before(at, turn)
                 clear = after.flown(BOUNCE_STEPS) if sign > 0 else after.reversed()
-                if self.world.can_hold(mirror) and self.world.free_flight(clear, OPEN_ROOM) >= OPEN_ROOM:
+                if self.world.can_hold(mirror) and self.world.free_steps(clear, OPEN_ROOM) >= OPEN_ROOM:
                     ends = [Leg(steps, turn), Leg(OPEN_LEG, None)], [Leg(OPEN_LEG, turn), Leg(steps, None)]
                     yield ends[sign < 0]
 
-    def before(self, ball: Ball, legs: list[Leg]) -> Ball:
+    def ball_before(self, ball: Ball, legs: list[Leg]) -> Ball:
         """Returns the ball from which legs lead to a ball."""
         for leg in reversed(legs):
             ball = (bounce_before(ball, leg.turn)[0] if leg.turn else ball).flown(-leg.steps)
         return ball
 
-    def complete(self, wire: str, start: Ball, end: Ball, legs: list[Leg]) -> Path | None:
+    def path_of_legs(self, wire: str, start: Ball, end: Ball, legs: list[Leg]) -> Path | None:
         """Returns the path of these legs if it meets nothing, itself included."""
         item = path_item(start, legs)
-        if item is None or not self.world.fits(item):
+        if item is None or not self.world.can_add(item):
             return None
         return Path(wire, start, end, tuple(legs), item)
 
     def wander(self, trail: Trail, end: int, goal: Ball | None = None) -> bool:
         """Leads a trail on up to a time, so that it takes few new cells; with a goal, it can still come to this ball.
         """
-        ways: list[Iterator[Option]] = []
+        ways: list[Iterator[WanderOption]] = []
         self.check_time()
         for _ in range(self.settings.wander_tries + (end - trail.ball.time) // self.settings.wander_steps):
             left = end - trail.ball.time
-            if left == 0 and not trail.steps or self.can_end(trail, left, goal) and trail.push(left, None):
+            if left == 0 and not trail.steps or self.can_end(trail, left, goal) and trail.push_leg(left, None):
                 return True
-            ways.append(iter(self.options(trail, left, goal)))
+            ways.append(iter(self.ways_on(trail, left, goal)))
             while ways:
                 option = next(ways[-1], None)
-                if option and trail.push(option.steps, option.turn):
+                if option and trail.push_leg(option.steps, option.turn):
                     break
                 if option is None:
                     ways.pop()
                     if ways:
-                        trail.pop()
+                        trail.pop_leg()
             if not ways:
                 return False
         return False
 
     def can_end(self, trail: Trail, left: int, goal: Ball | None) -> bool:
         """Whether a trail can fly straight on to its end, with enough time to come to a goal from there."""
-        if left < trail.begun or trail.room(left) < left:
+        if left < trail.begun or trail.free_steps(left) < left:
             return False
-        return goal is None or self.can_come(trail.ball.flown(left), goal)
+        return goal is None or self.can_reach(trail.ball.flown(left), goal)
 
-    def can_come(self, ball: Ball, goal: Ball) -> bool:
+    def can_reach(self, ball: Ball, goal: Ball) -> bool:
         """Whether a wandering ball can come to a goal with steps to spare, more of them if it is far away."""
         spare = SPARE_STEPS + int(self.settings.wander_detour * max(abs(ball.x - goal.x), abs(ball.y - goal.y)))
         return is_in_reach(ball, goal, spare)
 
-    def options(self, trail: Trail, left: int, goal: Ball | None) -> list[Option]:
+    def ways_on(self, trail: Trail, left: int, goal: Ball | None) -> list[WanderOption]:
         """Returns the ways on of a trail, the cheapest first."""
         chance, world, settings = self.chance, self.world, self.settings
-        room, least = trail.room(min(settings.longest_leg, left)), trail.begun
-        found: list[Option] = []
+        room, least = trail.free_steps(min(settings.longest_leg, left)), trail.begun
+        found: list[WanderOption] = []
         if room < least:
             return found
         for index in range(settings.wander_options):
             steps = room - index if index < 3 and room - index >= least else chance.randint(least, room)
             at = trail.ball.flown(steps)
             for turn in Turn:
-                after, mirror = trail.turned(at, turn)
+                after, mirror = trail.after_bounce(at, turn)
                 rest = left - steps
                 if rest < BOUNCE_STEPS or not world.can_hold(mirror):
                     continue
                 clear = after.flown(BOUNCE_STEPS)
-                on = BOUNCE_STEPS + world.free_flight(clear, min(60, rest - BOUNCE_STEPS))
-                if on < min(LEAST_LEG, rest) or goal and not self.can_come(after, goal):
+                on = BOUNCE_STEPS + world.free_steps(clear, min(60, rest - BOUNCE_STEPS))
+                if on < min(LEAST_LEG, rest) or goal and not self.can_reach(after, goal):
                     continue
-                new = world.new_cells(trail.ball, steps) + world.new_cells(clear, on - BOUNCE_STEPS)
+                new = world.new_cell_count(trail.ball, steps) + world.new_cell_count(clear, on - BOUNCE_STEPS)
                 cost = (new + settings.mirror_cost) / (steps + on) + chance.random() * 0.5
-                found.append(Option(cost, steps, turn))
+                found.append(WanderOption(cost, steps, turn))
         found.sort(key=lambda option: option.cost)
         return found[:4]
 
@@ -308,12 +308,12 @@ class PathFinder:
             path = self.connect_once(wire, start, goal, tries)
             if path is None:
                 break
-            cost = self.cost(path)
+            cost = self.path_cost(path)
             if best is None or cost < least:
                 best, least = path, cost
         return best
 
-    def cost(self, path: Path) -> float:
+    def path_cost(self, path: Path) -> float:
         """Returns the cost of a path: the cells that it newly touches, and its mirrors."""
         counts = self.world.counts
         new = sum(not counts[number] for part in path.item.touched_parts for number in part)
@@ -325,7 +325,7 @@ class PathFinder:
         spare = total - max(abs(start.x - goal.x), abs(start.y - goal.y))
         if spare <= settings.direct_spare:
             legs = self.connect_short(start, goal, tries)
-            path = self.complete(wire, start, goal, legs) if legs else None
+            path = self.path_of_legs(wire, start, goal, legs) if legs else None
             if path or spare <= settings.least_wander:
                 return path
         for _ in range(settings.wanders):
@@ -343,8 +343,8 @@ class PathFinder:
             before, rest = trail.legs(), self.connect_short(trail.ball, goal, tries)
             if rest:
                 legs = [*before[:-1], Leg(before[-1].steps + rest[0].steps, rest[0].turn), *rest[1:]]
-        trail.clear()
-        return self.complete(wire, start, goal, legs) if legs else None
+        trail.clear_legs()
+        return self.path_of_legs(wire, start, goal, legs) if legs else None
 
     def connect_short(self, start: Ball, goal: Ball, tries: int) -> list[Leg] | None:
         """Returns legs from a ball to a ball: straight, by rows of bits if there is much time to spare, else by random
@@ -354,10 +354,10 @@ class PathFinder:
             return None
         if start.flown(total) == goal:
             straight = [Leg(total, None)]
-            if self.is_path(start, straight):
+            if self.is_free_path(start, straight):
                 return straight
         if total - max(abs(start.x - goal.x), abs(start.y - goal.y)) >= self.settings.bits_spare:
-            return next((legs for legs in self.bit_joins(start, goal) if self.is_path(start, legs)), None)
+            return next((legs for legs in self.bit_joins(start, goal) if self.is_free_path(start, legs)), None)
         return self.random_join(start, goal, tries)
 
     def bit_joins(self, start: Ball, goal: Ball) -> Iterator[list[Leg]]:
@@ -365,7 +365,7 @@ class PathFinder:
         behind these."""
         joiner, settings = BitJoiner(self.world, self.chance, self.settings), self.settings
         is_parallel = start.dx * start.dy == goal.dx * goal.dy
-        yield from joiner.joins(start, goal, 0, 3 * settings.bit_ends)
+        yield from joiner.joining_legs(start, goal, 0, 3 * settings.bit_ends)
         firsts = list(islice(joiner.first_bends(start, 0), settings.bit_bends))
         lasts: list[Bend | None] = [*islice(joiner.last_bends(goal), settings.bit_bends)] if is_parallel else [None]
         for first in firsts if lasts else ():
@@ -373,8 +373,8 @@ class PathFinder:
                 last = lasts[int(self.chance.random() * len(lasts))]
                 end = last.ball if last else goal
                 if is_in_reach(first.ball, end):
-                    for legs in joiner.joins(first.ball, end, BOUNCE_STEPS, settings.bit_ends):
-                        yield [Leg(first.steps, first.turn), *(bent(legs, last) if last else legs)]
+                    for legs in joiner.joining_legs(first.ball, end, BOUNCE_STEPS, settings.bit_ends):
+                        yield [Leg(first.steps, first.turn), *(legs_past_bend(legs, last) if last else legs)]
 
     def random_join(self, start: Ball, goal: Ball, tries: int) -> list[Leg] | None:
         """Returns legs from a ball to a ball.
@@ -395,32 +395,32 @@ class PathFinder:
             before, after = firsts[int(self.chance.random() * len(firsts))], lasts[
                 int(self.chance.random() * len(lasts))]
             legs = self.legs_through(before, after, is_return)
-            if legs and self.is_path(start, legs):
+            if legs and self.is_free_path(start, legs):
                 return legs
         return None
 
-    def departures(self, ball: Ball, total: int) -> dict[Direction, list[Turned]]:
+    def departures(self, ball: Ball, total: int) -> dict[Direction, list[EndBounce]]:
         """Returns by direction the beginnings of a path: none, and first bounces for which a mirror has room."""
-        found = {(ball.dx, ball.dy): [Turned(0, None, ball)]}
-        room = self.world.free_flight(ball, min(self.settings.longest_leg, total))
+        found = {(ball.dx, ball.dy): [EndBounce(0, None, ball)]}
+        room = self.world.free_steps(ball, min(self.settings.longest_leg, total))
         for steps in self.some_steps(0, room):
             at = ball.flown(steps)
             for turn in Turn:
                 after, mirror = bounce(at, turn)
                 if self.world.can_hold(mirror):
-                    found.setdefault((after.dx, after.dy), []).append(Turned(steps, turn, after))
+                    found.setdefault((after.dx, after.dy), []).append(EndBounce(steps, turn, after))
         return found
 
-    def approaches(self, goal: Ball, total: int) -> dict[Direction, list[Turned]]:
+    def approaches(self, goal: Ball, total: int) -> dict[Direction, list[EndBounce]]:
         """Returns by direction the ends of a path: none, and last bounces for which a mirror has room."""
-        found, back = {(goal.dx, goal.dy): [Turned(0, None, goal)]}, goal.reversed()
-        room = self.world.free_flight(back, min(self.settings.longest_leg, total))
+        found, back = {(goal.dx, goal.dy): [EndBounce(0, None, goal)]}, goal.reversed()
+        room = self.world.free_steps(back, min(self.settings.longest_leg, total))
         for steps in self.some_steps(BOUNCE_STEPS, room):
             at = goal.flown(-steps)
             for turn in Turn:
                 before, mirror = bounce_before(at, turn)
                 if self.world.can_hold(mirror):
-                    found.setdefault((before.dx, before.dy), []).append(Turned(steps, turn, before))
+                    found.setdefault((before.dx, before.dy), []).append(EndBounce(steps, turn, before))
         return found
 
     def some_steps(self, least: int, most: int) -> Sequence[int]:
@@ -429,25 +429,25 @@ class PathFinder:
         return range(least,
                      most + 1) if most - least < count else sorted(self.chance.sample(range(least, most + 1), count))
 
-    def legs_through(self, before: Turned, after: Turned, is_return: bool) -> list[Leg] | None:
+    def legs_through(self, before: EndBounce, after: EndBounce, is_return: bool) -> list[Leg] | None:
         """Returns legs that begin and end with given bounces, if two bounces between them can join them."""
         begun = BOUNCE_STEPS if before.turn else 0
         rest = middle_legs(before.ball, after.ball, begun, is_return, self.chance.random())
-        if rest is None or not self.is_free(before.ball, rest, begun):
+        if rest is None or not self.has_free_way(before.ball, rest, begun):
             return None
         legs = [Leg(before.steps, before.turn), *rest] if before.turn else rest
         return [*legs[:-1], Leg(legs[-1].steps, after.turn), Leg(after.steps, None)] if after.turn else legs
 
-    def is_path(self, start: Ball, legs: list[Leg]) -> bool:
+    def is_free_path(self, start: Ball, legs: list[Leg]) -> bool:
         """Whether a path meets nothing, itself included."""
         item = path_item(start, legs)
-        return item is not None and self.world.fits(item)
+        return item is not None and self.world.can_add(item)
 
-    def is_free(self, ball: Ball, legs: list[Leg], begun: int) -> bool:
+    def has_free_way(self, ball: Ball, legs: list[Leg], begun: int) -> bool:
         """Whether no mirror is in the way of legs, and each of their mirrors has room."""
         world = self.world
         for steps, turn in legs:
-            if world.free_flight(ball.flown(begun), steps - begun) < steps - begun:
+            if world.free_steps(ball.flown(begun), steps - begun) < steps - begun:
                 return False
             ball = ball.flown(steps)
             if turn is not None:
@@ -458,7 +458,7 @@ class PathFinder:
         return True
 
 
-def bent(legs: list[Leg], last: Bend) -> list[Leg]:
+def legs_past_bend(legs: list[Leg], last: Bend) -> list[Leg]:
     """Returns legs that end at a last bounce, and that go on behind it."""
     return [*legs[:-1], Leg(legs[-1].steps, last.turn), Leg(last.steps, None)]
 

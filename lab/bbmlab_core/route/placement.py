@@ -12,21 +12,21 @@ from typing import Iterable, Iterator
 from ..texts.circuits import Gate
 from ..texts.layouts import Cell
 from .balls import BOUNCE_STEPS, Ball, Leg, Turn, bounce
-from .board import Board, Placement, Waiting, box_of, tiles_in
-from .cells import PORTS, GateCell
+from .board import Board, Placement, WaitingBall, box_of, tiles_in
+from .cells import GATE_PORTS, GateCell
 from .paths import Path, PathFinder
 from .settings import Settings
-from .world import AROUND, MARGIN, ROW, TILE, Item, path_item
+from .world import AROUND_CELLS, MARGIN_CELLS, ROW_STRIDE, TILE, Item, path_item
 
 # Largest side of a box in tiles: boxes have at most 64 by 64 cells.
 MOST_TILES = 4
 # A waiting ball is looked at again if something new is nearer than this many columns and rows.
-NEAR = 100
-# The cells of the square in which `World.taken_around` counts.
-FULL = (2 * AROUND) ** 2
+NEAR_CELLS = 100
+# The cells of the square in which `World.taken_count_around` counts.
+FULL_SQUARE_CELLS = (2 * AROUND_CELLS) ** 2
 # The most steps to spare for the last input of a gate, however often inputs could not be led.
 MOST_SPARE = 130
-EVEN_BITS = sum(1 << index for index in range(0, ROW, 2))
+EVEN_BITS = sum(1 << index for index in range(0, ROW_STRIDE, 2))
 
 
 @dataclass(frozen=True)
@@ -74,7 +74,7 @@ class Placer:
     def inlets(self, gate: Gate) -> list[Inlet]:
         """Returns the inputs of a gate that have a ball."""
         netlist, found = self.board.netlist, []
-        for port, wire in zip(PORTS[gate.kind][0], gate.ins):
+        for port, wire in zip(GATE_PORTS[gate.kind][0], gate.ins):
             if not netlist.is_zero(wire):
                 root = netlist.root(wire)
                 found.append(Inlet(port, root, self.board.waiting[root].ball, netlist.least_steps(wire)))
@@ -88,9 +88,9 @@ class Placer:
         self.finder.known_departures.clear()
         netlist = self.board.netlist
         inlets = self.inlets(gate)
-        self.least_time = max([self.late_time(inlets), *(netlist.least_steps(wire) for wire in gate.ins
-                                                         if netlist.is_zero(wire))])
-        for spot in self.spots(gate, inlets) if spots is None else spots:
+        self.least_time = max([self.earliest_late_time(inlets), *(netlist.least_steps(wire) for wire in gate.ins
+                                                                  if netlist.is_zero(wire))])
+        for spot in self.best_spots(gate, inlets) if spots is None else spots:
             self.reasons["tries"] += 1
             step = self.try_spot(gate, spot, inlets)
             if step is not None:
@@ -100,26 +100,28 @@ class Placer:
                 break
         return None
 
-    def late_time(self, inlets: list[Inlet]) -> int:
+    def earliest_late_time(self, inlets: list[Inlet]) -> int:
         """Returns the earliest time for a gate with some inputs: a late one comes after all balls that wait for it, and
         not before the first late one."""
         netlist = self.board.netlist
         if not any(inlet.ball is None and inlet.root in netlist.late for inlet in inlets):
             return 0
-        times = [own.ball.time for root, own in self.board.waiting.items() if own.ball and netlist.is_awaited(root)]
+        times = [own.ball.time for root, own in self.board.waiting.items()
+                 if own.ball and netlist.is_before_late_inputs(root)]
         self.late_begun = max([self.late_begun, *times])
         return self.late_begun
 
     # --- where and when -----------------------------------------------------------------------------------------------
 
-    def spots(self, gate: Gate, inlets: list[Inlet]) -> Iterator[Spot]:
+    def best_spots(self, gate: Gate, inlets: list[Inlet]) -> Iterator[Spot]:
         """Yields the best of some random spots for a gate, and so on: early ones, with few taken cells around them."""
         settings = self.settings
         batch: list[tuple[float, int, Spot]] = []
         for index, spot in enumerate(self.random_spots(gate, inlets)):
             left, top, right, bottom = spot.cell.bounds
-            taken = self.board.world.taken_around(spot.x + (left + right) // 2, spot.y + (top + bottom) // 2)
-            batch.append((spot.time + spot.cell.length + settings.full_steps * taken / FULL, index, spot))
+            taken = self.board.world.taken_count_around(spot.x + (left + right) // 2, spot.y + (top + bottom) // 2)
+            batch.append((spot.time + spot.cell.step_count + settings.full_steps * taken / FULL_SQUARE_CELLS, index,
+                          spot))
             if len(batch) == settings.spot_batch:
                 yield from (own for _, _, own in sorted(batch, key=lambda own: own[:2])[:settings.best_spots])
                 batch.clear()
@@ -131,11 +133,11 @@ class Placer:
         If `is_crowded`, paths may be where its mirrors are.
         """
         chance, tries = self.chance, self.settings.place_tries
-        cells, partner = self.board.netlist.cells(gate), self.partner(gate, inlets)
+        cells, partner = self.board.netlist.cells(gate), self.partner_ball(gate, inlets)
         for index in range(tries):
             cell, growth = cells[chance.randrange(len(cells))], min(1.0, index / self.settings.growth_tries)
             left, top, right, bottom = cell.bounds
-            x, y, radius = self.centre(inlets, partner, growth, (right - left) // 2)
+            x, y, radius = self.search_centre(inlets, partner, growth, (right - left) // 2)
             x, y = x - (left + right) // 2, y - (top + bottom) // 2
             row = y + chance.randint(-radius, radius)
             column = self.free_column(cell, row, (x - radius, x + radius), is_crowded)
@@ -148,9 +150,9 @@ class Placer:
             if self.is_in_lane(cell, column, row, inlets):
                 self.reasons["ahead of a ball"] += 1
                 continue
-            time = self.earliest(cell, column, row, inlets)
+            time = self.earliest_time(cell, column, row, inlets)
             if partner:
-                time = max(time, partner.time - cell.length)
+                time = max(time, partner.time - cell.step_count)
             time += chance.randint(self.settings.least_spare, self.most_spare())
             yield Spot(cell, column, row, time + (time - column) % 2)
 
@@ -158,7 +160,7 @@ class Placer:
         """Returns the most steps to spare for the last input of a gate: more if inputs could not be led."""
         return min(MOST_SPARE, self.chance.choice(self.settings.most_spare) + 3 * max(self.blame.values(), default=0))
 
-    def partner(self, gate: Gate, inlets: list[Inlet]) -> Ball | None:
+    def partner_ball(self, gate: Gate, inlets: list[Inlet]) -> Ball | None:
         """Returns the ball that a gate's results wait for or meet later, if the gate's own inputs may all begin
         anywhere."""
         netlist, waiting = self.board.netlist, self.board.waiting
@@ -169,7 +171,8 @@ class Placer:
         balls = [own.ball for own in others if own and own.ball]
         return max(balls, key=lambda ball: ball.time) if balls else None
 
-    def centre(self, inlets: list[Inlet], partner: Ball | None, growth: float, half: int) -> tuple[int, int, int]:
+    def search_centre(self, inlets: list[Inlet], partner: Ball | None, growth: float,
+                      half: int) -> tuple[int, int, int]:
         """Returns a place near the waiting balls for a cell of twice `half` cells, and how far around it the cell may
         be."""
         chance, size, height = self.chance, self.board.size, self.board.height
@@ -194,8 +197,8 @@ class Placer:
         If `is_crowded`, only the layout must have room.
         """
         left, top, right, bottom = cell.bounds
-        first, last = max(columns[0], MARGIN - left), min(columns[1], self.board.size - MARGIN - 1 - right)
-        if row + top < MARGIN or row + bottom > self.board.height - MARGIN - 1 or first > last:
+        first, last = max(columns[0], MARGIN_CELLS - left), min(columns[1], self.board.size - MARGIN_CELLS - 1 - right)
+        if row + top < MARGIN_CELLS or row + bottom > self.board.height - MARGIN_CELLS - 1 or first > last:
             return None
         blocked, taken = self.board.world.blocked, 0
         for y, places in cell.mirror_rows if not is_crowded else ():
@@ -238,7 +241,7 @@ class Placer:
                 return True
         return False
 
-    def earliest(self, cell: GateCell, x: int, y: int, inlets: list[Inlet]) -> int:
+    def earliest_time(self, cell: GateCell, x: int, y: int, inlets: list[Inlet]) -> int:
         """Returns the earliest time for a cell at which each input can be there."""
         time = self.least_time
         meeting = min((cell.ins[inlet.port].time for inlet in inlets), default=0)
@@ -257,33 +260,33 @@ class Placer:
         """Returns the step that places a gate at a spot, or None if something is in the way. The board stays as it is.
         """
         board, world = self.board, self.board.world
-        placed, self.enclosed = board.place(spot.x, spot.y, spot.time, spot.cell, gate.number), ""
-        if not world.fits(placed.item):
+        placed, self.enclosed = board.gate_at(spot.x, spot.y, spot.time, spot.cell, gate.number), ""
+        if not world.can_add(placed.item):
             self.reasons["in the way"] += 1
             return None
-        if not board.box_has_room(placed.box, [gate.number], board.gate_wires(placed), 2):
+        if not board.has_box_room(placed.box, [gate.number], board.gate_wires(placed), 2):
             self.reasons["cuts"] += 1
             return None
         board.add_gate(placed)
         step = Placement(placed, [])
-        done = (self.reserve_outs(step, gate) and self.leaves_others([(placed.x, placed.y)])
-                and self.lead_inputs(step, inlets) and self.leaves_escapes(step))
+        done = (self.reserve_outs(step, gate) and self.can_others_turn([(placed.x, placed.y)])
+                and self.lead_inputs(step, inlets) and self.can_all_turn(step))
         for path in step.paths:
             board.remove_path(path)
         for own in step.outs.values():
             world.remove(item_of(own))
         for root, waiting in step.before.items():
-            board.wait(root, waiting)
+            board.add_waiting(root, waiting)
         step.before = {}
         board.remove_gate(placed)
         return step if done else None
 
     def reserve_outs(self, step: Placement, gate: Gate) -> bool:
         """Lets a gate's outputs wait, if their ways out are free."""
-        for port, wire in zip(PORTS[gate.kind][1], gate.outs):
+        for port, wire in zip(GATE_PORTS[gate.kind][1], gate.outs):
             if self.board.netlist.is_zero(wire):
                 continue
-            waiting = self.board.waiting_ball(step.gate.out(port))
+            waiting = self.board.waiting_ball(step.gate.output_ball(port))
             if waiting is None:
                 self.reasons["ways out"] += 1
                 return False
@@ -291,19 +294,19 @@ class Placer:
             step.outs[wire] = waiting
         return True
 
-    def way_in(self, ball: Ball) -> Item | None:
+    def way_in_item(self, ball: Ball) -> Item | None:
         """Returns what the last steps of a straight way into a port take, or None if they meet something."""
         before = ball.flown(-6)
         if before.time < 0 or not self.board.world.is_inside(before.x, before.y):
             return None
         item = path_item(before, [Leg(6, None)])
-        return item if item and self.board.world.fits(item) else None
+        return item if item and self.board.world.can_add(item) else None
 
     def lead_inputs(self, step: Placement, inlets: list[Inlet]) -> bool:
         """Leads the inputs to a gate: first those that failed most often, and then those that come last."""
         world = self.board.world
         order = sorted(inlets, key=lambda inlet: (-self.blame[inlet.root], -inlet.ball.time if inlet.ball else 1))
-        ways = {inlet.root: self.way_in(step.gate.into(inlet.port)) for inlet in order}
+        ways = {inlet.root: self.way_in_item(step.gate.input_ball(inlet.port)) for inlet in order}
         kept = {root: item for root, item in ways.items() if item}
         for item in kept.values():
             world.add(item)
@@ -320,17 +323,17 @@ class Placer:
 
     def lead_input(self, step: Placement, inlet: Inlet) -> bool:
         """Leads one input to a gate."""
-        board, goal = self.board, step.gate.into(inlet.port)
+        board, goal = self.board, step.gate.input_ball(inlet.port)
         waiting = board.stop_waiting(inlet.root)
         if waiting.ball is None:
-            path = self.finder.lead_here(inlet.root, goal)
+            path = self.finder.path_from_anywhere(inlet.root, goal)
         else:
             path = self.finder.connect(inlet.root, waiting.ball, goal, self.settings.path_tries)
         if path and not board.has_room_for(inlet.root, path.item.tiles):
             self.reasons["cuts of a path"] += 1
             path = None
         if path is None:
-            board.wait(inlet.root, waiting)
+            board.add_waiting(inlet.root, waiting)
             self.reasons["no path"] += 1
             self.blame[inlet.root] += 1
             return False
@@ -339,11 +342,11 @@ class Placer:
         step.paths.append(path)
         return True
 
-    def leaves_escapes(self, step: Placement) -> bool:
+    def can_all_turn(self, step: Placement) -> bool:
         """Whether each waiting ball can still turn."""
         places = [(step.gate.x, step.gate.y),
                   *((mirror.x, mirror.y) for path in step.paths for mirror in path.mirrors())]
-        if not self.leaves_others(places):
+        if not self.can_others_turn(places):
             self.reasons["encloses another"] += 1
             return False
         if not all(self.can_turn(own) for own in step.outs.values()):
@@ -351,11 +354,11 @@ class Placer:
             return False
         return True
 
-    def leaves_others(self, places: list[Cell]) -> bool:
+    def can_others_turn(self, places: list[Cell]) -> bool:
         """Whether each ball that waits near new mirrors can still turn, but for those that could not turn before."""
         waiting = self.board.waiting
         near = [root for root, own in waiting.items() if own.ball and root not in self.stuck and any(
-            abs(own.ball.x - x) < NEAR and abs(own.ball.y - y) < NEAR for x, y in places)]
+            abs(own.ball.x - x) < NEAR_CELLS and abs(own.ball.y - y) < NEAR_CELLS for x, y in places)]
         self.enclosed = next((root for root in near if not self.can_turn(waiting[root])), "")
         return not self.enclosed
 
@@ -374,55 +377,55 @@ class Placer:
             if wire in board.netlist.consumer or end - ball.time < self.settings.least_parking:
                 continue
             board.stop_waiting(wire)
-            found = [own for own in (self.parking(wire, ball, end) for _ in range(self.settings.parking_choices))
+            found = [own for own in (self.parking_place(wire, ball, end) for _ in range(self.settings.parking_choices))
                      if own]
             if found:
                 _, path, parked = min(found, key=lambda own: own[0])
-                board.park(step, path, parked)
+                board.park_output(step, path, parked)
             else:
-                board.wait(wire, waiting)
+                board.add_waiting(wire, waiting)
 
-    def parking(self, wire: str, ball: Ball, end: int) -> tuple[int, Path, Waiting] | None:
+    def parking_place(self, wire: str, ball: Ball, end: int) -> tuple[int, Path, WaitingBall] | None:
         """Returns a path away from a gate and the ball that waits at its end, with the number of taken cells around
         this place."""
         board = self.board
-        path = self.finder.lead_on(wire, ball, end)
+        path = self.finder.path_on_from(wire, ball, end)
         if path is None or not board.has_room_for(wire, path.item.tiles):
             return None
         board.add_path(path)
         waiting = board.waiting_ball(path.end)
-        is_good = waiting is not None and self.leaves_others([(mirror.x, mirror.y) for mirror in path.mirrors()])
+        is_good = waiting is not None and self.can_others_turn([(mirror.x, mirror.y) for mirror in path.mirrors()])
         if waiting is not None and is_good:
-            board.wait(wire, waiting)
+            board.add_waiting(wire, waiting)
             is_good = self.can_turn(waiting)
             board.stop_waiting(wire)
         board.remove_path(path)
         if waiting is None or not is_good:
             return None
         far = path.end.flown(self.settings.reserved_steps[-1])
-        return board.world.taken_around(far.x, far.y), path, waiting
+        return board.world.taken_count_around(far.x, far.y), path, waiting
 
-    def done(self, step: Placement) -> int:
+    def estimated_end(self, step: Placement) -> int:
         """Returns an estimate of the time at which all that follows a step is done."""
-        netlist, times = self.board.netlist, [step.gate.time + step.gate.cell.length]
+        netlist, times = self.board.netlist, [step.gate.time + step.gate.cell.step_count]
         for wire, waiting in step.outs.items():
             consumer = netlist.consumer.get(wire)
             times.append(ball_of(waiting).time + (netlist.tails[consumer.number] if consumer else 0))
         return max(times)
 
-    def can_turn(self, waiting: Waiting) -> bool:
+    def can_turn(self, waiting: WaitingBall) -> bool:
         """Whether a waiting ball has enough places ahead at which it can turn."""
         world, ball, reserved = self.board.world, ball_of(waiting), item_of(waiting)
-        room, least = world.free_flight(ball, 70), self.settings.escapes
-        found = self.count_turns(ball, range(self.settings.reserved_steps[0] + 3, room + 1, 3), least)
+        room, least = world.free_steps(ball, 70), self.settings.escapes
+        found = self.turn_count(ball, range(self.settings.reserved_steps[0] + 3, room + 1, 3), least)
         if found < least:
             world.remove(reserved)
-            found += self.count_turns(ball, range(0, min(room, self.settings.reserved_steps[0] + 2) + 1, 2),
-                                      least - found)
+            found += self.turn_count(ball, range(0, min(room, self.settings.reserved_steps[0] + 2) + 1, 2),
+                                     least - found)
             world.add(reserved)
         return found >= least
 
-    def count_turns(self, ball: Ball, places: range, most: int) -> int:
+    def turn_count(self, ball: Ball, places: range, most: int) -> int:
         """Returns how many mirrors, at most about `most`, have room after some numbers of steps, with a free way behind
         them."""
         world, found = self.board.world, 0
@@ -430,21 +433,21 @@ class Placer:
             at = ball.flown(steps)
             for turn in Turn:
                 after, mirror = bounce(at, turn)
-                if world.can_hold(mirror) and world.free_flight(after.flown(BOUNCE_STEPS), 20) >= 17:
+                if world.can_hold(mirror) and world.free_steps(after.flown(BOUNCE_STEPS), 20) >= 17:
                     found += 1
             if found >= most:
                 break
         return found
 
 
-def ball_of(waiting: Waiting) -> Ball:
+def ball_of(waiting: WaitingBall) -> Ball:
     """Returns the ball that waits; raises ValueError if it may begin anywhere."""
     if waiting.ball is None:
         raise ValueError("the ball may begin anywhere")
     return waiting.ball
 
 
-def item_of(waiting: Waiting) -> Item:
+def item_of(waiting: WaitingBall) -> Item:
     """Returns what is reserved for a waiting ball; raises ValueError if nothing is."""
     if waiting.item is None:
         raise ValueError("nothing is reserved for the ball")

@@ -9,17 +9,17 @@ from typing import Callable, Iterable, Iterator
 
 from ..texts.circuits import Gate
 from .balls import Ball, Leg, Turn, bounce
-from .board import Board, Waiting
+from .board import Board, WaitingBall
 from .paths import Path
 from .placement import Inlet, Placer, Spot
-from .world import ROW, Item, cell_item, cell_number, number_cell, path_item
+from .world import ROW_STRIDE, Item, cell_item, cell_number, cell_of_number, path_item
 
 # The steps ahead of a ball in which it should find places to turn, and the distance of the places that are looked at.
 STEPS_AHEAD = 70
 PLACE_STEPS = 4
 # The owner of what is not taken out, and the owners of a cell that nothing is on.
 FIXED = -1
-NOBODY: frozenset[int] = frozenset()
+NO_OWNERS: frozenset[int] = frozenset()
 
 
 class WayMaker:
@@ -36,13 +36,13 @@ class WayMaker:
         """
         placer = self.placer
         reasons, blame = placer.reasons.copy(), placer.blame.copy()
-        for paths, spots in self.ways(gate):
+        for paths, spots in self.rip_candidates(gate):
             if paths and self.place_without(gate, paths, spots):
                 return True
         placer.reasons, placer.blame = reasons, blame
         return False
 
-    def ways(self, gate: Gate) -> Iterator[tuple[list[Path], list[Spot] | None]]:
+    def rip_candidates(self, gate: Gate) -> Iterator[tuple[list[Path], list[Spot] | None]]:
         """Yields paths to take out, and the spots that they leave or None if any spot may be tried."""
         placer, waiting = self.placer, self.board.waiting
         blamed = [own.ball for root, _ in placer.blame.most_common(2) for own in [waiting.get(root)] if own
@@ -55,14 +55,14 @@ class WayMaker:
         if is_crowded:
             yield from self.crowded_spots(gate, placer.inlets(gate))
 
-    def all_paths(self) -> list[Path]:
+    def paths_to_gates(self) -> list[Path]:
         """Returns the paths to gates."""
         return [path for step in self.board.steps for path in step.paths]
 
     def paths_at(self, place: Item) -> list[Path]:
         """Returns the paths that an item would meet in space, those that it meets most first."""
         found, touched = [], place.touched
-        for index, path in enumerate(self.all_paths()):
+        for index, path in enumerate(self.paths_to_gates()):
             item = path.item
             meets = len(item.touched & place.mirrors) + 4 * len(touched
                                                                 & item.mirrors) + len(place.mirrors & item.mirrors)
@@ -72,7 +72,7 @@ class WayMaker:
 
     def turning_places(self, ball: Ball) -> Item:
         """Returns what a waiting ball's way ahead takes, with mirrors at many places of it."""
-        room = min(STEPS_AHEAD, self.board.world.room(ball))
+        room = min(STEPS_AHEAD, self.board.world.steps_to_margin(ball))
         mirrors = [bounce(ball.flown(steps), turn)[1] for steps in range(2, max(3, room), PLACE_STEPS) for turn in Turn]
         way = path_item(ball, [Leg(max(0, room), None)])
         cells = {cell_number(cell) for mirror in mirrors for cell in mirror.cells()}
@@ -82,10 +82,10 @@ class WayMaker:
         """Yields spots for a gate at which only paths are in the way, with these paths: the fewest first."""
         spots = list(self.placer.random_spots(gate, inlets, is_crowded=True))
         items = [cell_item(spot.cell, spot.x, spot.y, spot.time) for spot in spots]
-        paths, found = self.all_paths(), []
-        register = Register(items, paths, self.fixed_items())
+        paths, found = self.paths_to_gates(), []
+        register = NearbyPaths(items, paths, self.fixed_items())
         for index, (spot, item) in enumerate(zip(spots, items)):
-            met = register.met_by(item)
+            met = register.paths_met_by(item)
             if met is not None and len(met) <= self.settings.rips[-1]:
                 found.append((len(met) + spot.time / self.settings.rip_steps, index, spot,
                               [paths[number] for number in sorted(met)]))
@@ -105,10 +105,10 @@ class WayMaker:
             board.remove_path(path)
         step = self.placer.place_gate(gate, spots)
         if step is not None:
-            board.commit(step)
+            board.add_placement(step)
             again = self.lead_again(list(step.outs.values()), paths)
             if again is not None:
-                self.exchange(again)
+                self.exchange_paths(again)
                 return True
             board.take_back()
         for path in paths:
@@ -129,7 +129,7 @@ class WayMaker:
             new = lead()
             again = self.lead_again([], paths) if new else None
             if again is not None:
-                self.exchange(again)
+                self.exchange_paths(again)
                 return new
             if new:
                 self.board.remove_path(new)
@@ -137,7 +137,7 @@ class WayMaker:
                 self.board.add_path(path)
         return None
 
-    def lead_again(self, outs: list[Waiting], paths: Iterable[Path]) -> dict[Path, Path] | None:
+    def lead_again(self, outs: list[WaitingBall], paths: Iterable[Path]) -> dict[Path, Path] | None:
         """Adds paths from and to the same balls as some that were taken out, or None if this is not possible.
 
         `outs` can still turn then.
@@ -145,38 +145,38 @@ class WayMaker:
         board, placer = self.board, self.placer
         placer.finder.known_departures.clear()
         again: dict[Path, Path] = {}
-        for path in sorted(paths, key=lambda own: (not board.world.fits(own.item), own.end.time - own.start.time)):
-            new = self.led(path)
+        for path in sorted(paths, key=lambda own: (not board.world.can_add(own.item), own.end.time - own.start.time)):
+            new = self.lead_path_again(path)
             if new is None:
                 break
             board.add_path(new)
             again[path] = new
         places = [(mirror.x, mirror.y) for path, new in again.items() if new is not path for mirror in new.mirrors()]
-        if len(again) == len(list(paths)) and placer.leaves_others(places) and all(placer.can_turn(own)
-                                                                                   for own in outs):
+        if len(again) == len(list(paths)) and placer.can_others_turn(places) and all(placer.can_turn(own)
+                                                                                     for own in outs):
             return again
         for new in again.values():
             board.remove_path(new)
         return None
 
-    def led(self, path: Path) -> Path | None:
+    def lead_path_again(self, path: Path) -> Path | None:
         """Returns a path between the ends of another one: this path if it, and the boxes' wires, have room."""
         board, finder = self.board, self.placer.finder
-        if board.world.fits(path.item) and board.has_room_for(path.wire, path.item.tiles):
+        if board.world.can_add(path.item) and board.has_room_for(path.wire, path.item.tiles):
             return path
         for _ in range(self.settings.end_tries):
-            new = finder.lead_here(path.wire, path.end) if self.is_free(path) else \
+            new = finder.path_from_anywhere(path.wire, path.end) if self.may_begin_anywhere(path) else \
                 finder.connect(path.wire, path.start, path.end, self.settings.path_tries)
             if new and board.has_room_for(new.wire, new.item.tiles):
                 return new
         return None
 
-    def is_free(self, path: Path) -> bool:
+    def may_begin_anywhere(self, path: Path) -> bool:
         """Whether a path may begin anywhere."""
         owner = next(step for step in self.board.steps if path in step.paths)
         return owner.before[path.wire].ball is None
 
-    def exchange(self, again: dict[Path, Path]) -> None:
+    def exchange_paths(self, again: dict[Path, Path]) -> None:
         """Gives the steps their new paths. Steps that an earlier board has stay as they are."""
         steps = self.board.steps
         for index, step in enumerate(steps):
@@ -184,11 +184,11 @@ class WayMaker:
                 steps[index] = replace(step, paths=[again.get(path, path) for path in step.paths])
 
 
-class Register:
+class NearbyPaths:
     """Which paths have cells near some items, and which cells near them are fixed."""
 
     def __init__(self, items: list[Item], paths: list[Path], fixed: list[Item]) -> None:
-        cells = [number_cell(number) for item in items for number in (*item.mirrors, *chain(*item.touched_parts))]
+        cells = [cell_of_number(number) for item in items for number in (*item.mirrors, *chain(*item.touched_parts))]
         columns, rows = [x for x, _ in cells] or [0], [y for _, y in cells] or [0]
         self.left, self.right, self.top, self.bottom = min(columns), max(columns), min(rows), max(rows)
         # For touched cells and for those of mirrors the numbers of the paths that have them; FIXED stands for all that
@@ -197,21 +197,21 @@ class Register:
         self.mirrors: dict[int, set[int]] = {}
         for number, item in [*((FIXED, item) for item in fixed),
                              *((number, path.item) for number, path in enumerate(paths))]:
-            self.note(self.touched, chain(*item.touched_parts), number)
-            self.note(self.mirrors, item.mirrors, number)
+            self.note_owner(self.touched, chain(*item.touched_parts), number)
+            self.note_owner(self.mirrors, item.mirrors, number)
 
-    def note(self, owners: dict[int, set[int]], cells: Iterable[int], owner: int) -> None:
+    def note_owner(self, owners: dict[int, set[int]], cells: Iterable[int], owner: int) -> None:
         """Notes the owner of those of some cells that are near."""
-        first, last = self.top * ROW, (self.bottom + 1) * ROW
+        first, last = self.top * ROW_STRIDE, (self.bottom + 1) * ROW_STRIDE
         for cell in cells:
-            if first <= cell < last and self.left <= cell & ROW - 1 <= self.right:
+            if first <= cell < last and self.left <= cell & ROW_STRIDE - 1 <= self.right:
                 owners.setdefault(cell, set()).add(owner)
 
-    def met_by(self, item: Item) -> set[int] | None:
+    def paths_met_by(self, item: Item) -> set[int] | None:
         """Returns the paths that an item meets in space, at whatever times; None if it meets something fixed."""
         met: set[int] = set()
         for cell in item.mirrors:
-            met |= self.touched.get(cell, NOBODY) | self.mirrors.get(cell, NOBODY)
+            met |= self.touched.get(cell, NO_OWNERS) | self.mirrors.get(cell, NO_OWNERS)
         for cell in chain(*item.touched_parts):
-            met |= self.mirrors.get(cell, NOBODY)
+            met |= self.mirrors.get(cell, NO_OWNERS)
         return None if FIXED in met else met

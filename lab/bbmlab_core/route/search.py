@@ -17,12 +17,12 @@ from typing import Callable, Iterator
 
 from ..host.signals import Stopped
 from ..texts.circuits import Circuit
-from ..texts.limits import SECOND, limits_for, with_line
+from ..texts.limits import SECOND, limits_for, with_limits_line
 from .attempt import Attempt, OutOfTimeError
-from .board import Bound, NoRouteError, Placement
+from .board import FailureKind, NoRouteError, Placement
 from .certificate import Certifier, bundle_text, circuit_section
 from .crowding import Crowding, crowding_of
-from .design import Design, cropped
+from .design import Design, cropped_design
 from .estimate import Estimate, estimate_of
 from .netlist import RouterNetlist
 from .partial import EFFORT_PART, INTERRUPT_SECONDS, SECONDS, PartialRoute, hurried_design, partial_design, partial_text
@@ -51,7 +51,7 @@ PARTIAL_RIPS = 30
 
 
 @dataclass(frozen=True)
-class Options:
+class SearchOptions:
     """What a search is asked for: a seed, a side or None, seconds, processes, whether small layouts, a part or a map
     are wanted, and late inputs."""
 
@@ -71,7 +71,7 @@ class Options:
 
 
 @dataclass(frozen=True)
-class Routed:
+class RoutedBundle:
     """A routed bundle with the figures of its summary."""
 
     text: str
@@ -86,15 +86,15 @@ class Routed:
 
 
 @dataclass
-class Outcome:
+class SearchOutcome:
     """The result of a search: the bundle if there is one, else the reason, and the best part if it was asked for.
 
     The reason is that of the attempt that placed most gates. `bounds` counts what ended each attempt that failed.
     """
 
-    routed: Routed | None = None
+    routed: RoutedBundle | None = None
     reason: str = ""
-    bounds: Counter[Bound] = field(default_factory=Counter)
+    bounds: Counter[FailureKind] = field(default_factory=Counter)
     attempts: int = 0
     placed: int = 0
     total: int = 0
@@ -109,7 +109,7 @@ class Outcome:
     interrupt_status: int = 130
 
 
-Progress = Callable[[int, int, int, int], None]
+ProgressCallback = Callable[[int, int, int, int], None]
 
 
 def estimated_side(netlist: RouterNetlist) -> int:
@@ -127,7 +127,7 @@ def estimated_side(netlist: RouterNetlist) -> int:
     return side
 
 
-def netlists_of(circuit: Circuit, options: Options) -> list[RouterNetlist]:
+def netlists_of(circuit: Circuit, options: SearchOptions) -> list[RouterNetlist]:
     """Returns a circuit forward in time; and also backward if far more balls end than begin, which comes first if the
     circuit is shallow.
 
@@ -158,17 +158,17 @@ class AttemptPlan:
         return Attempt(self.netlist, self.side, self.seed, self.settings, deadline, self.most_side, self.height)
 
 
-def seed_of(options: Options, index: int) -> int:
+def attempt_seed(options: SearchOptions, index: int) -> int:
     """Returns the seed of an attempt."""
     return options.seed * 1_000_003 + index
 
 
-def plans_of(netlists: list[RouterNetlist], options: Options, settings: Settings) -> Iterator[AttemptPlan]:
+def plans_of(netlists: list[RouterNetlist], options: SearchOptions, settings: Settings) -> Iterator[AttemptPlan]:
     """Yields what attempts are made with, in their order, without end."""
     side, index = options.side or estimated_side(netlists[0]), 0
     while True:
         for _ in range(ATTEMPTS_PER_SIDE):
-            netlist, seed = netlists[index % len(netlists)], seed_of(options, index)
+            netlist, seed = netlists[index % len(netlists)], attempt_seed(options, index)
             yield AttemptPlan(netlist, side, options.most_side, seed, settings)
             index += 1
         side = side if options.side else min(SECOND.max_side, side + max(2 * TILE, side // 4 // TILE * TILE))
@@ -196,7 +196,7 @@ def compact_settings(settings: Settings) -> Settings:
                    least_parking=SECOND.max_steps)
 
 
-def compact_plans(netlist: RouterNetlist, options: Options, settings: Settings, routed: Routed,
+def compact_plans(netlist: RouterNetlist, options: SearchOptions, settings: Settings, routed: RoutedBundle,
                   first: int) -> Iterator[AttemptPlan]:
     """Yields what attempts on smaller planes than a layout are made with; `first` is the number of the first of them.
     """
@@ -204,10 +204,10 @@ def compact_plans(netlist: RouterNetlist, options: Options, settings: Settings, 
     for index, part in enumerate(COMPACT_PARTS, first):
         width, height = smaller_plane(routed.width, routed.height, part)
         if height >= LEAST_SIDE // 2:
-            yield AttemptPlan(netlist, width, width, seed_of(options, index), tight, height)
+            yield AttemptPlan(netlist, width, width, attempt_seed(options, index), tight, height)
 
 
-def routed_bundle(circuit_text: str, design: Design, is_cropped: bool = True) -> Routed:
+def routed_bundle(circuit_text: str, design: Design, is_cropped: bool = True) -> RoutedBundle:
     """Returns the bundle of a design, cropped if that is asked for; raises NoRouteError if its certificate needs too
     much.
 
@@ -216,58 +216,60 @@ def routed_bundle(circuit_text: str, design: Design, is_cropped: bool = True) ->
     """
     if is_cropped:
         try:
-            return bundle_of(circuit_text, cropped(design))
+            return uncropped_bundle(circuit_text, cropped_design(design))
         except NoRouteError as error:
-            if error.bound is not Bound.KEEP:
+            if error.bound is not FailureKind.KEEP:
                 raise
-    return bundle_of(circuit_text, design)
+    return uncropped_bundle(circuit_text, design)
 
 
-def bundle_of(circuit_text: str, design: Design) -> Routed:
+def uncropped_bundle(circuit_text: str, design: Design) -> RoutedBundle:
     """Returns the bundle of a design as it is."""
     certifier, circuit = Certifier(design), design.circuit
     text, gates, wires = bundle_text(circuit_text, certifier), len(circuit.gates), len(circuit.wires)
     layout = circuit_section(circuit_text) + "\n".join(certifier.layout) + "\n"
     side = max(design.width, design.height)
-    return Routed(with_line(text, limits_for(side, design.end, len(certifier.modules), gates, wires)),
-                  with_line(layout, limits_for(side, design.end, 0, gates, wires)), design.width, design.height,
-                  design.end, len(certifier.mirrors), len(certifier.modules), certifier.most_cuts, len(design.gates))
+    return RoutedBundle(with_limits_line(text, limits_for(side, design.end, len(certifier.modules), gates, wires)),
+                        with_limits_line(layout, limits_for(side, design.end, 0, gates, wires)), design.width,
+                        design.height,
+                        design.end, len(certifier.mirrors), len(certifier.modules), certifier.most_cuts,
+                        len(design.gates))
 
 
 class Search:
     """A search for a route of one circuit."""
 
-    def __init__(self, circuit: Circuit, circuit_text: str, options: Options, settings: Settings,
-                 progress: Progress) -> None:
+    def __init__(self, circuit: Circuit, circuit_text: str, options: SearchOptions, settings: Settings,
+                 progress: ProgressCallback) -> None:
         self.circuit_text, self.options = circuit_text, options
         self.netlists = netlists_of(circuit, options)
         self.settings = settings
         self.progress = progress
         self.deadline = time.monotonic() + options.effort
-        self.outcome = Outcome(total=len(self.netlists[0].gates))
+        self.outcome = SearchOutcome(total=len(self.netlists[0].gates))
 
     def estimate(self) -> Estimate:
         """Returns what is known before the search begins."""
         return estimate_of(self.netlists[0], self.options.side or estimated_side(self.netlists[0]))
 
-    def run(self) -> Outcome:
+    def run(self) -> SearchOutcome:
         """Returns what the search found. An interrupt ends it with the best part so far."""
         try:
-            found = self.find(plans_of(self.netlists, self.options, self.settings), 0)
+            found = self.find_attempt(plans_of(self.netlists, self.options, self.settings), 0)
             while found is not None and self.outcome.routed and self.options.is_compact and not self.options.side:
                 plans = compact_plans(self.netlists[0], self.options, self.settings, self.outcome.routed, found + 1)
-                found = self.find(plans, found + 1)
+                found = self.find_attempt(plans, found + 1)
         except KeyboardInterrupt as interrupt:
             self.outcome.is_interrupted = True
             self.outcome.interrupt_status = interrupt.status if isinstance(interrupt,
                                                                            Stopped) else self.outcome.interrupt_status
         return self.outcome
 
-    def find(self, plans: Iterator[AttemptPlan], first: int) -> int | None:
+    def find_attempt(self, plans: Iterator[AttemptPlan], first: int) -> int | None:
         """Makes attempts from the number `first` on until one finds a route, and returns its number, or None."""
-        return Pool(self, plans, first).run() if self.options.jobs > 1 else self.find_here(plans, first)
+        return AttemptPool(self, plans, first).run() if self.options.jobs > 1 else self.find_attempt_here(plans, first)
 
-    def find_here(self, plans: Iterator[AttemptPlan], first: int) -> int | None:
+    def find_attempt_here(self, plans: Iterator[AttemptPlan], first: int) -> int | None:
         """Makes attempts in this process."""
         for index, plan in enumerate(plans, first):
             if time.monotonic() > self.deadline:
@@ -315,7 +317,7 @@ Message = tuple[str, int, int, object]
 
 
 @dataclass(frozen=True)
-class Task:
+class AttemptTask:
     """An attempt for a process of its own."""
 
     plan: AttemptPlan
@@ -326,7 +328,7 @@ class Task:
     has_map: bool
 
 
-def work(connection: Connection, task: Task) -> None:
+def run_attempt(connection: Connection, task: AttemptTask) -> None:
     """Makes one attempt, and sends messages on it. The process that started this one ends it."""
     signal.signal(signal.SIGINT, signal.SIG_IGN)
     plan = task.plan
@@ -355,20 +357,20 @@ def work(connection: Connection, task: Task) -> None:
 
 
 @dataclass
-class Worker:
+class AttemptWorker:
     """A process that makes an attempt."""
 
     process: BaseProcess
     index: int
 
 
-class Pool:
+class AttemptPool:
     """Attempts in several processes at a time, until one finds a route."""
 
     def __init__(self, search: Search, plans: Iterator[AttemptPlan], first: int) -> None:
         self.search, self.plans = search, enumerate(plans, first)
-        self.workers: dict[Connection, Worker] = {}
-        self.found: dict[int, Routed] = {}
+        self.workers: dict[Connection, AttemptWorker] = {}
+        self.found: dict[int, RoutedBundle] = {}
 
     def run(self) -> int | None:
         """Makes attempts until the first in order that succeeds is known, or the time is over, and returns its number.
@@ -401,12 +403,12 @@ class Pool:
             return False
         index, plan = following
         here, there = multiprocessing.Pipe(duplex=False)
-        task = Task(plan, search.circuit_text, search.deadline, options.keeps_partial, not options.side,
-                    options.has_map)
-        process = multiprocessing.get_context("fork").Process(target=work, args=(there, task), daemon=True)
+        task = AttemptTask(plan, search.circuit_text, search.deadline, options.keeps_partial, not options.side,
+                           options.has_map)
+        process = multiprocessing.get_context("fork").Process(target=run_attempt, args=(there, task), daemon=True)
         process.start()
         there.close()
-        self.workers[here] = Worker(process, index)
+        self.workers[here] = AttemptWorker(process, index)
         search.outcome.attempts = index + 1
         return True
 
@@ -421,7 +423,7 @@ class Pool:
         if isinstance(content, Crowding):
             search.note_crowding(placed, content)
             return
-        if isinstance(content, Routed):
+        if isinstance(content, RoutedBundle):
             self.found[worker.index] = content
             self.drop_later(worker.index)
         elif isinstance(content, NoRouteError):
@@ -439,7 +441,8 @@ class Pool:
                 del self.workers[connection]
 
 
-def partial_bundle(circuit: Circuit, outcome: Outcome, options: Options, settings: Settings) -> tuple[str, int] | None:
+def partial_bundle(circuit: Circuit, outcome: SearchOutcome, options: SearchOptions,
+                   settings: Settings) -> tuple[str, int] | None:
     """Returns a bundle of the part of a circuit that was placed, and its count of gates, or None if there is none."""
     part = PartialRoute(circuit, outcome.partial, outcome.partial_size, options.most_side)
     costs = replace(settings, wander_tries=80, end_rips=PARTIAL_RIPS)

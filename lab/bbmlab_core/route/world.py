@@ -22,47 +22,48 @@ from .cells import GateCell
 # The number of a cell is its row times ROW plus its column, and that of a block at a time is STEP times the time plus
 # its corner.
 ROW_BITS = 12
-ROW = 1 << ROW_BITS
-STEP = ROW * ROW
+ROW_STRIDE = 1 << ROW_BITS
+STEP_STRIDE = ROW_STRIDE * ROW_STRIDE
 # No ball comes nearer to the border than this many cells, and no mirror nearer than the cells of the rim.
-MARGIN = 4
-RIM = 2
+MARGIN_CELLS = 4
+RIM_CELLS = 2
 # A certificate's boxes are squares of this side, or rectangles of such squares.
 TILE = 16
 TILE_BITS = 4
-# The square of `taken_around` has sides of twice this many cells.
-AROUND = 32
-BITS = [1 << index for index in range(ROW)]
+# The square of `taken_count_around` has sides of twice this many cells.
+AROUND_CELLS = 32
+BITS = [1 << index for index in range(ROW_STRIDE)]
 
 
 def cell_number(cell: Cell) -> int:
     """Returns the number of a cell."""
-    return cell[1] * ROW + cell[0]
+    return cell[1] * ROW_STRIDE + cell[0]
 
 
-def number_cell(number: int) -> Cell:
+def cell_of_number(number: int) -> Cell:
     """Returns the cell of a number."""
-    return number % ROW, number // ROW
+    return number % ROW_STRIDE, number // ROW_STRIDE
 
 
 def tiles_of(cells: Iterable[int]) -> set[int]:
     """Returns the tiles of cells: the tile (i, j) is ROW times j plus i."""
-    return {(number >> ROW_BITS + TILE_BITS) * ROW + ((number & ROW - 1) >> TILE_BITS) for number in cells}
+    return {(number >> ROW_BITS + TILE_BITS) * ROW_STRIDE + ((number & ROW_STRIDE - 1) >> TILE_BITS)
+            for number in cells}
 
 
-def entering(cells: Iterable[int], ahead: int) -> Iterator[int]:
+def cells_entering_tiles(cells: Iterable[int], ahead: int) -> Iterator[int]:
     """Yields cells that lie some numbers ahead of others: of a flight the first one, and each that enters a tile."""
     if not isinstance(cells, range):
         yield from (number + ahead for number in cells)
         return
-    (x, y), to_right, down = number_cell(cells.start + ahead), cells.step % ROW == 1, cells.step > 0
+    (x, y), to_right, down = cell_of_number(cells.start + ahead), cells.step % ROW_STRIDE == 1, cells.step > 0
     columns = range((-x if to_right else x + 1) % TILE, len(cells), TILE)
     rows = range((-y if down else y + 1) % TILE, len(cells), TILE)
     yield from (cells[index] + ahead for index in {*range(min(1, len(cells))), *columns, *rows})
 
 
 # Numbers, as parts that are ranges or lists. Parts may share numbers.
-Parts = tuple[Iterable[int], ...]
+NumberParts = tuple[Iterable[int], ...]
 
 
 @dataclass(frozen=True)
@@ -71,8 +72,8 @@ class Item:
     times."""
 
     mirrors: frozenset[int]
-    touched_parts: Parts = ()
-    claim_parts: Parts = ()
+    touched_parts: NumberParts = ()
+    claim_parts: NumberParts = ()
 
     @property
     def touched(self) -> set[int]:
@@ -86,8 +87,8 @@ class Item:
 
     def moved(self, x: int, y: int, time: int) -> "Item":
         """Returns what the item takes elsewhere and later."""
-        base = y * ROW + x
-        start = time * STEP + base
+        base = y * ROW_STRIDE + x
+        start = time * STEP_STRIDE + base
         touched = array("q", (base + number for number in chain(*self.touched_parts)))
         claims = array("q", (start + number for number in chain(*self.claim_parts)))
         return Item(frozenset(base + number for number in self.mirrors), (touched,), (claims,))
@@ -121,7 +122,7 @@ def bounce_shape(turn: Turn, dx: int, dy: int) -> BounceShape:
     base = cell_number((lead.x, lead.y))
     claims, touched = [], set()
     for time, corners in enumerate(run.blocks[2:]):
-        claims += [time * STEP + cell_number(corner) - base for corner in sorted(corners)]
+        claims += [time * STEP_STRIDE + cell_number(corner) - base for corner in sorted(corners)]
         touched |= {cell for corner in corners for cell in block_cells(corner)}
     return BounceShape(tuple(claims), tuple(sorted(cell_number(cell) - base for cell in touched - own)),
                        tuple(sorted(cell_number(cell) - base for cell in own)))
@@ -132,18 +133,19 @@ def add_flight(ball: Ball, steps: int, claims: list[Iterable[int]], touched: lis
     if steps <= 0:
         return
     x, y, dx, dy, time = ball
-    corner = (y if dy > 0 else y - 1) * ROW + (x if dx > 0 else x - 1)
-    along = dy * ROW + dx
-    lead, step = time * STEP + corner, STEP + along
+    corner = (y if dy > 0 else y - 1) * ROW_STRIDE + (x if dx > 0 else x - 1)
+    along = dy * ROW_STRIDE + dx
+    lead, step = time * STEP_STRIDE + corner, STEP_STRIDE + along
     claims.append(range(lead, lead + steps * step, step))
     tail = lead - 2 * along
     claims.append(range(tail, tail + steps * step, step))
     # Two cells of a block are on the diagonal of the flight, where one block's first cell is the last one's second; two
     # are beside it.
     first, last = corner - 2 * along, corner + steps * along
-    before, after = sorted((0, ROW + 1) if dx == dy else (1, ROW), reverse=along < 0)
+    before, after = sorted((0, ROW_STRIDE + 1) if dx == dy else (1, ROW_STRIDE), reverse=along < 0)
     touched.append(range(first + before, last + after, along))
-    touched += [range(first + other, last + other, along) for other in ((1, ROW) if dx == dy else (0, ROW + 1))]
+    touched += [range(first + other, last + other, along)
+                for other in ((1, ROW_STRIDE) if dx == dy else (0, ROW_STRIDE + 1))]
 
 
 def path_item(ball: Ball, legs: Iterable[Leg], begun: int = 0) -> Item | None:
@@ -163,7 +165,7 @@ def path_item(ball: Ball, legs: Iterable[Leg], begun: int = 0) -> Item | None:
         if turn is None:
             break
         shape, base = bounce_shape(turn, ball.dx, ball.dy), cell_number((ball.x, ball.y))
-        start = ball.time * STEP + base
+        start = ball.time * STEP_STRIDE + base
         claims.append([start + number for number in shape.claims])
         touched.append([base + number for number in shape.touched])
         mirrors += [base + number for number in shape.mirror]
@@ -175,8 +177,8 @@ def path_item(ball: Ball, legs: Iterable[Leg], begun: int = 0) -> Item | None:
 def cell_item(cell: GateCell, x: int, y: int, time: int) -> Item:
     """Returns what a gate's cell takes at a place and a time."""
     mirrors, touched, claims = cell_shape(cell)
-    base = y * ROW + x
-    start = time * STEP + base
+    base = y * ROW_STRIDE + x
+    start = time * STEP_STRIDE + base
     return Item(frozenset(base + number for number in mirrors), (array("q", [base + number for number in touched]),),
                 (array("q", [start + number for number in claims]),))
 
@@ -190,8 +192,10 @@ def cell_shape(cell: GateCell) -> tuple[list[int], list[int], list[int]]:
     """Returns what a gate's cell takes at place and time 0."""
     shape = _shapes.get(id(cell))
     if shape is None:
-        claims = {time * STEP + cell_number(corner) for time, corners in enumerate(cell.blocks) for corner in corners}
-        shape = [cell_number(own) for own in cell.mirrors], [cell_number(own) for own in cell.touched], list(claims)
+        claims = {time * STEP_STRIDE + cell_number(corner) for time, corners in enumerate(cell.blocks)
+                  for corner in corners}
+        shape = [cell_number(own) for own in cell.mirrors], [cell_number(own)
+                                                             for own in cell.touched_cells], list(claims)
         _shapes[id(cell)] = shape
     return shape
 
@@ -208,18 +212,18 @@ class World:
         self.mirrors: set[int] = set()
         # How many parts of items touch a cell or have a mirror there, and the same cells as bits of rows: no new mirror
         # may be there.
-        self.counts = array("H", bytes(2 * ROW * self.height))
-        self.blocked = [0] * (ROW + 8)
+        self.counts = array("H", bytes(2 * ROW_STRIDE * self.height))
+        self.blocked = [0] * (ROW_STRIDE + 8)
         # The mirrors by falling diagonals (y - x + ROW) and rising ones (y + x), as bits of x; and so the blocked
         # cells.
-        self.mirror_falling, self.mirror_rising = [0] * (2 * ROW + 8), [0] * (2 * ROW + 8)
-        self.blocked_falling, self.blocked_rising = [0] * (2 * ROW + 8), [0] * (2 * ROW + 8)
+        self.mirror_falling, self.mirror_rising = [0] * (2 * ROW_STRIDE + 8), [0] * (2 * ROW_STRIDE + 8)
+        self.blocked_falling, self.blocked_rising = [0] * (2 * ROW_STRIDE + 8), [0] * (2 * ROW_STRIDE + 8)
 
     def grow(self, cells: int) -> None:
         """Adds columns at the right and rows below. What is there stays."""
         self.size += cells
         self.height += cells
-        self.counts.frombytes(bytes(2 * ROW * cells))
+        self.counts.frombytes(bytes(2 * ROW_STRIDE * cells))
 
     def add(self, item: Item) -> None:
         """Adds an item."""
@@ -231,10 +235,10 @@ class World:
         for number in chain(item.mirrors, *item.touched_parts):
             counts[number] += 1
             if counts[number] == 1:
-                x, y = number & ROW - 1, number >> ROW_BITS
+                x, y = number & ROW_STRIDE - 1, number >> ROW_BITS
                 bit = bits[x]
                 rows[y] |= bit
-                falling[y - x + ROW] |= bit
+                falling[y - x + ROW_STRIDE] |= bit
                 rising[y + x] |= bit
 
     def remove(self, item: Item) -> None:
@@ -247,19 +251,19 @@ class World:
         for number in chain(item.mirrors, *item.touched_parts):
             counts[number] -= 1
             if counts[number] == 0:
-                x, y = number & ROW - 1, number >> ROW_BITS
+                x, y = number & ROW_STRIDE - 1, number >> ROW_BITS
                 bit = bits[x]
                 rows[y] ^= bit
-                falling[y - x + ROW] ^= bit
+                falling[y - x + ROW_STRIDE] ^= bit
                 rising[y + x] ^= bit
 
     def _flip(self, number: int, falling: list[int], rising: list[int]) -> None:
         """Adds a cell to the diagonals, or takes it away."""
-        x, y = number & ROW - 1, number >> ROW_BITS
-        falling[y - x + ROW] ^= 1 << x
+        x, y = number & ROW_STRIDE - 1, number >> ROW_BITS
+        falling[y - x + ROW_STRIDE] ^= 1 << x
         rising[y + x] ^= 1 << x
 
-    def fits(self, item: Item) -> bool:
+    def can_add(self, item: Item) -> bool:
         """Whether an item may be added: it meets nothing that is there, neither in space nor in time."""
         counts, mirrors, claims = self.counts, self.mirrors, self.claims
         return (not any(counts[number] for number in item.mirrors)
@@ -268,35 +272,35 @@ class World:
 
     def is_inside(self, x: int, y: int) -> bool:
         """Whether a ball may be at a cell."""
-        return MARGIN <= x < self.size - MARGIN and MARGIN <= y < self.height - MARGIN
+        return MARGIN_CELLS <= x < self.size - MARGIN_CELLS and MARGIN_CELLS <= y < self.height - MARGIN_CELLS
 
     def can_hold(self, mirror: Mirror) -> bool:
         """Whether a mirror may stand where nothing is and no ball passes."""
         x, y, width, height = mirror
-        if x < RIM or y < RIM or x + width > self.size - RIM or y + height > self.height - RIM:
+        if x < RIM_CELLS or y < RIM_CELLS or x + width > self.size - RIM_CELLS or y + height > self.height - RIM_CELLS:
             return False
         blocked = self.blocked
         if height == 2:
             return not (blocked[y] | blocked[y + 1]) >> x & 15
         return not (blocked[y] | blocked[y + 1] | blocked[y + 2] | blocked[y + 3]) >> x & 3
 
-    def room(self, ball: Ball) -> int:
+    def steps_to_margin(self, ball: Ball) -> int:
         """Returns how many steps a ball can fly straight before it meets the margin."""
         x, y, dx, dy, _ = ball
-        return min(self.size - MARGIN - 1 - x if dx > 0 else x - MARGIN,
-                   self.height - MARGIN - 1 - y if dy > 0 else y - MARGIN)
+        return min(self.size - MARGIN_CELLS - 1 - x if dx > 0 else x - MARGIN_CELLS,
+                   self.height - MARGIN_CELLS - 1 - y if dy > 0 else y - MARGIN_CELLS)
 
-    def free_flight(self, ball: Ball, most: int) -> int:
+    def free_steps(self, ball: Ball, most: int) -> int:
         """Returns how many steps, at most `most`, a ball can fly straight before it meets a mirror or the margin."""
         x, y, dx, dy, _ = ball
         # As `room` does, in place: this runs most often.
-        room_x = self.size - MARGIN - 1 - x if dx > 0 else x - MARGIN
-        room_y = self.height - MARGIN - 1 - y if dy > 0 else y - MARGIN
+        room_x = self.size - MARGIN_CELLS - 1 - x if dx > 0 else x - MARGIN_CELLS
+        room_y = self.height - MARGIN_CELLS - 1 - y if dy > 0 else y - MARGIN_CELLS
         most = min(most, room_x, room_y)
         if most <= 0:
             return 0
         if dx == dy:
-            line, lines = y - x + ROW, self.mirror_falling
+            line, lines = y - x + ROW_STRIDE, self.mirror_falling
         else:
             line, lines = y + x, self.mirror_rising
         bits = lines[line - 1] | lines[line] | lines[line + 1]
@@ -308,23 +312,23 @@ class World:
         bits &= (1 << x + 1) - 1
         return max(0, min(most, x - bits.bit_length())) if bits else most
 
-    def new_cells(self, ball: Ball, steps: int) -> int:
+    def new_cell_count(self, ball: Ball, steps: int) -> int:
         """Returns how many cells that nothing touches yet a straight flight would touch, about."""
         x, y, dx, dy, _ = ball
         low, high = (x, x + steps) if dx > 0 else (x - steps, x)
         mask = (1 << high - low + 1) - 1
         if dx == dy:
-            line, lines = y - x + ROW, self.blocked_falling
+            line, lines = y - x + ROW_STRIDE, self.blocked_falling
         else:
             line, lines = y + x, self.blocked_rising
         taken = ((lines[line - 1] >> low & mask).bit_count() + (lines[line] >> low & mask).bit_count()
                  + (lines[line + 1] >> low & mask).bit_count())
         return 3 * (high - low + 1) - taken
 
-    def taken_around(self, x: int, y: int) -> int:
+    def taken_count_around(self, x: int, y: int) -> int:
         """Returns how many cells are taken in a square around a cell."""
-        low, high = max(0, y - AROUND), min(self.height, y + AROUND)
-        left = max(0, x - AROUND)
-        mask = (1 << 2 * AROUND) - 1
-        outside = (2 * AROUND - (high - low)) * 2 * AROUND
+        low, high = max(0, y - AROUND_CELLS), min(self.height, y + AROUND_CELLS)
+        left = max(0, x - AROUND_CELLS)
+        mask = (1 << 2 * AROUND_CELLS) - 1
+        outside = (2 * AROUND_CELLS - (high - low)) * 2 * AROUND_CELLS
         return outside + sum((row >> left & mask).bit_count() for row in self.blocked[low:high])

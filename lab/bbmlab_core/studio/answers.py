@@ -6,27 +6,28 @@ from pathlib import Path
 from typing import Any, Callable
 
 from ..host.program import HERE, BadProgramError
-from ..host.releases import program_of
+from ..host.releases import identity_of
 from ..host.terminal import LabError
 from ..physics import standard_cells
 from ..texts import json_form
 from ..texts.documents import read_document
 from ..texts.refusals import explain_refusal
 from ..texts.skimming import design_text
-from ..texts.spelling import source_line, spelled
+from ..texts.spelling import source_line, spelled_text
 from .folder import ChangedError, Folder, FolderError, bytes_of, digest_of, text_of
 from .guard import Denied
 from .jobs import Jobs
-from .routes import Routes
+from .routes import RouteSearches
 
 # The folders of the examples, in a clone and in an installation.
-EXAMPLES = [HERE.parent.parent / "examples", HERE.parent.parent.parent / "share" / "doc" / "bbmcheck" / "examples"]
-EMPTY = "circuit\nend\nlayout 48 48 40\nend\n"
+EXAMPLE_FOLDERS = [HERE.parent.parent / "examples",
+                   HERE.parent.parent.parent / "share" / "doc" / "bbmcheck" / "examples"]
+EMPTY_TEXT = "circuit\nend\nlayout 48 48 40\nend\n"
 Answer = dict[str, Any]
 NO_PROGRAM: Answer = {"error": "The program was not found: name it with --program PATH or set BBMCHECK."}
 
 
-def word(body: Answer, name: str) -> str:
+def text_member(body: Answer, name: str) -> str:
     """Returns a member of a request that is a text."""
     value = body.get(name)
     if not isinstance(value, str):
@@ -40,10 +41,11 @@ def cells() -> list[Answer]:
     found = []
     for name in standard_cells.cell_names():
         cell = standard_cells.read_cell(name)
-        layout, _ = standard_cells.parts_of(cell.document)
+        layout, _ = standard_cells.layout_and_circuit(cell.document)
         ports = [{"role": port.role, "name": port.name, "cell": list(port.lead), "direction": [port.dx, port.dy],
                   "time": port.time} for port in cell.ports]
-        found.append({"name": name, "about": standard_cells.ABOUT[name], "layout": json_form.layout_json(layout),
+        found.append({"name": name, "about": standard_cells.CELL_DESCRIPTIONS[name],
+                      "layout": json_form.layout_json(layout),
                       "circuit": cell.document.text.split("\nlayout ")[0].split("\n"), "ports": ports})
     return found
 
@@ -51,7 +53,7 @@ def cells() -> list[Answer]:
 @lru_cache(maxsize=None)
 def examples() -> dict[str, Path]:
     """Returns the examples that have a layout, by their names."""
-    folder = next((place for place in EXAMPLES if place.is_dir()), None)
+    folder = next((place for place in EXAMPLE_FOLDERS if place.is_dir()), None)
     found = sorted(folder.glob("*.txt")) if folder else []
     return {path.stem: path for path in found if "layout " in path.read_text(encoding="latin-1")}
 
@@ -62,7 +64,7 @@ class Answers:
 
     folder: Folder
     jobs: Jobs | None
-    routes: Routes | None = None
+    routes: RouteSearches | None = None
 
     def answer(self, name: str, body: Answer) -> Answer:
         """Returns the answer to a request."""
@@ -84,7 +86,7 @@ class Answers:
         try:
             if self.jobs is None:
                 raise BadProgramError("it was not found")
-            asked = program_of(self.jobs.program)
+            asked = identity_of(self.jobs.program)
             program = {"path": self.jobs.program.path, "version": asked.version, "sha256": asked.sha256,
                        "is_release": asked.kit is not None}
         except BadProgramError as error:
@@ -96,17 +98,17 @@ class Answers:
 
     def open(self, body: Answer) -> Answer:
         """Returns a file of the folder. A file that is missing is an empty layout with the digest null."""
-        name = word(body, "name")
+        name = text_member(body, "name")
         data = self.folder.read(name)
         if data is None:
-            return {"name": name, "text": EMPTY, "digest": None}
+            return {"name": name, "text": EMPTY_TEXT, "digest": None}
         return {"name": name, "text": text_of(data), "digest": digest_of(data)}
 
     def save(self, body: Answer) -> Answer:
         """Writes a file of the folder, unless it changed since the page read it."""
-        data, known = bytes_of(word(body, "text")), body.get("digest")
+        data, known = bytes_of(text_member(body, "text")), body.get("digest")
         try:
-            digest = self.folder.write(word(body, "name"), data, known if isinstance(known, str) else None,
+            digest = self.folder.write(text_member(body, "name"), data, known if isinstance(known, str) else None,
                                        body.get("force") is True)
         except ChangedError as error:
             return {"changed": True, "digest": error.digest, "error": str(error)}
@@ -118,8 +120,8 @@ class Answers:
 
     def refusal(self, body: Answer) -> Answer:
         """Returns where the lab's reader refuses the circuit and the layout, or null."""
-        source = bytes_of(word(body, "text")).decode("latin-1")
-        text = spelled(source).text
+        source = bytes_of(text_member(body, "text")).decode("latin-1")
+        text = spelled_text(source).text
         document = read_document(design_text(text) or text, "design")
         if document.refusal is None:
             return {"refusal": None}
@@ -130,7 +132,7 @@ class Answers:
 
     def spelling(self, body: Answer) -> Answer:
         """Returns a text in the one spelling that the program reads, and how many comments that leaves out."""
-        made = spelled(bytes_of(word(body, "text")).decode("latin-1"))
+        made = spelled_text(bytes_of(text_member(body, "text")).decode("latin-1"))
         return {"text": text_of(made.text.encode("latin-1")), "comments": made.comments}
 
     def cells(self, _body: Answer) -> Answer:
@@ -139,9 +141,9 @@ class Answers:
 
     def template(self, body: Answer) -> Answer:
         """Returns the text of an example, of a standard cell or of an empty layout."""
-        name = word(body, "name")
+        name = text_member(body, "name")
         if name == "empty":
-            return {"text": EMPTY}
+            return {"text": EMPTY_TEXT}
         if name.startswith("example "):
             path = examples().get(name.removeprefix("example "))
             if path is None:
@@ -155,23 +157,23 @@ class Answers:
 
     def connect(self, body: Answer) -> Answer:
         """Begins to lead the ball of an output of a text to an input."""
-        return self.begin_search(body, (word(body, "output"), word(body, "input")))
+        return self.begin_search(body, (text_member(body, "output"), text_member(body, "input")))
 
     def begin_search(self, body: Answer, ports: tuple[str, str] | None) -> Answer:
         """Begins a search."""
         seconds, seed = body.get("seconds"), body.get("seed")
         if not isinstance(seconds, (int, float)) or not isinstance(seed, int) or bool in (type(seconds), type(seed)):
             raise Denied(400, "the request has no numbers `seconds` and `seed`")
-        text, tab = word(body, "text"), word(body, "tab")
+        text, tab = text_member(body, "text"), text_member(body, "tab")
         return self.routes.begin(tab, text, seconds, seed, ports) if self.routes else NO_PROGRAM
 
     def routed(self, body: Answer) -> Answer:
         """Returns what became of the search of a tab."""
-        return self.routes.state(word(body, "tab")) if self.routes else NO_PROGRAM
+        return self.routes.state(text_member(body, "tab")) if self.routes else NO_PROGRAM
 
     def unroute(self, body: Answer) -> Answer:
         """Ends the search of a tab."""
-        return self.routes.cancel(word(body, "tab")) if self.routes else NO_PROGRAM
+        return self.routes.cancel(text_member(body, "tab")) if self.routes else NO_PROGRAM
 
     def job(self, body: Answer) -> Answer:
         """Runs a job that may take a while."""
@@ -181,9 +183,9 @@ class Answers:
         for name in ("text", "tab",
                      *{"verdict": ("stage", "earlier"), "explain": ("bundle", "report"),
                        "export": ("bundle", "form", "name")}[body["kind"]]):
-            word(body, name)
+            text_member(body, name)
         if body["kind"] == "export" and not (isinstance(body.get("on"), list)
                                              and all(isinstance(name, str) for name in body["on"])):
             raise Denied(400, "the request has no list `on`")
         # An export is no answer to the newest text: it waits for its turn, and no verdict of its tab ends it.
-        return self.jobs.run(f"{body['tab']} export" if body["kind"] == "export" else body["tab"], body)
+        return self.jobs.answer_job(f"{body['tab']} export" if body["kind"] == "export" else body["tab"], body)

@@ -12,39 +12,39 @@ import time
 from pathlib import Path
 from typing import Iterable, Iterator
 
-from ..host.program import opened
+from ..host.program import open_program
 from ..host.terminal import LabError
 from ..joining.command import SETTINGS
 from ..joining.composing import NamedPart
 from ..joining.modules import JoinedModules
-from ..joining.parts import ALWAYS, PartText
-from ..joining.planning import Job, JoinPlan, PlacedPart
+from ..joining.parts import ALWAYS_SIGNAL, PartText
+from ..joining.planning import BallJob, JoinPlan, PlacedPart
 from ..joining.wiring import JoinWiring, ball_words
 from ..route.balls import Ball, Leg
 from ..route.board import NoRouteError
 from ..route.certificate import rectangles
 from ..route.paths import Path as BallPath
-from ..route.world import RIM, ROW, number_cell
+from ..route.world import RIM_CELLS, ROW_STRIDE, cell_of_number
 from ..texts.certificates import Certificate
 from ..texts.circuits import Circuit, Gate
 from ..texts.documents import Document, read_document
 from ..texts.layouts import Cell, Layout
-from ..texts.limits import SECOND, limits_for, with_line
+from ..texts.limits import SECOND, limits_for, with_limits_line
 from ..texts.skimming import design_text
-from ..texts.spelling import spelled
-from .machines import End, MachineRun
+from ..texts.spelling import spelled_text
+from .machines import EndBall, MachineRun
 from .verdicts import Judge
 
 # The columns and rows around the layout that may be used, and the steps to spare of the ball, by the attempts.
-ROOMS = (0, 32, 64, 128, 256, 512)
-SLACKS = (60, 150, 250)
+ADDED_CELLS = (0, 32, 64, 128, 256, 512)
+SPARE_STEPS = (60, 150, 250)
 # The further steps for each cell between the two ports: the ball flies round what is in the way.
 DETOUR = 0.35
 # The seconds in which the program and the lab's search for a certificate must end.
 CHECK_SECONDS = 20.0
 
 
-class NoModules(JoinedModules):
+class ModulesWithRoom(JoinedModules):
     """The modules of a layout whose certificate is made later: each has room."""
 
     def __init__(self) -> None:
@@ -58,15 +58,15 @@ class NoModules(JoinedModules):
         """Whether there is room for a wire."""
         return True
 
-    def count(self, wire: str, numbers: Iterable[int], change: int) -> None:
+    def count_wire(self, wire: str, numbers: Iterable[int], change: int) -> None:
         """Notes nothing."""
 
 
-class Leading(JoinWiring):
+class ConnectionWiring(JoinWiring):
     """The paths of a connection: between its ports straight or by a few bounces, if that can be."""
 
     def __init__(self, plan: JoinPlan, seed: int, deadline: float) -> None:
-        super().__init__(plan, NoModules(), seed, SETTINGS, deadline)
+        super().__init__(plan, ModulesWithRoom(), seed, SETTINGS, deadline)
         # All balls are of one layout, so none has to leave it.
         self.world.boxes, self.world.box_of_tile = [], {}
 
@@ -79,13 +79,13 @@ class Leading(JoinWiring):
                     f"bounce {where}")
         return ""
 
-    def connected(self, wire: str, start: Ball, goal: Ball) -> BallPath | None:
+    def find_connecting_path(self, wire: str, start: Ball, goal: Ball) -> BallPath | None:
         """Returns a path between two balls."""
         steps = goal.time - start.time
         straight = [Leg(steps, None)] if start.flown(steps) == goal else None
         legs = straight or self.finder.connect_short(start, goal, self.settings.path_tries)
-        path = self.finder.complete(wire, start, goal, legs) if legs else None
-        return path or super().connected(wire, start, goal)
+        path = self.finder.path_of_legs(wire, start, goal, legs) if legs else None
+        return path or super().find_connecting_path(wire, start, goal)
 
 
 class PortConnection:
@@ -103,17 +103,18 @@ class PortConnection:
                 raise LabError(f"{what[:1].upper()}{what[1:]} has {count or 'no'} {'balls' if count > 1 else 'ball'}: "
                                "just one can be connected.")
         self.out, self.goal = outs[0], goals[0]
-        self.late = self.run.find(next(number for number, port in enumerate(self.run.starts) if port.wire == given))
-        if self.run.machine_of(self.out.ball) == self.late:
+        self.late = self.run.machine_of_number(next(number for number, port in enumerate(self.run.starts)
+                                                    if port.wire == given))
+        if self.run.machine_of_end_ball(self.out.ball) == self.late:
             raise LabError(f"The times do not fit: the ball of {given} meets balls that {output} comes from, so it "
                            f"cannot start after {output} has come out.")
 
-    def delays(self) -> list[int]:
+    def possible_delays(self) -> list[int]:
         """Returns when the machine of the input may begin: first so that the ball flies straight on, if it can."""
         ball, goal = self.out.ball, self.goal
         far = max(abs(ball.x - goal.x), abs(ball.y - goal.y))
         straight = [goal_time for goal_time in (ball.time + far,) if ball.flown(far) == goal.moved(0, 0, goal_time)]
-        return straight + [(ball.time + int((1 + DETOUR) * far) + slack + 1) // 2 * 2 for slack in SLACKS]
+        return straight + [(ball.time + int((1 + DETOUR) * far) + slack + 1) // 2 * 2 for slack in SPARE_STEPS]
 
     def plan(self, delay: int, room: int) -> JoinPlan:
         """Returns which balls are led on the layout with some columns and rows around it."""
@@ -122,39 +123,40 @@ class PortConnection:
         if side > SECOND.max_side or end > SECOND.max_steps:
             raise LabError(f"The layout would take {side} columns or rows and {end} steps, which is not allowed.")
         late = {self.late}
-        soon = {run.find(number) for number in range(len(run.starts))} - late
+        soon = {run.machine_of_number(number) for number in range(len(run.starts))} - late
         placed = []
         for numbers, own_time in ((soon, 0), (late, delay)):
             text = PartText(self.circuit, Layout(layout.width, layout.height, layout.steps), Certificate(), [], [],
-                            run.item(numbers, own_time == 0))
+                            run.machines_item(numbers, own_time == 0))
             placed.append(PlacedPart(NamedPart("", text), room, room, own_time))
-        jobs = [Job(self.output, placed[0].ball(self.out.ball), placed[1].ball(self.goal), delay)]
-        jobs += [Job(port.wire, None, placed[1].ball(port.ball), delay) for number, port in enumerate(run.starts)
-                 if run.find(number) == self.late and port.ball != self.goal]
-        jobs += [Job(end_ball.name or "", placed[0].ball(end_ball.ball), None, end) for end_ball in self.moved_ends()]
+        jobs = [BallJob(self.output, placed[0].ball(self.out.ball), placed[1].ball(self.goal), delay)]
+        jobs += [BallJob(port.wire, None, placed[1].ball(port.ball), delay) for number, port in enumerate(run.starts)
+                 if run.machine_of_number(number) == self.late and port.ball != self.goal]
+        jobs += [BallJob(end_ball.name or "", placed[0].ball(end_ball.ball), None, end)
+                 for end_ball in self.moved_ends()]
         return JoinPlan(side, end, placed, jobs, side, side)
 
-    def moved_ends(self) -> list[End]:
+    def moved_ends(self) -> list[EndBall]:
         """Returns the balls that are led on to the new last time."""
         return [end for end in self.run.ends
-                if self.run.machine_of(end.ball) != self.late and end.ball != self.out.ball]
+                if self.run.machine_of_end_ball(end.ball) != self.late and end.ball != self.out.ball]
 
-    def wire(self, name: str) -> str:
+    def new_wire_name(self, name: str) -> str:
         """Returns what a wire is called afterwards."""
         return self.output if name == self.input else name
 
-    def section(self) -> str:
+    def circuit_section(self) -> str:
         """Returns the circuit. Gates that follow from the input come after all others."""
         circuit, late = self.circuit, {self.input}
         gates: tuple[list[Gate], list[Gate]] = ([], [])
         for gate in circuit.gates:
             is_late = not late.isdisjoint(gate.ins)
             late.update(gate.outs if is_late else ())
-            gates[is_late].append(Gate(gate.kind, tuple(map(self.wire, gate.ins)), tuple(gate.outs),
+            gates[is_late].append(Gate(gate.kind, tuple(map(self.new_wire_name, gate.ins)), tuple(gate.outs),
                                                 gate.parameter))
         inputs = tuple(name for name in circuit.inputs if name != self.input)
-        outputs = tuple(self.wire(name) for name in circuit.outputs if name != self.output)
-        return str(Circuit(inputs, (*gates[0], *gates[1]), outputs, tuple(map(self.wire, circuit.spills))))
+        outputs = tuple(self.new_wire_name(name) for name in circuit.outputs if name != self.output)
+        return str(Circuit(inputs, (*gates[0], *gates[1]), outputs, tuple(map(self.new_wire_name, circuit.spills))))
 
 
 def require_ports(circuit: Circuit, output: str, given: str) -> None:
@@ -180,35 +182,35 @@ class ConnectedText:
         xs, ys = [room + layout.width // 2], [room + layout.height // 2]
         for path in self.paths:
             for number in (*path.item.mirrors, *path.item.touched):
-                xs.append(number % ROW)
-                ys.append(number // ROW)
-        left, top = min(room, max(0, min(xs) - RIM) & ~1), min(room, max(0, min(ys) - RIM) & ~1)
-        right = max(room + layout.width, min(self.plan.side, max(xs) + RIM + 2 & ~1))
-        bottom = max(room + layout.height, min(self.plan.side, max(ys) + RIM + 2 & ~1))
+                xs.append(number % ROW_STRIDE)
+                ys.append(number // ROW_STRIDE)
+        left, top = min(room, max(0, min(xs) - RIM_CELLS) & ~1), min(room, max(0, min(ys) - RIM_CELLS) & ~1)
+        right = max(room + layout.width, min(self.plan.side, max(xs) + RIM_CELLS + 2 & ~1))
+        bottom = max(room + layout.height, min(self.plan.side, max(ys) + RIM_CELLS + 2 & ~1))
         return left, top, right - left, bottom - top
 
-    def moved(self, cell: Cell) -> Cell:
+    def moved_cell(self, cell: Cell) -> Cell:
         """Returns a cell of the plane in the new layout."""
         return cell[0] - self.left, cell[1] - self.top
 
-    def old(self, cell: Cell) -> Cell:
+    def moved_old_cell(self, cell: Cell) -> Cell:
         """Returns a cell of the old layout in the new one."""
-        return self.moved((cell[0] + self.room, cell[1] + self.room))
+        return self.moved_cell((cell[0] + self.room, cell[1] + self.room))
 
     def text(self) -> str:
         """Returns the circuit and the layout."""
         circuit = self.connection.circuit
         limits = limits_for(max(self.width, self.height), self.plan.end, 1, len(circuit.gates), len(circuit.wires))
-        return with_line(self.connection.section() + "\n".join(self.lines()) + "\n", limits)
+        return with_limits_line(self.connection.circuit_section() + "\n".join(self.layout_lines()) + "\n", limits)
 
-    def lines(self) -> Iterator[str]:
+    def layout_lines(self) -> Iterator[str]:
         """Yields the lines of the layout: mirrors, those of the paths last, and then the ports."""
         own = self.connection
         yield f"layout {self.width} {self.height} {self.plan.end}"
         for part in own.layout.of_kind("mirror"):
-            x, y = self.old(part.cell)
+            x, y = self.moved_old_cell(part.cell)
             yield f"mirror {x} {y} {part.width} {part.height}"
-        new = {self.moved(number_cell(number)) for path in self.paths for number in path.item.mirrors}
+        new = {self.moved_cell(cell_of_number(number)) for path in self.paths for number in path.item.mirrors}
         for x, y, width, height in rectangles(new):
             yield f"mirror {x} {y} {width} {height}"
         ports = sorted(self.ports(), key=lambda port: ("ball", "in", "out", "waste").index(port[0]))
@@ -219,30 +221,31 @@ class ConnectedText:
     def ports(self) -> Iterator[tuple[str, str | None, Cell]]:
         """Yields the kind, the name and the cell of each port."""
         own, run = self.connection, self.connection.run
-        led = {cell for number, port in enumerate(run.starts) if run.find(number) == own.late
+        led = {cell for number, port in enumerate(run.starts) if run.machine_of_number(number) == own.late
                for cell in port.ball.cells()}
         ended = {cell for end in (*own.moved_ends(), own.out) for cell in end.ball.cells()}
         for part in own.layout.parts:
             is_led = part.cell in (led if part.kind in ("ball", "in") else ended)
             if part.kind != "mirror" and not is_led:
-                yield part.kind, part.name and own.wire(part.name), self.old(part.cell)
+                yield part.kind, part.name and own.new_wire_name(part.name), self.moved_old_cell(part.cell)
         for job, path in zip(self.plan.jobs, self.paths):
             if job.start is None:
                 for cell in path.start.cells():
-                    yield ("ball", None, self.moved(cell)) if job.wire == ALWAYS else ("in", job.wire, self.moved(cell))
+                    is_constant = job.wire == ALWAYS_SIGNAL
+                    yield "ball" if is_constant else "in", None if is_constant else job.wire, self.moved_cell(cell)
         moved = self.paths[len(self.paths) - len(own.moved_ends()):]
         for end, path in zip(own.moved_ends(), moved):
             for cell in path.end.cells():
-                yield end.kind, end.name and own.wire(end.name), self.moved(cell)
+                yield end.kind, end.name and own.new_wire_name(end.name), self.moved_cell(cell)
 
 
 def lead_all(connection: PortConnection, deadline: float, seed: int) -> ConnectedText:
     """Leads all balls, on ever larger planes. Raises LabError if that was not done in time."""
     why = ""
-    for room in ROOMS:
-        for delay in connection.delays():
+    for room in ADDED_CELLS:
+        for delay in connection.possible_delays():
             plan = connection.plan(delay, room)
-            wiring = Leading(plan, seed, deadline)
+            wiring = ConnectionWiring(plan, seed, deadline)
             why = wiring.closed_end()
             if why:
                 break
@@ -255,9 +258,9 @@ def lead_all(connection: PortConnection, deadline: float, seed: int) -> Connecte
     raise LabError(f"There is no room for the ball's way: {why}.")
 
 
-def connect(text: str, ports: tuple[str, str], deadline: float, seed: int) -> ConnectedText:
+def connect_ports(text: str, ports: tuple[str, str], deadline: float, seed: int) -> ConnectedText:
     """Returns the connection of an output and an input of a text."""
-    head = design_text(spelled(text).text)
+    head = design_text(spelled_text(text).text)
     document = read_document(head, "design")
     if document.refusal or not document.circuit or not document.layout:
         raise LabError("The circuit and the layout cannot be read: fix this first.")
@@ -269,10 +272,10 @@ def main() -> int:
     source, target, output, given, seconds, seed, program = sys.argv[1:]
     deadline = time.monotonic() + float(seconds)
     try:
-        made = connect(Path(source).read_bytes().decode("latin-1"), (output, given), deadline, int(seed))
+        made = connect_ports(Path(source).read_bytes().decode("latin-1"), (output, given), deadline, int(seed))
         text = made.text()
         print(f"Led in {made.plan.end} steps. The program checks.", file=sys.stderr, flush=True)
-        verdict = Judge(text, opened(program), CHECK_SECONDS).verdict()
+        verdict = Judge(text, open_program(program), CHECK_SECONDS).verdict()
         if verdict.verdict != "yes":
             words = " ".join(verdict.words)
             raise LabError(f"The balls could be led, but the verdict would be {verdict.verdict}. {words}")

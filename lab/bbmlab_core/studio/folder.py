@@ -50,7 +50,7 @@ class Folder:
     """The folder of the opened file. Each name from a request is checked here before it reaches the file system."""
 
     def __init__(self, file: str | None) -> None:
-        path = Path(os.path.realpath(file)) if file else free_path(Path.cwd())
+        path = Path(os.path.realpath(file)) if file else unused_path(Path.cwd())
         self.place, self.name = path.parent, path.name
         self.lock = threading.Lock()
 
@@ -118,7 +118,7 @@ class Folder:
         return digest_of(data)
 
 
-def free_path(folder: Path) -> Path:
+def unused_path(folder: Path) -> Path:
     """Returns a name for a new layout that no file of a folder has."""
     number = 1
     while (folder / f"layout_{number}.txt").exists():

@@ -24,7 +24,7 @@ class Denied(Exception):
         self.status, self.why = status, why
 
 
-def is_same(word: str, secret: str) -> bool:
+def is_same_secret(word: str, secret: str) -> bool:
     """Whether a word is a secret, in a time that does not depend on where it differs."""
     return hmac.compare_digest(word.encode("utf-8", "replace"), secret.encode())
 
@@ -47,7 +47,7 @@ class Guard:
         Raises Denied for any other word.
         """
         with self.lock:
-            if not is_same(token, self.token):
+            if not is_same_secret(token, self.token):
                 raise Denied(403, "this address was used already, or it is of another studio: `bbmlab studio` prints "
                              "the next one")
             self.token = secrets.token_urlsafe(24)
@@ -56,7 +56,7 @@ class Guard:
     def require_key(self, headers: Message) -> None:
         """Raises Denied if a request does not carry the key."""
         words: list[str] = headers.get_all(KEY_HEADER, [])
-        if len(words) != 1 or not is_same(words[0], self.key):
+        if len(words) != 1 or not is_same_secret(words[0], self.key):
             raise Denied(403, "open the address that `bbmlab studio` printed last")
 
     def require_own_page(self, headers: Message, is_post: bool, is_first: bool = False) -> None:

@@ -12,18 +12,18 @@ import time
 from pathlib import Path
 from typing import Any
 
-from ..host.program import Executable, opened
+from ..host.program import Executable, open_program
 
 PACKAGE_PARENT = Path(__file__).resolve().parents[2]
 # How many seconds more than the program's limit a job may take, and how many a process may take to end.
-MORE_SECONDS, END_SECONDS = 10.0, 2.0
+MORE_SECONDS, GRACE_SECONDS = 10.0, 2.0
 
 
 class JobWorker:
     """A process that answers jobs."""
 
     def __init__(self, program: Executable | str, seconds: float, memory: int) -> None:
-        self.program = program = opened(program)
+        self.program = program = open_program(program)
         # Compiled modules are kept where this process keeps its own.
         compiled = ["-X",
                     f"pycache_prefix={sys.pycache_prefix}"] if sys.pycache_prefix and not sys.dont_write_bytecode else [
@@ -62,7 +62,7 @@ class JobWorker:
         self.is_ended = True
         try:
             self.process.send_signal(signal.SIGTERM)
-            self.process.wait(END_SECONDS)
+            self.process.wait(GRACE_SECONDS)
         except subprocess.TimeoutExpired:
             self.process.kill()
             self.process.wait()
@@ -70,7 +70,7 @@ class JobWorker:
     def how_ended(self) -> str:
         """Says how the process ended, or that it is still there."""
         try:
-            status = self.process.wait(END_SECONDS)
+            status = self.process.wait(GRACE_SECONDS)
         except subprocess.TimeoutExpired:
             return "the lab's process closed its output"
         if status < 0:
@@ -95,7 +95,7 @@ class Jobs:
     """The jobs of all tabs. A tab's newer job ends its older one; jobs of other tabs wait."""
 
     def __init__(self, program: Executable | str, seconds: float, memory: int) -> None:
-        self.program, self.seconds, self.memory = opened(program), seconds, memory
+        self.program, self.seconds, self.memory = open_program(program), seconds, memory
         self.turn, self.lock = threading.Lock(), threading.Lock()
         self.newest: dict[str, int] = {}
         self.count = 0
@@ -104,7 +104,7 @@ class Jobs:
         self.running: str | None = None
         self.is_closed = False
 
-    def run(self, tab: str, job: dict[str, Any]) -> dict[str, Any]:
+    def answer_job(self, tab: str, job: dict[str, Any]) -> dict[str, Any]:
         """Returns the answer to a job. It is `{"replaced": true}` if the tab asked for another one meanwhile."""
         with self.lock:
             self.count += 1
@@ -126,7 +126,7 @@ class Jobs:
                 with self.lock:
                     self.running = None
 
-    def warm(self) -> None:
+    def start_ahead(self) -> None:
         """Starts the process, so that the first job need not wait for it."""
         with self.turn, self.lock:
             if self.worker is None and not self.is_closed:

@@ -8,11 +8,11 @@ from array import array
 from dataclasses import dataclass
 
 from ..host.terminal import LabError
-from ..joining.lone_ways import balls_of
+from ..joining.lone_ways import whole_balls_of
 from ..joining.parts import start_ports
 from ..pictures.drawing import wire_tables
-from ..route.balls import Ball, block_corner, start_state, stepped
-from ..route.world import ROW, STEP, Item, cell_number
+from ..route.balls import Ball, block_corner, start_state, state_after_step
+from ..route.world import ROW_STRIDE, STEP_STRIDE, Item, cell_number
 from ..texts.documents import Document
 from ..texts.layouts import Cell
 
@@ -21,7 +21,7 @@ MAX_MOVES = 2_000_000
 
 
 @dataclass(frozen=True)
-class End:
+class EndBall:
     """A ball at the last time, with the kind and the name of its port."""
 
     kind: str
@@ -45,9 +45,9 @@ class MachineRun:
         # The blocks in which balls move, at their times, by the balls they were when they were noted.
         self.claims: list[array[int]] = [array("q") for _ in self.starts]
         self.run()
-        self.ends = self.found_ends()
+        self.ends = self.end_balls()
 
-    def find(self, number: int) -> int:
+    def machine_of_number(self, number: int) -> int:
         """Returns the machine of a ball."""
         while self.root[number] != number:
             self.root[number] = number = self.root[self.root[number]]
@@ -60,22 +60,22 @@ class MachineRun:
         for time in range(self.layout.steps):
             blocks: dict[Cell, int] = {}
             for cell in live:
-                corner, own = block_corner(cell, time), self.find(self.machine[cell])
+                corner, own = block_corner(cell, time), self.machine_of_number(self.machine[cell])
                 other = blocks.setdefault(corner, own)
                 if other != own:
-                    self.root[own] = self.find(other)
-            following = stepped(self.mirrors, live, self.full, set(blocks))
+                    self.root[own] = self.machine_of_number(other)
+            following = state_after_step(self.mirrors, live, self.full, set(blocks))
             moves += len(live)
             if following is None or not all(map(self.layout.has, following)):
                 raise LabError(f"At time {time} a mirror breaks or a ball leaves the layout: fix this first.")
             if moves > MAX_MOVES:
                 raise LabError(f"The layout makes more than {MAX_MOVES} moves, which takes too long here.")
             for (x, y), number in blocks.items():
-                self.claims[number].append(time * STEP + y * ROW + x)
+                self.claims[number].append(time * STEP_STRIDE + y * ROW_STRIDE + x)
             self.machine = {cell: blocks[block_corner(cell, time)] for cell in following}
             live = following
 
-    def found_ends(self) -> list[End]:
+    def end_balls(self) -> list[EndBall]:
         """Returns the balls at the last time. Raises LabError if cells there are none."""
         groups: dict[tuple[str, str | None], list[Cell]] = {}
         for part in self.layout.parts:
@@ -83,23 +83,24 @@ class MachineRun:
                 groups.setdefault((part.kind, part.name), []).append(part.cell)
         found = []
         for (kind, name), cells in groups.items():
-            balls = balls_of(cells, self.layout.steps)
+            balls = whole_balls_of(cells, self.layout.steps)
             if balls is None:
                 raise LabError(f"The cells of {name or 'waste'} at the end, such as {cells[0]}, are not balls of two "
                                "cells, and only these can be led.")
-            found += [End(kind, name, ball) for ball in balls]
+            found += [EndBall(kind, name, ball) for ball in balls]
         return found
 
-    def machine_of(self, ball: Ball) -> int:
+    def machine_of_end_ball(self, ball: Ball) -> int:
         """Returns the machine of a ball at the last time."""
-        return self.find(self.machine[ball.cells()[0]])
+        return self.machine_of_number(self.machine[ball.cells()[0]])
 
-    def item(self, numbers: set[int], is_for_mirrors: bool) -> Item:
+    def machines_item(self, numbers: set[int], is_for_mirrors: bool) -> Item:
         """Returns what some machines take. Mirrors, which are nobody's, are in one of the items."""
-        claims = array("q", (claim for number, own in enumerate(self.claims) if self.find(number) in numbers
+        claims = array("q",
+                       (claim for number, own in enumerate(self.claims) if self.machine_of_number(number) in numbers
                              for claim in own))
         mirrors = frozenset(map(cell_number, self.mirrors))
-        corners = {claim % STEP for claim in claims}
-        touched = {corner + offset for corner in corners for offset in (0, 1, ROW, ROW + 1)} - mirrors
+        corners = {claim % STEP_STRIDE for claim in claims}
+        touched = {corner + offset for corner in corners for offset in (0, 1, ROW_STRIDE, ROW_STRIDE + 1)} - mirrors
         return Item(mirrors if is_for_mirrors else frozenset(), (array("q", sorted(touched)),),
                     (array("q", sorted(claims)),))

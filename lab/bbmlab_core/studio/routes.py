@@ -19,17 +19,17 @@ from .folder import bytes_of, text_of
 
 # The package, which the process imports.
 PACKAGE_PARENT = Path(__file__).resolve().parent.parent.parent
-RUN = "import sys; from bbmlab_core.{} import main; sys.exit(main())"
+RUN_SCRIPT = "import sys; from bbmlab_core.{} import main; sys.exit(main())"
 MAX_SECONDS, MAX_SEED = 3600, 2 ** 31
 # A page that asks no longer is gone: its search is ended after so many seconds. An ended search gets a moment to stop
 # the program that it runs.
-SILENCE, END_SECONDS = 60.0, 5.0
+SILENCE_SECONDS, GRACE_SECONDS = 60.0, 5.0
 # How long an answer waits for the end of a search: the page asks again then.
 WAIT_SECONDS = 0.5
 
 
 @dataclass
-class Route:
+class RouteSearch:
     """A search: its process, its files, and when the page asked for it last."""
 
     process: subprocess.Popen[bytes]
@@ -39,7 +39,7 @@ class Route:
     asked: float = field(default_factory=time.monotonic)
     is_cancelled: bool = False
 
-    def said(self) -> list[str]:
+    def progress_lines(self) -> list[str]:
         """Returns what the search wrote to standard error so far, without its name before each line."""
         text = Path(self.room.name, "said").read_text(encoding="utf-8", errors="replace")
         return [line.removeprefix("bbmlab: ") for line in text.splitlines() if line.strip()]
@@ -52,19 +52,19 @@ class Route:
             except ProcessLookupError:
                 pass
             try:
-                self.process.wait(END_SECONDS)
+                self.process.wait(GRACE_SECONDS)
                 return
             except subprocess.TimeoutExpired:
                 continue
 
 
-class Routes:
+class RouteSearches:
     """The searches of all tabs: one at a time, since each takes a processor and much memory."""
 
     def __init__(self, program: str, memory: int) -> None:
         self.program, self.memory = program, memory
         self.lock = threading.Lock()
-        self.found: dict[str, Route] = {}
+        self.found: dict[str, RouteSearch] = {}
         self.is_closed = False
 
     def begin(self, tab: str, text: str, seconds: float, seed: int,
@@ -75,10 +75,10 @@ class Routes:
         if not 1 <= seconds <= MAX_SECONDS or not 0 <= seed < MAX_SEED:
             raise LabError(f"A search takes 1 to {MAX_SECONDS} seconds, and its seed is from 0 to {MAX_SEED - 1}.")
         if ports:
-            words = [RUN.format("studio.connecting"), "text.txt", "bundle.txt", *ports, f"{seconds:g}", str(seed),
-                     self.program]
+            words = [RUN_SCRIPT.format("studio.connecting"), "text.txt", "bundle.txt", *ports, f"{seconds:g}",
+                     str(seed), self.program]
         else:
-            words = [RUN.format("cli"), "route", "text.txt", "-o", "bundle.txt", "--seed", str(seed), "--effort",
+            words = [RUN_SCRIPT.format("cli"), "route", "text.txt", "-o", "bundle.txt", "--seed", str(seed), "--effort",
                      f"{seconds:g}", "--program", self.program]
         with self.lock:
             if any(route.process.poll() is None for route in self.found.values()) or self.is_closed:
@@ -88,7 +88,7 @@ class Routes:
         threading.Thread(target=self.watch, args=(route,), daemon=True).start()
         return {"state": "runs", "seconds": 0.0, "said": []}
 
-    def start_search(self, text: bytes, words: list[str], seconds: float) -> Route:
+    def start_search(self, text: bytes, words: list[str], seconds: float) -> RouteSearch:
         """Returns a new search: Python with some words, in a folder with the text."""
         room = tempfile.TemporaryDirectory(prefix="bbmlab-route-")
         Path(room.name, "text.txt").write_bytes(text)
@@ -103,7 +103,7 @@ class Routes:
         except (OSError, ValueError):
             # It has ended already, or this user has less.
             pass
-        return Route(process, room, seconds)
+        return RouteSearch(process, room, seconds)
 
     def state(self, tab: str) -> dict[str, Any]:
         """Returns what became of a tab's search:
@@ -118,8 +118,8 @@ class Routes:
         try:
             status = route.process.wait(WAIT_SECONDS)
         except subprocess.TimeoutExpired:
-            return {"state": "runs", "seconds": time.monotonic() - route.begun, "said": route.said()}
-        said, bundle = route.said(), Path(route.room.name, "bundle.txt")
+            return {"state": "runs", "seconds": time.monotonic() - route.begun, "said": route.progress_lines()}
+        said, bundle = route.progress_lines(), Path(route.room.name, "bundle.txt")
         answer: dict[str, Any] = {"state": "cancelled" if route.is_cancelled else "failed", "said": said}
         if status == 0 and bundle.is_file():
             answer = {"state": "found", "said": said, "text": text_of(bundle.read_bytes())}
@@ -138,10 +138,10 @@ class Routes:
         route.end()
         return self.state(tab)
 
-    def watch(self, route: Route) -> None:
+    def watch(self, route: RouteSearch) -> None:
         """Ends a search whose page no longer asks."""
         while route.process.poll() is None:
-            if time.monotonic() - route.asked > SILENCE:
+            if time.monotonic() - route.asked > SILENCE_SECONDS:
                 route.end()
             try:
                 route.process.wait(1.0)

@@ -12,12 +12,12 @@ from pathlib import Path
 from typing import Any, Callable
 
 from ..view import viewing
-from .answers import Answers, word
+from .answers import Answers, text_member
 from .guard import MAX_REQUEST_BYTES, Denied, Guard
 
 ADDRESS = "127.0.0.1"
 HERE = Path(__file__).resolve().parent
-TYPES = {".js": "text/javascript", ".css": "text/css", ".html": "text/html"}
+CONTENT_TYPES = {".js": "text/javascript", ".css": "text/css", ".html": "text/html"}
 POLICY = ("default-src 'none'; script-src 'self'; worker-src 'self'; style-src 'self'; connect-src 'self'; img-src "
           "data:; base-uri 'none'; "
           "form-action 'none'; frame-ancestors 'none'")
@@ -25,22 +25,22 @@ HEADERS = {"Content-Security-Policy": POLICY, "X-Content-Type-Options": "nosniff
            "Cache-Control": "no-store",
            "Cross-Origin-Opener-Policy": "same-origin", "Cross-Origin-Resource-Policy": "same-origin"}
 # The first of the ports that no service has (RFC 6335), and how many of them are taken in turn.
-FIRST_PORT, PORTS = 49152, 16000
+FIRST_PORT, PORT_COUNT = 49152, 16000
 # The request that gives the key for a token, and how long it is at most.
-ENTER, MAX_TOKEN_BYTES = "enter", 1000
+ENTER_PATH, MAX_TOKEN_BYTES = "enter", 1000
 # How long a connection may be silent, in seconds.
-SILENCE = 60
+SILENCE_SECONDS = 60
 
 
 def page_files() -> dict[str, tuple[str, bytes]]:
     """Returns the files of the page with their types, by their paths: the viewer's scripts and style, and the studio's
     own."""
     found = {}
-    for folder, place in (("view", viewing.TEMPLATE), ("studio", HERE)):
+    for folder, place in (("view", viewing.TEMPLATE_FOLDER), ("studio", HERE)):
         for path in sorted(place.iterdir()):
             if path.suffix in (".js", ".css"):
-                found[f"{folder}/{path.name}"] = (TYPES[path.suffix], path.read_bytes())
-    found[""] = (TYPES[".html"], (HERE / "studio.html").read_bytes())
+                found[f"{folder}/{path.name}"] = (CONTENT_TYPES[path.suffix], path.read_bytes())
+    found[""] = (CONTENT_TYPES[".html"], (HERE / "studio.html").read_bytes())
     return found
 
 
@@ -73,7 +73,7 @@ class Handler(BaseHTTPRequestHandler):
     server: Studio
     protocol_version = "HTTP/1.1"
     server_version, sys_version = "bbmlab", ""
-    timeout = SILENCE
+    timeout = SILENCE_SECONDS
 
     def do_GET(self) -> None:
         """Sends a file of the page."""
@@ -92,13 +92,13 @@ class Handler(BaseHTTPRequestHandler):
         try:
             guard, name = self.server.guard, self.path.removeprefix("/api/")
             guard.require_own_page(self.headers, True)
-            if name != ENTER:
+            if name != ENTER_PATH:
                 guard.require_key(self.headers)
-            body = self.read_body(MAX_TOKEN_BYTES if name == ENTER else MAX_REQUEST_BYTES)
-            answer = self.enter(word(body,
-                                       "token")) if name == ENTER else self.server.answers.answer("" if name
-                                                                                                  == self.path
-                                                                                                  else name, body)
+            body = self.read_body(MAX_TOKEN_BYTES if name == ENTER_PATH else MAX_REQUEST_BYTES)
+            answer = self.enter(text_member(body,
+                                       "token")) if name == ENTER_PATH else self.server.answers.answer("" if name
+                                                                                                       == self.path
+                                                                                                       else name, body)
             self.send(200, "application/json", json.dumps(answer).encode())
         except (ValueError, RecursionError):
             self.deny(Denied(400, "the request is no JSON"))
@@ -151,11 +151,11 @@ def studio_server(port: int | None, answers: Answers) -> Studio:
     if port is not None:
         return Studio(port, answers)
     path = os.fsencode(answers.folder.place / answers.folder.name)
-    usual = FIRST_PORT + int.from_bytes(hashlib.sha256(path).digest()[:4], "big") % PORTS
-    return Studio(usual if is_free(usual) else 0, answers)
+    usual = FIRST_PORT + int.from_bytes(hashlib.sha256(path).digest()[:4], "big") % PORT_COUNT
+    return Studio(usual if is_free_port(usual) else 0, answers)
 
 
-def is_free(port: int) -> bool:
+def is_free_port(port: int) -> bool:
     """Whether no server listens at a port."""
     with socket.socket() as probe:
         probe.setsockopt(socket.SOL_SOCKET, socket.SO_REUSEADDR, 1)

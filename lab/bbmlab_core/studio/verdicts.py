@@ -6,11 +6,11 @@ Only the program gives a verdict. The lab makes the certificates, the words and 
 from dataclasses import dataclass, field
 from typing import Any, Sequence
 
-from ..certify.certifier import CertificatePlan, certified
+from ..certify.certifier import CertificatePlan, certified_text
 from ..explain.diagnosis import Diagnosis, Truth
-from ..explain.explaining import explain_report, tried_words
+from ..explain.explaining import explain_report, tried_in_vain_words
 from ..explain.fixing import Fix, Fixer, outcome_words
-from ..explain.trials import Budget, Trial
+from ..explain.trials import Budget, TrialRunner
 from ..host.processor import processor_seconds
 from ..host.program import Answer, Executable, BadProgramError, ProgramTimeout, ask
 from ..host.terminal import LabError
@@ -21,10 +21,10 @@ from ..texts.layouts import Cell, Layout
 from ..texts.refusals import explain_code, explain_refusal
 from ..texts.reports import ReportLine, ReportOrRefusal, ReportError, parse_report
 from ..texts.skimming import cuts_of, design_text
-from ..texts.spelling import source_line, spelled
+from ..texts.spelling import source_line, spelled_text
 
 # The most lines of a report for which fixes are looked for one by one, and the most lines that are sent to the page.
-MAX_FIXED, MAX_LINES = 6, 200
+MAX_FIXED_LINES, MAX_LINES = 6, 200
 NO_OTHER_FOUND = {"own": "The certificate of the text was checked. The lab found no other one:",
             "earlier": "The last certificate that got a yes was checked. The lab found no other one:"}
 
@@ -62,7 +62,7 @@ class Judge:
 
     def __init__(self, text: str, program: Executable, seconds: float, earlier: str = "") -> None:
         self.source, self.program, self.seconds, self.earlier = text, program, seconds, earlier
-        self.text = spelled(text).text
+        self.text = spelled_text(text).text
         self.head = design_text(self.text)
         self.until = processor_seconds() + seconds
         self.inputs: Sequence[str] = ()
@@ -81,8 +81,9 @@ class Judge:
             wrong = self.wrong_end(read_document(self.head, "design")) if stage == "other" else None
             if wrong:
                 return Verdict("none", [wrong])
-            found = self.first() if stage not in ("made", "other") else Verdict("none", [], is_last=False)
-            return found if found.is_last or stage == "first" else self.made(found)
+            is_first_wanted = stage not in ("made", "other")
+            found = self.verdict_without_search() if is_first_wanted else Verdict("none", [], is_last=False)
+            return found if found.is_last or stage == "first" else self.verdict_with_made_certificate(found)
         except ProgramTimeout:
             return Verdict("unknown", [f"The program gave no answer within {self.seconds:g} seconds."])
         except (BadProgramError, ReportError) as error:
@@ -90,23 +91,23 @@ class Judge:
         except MemoryError:
             return Verdict("unknown", ["There is no verdict: the memory limit was reached."])
 
-    def first(self) -> Verdict:
+    def verdict_without_search(self) -> Verdict:
         """Tries the text's own certificate, the earlier one, and for a small layout one of one module, up to a yes or a
         no that no certificate changes."""
         design = read_document(self.head, "design")
         if design.refusal or design.circuit is None or design.layout is None:
             bundle = self.text if self.head != self.text else self.head + "certificate 2\nend\n"
-            return self.judged(bundle, "own")
+            return self.bundle_verdict(bundle, "own")
         self.inputs = design.circuit.inputs
-        own = self.judged(self.text, "own") if self.head != self.text else None
+        own = self.bundle_verdict(self.text, "own") if self.head != self.text else None
         if own and own.verdict == "yes":
             return own
         # The steps of a `delay` gate are shown by stops alone.
         has_delay = any(gate.kind == "delay" for gate in design.circuit.gates)
         plain = None if has_delay else plain_certificate(design.circuit, design.layout)
         if plain:
-            return self.judged(self.head + plain, "plain")
-        earlier = self.judged(self.head + self.earlier, "earlier") if self.earlier else None
+            return self.bundle_verdict(self.head + plain, "plain")
+        earlier = self.bundle_verdict(self.head + self.earlier, "earlier") if self.earlier else None
         if earlier and earlier.verdict == "yes":
             return earlier
         found = own if own and own.verdict == "no" else earlier if earlier and earlier.verdict == "no" else Verdict(
@@ -135,51 +136,52 @@ class Judge:
                         "certificate gets a yes.")
         return None
 
-    def made(self, first: Verdict) -> Verdict:
+    def verdict_with_made_certificate(self, first: Verdict) -> Verdict:
         """Returns the verdict with a certificate that the lab makes, or the first no if it makes none."""
         design = read_document(self.head, "design")
         self.inputs = design.circuit.inputs if design.circuit else ()
-        made = self.certified(design)
+        made = self.certify_and_judge(design)
         if made.verdict == "none" and first.verdict == "no":
             first.words += [NO_OTHER_FOUND[first.by], *made.words]
             first.is_last = True
             return first
         return made
 
-    def certified(self, design: Document) -> Verdict:
+    def certify_and_judge(self, design: Document) -> Verdict:
         """Returns the verdict with a certificate that `certify` makes: first without runs of its modules, which the
         program repeats."""
         try:
-            quick = self.judged(certified(design, None, CertificatePlan(until=self.until, is_tried=False)), "certify")
+            plan = CertificatePlan(until=self.until, is_tried=False)
+            quick = self.bundle_verdict(certified_text(design, None, plan), "certify")
             if quick.verdict == "yes":
                 return quick
-            outcome = Diagnosis(read_document(quick.bundle, "check")).outcome
+            outcome = Diagnosis(read_document(quick.bundle, "check")).whole_outcome
             if outcome.is_right is Truth.NO:
-                quick.words.append(outcome.words)
+                quick.words.append(outcome.why_no_yes)
                 return quick
-            return self.judged(certified(design, None, CertificatePlan(until=self.until)), "certify")
+            return self.bundle_verdict(certified_text(design, None, CertificatePlan(until=self.until)), "certify")
         except LabError as error:
             reason = str(error)
             return Verdict("none", [f"{reason[:1].upper()}{reason[1:]}."], "certify")
 
-    def judged(self, bundle: str, by: str) -> Verdict:
+    def bundle_verdict(self, bundle: str, by: str) -> Verdict:
         """Returns what the program says of a bundle."""
         answer = self.ask(bundle)
         if answer.status not in (0, 1, 3):
             raise BadProgramError(f"the program ended with status {answer.status}: {answer.errors}")
         report = parse_report(answer.output)
         if report.refused:
-            return self.refused(bundle, report.refused, answer.output)
+            return self.refusal_verdict(bundle, report.refused, answer.output)
         if (answer.status, report.verdict) not in ((0, "yes"), (1, "no")):
             raise ReportError(f"the program ended with status {answer.status} and wrote `verdict {report.verdict}`")
         found, cuts = report.faults[:MAX_LINES], cuts_of(bundle) if report.faults else []
-        faults = [fault_form(cuts, self.inputs, finding) for finding in found]
+        faults = [fault_json(cuts, self.inputs, finding) for finding in found]
         count = len(report.faults)
         words = [] if report.verdict == "yes" else [
             f"The report has {count} reason{'s' if count != 1 else ''} for the no."]
         return Verdict(report.verdict, words, by, bundle, answer.output, faults)
 
-    def refused(self, bundle: str, refused: tuple[int, int], output: str) -> Verdict:
+    def refusal_verdict(self, bundle: str, refused: tuple[int, int], output: str) -> Verdict:
         """Returns a refusal in words."""
         line, code = refused
         document = read_document(bundle, "check")
@@ -215,7 +217,7 @@ def plain_certificate(circuit: Circuit, layout: Layout) -> str | None:
     return str(Certificate(2, (whole_module(circuit, layout),)))
 
 
-def fault_form(cuts: list[list[str]], inputs: Sequence[str], finding: ReportLine) -> dict[str, Any]:
+def fault_json(cuts: list[list[str]], inputs: Sequence[str], finding: ReportLine) -> dict[str, Any]:
     """Returns a line of a report for the page: its words, its cell and time, and the inputs that are on if the module
     cuts inputs alone."""
     form: dict[str, Any] = {"text": finding.text}
@@ -231,32 +233,33 @@ def fault_form(cuts: list[list[str]], inputs: Sequence[str], finding: ReportLine
 # ---- explanations and fixes
 
 
-def explained(text: str, bundle: str, output: str, program: Executable, seconds: float) -> dict[str, Any]:
+def explained_answer(text: str, bundle: str, output: str, program: Executable, seconds: float) -> dict[str, Any]:
     """Returns a no or a refusal in words, with fixes that were tried.
 
     `text` is the page's, `bundle` is what the program read.
     """
-    trial, has_own = Trial(program, Budget(200, seconds)), design_text(spelled(text).text) != spelled(text).text
+    trial = TrialRunner(program, Budget(200, seconds))
+    has_own = design_text(spelled_text(text).text) != spelled_text(text).text
     report = parse_report(output)
     document = read_document(bundle, "check")
     made = explain_report(document, report, "", None)
     fixer = Fixer(bundle if has_own or not report.refused else design_text(bundle), report, trial)
     entries: list[dict[str, Any]] = [{"line": entry.report_line, "what": entry.what, "fix": None}
                                      for entry in made.entries if entry.is_against][:MAX_LINES]
-    whole = fixer.find()
+    whole = fixer.find_fix()
     forms = {entry["line"]: entry for entry in entries}
     # Without a certificate of its own a text has no lines that fixes of single lines could change.
     if has_own and not report.refused and document.certificate:
         diagnosis = Diagnosis(document)
-        for finding in report.faults[:MAX_FIXED]:
-            fix = fixer.find_for(diagnosis, finding)
+        for finding in report.faults[:MAX_FIXED_LINES]:
+            fix = fixer.find_fix_of_line(diagnosis, finding)
             if fix and finding.text in forms:
-                forms[finding.text]["fix"] = fix_form(fix, report, has_own)
-    return {"headline": made.headline[1:], "entries": entries, "fix": fix_form(whole, report, has_own),
-            "tried": [] if whole else tried_words(fixer, trial)}
+                forms[finding.text]["fix"] = fix_json(fix, report, has_own)
+    return {"headline": made.headline[1:], "entries": entries, "fix": fix_json(whole, report, has_own),
+            "tried": [] if whole else tried_in_vain_words(fixer, trial)}
 
 
-def fix_form(fix: Fix | None, report: ReportOrRefusal, has_own: bool) -> dict[str, Any] | None:
+def fix_json(fix: Fix | None, report: ReportOrRefusal, has_own: bool) -> dict[str, Any] | None:
     """Returns a fix for the page: its sentences, the verdict, and the text after it.
 
     A text without a certificate stays without one.
@@ -269,10 +272,10 @@ def fix_form(fix: Fix | None, report: ReportOrRefusal, has_own: bool) -> dict[st
 
 def fixes_of_design(text: str, program: Executable, seconds: float) -> dict[str, Any]:
     """Returns fixes of a text for which no certificate was found."""
-    trial, head = Trial(program, Budget(200, seconds)), design_text(spelled(text).text)
+    trial, head = TrialRunner(program, Budget(200, seconds)), design_text(spelled_text(text).text)
     report = trial.report(head)
     fixer = Fixer(head, report, trial) if report else None
-    whole = fixer.find() if fixer else None
+    whole = fixer.find_fix() if fixer else None
     assert fixer is None or report is not None
-    return {"headline": [], "entries": [], "fix": fix_form(whole, report, False) if report else None,
-            "tried": tried_words(fixer, trial) if fixer and not whole else []}
+    return {"headline": [], "entries": [], "fix": fix_json(whole, report, False) if report else None,
+            "tried": tried_in_vain_words(fixer, trial) if fixer and not whole else []}

@@ -20,22 +20,22 @@ from typing import Any
 from ..explain import explaining
 from ..host import program
 from ..host.program import Executable
-from ..host.signals import beat
+from ..host.signals import keep_interrupting
 from ..host.terminal import LabError
 from ..physics import tracing
 from ..pictures import drawing, golly
 from ..texts.documents import Document, read_document
 from ..texts.layouts import Layout
 from ..texts.reports import ReportError
-from ..texts.spelling import spelled
+from ..texts.spelling import spelled_text
 from ..view import viewing
 from .folder import FolderError, bytes_of
-from .verdicts import Judge, explained, fixes_of_design
+from .verdicts import Judge, explained_answer, fixes_of_design
 
 # How many seconds a search for fixes takes, at most.
 FIX_SECONDS = 8.0
 # The forms in which a text is exported.
-FORMS = ("svg", "golly", "page")
+EXPORT_FORMS = ("svg", "golly", "page")
 
 
 def lab_text(text: str) -> str:
@@ -55,19 +55,19 @@ def explain(job: dict[str, Any], asked: Executable, seconds: float) -> dict[str,
     limit = min(FIX_SECONDS, seconds)
     if not job["report"]:
         return fixes_of_design(lab_text(job["text"]), asked, limit)
-    return explained(lab_text(job["text"]), job["bundle"], job["report"], asked, limit)
+    return explained_answer(lab_text(job["text"]), job["bundle"], job["report"], asked, limit)
 
 
 def export(job: dict[str, Any], asked: Executable, seconds: float) -> dict[str, Any]:
     """Returns a text in another form: `svg`, `golly` or `page`."""
-    document = read_document(spelled(lab_text(job["bundle"] or job["text"])).text)
+    document = read_document(spelled_text(lab_text(job["bundle"] or job["text"])).text)
     if document.refusal or document.layout is None:
         raise LabError("The text is refused, so it cannot be exported.")
     form, name = job["form"], str(job["name"])
-    if form not in FORMS:
-        raise LabError(f"A text is exported as {FORMS[0]}, {FORMS[1]} or {FORMS[2]}.")
+    if form not in EXPORT_FORMS:
+        raise LabError(f"A text is exported as {EXPORT_FORMS[0]}, {EXPORT_FORMS[1]} or {EXPORT_FORMS[2]}.")
     if form == "svg":
-        return {"text": picture(document, document.layout, name)}
+        return {"text": ways_picture(document, document.layout, name)}
     if form == "golly":
         on = tracing.chosen_inputs(document, ",".join(job["on"]) or None)
         start = tracing.state_at(document.layout, on, 0)
@@ -76,10 +76,10 @@ def export(job: dict[str, Any], asked: Executable, seconds: float) -> dict[str, 
     if document.certificate:
         answer = program.ask(asked, "check", document.text.encode("latin-1"), seconds)
         explanation = explaining.explain_answer(document.text, "check", answer.output, name, None, document)
-    return {"text": viewing.page(document, explanation, name)}
+    return {"text": viewing.page_text(document, explanation, name)}
 
 
-def picture(document: Document, layout: Layout, name: str) -> str:
+def ways_picture(document: Document, layout: Layout, name: str) -> str:
     """Returns the ways of the balls as SVG."""
     shown = drawing.Drawing(modules=document.certificate.modules if document.certificate else [])
     on = tracing.chosen_inputs(document, None)
@@ -90,14 +90,14 @@ def picture(document: Document, layout: Layout, name: str) -> str:
     return drawing.svg(layout, shown, wires)
 
 
-JOBS = {"verdict": verdict, "explain": explain, "export": export}
+JOB_HANDLERS = {"verdict": verdict, "explain": explain, "export": export}
 
 
 def answer(line: str, asked: Executable, seconds: float) -> dict[str, Any]:
     """Returns the answer to one job."""
     try:
         job = json.loads(line)
-        return JOBS[job["kind"]](job, asked, seconds)
+        return JOB_HANDLERS[job["kind"]](job, asked, seconds)
     except MemoryError:
         return {"error": "The memory limit was reached."}
     except RecursionError:
@@ -108,10 +108,10 @@ def answer(line: str, asked: Executable, seconds: float) -> dict[str, Any]:
         return {"error": f"The program gave no answer: {error}."}
 
 
-def stop(_number: int, _frame: FrameType | None) -> None:
+def kill_program(_number: int, _frame: FrameType | None) -> None:
     """Kills the program that runs, and ends soon."""
-    if program.SHARED:
-        program.SHARED.stop()
+    if program.SHARED_PROGRAMS:
+        program.SHARED_PROGRAMS.kill_all()
     signal.signal(signal.SIGALRM, lambda *_: os._exit(143))
     signal.setitimer(signal.ITIMER_REAL, 0.1)
 
@@ -125,11 +125,11 @@ def main() -> int:
     limit = memory if most == resource.RLIM_INFINITY else min(memory, most)
     resource.setrlimit(resource.RLIMIT_AS, (limit, limit))
     resource.setrlimit(resource.RLIMIT_CORE, (0, 0))
-    program.SHARED = program.Running()
-    signal.signal(signal.SIGTERM, stop)
-    signal.signal(signal.SIGHUP, stop)
+    program.SHARED_PROGRAMS = program.RunningPrograms()
+    signal.signal(signal.SIGTERM, kill_program)
+    signal.signal(signal.SIGHUP, kill_program)
     signal.signal(signal.SIGINT, signal.SIG_IGN)
-    beat()
+    keep_interrupting()
     answers, sys.stdout = sys.stdout, sys.stderr
     jobs: "queue.SimpleQueue[str]" = queue.SimpleQueue()
     threading.Thread(target=read_jobs, args=(jobs,), daemon=True).start()

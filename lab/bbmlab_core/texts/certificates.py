@@ -7,7 +7,7 @@ from typing import Any, Iterable, Iterator, NamedTuple, Sequence
 
 from .circuits import Circuit
 from .layouts import Box, Cell, Layout, Part
-from .lines import Form, Lines, SectionReader, forms_of, order_of
+from .lines import LineForm, Lines, SectionReader, forms_of, later_kinds
 from .owners import NOBODY, Owners
 
 MAX_BOX_SIDE = 64
@@ -15,8 +15,8 @@ MAX_CUTS = 12
 MAX_USES = 64
 MAX_BORDER_LINES = 65_536
 PORT_TILE = 16
-ORDER = ["cut", "use", "keep", "edge", "halo", "stop"]
-LATER = order_of(ORDER)
+KIND_ORDER = ["cut", "use", "keep", "edge", "halo", "stop"]
+LATER_KINDS = later_kinds(KIND_ORDER)
 
 
 class Border(NamedTuple):
@@ -64,7 +64,7 @@ def line_words(kind: str, line: Border | Stop) -> str:
     return f"{kind} {'*' if line.time is None else line.time} {line.x} {line.y} {line.signal}"
 
 
-def in_order(lines: Iterable[Border]) -> tuple[Border, ...]:
+def borders_in_order(lines: Iterable[Border]) -> tuple[Border, ...]:
     """Returns `edge` or `halo` lines in the order of the formats: those with `*` first, then by time, y and x."""
     return tuple(sorted(lines, key=attrgetter("place")))
 
@@ -100,11 +100,11 @@ class Module:
 
     def edge(self, time: int | None, x: int, y: int, signal: str) -> "Module":
         """Returns the module with one more `edge` line."""
-        return replace(self, edges=in_order((*self.edges, Border(time, x, y, signal))))
+        return replace(self, edges=borders_in_order((*self.edges, Border(time, x, y, signal))))
 
     def halo(self, time: int | None, x: int, y: int, signal: str) -> "Module":
         """Returns the module with one more `halo` line."""
-        return replace(self, halos=in_order((*self.halos, Border(time, x, y, signal))))
+        return replace(self, halos=borders_in_order((*self.halos, Border(time, x, y, signal))))
 
     def stop(self, time: int, name: str, x: int, y: int) -> "Module":
         """Returns the module with one more `stop` line."""
@@ -129,7 +129,7 @@ class Module:
     def numbered(self, kind: str) -> Iterator[tuple[int, Any]]:
         """Yields the lines of a kind, each after its place in the text from which the module was read."""
         lists = (self.cuts, self.uses, self.keeps, self.edges, self.halos, self.stops)
-        rank = ORDER.index(kind)
+        rank = KIND_ORDER.index(kind)
         return enumerate(lists[rank], self.line + 1 + sum(map(len, lists[:rank])))
 
     def line_number(self, kind: str, line: Border | Stop | int) -> int:
@@ -200,7 +200,7 @@ class Certificate:
         owners = Owners(max((box.x + box.width for box in boxes), default=0),
                         max((box.y + box.height for box in boxes), default=0))
         for number, box in enumerate(boxes):
-            owners.take(box, number)
+            owners.take_blocks(box, number)
         return owners
 
     def owner(self, cell: Cell) -> Module | None:
@@ -210,7 +210,7 @@ class Certificate:
 
     def neighbours(self, module: Module) -> list[Module]:
         """Returns the modules whose boxes touch that of `module`."""
-        return [self.modules[number] for number in self.owners.near(module.box) if number != module.number]
+        return [self.modules[number] for number in self.owners.modules_near(module.box) if number != module.number]
 
     def stops_of(self, wire: str) -> list[tuple[Module, Stop]]:
         """Returns the stops of a wire with their modules, in order of time."""
@@ -249,7 +249,7 @@ class CertificateReader(SectionReader):
         """Returns the certificate, of a text that is refused what came before."""
         return Certificate(self.version, tuple([*self.modules, self.draft.module()] if self.draft else self.modules))
 
-    def forms_now(self) -> dict[str, Form]:
+    def forms_now(self) -> dict[str, LineForm]:
         """Returns the forms, in version 2 without `halo`."""
         return self.forms_of_version_2 if self.version == 2 else self.forms
 
@@ -257,7 +257,7 @@ class CertificateReader(SectionReader):
         """Returns the module that is open. Refuses a line before the first one, and a kind after a later kind."""
         if self.draft is None:
             self.lines.refuse(6, "before_first_module", kind=kind)
-        self.require_kind_order(kind, LATER)
+        self.require_kind_order(kind, LATER_KINDS)
         return self.draft
 
     def read_certificate(self, version: int) -> None:
@@ -268,7 +268,7 @@ class CertificateReader(SectionReader):
 
     def read_module(self, x: int, y: int, width: int, height: int) -> None:
         """Reads a line `module`, which ends the module before it."""
-        self.close()
+        self.close_module()
         for what, side in (("width", width), ("height", height)):
             if side % 2 or not 2 <= side <= MAX_BOX_SIDE:
                 self.lines.refuse(2, "box_side", what=what, number=side)
@@ -280,14 +280,14 @@ class CertificateReader(SectionReader):
         if x + width > self.layout.width or y + height > self.layout.height:
             self.lines.refuse(8, "box_outside", box=box, size=(self.layout.width, self.layout.height))
         self.take_box(box)
-        for kind in ORDER:
+        for kind in KIND_ORDER:
             self.kind_lines.pop(kind, None)
 
     def take_box(self, box: Box) -> None:
         """Opens a module, whose box lies over no earlier one."""
         number = len(self.modules)
-        if not self.owners.take(box, number):
-            cell, owner = self.owners.taken_in(box)
+        if not self.owners.take_blocks(box, number):
+            cell, owner = self.owners.first_owned_block(box)
             other = self.modules[owner]
             self.lines.refuse(8, "box_overlap", box=box, other=owner, other_box=other.box, at=other.line, cell=cell)
         self.draft = ModuleDraft(box, number, self.lines.taken)
@@ -414,7 +414,7 @@ class CertificateReader(SectionReader):
             for column in range(box.x // PORT_TILE, (box.x + box.width - 1) // PORT_TILE + 1):
                 yield from (port for port in self.ports.get((column, row), ()) if box.has(port.cell))
 
-    def close(self) -> None:
+    def close_module(self) -> None:
         """Ends the module that is open. Refuses one that has a port whose wire it does not know."""
         module = self.draft
         if module is None:
@@ -429,7 +429,7 @@ class CertificateReader(SectionReader):
 
     def read_end(self) -> None:
         """Reads the line `end`."""
-        self.close()
+        self.close_module()
         if not self.modules:
             self.lines.refuse(11, "no_module", size=(self.layout.width, self.layout.height))
         blocks = (self.layout.width // 2) * (self.layout.height // 2)

@@ -6,13 +6,13 @@ from functools import cached_property, partial
 from typing import Any, Iterable, Sequence
 
 from .gates import GATE_SIZES, INVERSE_GATES, Table, gate_row, input_tables
-from .lines import Lines, SectionReader, forms_of, match_line, order_of, section_text
+from .lines import Lines, SectionReader, forms_of, later_kinds, match_line, section_text
 
 MAX_DELAY = 4096
 # The gates whose line has a number: the bit of a source, or the steps of a delay.
-WITH_PARAMETER = ("source", "delay")
-ORDER = ["input", "gate", "output", "spill"]
-LATER = order_of(ORDER)
+KINDS_WITH_PARAMETER = ("source", "delay")
+KIND_ORDER = ["input", "gate", "output", "spill"]
+LATER_KINDS = later_kinds(KIND_ORDER)
 
 
 @dataclass(frozen=True)
@@ -42,7 +42,7 @@ class Gate:
 
 def gate_of(kind: str, values: Sequence[Any], number: int = 0, line: int = 0) -> Gate:
     """Returns the gate of a line, by the values of the placeholders of its form."""
-    parameter, names = (values[0], values[1:]) if kind in WITH_PARAMETER else (None, values)
+    parameter, names = (values[0], values[1:]) if kind in KINDS_WITH_PARAMETER else (None, values)
     count = GATE_SIZES[kind][0]
     return Gate(kind, tuple(names[:count]), tuple(names[count:]), parameter, number, line)
 
@@ -131,12 +131,12 @@ class Valuation:
     rows: dict[int, Table]
     is_all: bool = True
 
-    def names_of(self, column: int) -> list[str]:
+    def true_names(self, column: int) -> list[str]:
         """Returns the free wires that are true in a column."""
         return [name for name in self.free if self.tables[name] >> column & 1]
 
     @cached_property
-    def defined(self) -> Table:
+    def defined_columns(self) -> Table:
         """The columns at which all gates have a row."""
         defined = self.full
         for table in self.rows.values():
@@ -177,18 +177,18 @@ def sampled_tables(names: Sequence[str], count: int, first: Iterable[str] = (), 
     """
     chance, number, all_on = random.Random(seed), len(names), (1 << len(names)) - 1
     chosen = set(first)
-    columns = [number_of("1" if name in chosen else "0" for name in names), 0, all_on]
+    columns = [number_from_bits("1" if name in chosen else "0" for name in names), 0, all_on]
     some = range(number) if number <= count // 8 else sorted(chance.sample(range(number), count // 8))
     columns += [flip ^ 1 << index for index in some for flip in (0, all_on)]
     for index in range(count - len(columns)):
         share = (0.5, 0.5, 0.25, 0.75, 0.1, 0.9, 0.03, 0.97)[index % 8]
-        columns.append(number_of("1" if chance.random() < share else "0" for _ in range(number)))
+        columns.append(number_from_bits("1" if chance.random() < share else "0" for _ in range(number)))
     # The columns of a list of rows, by their digits: a shift for each bit would take quadratic time.
     rows = [f"{column:0{number}b}"[::-1] for column in columns]
-    return dict(zip(names, map(number_of, zip(*rows))))
+    return dict(zip(names, map(number_from_bits, zip(*rows))))
 
 
-def number_of(bits: Iterable[str]) -> int:
+def number_from_bits(bits: Iterable[str]) -> int:
     """Returns a number by its binary digits, from the lowest to the highest."""
     return int("".join(bits)[::-1] or "0", 2)
 
@@ -253,14 +253,14 @@ class CircuitReader(SectionReader):
 
     def read_input(self, name: str) -> None:
         """Reads a line `input`."""
-        self.require_kind_order("input", LATER)
+        self.require_kind_order("input", LATER_KINDS)
         self.require_room([name])
         self.define([name])
         self.inputs.append(name)
 
     def read_output(self, name: str) -> None:
         """Reads a line `output`."""
-        self.require_kind_order("output", LATER)
+        self.require_kind_order("output", LATER_KINDS)
         self.consume([name])
         self.outputs.append(name)
 
@@ -271,7 +271,7 @@ class CircuitReader(SectionReader):
 
     def read_gate(self, *values: Any, kind: str) -> None:
         """Reads a gate line of any kind."""
-        self.require_kind_order("gate", LATER)
+        self.require_kind_order("gate", LATER_KINDS)
         gate = gate_of(kind, values, len(self.gates), self.lines.taken)
         if kind == "delay" and not 1 <= (gate.parameter or 0) <= MAX_DELAY:
             self.lines.refuse(2, "delay_limit", number=gate.parameter)

@@ -7,11 +7,11 @@ from .documents import Document, read_document
 from .layouts import Layout
 from .refusals import refusal_words
 from .reports import ReportLine, ReportOrRefusal, ReportError, parse_report
-from .skimming import certificate_digest, certificate_place
-from .spelling import source_line, spelled
+from .skimming import certificate_digest, certificate_start
+from .spelling import source_line, spelled_text
 
 
-def read_free(name: str, text: str, command: str | None = None) -> Document:
+def read_freely_written(name: str, text: str, command: str | None = None) -> Document:
     """Returns a text that may be written freely, with comments, any spaces and unsorted lists: as it is in the one
     spelling.
 
@@ -20,7 +20,7 @@ def read_free(name: str, text: str, command: str | None = None) -> Document:
     document = read_document(text, command)
     if document.refusal is None:
         return document
-    made = spelled(text).text
+    made = spelled_text(text).text
     free = read_document(made, command) if made != text else document
     if free.refusal is None:
         return free
@@ -31,7 +31,7 @@ def read_free(name: str, text: str, command: str | None = None) -> Document:
 
 
 # Above so many bytes the certificate of a text that is drawn is not read.
-LONG_TEXT = 500_000
+LONG_TEXT_CHARACTERS = 500_000
 
 
 def read_design(name: str, has_certificate: bool = True) -> tuple[Document, Layout]:
@@ -40,12 +40,12 @@ def read_design(name: str, has_certificate: bool = True) -> tuple[Document, Layo
     The certificate of a long text is not read if it is not needed.
     """
     text = read_text(name)
-    place = certificate_place(text)
-    if 0 < place < len(text) and not has_certificate and len(text) > LONG_TEXT:
-        document = read_free(name, text[:place], "design")
+    place = certificate_start(text)
+    if 0 < place < len(text) and not has_certificate and len(text) > LONG_TEXT_CHARACTERS:
+        document = read_freely_written(name, text[:place], "design")
         document.text = text
     else:
-        document = read_free(name, text)
+        document = read_freely_written(name, text)
     if document.layout is None:
         raise LabError(f"{name}: the text has no layout", 1)
     return document, document.layout
@@ -62,15 +62,15 @@ def require_report_of(document: Document, report: ReportOrRefusal) -> None:
         raise ReportError(
             f"this is no whole report: it says {report.verdict}, with {len(report.faults)} reasons for a no")
     for finding in report.findings:
-        if not is_of(document, finding):
+        if not is_about(document, finding):
             raise ReportError(f"the report is not of this text: the text gives no line `{finding.text}`")
 
 
-def is_of(document: Document, finding: ReportLine) -> bool:
+def is_about(document: Document, finding: ReportLine) -> bool:
     """Whether the numbers of a line of a report are those of things that a text has."""
     values = {name: value for name, value in finding.values.items() if isinstance(value, int)}
     if finding.word in ("local", "keep", "border"):
-        return is_of_module(document, finding, values)
+        return is_about_module(document, finding, values)
     circuit, certificate = document.circuit, document.certificate
     if circuit is None or certificate is None or values["gate"] >= len(circuit.gates):
         return False
@@ -80,7 +80,7 @@ def is_of(document: Document, finding: ReportLine) -> bool:
     return gate.kind == "delay" if finding.word == "delay" else gate.is_inverse
 
 
-def is_of_module(document: Document, finding: ReportLine, values: dict[str, int]) -> bool:
+def is_about_module(document: Document, finding: ReportLine, values: dict[str, int]) -> bool:
     """Whether the numbers of a line on a module are those of things that a text has."""
     layout, certificate = document.layout, document.certificate
     if layout is None or certificate is None or values["module"] >= len(certificate.modules):

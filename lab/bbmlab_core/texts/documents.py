@@ -11,7 +11,7 @@ from .certificates import Certificate, CertificateReader
 from .circuits import Circuit, CircuitReader
 from .layouts import Layout, LayoutReader
 from .limits import Limits, limits_of
-from .lines import Lines, Refusal, Refused
+from .lines import Lines, Refusal, RefusedTextError
 
 BUNDLE_COMMANDS = ("check", "modules", "migrate")
 HEADERS = ("circuit", "layout", "assign", "certificate")
@@ -65,7 +65,7 @@ def command_for(text: str) -> str:
 
 
 @contextmanager
-def without_collector() -> Iterator[None]:
+def pause_garbage_collection() -> Iterator[None]:
     """Stops Python's search for cycles while many objects are made that all stay: it takes a sixth of the time to read
     a long text."""
     is_on = gc.isenabled()
@@ -112,11 +112,11 @@ def read_sections(document: Document, lines: Lines) -> str:
 def read_document(text: str, command: str | None = None) -> Document:
     """Reads a text as a command does. The text of a refusal is kept up to the line that is refused."""
     document = Document(text, command or command_for(text))
-    with without_collector():
+    with pause_garbage_collection():
         lines = Lines(text)
         try:
             last = read_sections(document, lines)
-            lines.finish(last)
-        except Refused as refused:
+            lines.require_end(last)
+        except RefusedTextError as refused:
             document.refusal = refused.refusal
     return document

@@ -23,7 +23,7 @@ def uninteract_row(full: Table, a: Table, b: Table, c: Table, d: Table) -> Row:
 
 
 # The outputs of each gate, and where it has a row.
-RULES: dict[str, Callable[..., Row]] = {
+GATE_RULES: dict[str, Callable[..., Row]] = {
     "fredkin": lambda full, c, x, y: ([c, c & x | (full ^ c) & y, c & y | (full ^ c) & x], full),
     "cswap": lambda full, c, x, y: ([c, c & y | (full ^ c) & x, c & x | (full ^ c) & y], full),
     "interact": lambda full, p, q: ([p & q, q & ~p, p & ~q, p & q], full),
@@ -42,7 +42,7 @@ def gate_row(word: str, number: int | None, inputs: list[Table], full: Table) ->
     """
     if word == "source":
         return [full if number == 1 else 0], full
-    return RULES[word](full, *inputs)
+    return GATE_RULES[word](full, *inputs)
 
 
 def input_tables(count: int) -> list[Table]:

@@ -7,17 +7,17 @@ from typing import Any, Callable
 from ..host.terminal import LabError
 from .certificates import Certificate, Module
 from .circuits import Circuit
-from .documents import Document, without_collector
+from .documents import Document, pause_garbage_collection
 from .gates import GATE_SIZES
 from .layouts import Layout
 from .limits import FIRST, SECOND
-from .lines import NAME
+from .lines import NAME_PATTERN
 from .refusals import refusal_words
 from .reports import ReportOrRefusal
 
 FORMAT = "bbmlab bundle 1"
 # Writes a text as JSON. `json.dumps` takes four times as long.
-written_text = json.JSONEncoder().encode
+json_string = json.JSONEncoder().encode
 
 
 def circuit_json(circuit: Circuit) -> dict[str, Any]:
@@ -67,11 +67,11 @@ def document_json(document: Document, report: ReportOrRefusal | None) -> str:
                                 "modules": (module_json(module) for module in certificate.modules)}
     if report:
         parts["report"] = report_json(report)
-    with without_collector():
-        return indented(parts, "\n") + "\n"
+    with pause_garbage_collection():
+        return indented_json(parts, "\n") + "\n"
 
 
-def indented(value: Any, begin: str) -> str:
+def indented_json(value: Any, begin: str) -> str:
     """Writes a JSON value as `json.dumps` does with an indent of 1, in half of its time. `begin` is a line feed and the
     present indent.
 
@@ -81,16 +81,16 @@ def indented(value: Any, begin: str) -> str:
     if kind is int:
         return str(value)
     if kind is str:
-        return written_text(value)
+        return json_string(value)
     if value and isinstance(value, (tuple, list)):
-        members = f",{inner}".join([str(member) if type(member) is int else indented(member, inner)
+        members = f",{inner}".join([str(member) if type(member) is int else indented_json(member, inner)
                                     for member in value])
         return f"[{inner}{members}{begin}]"
     if kind is GeneratorType:
-        members = f",{inner}".join([indented(member, inner) for member in value])
+        members = f",{inner}".join([indented_json(member, inner) for member in value])
         return f"[{inner}{members}{begin}]" if members else "[]"
     if kind is dict and value:
-        members = f",{inner}".join([f"{written_text(name)}: {indented(member, inner)}" for name,
+        members = f",{inner}".join([f"{json_string(name)}: {indented_json(member, inner)}" for name,
                                     member in value.items()])
         return f"{{{inner}{members}{begin}}}"
     return json.dumps(value)
@@ -105,7 +105,7 @@ class Member:
     def __init__(self, value: Any, path: str) -> None:
         self.value, self.path = value, path
 
-    def wrong(self, wanted: str) -> LabError:
+    def error_for(self, wanted: str) -> LabError:
         """Returns the error that says what the member should be."""
         shown = json.dumps(self.value)
         return LabError(f"{self.path} is {shown if len(shown) <= 60 else shown[:57] + '...'}, and not {wanted}")
@@ -113,7 +113,7 @@ class Member:
     def __getitem__(self, name: str) -> "Member":
         """Returns a member of an object."""
         if not isinstance(self.value, dict):
-            raise self.wrong("an object")
+            raise self.error_for("an object")
         path = f"{self.path}.{name}" if self.path else name
         if name not in self.value:
             raise LabError(f"{path} is missing")
@@ -123,22 +123,22 @@ class Member:
         """Whether an object contains a member."""
         return isinstance(self.value, dict) and name in self.value
 
-    def items(self, count: int | None = None) -> "list[Member]":
+    def list_items(self, count: int | None = None) -> "list[Member]":
         """Returns the values of a list, which has `count` of them if that is given."""
         if not isinstance(self.value, list) or count is not None and len(self.value) != count:
-            raise self.wrong("a list" if count is None else f"a list of {count} values")
+            raise self.error_for("a list" if count is None else f"a list of {count} values")
         return [Member(value, f"{self.path}[{index}]") for index, value in enumerate(self.value)]
 
     def number(self) -> str:
         """Returns a number as a text writes it."""
         if type(self.value) is not int or not 0 <= self.value < 10 ** 9:
-            raise self.wrong("a whole number from 0 to 999999999")
+            raise self.error_for("a whole number from 0 to 999999999")
         return str(self.value)
 
     def name(self) -> str:
         """Returns a name of a wire."""
-        if not isinstance(self.value, str) or not NAME.match(self.value):
-            raise self.wrong("a name of a wire: a to z, then a to z, 0 to 9 and _, at most 32 of them")
+        if not isinstance(self.value, str) or not NAME_PATTERN.match(self.value):
+            raise self.error_for("a name of a wire: a to z, then a to z, 0 to 9 and _, at most 32 of them")
         return str(self.value)
 
     def signal(self) -> str:
@@ -151,51 +151,51 @@ class Member:
 
     def numbers(self, count: int) -> str:
         """Returns so many numbers with spaces between them."""
-        return " ".join(item.number() for item in self.items(count))
+        return " ".join(item.number() for item in self.list_items(count))
 
 
 def gate_text(gate: Member) -> str:
     """Returns the line of a gate."""
     word, parameter = gate["gate"].value, gate["parameter"]
     if not isinstance(word, str) or word not in GATE_SIZES:
-        raise gate["gate"].wrong("the word of a gate")
+        raise gate["gate"].error_for("the word of a gate")
     ins, outs = GATE_SIZES[word]
     number = [parameter.number()] if word in ("source", "delay") else []
     if not number and parameter.value is not None:
-        raise parameter.wrong("null")
-    return " ".join([word, *number, *(item.name() for item in gate["ins"].items(ins)), "->",
-                     *(item.name() for item in gate["outs"].items(outs))])
+        raise parameter.error_for("null")
+    return " ".join([word, *number, *(item.name() for item in gate["ins"].list_items(ins)), "->",
+                     *(item.name() for item in gate["outs"].list_items(outs))])
 
 
 def circuit_text(circuit: Member) -> list[str]:
     """Returns the lines of a circuit."""
-    return ["circuit", *(f"input {item.name()}" for item in circuit["inputs"].items()),
-            *(gate_text(gate) for gate in circuit["gates"].items()),
-            *(f"output {item.name()}" for item in circuit["outputs"].items()),
-            *(f"spill {item.name()}" for item in circuit["spills"].items()), "end"]
+    return ["circuit", *(f"input {item.name()}" for item in circuit["inputs"].list_items()),
+            *(gate_text(gate) for gate in circuit["gates"].list_items()),
+            *(f"output {item.name()}" for item in circuit["outputs"].list_items()),
+            *(f"spill {item.name()}" for item in circuit["spills"].list_items()), "end"]
 
 
 def layout_text(layout: Member) -> list[str]:
     """Returns the lines of a layout."""
     def ports(word: str) -> list[str]:
         """Returns the lines of ports."""
-        return [f"{word} {port['name'].name()} {port['cell'].numbers(2)}" for port in layout[f"{word}s"].items()]
+        return [f"{word} {port['name'].name()} {port['cell'].numbers(2)}" for port in layout[f"{word}s"].list_items()]
 
     return [f"layout {layout['width'].number()} {layout['height'].number()} {layout['steps'].number()}",
-            *(f"mirror {box.numbers(4)}" for box in layout["mirrors"].items()),
-            *(f"ball {cell.numbers(2)}" for cell in layout["balls"].items()),
-            *ports("in"), *ports("out"), *(f"waste {cell.numbers(2)}" for cell in layout["wastes"].items()), "end"]
+            *(f"mirror {box.numbers(4)}" for box in layout["mirrors"].list_items()),
+            *(f"ball {cell.numbers(2)}" for cell in layout["balls"].list_items()),
+            *ports("in"), *ports("out"), *(f"waste {cell.numbers(2)}" for cell in layout["wastes"].list_items()), "end"]
 
 
 def border_text(word: str, line: Member) -> str:
     """Returns an `edge` or `halo` line."""
-    time, x, y, signal = line.items(4)
+    time, x, y, signal = line.list_items(4)
     return f"{word} {time.time()} {x.number()} {y.number()} {signal.signal()}"
 
 
 def stop_text(line: Member) -> str:
     """Returns a `stop` line."""
-    time, name, x, y = line.items(4)
+    time, name, x, y = line.list_items(4)
     return f"stop {time.number()} {name.name()} {x.number()} {y.number()}"
 
 
@@ -205,10 +205,10 @@ def module_text(module: Member) -> list[str]:
                                                         ("keep", Member.number)]
     lines = [f"module {module['box'].numbers(4)}"]
     for word, value in kinds:
-        lines += [f"{word} {value(item)}" for item in module[f"{word}s"].items()]
+        lines += [f"{word} {value(item)}" for item in module[f"{word}s"].list_items()]
     for word in ("edge", "halo"):
-        lines += [border_text(word, line) for line in module[f"{word}s"].items()]
-    return lines + [stop_text(line) for line in module["stops"].items()]
+        lines += [border_text(word, line) for line in module[f"{word}s"].list_items()]
+    return lines + [stop_text(line) for line in module["stops"].list_items()]
 
 
 def text_from_json(text: str) -> str:
@@ -223,16 +223,16 @@ def text_from_json(text: str) -> str:
     if document.has("limits"):
         limits = document["limits"]
         if type(limits.value) is not int or limits.value not in (FIRST.number, SECOND.number):
-            raise limits.wrong(f"{FIRST.number} or {SECOND.number}")
+            raise limits.error_for(f"{FIRST.number} or {SECOND.number}")
         lines += SECOND.head.splitlines() if limits.value == SECOND.number else []
     if document.has("circuit"):
         lines += circuit_text(document["circuit"])
     if document.has("layout"):
         lines += layout_text(document["layout"])
     if document.has("assign"):
-        lines += ["assign", *(f"on {item.name()}" for item in document["assign"]["on"].items()), "end"]
+        lines += ["assign", *(f"on {item.name()}" for item in document["assign"]["on"].list_items()), "end"]
     if document.has("certificate"):
         certificate = document["certificate"]
         lines.append(f"certificate {certificate['version'].number()}")
-        lines += [line for module in certificate["modules"].items() for line in module_text(module)] + ["end"]
+        lines += [line for module in certificate["modules"].list_items() for line in module_text(module)] + ["end"]
     return "\n".join(lines) + "\n"

@@ -5,20 +5,20 @@ from functools import cached_property, partial
 from typing import Iterable, Iterator, NamedTuple
 
 from .circuits import Circuit
-from .lines import Lines, SectionReader, forms_of, order_of, section_text
+from .lines import Lines, SectionReader, forms_of, later_kinds, section_text
 
-ORDER = ["mirror", "ball", "in", "out", "waste"]
-LATER = order_of(ORDER)
+KIND_ORDER = ["mirror", "ball", "in", "out", "waste"]
+LATER_KINDS = later_kinds(KIND_ORDER)
 # The kinds besides mirrors whose cells are taken at the start, and those whose cells are taken at the end.
 EARLY_KINDS = ("ball", "in")
 LATE_KINDS = ("out", "waste")
 # The side of the tiles by which the parts near a place are found.
-TILE = 64
+TILE_SIDE = 64
 
 Cell = tuple[int, int]
 
 
-def row_order(cell: Cell) -> Cell:
+def row_order_key(cell: Cell) -> Cell:
     """Returns the key that sorts cells by y and then x."""
     return cell[1], cell[0]
 
@@ -76,8 +76,8 @@ class Box(NamedTuple):
 
 def tiles_of(x: int, y: int, width: int, height: int) -> Iterator[Cell]:
     """Yields the tiles that a rectangle touches, by their column and row."""
-    return cells_of(x // TILE, y // TILE, (x + width - 1) // TILE - x // TILE + 1,
-                    (y + height - 1) // TILE - y // TILE + 1)
+    return cells_of(x // TILE_SIDE, y // TILE_SIDE, (x + width - 1) // TILE_SIDE - x // TILE_SIDE + 1,
+                    (y + height - 1) // TILE_SIDE - y // TILE_SIDE + 1)
 
 
 class Port(NamedTuple):
@@ -169,7 +169,7 @@ class Layout:
 
     def with_parts(self, parts: Iterable[Part]) -> "Layout":
         """Returns the layout with other parts, those of each kind in the given order."""
-        of_kind: dict[str, list[Part]] = {kind: [] for kind in ORDER}
+        of_kind: dict[str, list[Part]] = {kind: [] for kind in KIND_ORDER}
         for part in parts:
             of_kind[part.kind].append(part)
         mirrors = tuple(Box(part.x, part.y, part.width, part.height) for part in of_kind["mirror"])
@@ -274,7 +274,7 @@ class LayoutReader(SectionReader):
 
     def require_place(self, kind: str, box: Box, name: str | None = None) -> None:
         """Refuses a line of any kind but header and end that is out of order, or whose cells it may not take."""
-        self.require_kind_order(kind, LATER)
+        self.require_kind_order(kind, LATER_KINDS)
         for what, side in (("width", box.width), ("height", box.height)):
             if not 1 <= side <= self.lines.limits.max_side:
                 self.lines.refuse(2, "mirror_side", what=what, number=side, limits=self.lines.limits)

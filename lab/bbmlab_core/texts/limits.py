@@ -30,7 +30,7 @@ FIRST = Limits(1, max_side=512, max_steps=65_536, max_modules=1024, max_gates=10
                max_bytes=16_777_216)
 SECOND = Limits(2, max_side=4096, max_steps=1_048_576, max_modules=65_536, max_gates=16_384, max_wires=65_000,
                 max_bytes=268_435_456)
-LINE = SECOND.head.rstrip("\n")
+LIMITS_LINE = SECOND.head.rstrip("\n")
 
 
 def limits_of(text: str) -> Limits:
@@ -38,7 +38,7 @@ def limits_of(text: str) -> Limits:
     return SECOND if text.startswith(SECOND.head) else FIRST
 
 
-def sections_after_line(text: str) -> str:
+def text_without_limits_line(text: str) -> str:
     """Returns a text from its first section on."""
     return text[len(limits_of(text).head):]
 
@@ -51,12 +51,12 @@ def limits_for(side: int = 0, steps: int = 0, modules: int = 0, gates: int = 0, 
     return FIRST if fits else SECOND
 
 
-def with_line(text: str, limits: Limits) -> str:
+def with_limits_line(text: str, limits: Limits) -> str:
     """Returns a text without a line of limits, with that of some limits in front, and with that of larger ones if it is
     too long for them."""
     return (limits if len(text) <= limits.max_bytes else SECOND).head + text
 
 
-def needs_line(what: str, limits: Limits = FIRST) -> str:
+def limits_line_hint(what: str, limits: Limits = FIRST) -> str:
     """Returns a sentence on the line that raises a limit, after a space; nothing for a text that begins with it."""
-    return "" if limits is SECOND else f" {what} needs `{LINE}` as first line."
+    return "" if limits is SECOND else f" {what} needs `{LIMITS_LINE}` as first line."

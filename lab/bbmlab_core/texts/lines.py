@@ -9,16 +9,16 @@ from .limits import FIRST, limits_of
 
 NUMBER_WORD = "(?:0|[1-9][0-9]{0,8})"
 NAME_WORD = "[a-z][a-z0-9_]{0,31}"
-NUMBER = re.compile(rf"{NUMBER_WORD}\Z")
-NAME = re.compile(rf"{NAME_WORD}\Z")
+NUMBER_PATTERN = re.compile(rf"{NUMBER_WORD}\Z")
+NAME_PATTERN = re.compile(rf"{NAME_WORD}\Z")
 
 # What each placeholder of a form takes.
-NUMBERS = {"X", "Y", "W", "H", "STEPS", "N", "T", "GATE", "VERSION"}
-NAMES = {"NAME", "A", "B", "C", "D", "E", "F"}
+NUMBER_PLACEHOLDERS = {"X", "Y", "W", "H", "STEPS", "N", "T", "GATE", "VERSION"}
+NAME_PLACEHOLDERS = {"NAME", "A", "B", "C", "D", "E", "F"}
 
-Form = tuple[str, ...]
+LineForm = tuple[str, ...]
 # The kinds of line that come later than each kind.
-Order = dict[str, list[str]]
+KindOrder = dict[str, list[str]]
 Values = list[Any]
 
 
@@ -32,7 +32,7 @@ class Refusal:
     facts: dict[str, Any] = field(default_factory=dict)
 
 
-class Refused(Exception):
+class RefusedTextError(Exception):
     """A text that a reader does not take."""
 
     def __init__(self, refusal: Refusal) -> None:
@@ -40,28 +40,28 @@ class Refused(Exception):
         self.refusal = refusal
 
 
-def order_of(kinds: Iterable[str]) -> Order:
+def later_kinds(kinds: Iterable[str]) -> KindOrder:
     """Returns the kinds that come later than each kind."""
     listed = list(kinds)
     return {kind: listed[index:] for index, kind in enumerate(listed, 1)}
 
 
-def forms_of(*forms: str) -> dict[str, Form]:
+def forms_of(*forms: str) -> dict[str, LineForm]:
     """Returns the forms of a section by their keywords."""
     return {form.split(" ")[0]: tuple(form.split(" ")) for form in forms}
 
 
 def word_value(word: str, placeholder: str) -> Any:
     """Returns the value of a word in the place of a placeholder; raises ValueError where the word has no such form."""
-    if placeholder in NUMBERS and NUMBER.match(word):
+    if placeholder in NUMBER_PLACEHOLDERS and NUMBER_PATTERN.match(word):
         return int(word)
-    if placeholder in NAMES and NAME.match(word):
+    if placeholder in NAME_PLACEHOLDERS and NAME_PATTERN.match(word):
         return word
     if placeholder == "BIT" and word in ("0", "1"):
         return int(word)
-    if placeholder == "SIGNAL" and (word == "1" or NAME.match(word)):
+    if placeholder == "SIGNAL" and (word == "1" or NAME_PATTERN.match(word)):
         return word
-    if placeholder == "TIME" and (word == "*" or NUMBER.match(word)):
+    if placeholder == "TIME" and (word == "*" or NUMBER_PATTERN.match(word)):
         return None if word == "*" else int(word)
     if placeholder == word and not word.isupper():
         return word
@@ -71,9 +71,9 @@ def word_value(word: str, placeholder: str) -> Any:
 def value_pattern(place: str) -> str:
     """Returns the regular expression of the words that may be in the place of a placeholder, as a group; other words
     stand for themselves."""
-    if place in NUMBERS:
+    if place in NUMBER_PLACEHOLDERS:
         return f"({NUMBER_WORD})"
-    if place in NAMES:
+    if place in NAME_PLACEHOLDERS:
         return f"({NAME_WORD})"
     other = {"BIT": "([01])", "SIGNAL": f"(1|{NAME_WORD})", "TIME": rf"(\*|{NUMBER_WORD})"}
     return other.get(place) or re.escape(place)
@@ -83,16 +83,16 @@ def value_reader(place: str) -> Callable[[str], Any]:
     """Returns what makes a value of a word in the place of a placeholder."""
     if place == "TIME":
         return lambda word: None if word == "*" else int(word)
-    return int if place in NUMBERS or place == "BIT" else str
+    return int if place in NUMBER_PLACEHOLDERS or place == "BIT" else str
 
 
 @cache
-def form_pattern(form: Form) -> tuple[re.Pattern[str], list[Callable[[str], Any]]]:
+def form_pattern(form: LineForm) -> tuple[re.Pattern[str], list[Callable[[str], Any]]]:
     """Returns the regular expression of a whole line of a form, and what makes the values of its groups."""
     return re.compile(" ".join(map(value_pattern, form))), [value_reader(place) for place in form if place.isupper()]
 
 
-def match_line(line: str, forms: dict[str, Form]) -> tuple[str, Values] | None:
+def match_line(line: str, forms: dict[str, LineForm]) -> tuple[str, Values] | None:
     """Returns the keyword of a line and the values of its placeholders, or None where no form fits."""
     keyword = line.partition(" ")[0]
     form = forms.get(keyword)
@@ -118,9 +118,9 @@ class Lines:
 
     def refuse(self, code: int, cause: str, **facts: Any) -> NoReturn:
         """Refuses the line that was taken last."""
-        raise Refused(Refusal(self.taken, code, cause, facts))
+        raise RefusedTextError(Refusal(self.taken, code, cause, facts))
 
-    def take(self, section: str) -> str:
+    def take_line(self, section: str) -> str:
         """Returns the next line."""
         if self.taken == len(self.parts) - 1:
             self.taken += 1
@@ -129,7 +129,7 @@ class Lines:
         self.taken += 1
         return self.parts[self.taken - 1]
 
-    def finish(self, section: str) -> None:
+    def require_end(self, section: str) -> None:
         """Refuses a text that goes on after its last section."""
         if self.parts[self.taken:] != [""]:
             rest = self.parts[self.taken]
@@ -145,7 +145,7 @@ class SectionReader:
 
     name = ""
     readers: dict[str, Callable[..., None]] = {}
-    forms: dict[str, Form] = {}
+    forms: dict[str, LineForm] = {}
 
     def __init__(self, lines: Lines) -> None:
         self.lines = lines
@@ -153,7 +153,7 @@ class SectionReader:
         self.last_line = 0
         self.kind_lines: dict[str, int] = {}
 
-    def forms_now(self) -> dict[str, Form]:
+    def forms_now(self) -> dict[str, LineForm]:
         """Returns the forms that the section has at this line."""
         return self.forms
 
@@ -161,7 +161,7 @@ class SectionReader:
         """Reads up to the line `end`, or raises `Refused`."""
         keyword, readers = "", {form.partition(" ")[0]: partial(reader, self) for form, reader in self.readers.items()}
         while keyword != "end":
-            found = match_line(self.lines.take(self.name), self.forms_now())
+            found = match_line(self.lines.take_line(self.name), self.forms_now())
             if found is None:
                 self.lines.refuse(1, "shape", section=self.name, begun=bool(keyword), forms=self.forms_now())
             is_header = found[0] == self.name
@@ -177,7 +177,7 @@ class SectionReader:
     def read_nothing(self) -> None:
         """Reads a line without values, behind which nothing is left to do."""
 
-    def require_kind_order(self, keyword: str, order: Order) -> None:
+    def require_kind_order(self, keyword: str, order: KindOrder) -> None:
         """Refuses a kind of line that comes after a later kind."""
         if not self.kind_lines.keys().isdisjoint(order[keyword]):
             later = [kind for kind in order[keyword] if kind in self.kind_lines]

@@ -16,7 +16,7 @@ class Owners:
         self.numbers = array("i", [NOBODY]) * (self.columns * self.rows)
         self.owned_count = self.module_count = 0
 
-    def spans(self, box: Box) -> Iterator[tuple[int, int]]:
+    def block_spans(self, box: Box) -> Iterator[tuple[int, int]]:
         """Yields where the blocks of a box begin and end in `numbers`, row by row. The box may go beyond the layout."""
         first, last = max(0, box.x // 2), min(self.columns, (box.x + box.width + 1) // 2)
         for row in range(max(0, box.y // 2), min(self.rows, (box.y + box.height + 1) // 2)):
@@ -26,13 +26,13 @@ class Owners:
         """Returns the upper left cell of a block."""
         return place % self.columns * 2, place // self.columns * 2
 
-    def taken_in(self, box: Box) -> tuple[Cell, int]:
+    def first_owned_block(self, box: Box) -> tuple[Cell, int]:
         """Returns the first block of a box that a module owns, and that module's number. There is one."""
-        place = next(place for start, end in self.spans(box) for place in range(start, end)
+        place = next(place for start, end in self.block_spans(box) for place in range(start, end)
                      if self.numbers[place] != NOBODY)
         return self.cell_of(place), self.numbers[place]
 
-    def take(self, box: Box, number: int) -> bool:
+    def take_blocks(self, box: Box, number: int) -> bool:
         """Gives the blocks of a box to a module; returns whether nobody owned one of them, without which nothing
         changes."""
         numbers, columns, count = self.numbers, box.width // 2, box.height // 2
@@ -55,9 +55,9 @@ class Owners:
         return self.numbers[row * self.columns
                             + column] if 0 <= column < self.columns and 0 <= row < self.rows else NOBODY
 
-    def near(self, box: Box) -> list[int]:
+    def modules_near(self, box: Box) -> list[int]:
         """Returns the modules that own blocks of a box or blocks that touch it, in order."""
-        spans = list(self.spans(Box(box.x - 2, box.y - 2, box.width + 4, box.height + 4)))
+        spans = list(self.block_spans(Box(box.x - 2, box.y - 2, box.width + 4, box.height + 4)))
         found: set[int] = set()
         for index, (start, end) in enumerate(spans):
             found.update(self.numbers[start:end] if index in (0, len(spans) - 1)

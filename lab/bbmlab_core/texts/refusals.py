@@ -9,11 +9,11 @@ from typing import Any, Callable, NamedTuple, Sequence
 
 from .certificates import line_words
 from .documents import Document
-from .limits import needs_line
+from .limits import limits_line_hint
 from .lines import Refusal
 from .shape_hints import shape_hints
 
-RULES = {
+CODE_RULES = {
     1: "Each line has one of the forms of its section, with one space between words.",
     2: "Each number and each count has a limit.",
     3: "A name or a gate number is used after it is defined.",
@@ -30,7 +30,7 @@ RULES = {
 
 
 @dataclass
-class Explained:
+class ExplainedRefusal:
     """A refusal in words: what is wrong, the rule, hints that were not tried, and the names and lines that are meant.
     """
 
@@ -44,19 +44,19 @@ class Explained:
 Facts = dict[str, Any]
 
 
-def listed(names: Sequence[str], most: int = 8) -> str:
+def name_list(names: Sequence[str], most: int = 8) -> str:
     """Returns names in backticks with commas, at most `most` of them."""
     shown = ", ".join(f"`{name}`" for name in names[:most])
     return shown + (f" and {len(names) - most} more" if len(names) > most else "")
 
 
-def near(name: str, known: list[str]) -> str:
+def similar_names_hint(name: str, known: list[str]) -> str:
     """Returns a hint at names that are written alike."""
     alike = difflib.get_close_matches(name, known, 2, 0.5)
     return f" Did you mean {' or '.join(f'`{other}`' for other in alike)}?" if alike else ""
 
 
-def earlier(facts: Facts) -> str:
+def earlier_line_words(facts: Facts) -> str:
     """Returns the line of what comes before, where it is not the refused line itself."""
     return "on this line" if facts["at"] == facts["here"] else f"line {facts['at']}"
 
@@ -71,12 +71,12 @@ def kind_words(kind: str) -> str:
     return "gate" if kind == "gate" else f"`{kind}`"
 
 
-def gate_numbers(count: int) -> str:
+def gate_numbers_words(count: int) -> str:
     """Returns the numbers of some gates."""
     return f"gates 0 to {count - 1}" if count > 1 else "gate 0 alone" if count else "no gate"
 
 
-def corners(x: int, y: int, width: int, height: int) -> str:
+def corner_words(x: int, y: int, width: int, height: int) -> str:
     """Returns the first and the last cell of a rectangle."""
     return f"({x}, {y})" if width == height == 1 else f"({x}, {y}) to ({x + width - 1}, {y + height - 1})"
 
@@ -190,9 +190,10 @@ SENTENCES = {
         "Add `use {gate.number}` before it, with the wires {wires_of_gate} local.", "gate.number", "gate.line"),
 }
 # What the sentences say of the facts in other words.
-DERIVED: dict[str, Callable[[Facts], str]] = {
-    "near": lambda facts: near(facts["name"], facts["known"]), "earlier": lambda facts: earlier(facts),
-    "listed": lambda facts: listed(facts["names"]), "box_words": lambda facts: box_words(facts["box"]),
+DERIVED_FACTS: dict[str, Callable[[Facts], str]] = {
+    "near": lambda facts: similar_names_hint(facts["name"], facts["known"]),
+    "earlier": lambda facts: earlier_line_words(facts),
+    "listed": lambda facts: name_list(facts["names"]), "box_words": lambda facts: box_words(facts["box"]),
     "other_box_words": lambda facts: box_words(facts["other_box"]),
     "rest_words": lambda facts: f"`{facts['rest'][:60]}`" if facts["rest"] else "an empty line",
     "header": lambda facts: {"layout": "layout W H STEPS", "certificate": "certificate 2"}.get(facts["section"],
@@ -200,20 +201,20 @@ DERIVED: dict[str, Callable[[Facts], str]] = {
     "kind_words": lambda facts: kind_words(facts["kind"]), "later_words": lambda facts: kind_words(facts["later"]),
     "largest_sides": lambda facts: " ".join(str(min(side, 64)) for side in facts["size"]),
     "why_no_side": lambda facts: "odd" if 2 <= facts["number"] <= 64 else "outside 2 to 64",
-    "gate_numbers": lambda facts: gate_numbers(facts["count"]),
+    "gate_numbers": lambda facts: gate_numbers_words(facts["count"]),
     "inverse_gates": lambda facts: (f"Its inverse gates are {', '.join(map(str, facts['inverse']))}."
                                     if facts["inverse"] else "The circuit has no inverse gate."),
     "why_not_on": lambda facts: ("no `in` line of the layout has that name" if facts["command"] == "run"
                                  else "the circuit has no such input"),
-    "names_to_turn_on": lambda facts: (f"The names are {listed(facts['known'])}." if facts["known"]
+    "names_to_turn_on": lambda facts: (f"The names are {name_list(facts['known'])}." if facts["known"]
                                        else "There is none: remove the `on` line."),
-    "corners": lambda facts: corners(*facts["box"]),
+    "corners": lambda facts: corner_words(*facts["box"]),
     "last_cell": lambda facts: f"({facts['size'][0] - 1}, {facts['size'][1] - 1})",
     "other_part": lambda facts: (f"`{facts['other']} {facts['other_name']}`" if facts["other_name"]
                                  else f"a `{facts['other']}`"),
     "odd_sides": lambda facts: " and ".join(f"{name} {value}" for name, value in zip("xy", facts["box"]) if value % 2),
     "is_or_are": lambda facts: "are" if len(facts["names"]) > 1 else "is",
-    "local_words": lambda facts: (f"Local there: {listed(facts['local'])}." if facts["local"]
+    "local_words": lambda facts: (f"Local there: {name_list(facts['local'])}." if facts["local"]
                                   else "No wire is local there."),
     "same_or_lower": lambda facts: ("the same number as" if facts["number"] == facts["last"]
                                     else "a lower number than"),
@@ -221,11 +222,11 @@ DERIVED: dict[str, Callable[[Facts], str]] = {
                                      else "Sort these lines by number. `bbmlab fmt` does."),
     "side": lambda facts: "input" if facts["kind"] == "in" else "output",
     "near_port": lambda facts: (f" It is a wire, and no {facts['side']}." if facts["is_wire"]
-                                else near(facts["name"], facts["known"])),
-    "names_of_side": lambda facts: (f"Name one of the {facts['side']}s: {listed(facts['known'])}." if facts["known"]
+                                else similar_names_hint(facts["name"], facts["known"])),
+    "names_of_side": lambda facts: (f"Name one of the {facts['side']}s: {name_list(facts['known'])}." if facts["known"]
                                     else f"The circuit has no {facts['side']}."),
-    "make_local": lambda facts: make_local(facts["name"], facts["gate"]),
-    "wires_of_gate": lambda facts: listed(facts["gate"].ins),
+    "make_local": lambda facts: make_local_words(facts["name"], facts["gate"]),
+    "wires_of_gate": lambda facts: name_list(facts["gate"].ins),
 }
 
 
@@ -234,34 +235,34 @@ class FactWords(dict[str, Any]):
 
     def __missing__(self, name: str) -> str:
         """Returns what is derived of the facts."""
-        return DERIVED[name](self)
+        return DERIVED_FACTS[name](self)
 
 
-def told(sentences: Sentences, facts: Facts) -> Explained:
+def explained_by_sentences(sentences: Sentences, facts: Facts) -> ExplainedRefusal:
     """Returns a refusal in the sentences of its cause."""
     words = FactWords(facts)
     named, lines = (value if isinstance(value, list) else [value]
                     for value in (Formatter().get_field(place, (), words)[0] if place else []
                                   for place in (sentences.names, sentences.lines)))
     names = list(map(str, named))
-    more = needs_line(sentences.large.format_map(words), facts["limits"]) if sentences.large else ""
-    return Explained([sentences.what.format_map(words)], [sentences.hint.format_map(words) + more], names=names,
-                     lines=lines)
+    more = limits_line_hint(sentences.large.format_map(words), facts["limits"]) if sentences.large else ""
+    return ExplainedRefusal([sentences.what.format_map(words)], [sentences.hint.format_map(words) + more], names=names,
+                            lines=lines)
 
 
 # ---- code 12
 
-def explain_text_ended(facts: Facts) -> Explained:
+def explain_text_ended(facts: Facts) -> ExplainedRefusal:
     """Explains a text that ends before its last section does."""
     section = facts["section"]
-    return Explained([f"The text ends before the {section} section is complete: no line is left."],
-                     [f"Write the {section} section up to its line `end`. The file may have been cut off.",
-                      *(["`bbmlab certify` makes a certificate."] if section == "certificate" else [])])
+    return ExplainedRefusal([f"The text ends before the {section} section is complete: no line is left."],
+                            [f"Write the {section} section up to its line `end`. The file may have been cut off.",
+                             *(["`bbmlab certify` makes a certificate."] if section == "certificate" else [])])
 
 
 # ---- code 6
 
-def explain_border_not_rising(facts: Facts) -> Explained:
+def explain_border_not_rising(facts: Facts) -> ExplainedRefusal:
     """Explains an `edge`, `halo` or `stop` line that is out of order."""
     kind, new, last = facts["kind"], facts["new"], facts["last"]
     if new.place == last.place:
@@ -272,70 +273,69 @@ def explain_border_not_rising(facts: Facts) -> Explained:
     else:
         part = next(name for name, a, b in zip(("time", "y", "x"), new.place, last.place) if a != b)
         what, hint = f"has a smaller {part} than", "Sort by time, then y, then x. `bbmlab fmt` does."
-    return Explained([f"`{line_words(kind, new)}` {what} the line before it in the list, `{line_words(kind, last)}` "
-                      f"(line {facts['at']})."], [hint], lines=[facts["at"]])
+    return ExplainedRefusal([f"`{line_words(kind, new)}` {what} the line before it in the list, "
+                             f"`{line_words(kind, last)}` (line {facts['at']})."], [hint], lines=[facts["at"]])
 
 
 # ---- code 11
 
-def explain_wire_not_consumed(facts: Facts) -> Explained:
+def explain_wire_not_consumed(facts: Facts) -> ExplainedRefusal:
     """Explains wires that nothing consumes at the end of a circuit."""
     names = facts["names"]
     lines = [facts["defined"][name] for name in names]
     where = ", ".join(f"`{name}` (line {line})" for name, line in list(zip(names, lines))[:8])
     verb = "wires are" if len(names) > 1 else "wire is"
-    return Explained([f"{len(names)} {verb} defined and not consumed: {where}."],
-                     [f"Add `output {names[0]}`, or `spill {names[0]}` for a wire that is left over."], names=names,
-                     lines=lines)
+    return ExplainedRefusal([f"{len(names)} {verb} defined and not consumed: {where}."],
+                            [f"Add `output {names[0]}`, or `spill {names[0]}` for a wire that is left over."],
+                            names=names, lines=lines)
 
 
-def explain_port_without_cell(facts: Facts) -> Explained:
+def explain_port_without_cell(facts: Facts) -> ExplainedRefusal:
     """Explains inputs or outputs without a cell at the end of a layout."""
     what, hints = [], []
     for kind, side in (("in", "inputs"), ("out", "outputs")):
         names = facts[side]
         if names:
-            what.append(f"The layout has no `{kind}` cell for {side[:-1] if len(names) == 1 else side} {listed(names)} "
-                        "of the circuit.")
+            what.append(f"The layout has no `{kind}` cell for {side[:-1] if len(names) == 1 else side}"
+                        f" {name_list(names)} of the circuit.")
             hints.append(f"Add a line `{kind} {names[0]} X Y`.")
-    return Explained(what, hints, names=facts["inputs"] + facts["outputs"])
+    return ExplainedRefusal(what, hints, names=facts["inputs"] + facts["outputs"])
 
 
-def explain_port_not_local(facts: Facts) -> Explained:
+def explain_port_not_local(facts: Facts) -> ExplainedRefusal:
     """Explains a port in a box whose wire the module does not know."""
     what = [f"Module {facts['module']} (line {facts['at']}) has the cell of `{port.kind} {port.name} {port.x} "
             f"{port.y}` (line {port.line}) "
             f"in its box, and does not know the wire `{port.name}`." for port in facts["ports"][:8]]
-    hints = [make_local(port.name, facts["makers"][port.name]) for port in facts["ports"][:8]]
+    hints = [make_local_words(port.name, facts["makers"][port.name]) for port in facts["ports"][:8]]
     names = list(dict.fromkeys(port.name for port in facts["ports"]))
-    return Explained(what, list(dict.fromkeys(hints)), names=names,
-                     lines=[facts["at"]] + [port.line for port in facts["ports"]])
+    return ExplainedRefusal(what, list(dict.fromkeys(hints)), names=names,
+                            lines=[facts["at"]] + [port.line for port in facts["ports"]])
 
 
-def make_local(name: str, gate: Any) -> str:
+def make_local_words(name: str, gate: Any) -> str:
     """Returns how a module comes to know a wire."""
     if gate is None:
         return f"Add `cut {name}` to the module."
     if not gate.ins:
         return f"Add `use {gate.number}` to the module: that source makes `{name}`."
-    return (f"Add `use {gate.number}` to the module: that {gate.kind} makes `{name}` from {listed(gate.ins)}, which "
+    return (f"Add `use {gate.number}` to the module: that {gate.kind} makes `{name}` from {name_list(gate.ins)}, which "
             "the module then knows too. "
             f"Or add `cut {name}` if the module lies away from that gate.")
 
 
-def explain_gap(facts: Facts) -> Explained:
+def explain_gap(facts: Facts) -> ExplainedRefusal:
     """Explains cells that are in no box."""
     gaps = facts["gaps"]
     shown = "; ".join(box_words(gap) for gap in gaps[:4]) + (f"; and {len(gaps) - 4} more" if len(gaps) > 4 else "")
     boxes = "The box of the only module leaves" if facts[
         "modules"] == 1 else f"The boxes of the {facts['modules']} modules leave"
-    return Explained([f"{boxes} a gap: {shown} are in no box."],
-                     [f"Add a module for the gap, such as `module {gaps[0].x} {gaps[0].y} {min(gaps[0].width, 64)} "
-                      f"{min(gaps[0].height, 64)}`, "
-                      "or make a neighbour larger."])
+    return ExplainedRefusal([f"{boxes} a gap: {shown} are in no box."],
+                            [f"Add a module for the gap, such as `module {gaps[0].x} {gaps[0].y} "
+                             f"{min(gaps[0].width, 64)} {min(gaps[0].height, 64)}`, or make a neighbour larger."])
 
 
-def explain_heard_not_local(facts: Facts) -> Explained:
+def explain_heard_not_local(facts: Facts) -> ExplainedRefusal:
     """Explains an edge line beside a module that does not know its wire."""
     missing = facts["missing"]
     what = [f"Module {module} does not know the wire `{line.signal}`: line {at} (`{line_words('edge', line)}`, of "
@@ -343,31 +343,31 @@ def explain_heard_not_local(facts: Facts) -> Explained:
     more = [f"There are {len(missing) - 4} more lines of that kind."] if len(missing) > 4 else []
     hints = [f"Add `cut {line.signal}` to module {module}, or `use` the gate that makes it."
              for module, line, _, _ in missing[:4]]
-    return Explained(what + more, list(dict.fromkeys(hints)),
-                     names=list(dict.fromkeys(line.signal for _, line, _, _ in missing)),
-                     lines=[at for *_, at in missing])
+    return ExplainedRefusal(what + more, list(dict.fromkeys(hints)),
+                            names=list(dict.fromkeys(line.signal for _, line, _, _ in missing)),
+                            lines=[at for *_, at in missing])
 
 
 # ---- code 2
 
-def explain_layout_side(facts: Facts) -> Explained:
+def explain_layout_side(facts: Facts) -> ExplainedRefusal:
     """Explains a side of a layout that is odd or outside its limits."""
     number, limits = facts["number"], facts["limits"]
     most = limits.max_side
     why = f"outside 2 to {most}" if not 2 <= number <= most else "odd"
     size = {"width": "wider", "height": "higher"}[facts["what"]]
-    return Explained([f"The {facts['what']} of the layout is {number}, which is {why}."],
-                     [f"Take an even {facts['what']} from 2 to {most}"
-                      + (f", such as {number + 1}." if number % 2 and number < most else ".")
-                      + (needs_line(f"A layout {size} than {most}", limits) if number > most else "")])
+    return ExplainedRefusal([f"The {facts['what']} of the layout is {number}, which is {why}."],
+                            [f"Take an even {facts['what']} from 2 to {most}"
+                             + (f", such as {number + 1}." if number % 2 and number < most else ".")
+                             + (limits_line_hint(f"A layout {size} than {most}", limits) if number > most else "")])
 
 
-def explain_mirror_side(facts: Facts) -> Explained:
+def explain_mirror_side(facts: Facts) -> ExplainedRefusal:
     """Explains a side of a mirror outside its limits."""
     most = facts["limits"].max_side
-    more = needs_line(f"A side of more than {most}", facts["limits"]) if facts["number"] > most else ""
-    return Explained([f"The {facts['what']} of the mirror is {facts['number']}; it is 1 to {most}."],
-                     [f"A `mirror` line is `mirror X Y W H`: the cell, then width and height.{more}"])
+    more = limits_line_hint(f"A side of more than {most}", facts["limits"]) if facts["number"] > most else ""
+    return ExplainedRefusal([f"The {facts['what']} of the mirror is {facts['number']}; it is 1 to {most}."],
+                            [f"A `mirror` line is `mirror X Y W H`: the cell, then width and height.{more}"])
 
 
 # ---- code 10
@@ -408,32 +408,32 @@ def place_words(fault: str, facts: Facts) -> tuple[str, str]:
     }[fault]
 
 
-def explain_border_place(facts: Facts) -> Explained:
+def explain_border_place(facts: Facts) -> ExplainedRefusal:
     """Explains a time or a cell at which no line may be."""
     told = [place_words(fault, facts) for fault in facts["faults"]]
     star = [facts["star"]] if facts["star"] else []
-    return Explained([what for what, _ in told], [hint for _, hint in told], lines=star)
+    return ExplainedRefusal([what for what, _ in told], [hint for _, hint in told], lines=star)
 
 
 # The causes that more than their facts decide.
-TELLERS: dict[str, Callable[[Facts], Explained]] = {
+EXPLAINERS: dict[str, Callable[[Facts], ExplainedRefusal]] = {
     "text_ended": explain_text_ended, "border_not_rising": explain_border_not_rising,
     "wire_not_consumed": explain_wire_not_consumed, "port_without_cell": explain_port_without_cell,
     "port_not_local": explain_port_not_local, "gap": explain_gap, "heard_not_local": explain_heard_not_local,
     "layout_side": explain_layout_side, "mirror_side": explain_mirror_side, "border_place": explain_border_place}
 
 
-def explain_refusal(document: Document, refusal: Refusal) -> Explained:
+def explain_refusal(document: Document, refusal: Refusal) -> ExplainedRefusal:
     """Returns a refusal of the lab's reader in words."""
     if refusal.cause == "shape":
         line = document.line(refusal.line)
         hints = shape_hints(line, refusal.facts["section"], refusal.facts["begun"], refusal.facts["forms"])
-        explained = Explained([what for what, _ in hints], list(dict.fromkeys(hint for _, hint in hints)))
+        explained = ExplainedRefusal([what for what, _ in hints], list(dict.fromkeys(hint for _, hint in hints)))
     else:
         facts = {"here": refusal.line, **refusal.facts}
         sentences = SENTENCES.get(refusal.cause)
-        explained = told(sentences, facts) if sentences else TELLERS[refusal.cause](facts)
-    explained.rule = RULES[refusal.code]
+        explained = explained_by_sentences(sentences, facts) if sentences else EXPLAINERS[refusal.cause](facts)
+    explained.rule = CODE_RULES[refusal.code]
     return explained
 
 
@@ -449,8 +449,8 @@ def refusal_words(document: Document, line: int | None = None) -> str:
             f"{' '.join(explained.what)}{hint}")
 
 
-def explain_code(line: int, code: int) -> Explained:
+def explain_code(line: int, code: int) -> ExplainedRefusal:
     """Returns what a refusal alone says, where the lab's reader does not come to the same one."""
-    rule = RULES.get(code, "There is no such code.")
-    return Explained([f"The program refuses line {line} with code {code}."],
-                     ["docs/FORMATS.md has the rules of that line."], rule)
+    rule = CODE_RULES.get(code, "There is no such code.")
+    return ExplainedRefusal([f"The program refuses line {line} with code {code}."],
+                            ["docs/FORMATS.md has the rules of that line."], rule)

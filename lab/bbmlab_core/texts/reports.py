@@ -3,7 +3,7 @@
 import re
 from dataclasses import dataclass, field
 
-FORMS = {
+LINE_FORMS = {
     "local": r"local (?P<module>\d+) (?P<kind>edge|stop|end) (?P<time>\d+) (?P<x>\d+) (?P<y>\d+) (?P<assignment>\d+)",
     "keep": r"keep (?P<module>\d+) (?P<gate>\d+) (?P<assignment>\d+)",
     "border": r"border (?P<module>\d+) (?P<time>\d+) (?P<x>\d+) (?P<y>\d+)",
@@ -13,7 +13,7 @@ FORMS = {
 }
 # What the program's `run` prints.
 RUN_ANSWER = re.compile(r"cells [0-9]{1,9}\n([0-9]{1,9} [0-9]{1,9}\n)*|left [0-9]{1,9}\n")
-PATTERNS = {word: re.compile(form + r"\Z") for word, form in FORMS.items()}
+LINE_PATTERNS = {word: re.compile(form + r"\Z") for word, form in LINE_FORMS.items()}
 
 
 @dataclass(frozen=True)
@@ -58,7 +58,7 @@ class ReportError(Exception):
 
 def parse_finding(line: str) -> ReportLine:
     """Returns a line of a report behind the verdict."""
-    pattern = PATTERNS.get(line.split(" ")[0])
+    pattern = LINE_PATTERNS.get(line.split(" ")[0])
     found = pattern.match(line) if pattern else None
     if not found:
         raise ReportError(f"no line of a report: {line!r}")

@@ -31,7 +31,7 @@ class Bundle:
                                if section is not None)
 
 
-def text_of(section: Circuit | Layout) -> str:
+def text_of_section(section: Circuit | Layout) -> str:
     """Returns the text of a circuit or a layout alone, after the line that raises its limits if one asks for it."""
     if isinstance(section, Layout):
         limits = limits_for(max(section.width, section.height), section.steps)

@@ -8,15 +8,16 @@ from .certificates import CertificateReader
 from .circuits import CircuitReader
 from .gates import GATE_SIZES
 from .layouts import LayoutReader
-from .limits import LINE
-from .lines import Form, NAME, NUMBER, SectionReader, word_value
+from .limits import LIMITS_LINE
+from .lines import LineForm, NAME_PATTERN, NUMBER_PATTERN, SectionReader, word_value
 
 Hint = tuple[str, str]
-READERS: tuple[type[SectionReader], ...] = (CircuitReader, LayoutReader, AssignReader, CertificateReader)
-SECTION_OF = {reader.name: [word for word in reader.forms if word not in (reader.name, "end")] for reader in READERS}
-SEVERAL = "`bbmlab fmt` fixes this."
+SECTION_READERS: tuple[type[SectionReader], ...] = (CircuitReader, LayoutReader, AssignReader, CertificateReader)
+SECTION_OF = {reader.name: [word for word in reader.forms if word not in (reader.name, "end")]
+              for reader in SECTION_READERS}
+FMT_FIXES_THIS = "`bbmlab fmt` fixes this."
 # How gates of ordinary logic are made. The standard cells named here have circuits of their own.
-LOGIC = {
+LOGIC_GATE_HINTS = {
     "and": "The standard cell `and` makes one: `switch a b -> d y z` gives y = a and b (`bbmlab cells and`).",
     "or": "The standard cell `or` makes one, of a `fredkin` and a `source` (`bbmlab cells or`).",
     "xor": "The standard cell `xor` makes one (`bbmlab cells xor`).",
@@ -28,7 +29,8 @@ LOGIC = {
     "copy": "The standard cell `fan_out` makes one (`bbmlab cells fan_out`).",
     "buf": "The standard cell `fan_out` copies a wire (`bbmlab cells fan_out`).",
 }
-LOGIC |= {"inv": LOGIC["not"], "fanout": LOGIC["copy"], "fan_out": LOGIC["copy"]}
+LOGIC_GATE_HINTS |= {"inv": LOGIC_GATE_HINTS["not"], "fanout": LOGIC_GATE_HINTS["copy"],
+                     "fan_out": LOGIC_GATE_HINTS["copy"]}
 
 
 def character_hints(line: str) -> list[Hint]:
@@ -36,24 +38,25 @@ def character_hints(line: str) -> list[Hint]:
     hints: list[Hint] = []
     if line.startswith("\xef\xbb\xbf"):
         hints.append(("The text begins with a byte order mark (BOM), three bytes that editors hide.",
-                      f"Save without a BOM. {SEVERAL}"))
+                      f"Save without a BOM. {FMT_FIXES_THIS}"))
     if line.endswith("\r"):
         hints.append(("The line ends with CR LF, as on Windows; a line ends with LF alone.",
-                      f"Save with LF line ends. {SEVERAL}"))
+                      f"Save with LF line ends. {FMT_FIXES_THIS}"))
     if "\t" in line:
-        hints.append(("The line has a tab; words are parted by one space.", f"Write a space for each tab. {SEVERAL}"))
+        hints.append(("The line has a tab; words are parted by one space.",
+                      f"Write a space for each tab. {FMT_FIXES_THIS}"))
     if "#" in line or "//" in line:
-        cure = f"Remove the comment. {SEVERAL}" if "#" in line else "Remove the comment."
+        cure = f"Remove the comment. {FMT_FIXES_THIS}" if "#" in line else "Remove the comment."
         hints.append(("The line has a comment; these texts have no comments.", cure))
     bare = line.rstrip("\r")
     if not bare.strip(" \t\r"):
-        hints.append(("The line is empty; these texts have no empty lines.", f"Remove the line. {SEVERAL}"))
+        hints.append(("The line is empty; these texts have no empty lines.", f"Remove the line. {FMT_FIXES_THIS}"))
     else:
         if bare.startswith(" ") or bare.endswith(" "):
-            hints.append(("The line begins or ends with a space.", f"Remove the space. {SEVERAL}"))
+            hints.append(("The line begins or ends with a space.", f"Remove the space. {FMT_FIXES_THIS}"))
         if "  " in bare.strip(" "):
             hints.append(("Two spaces stand between two words; words are parted by exactly one.",
-                          f"Write one space. {SEVERAL}"))
+                          f"Write one space. {FMT_FIXES_THIS}"))
     odd = sorted({char for char in line if not " " <= char <= "~" and char not in "\t\r\xef\xbb\xbf"})
     if odd:
         shown = ", ".join(f"0x{ord(char):02x}" for char in odd[:4])
@@ -82,9 +85,9 @@ def word_hint(word: str, place: str) -> str | None:
 
 def name_hint(word: str) -> str:
     """Returns why a word is no name."""
-    if NUMBER.match(word):
+    if NUMBER_PATTERN.match(word):
         return f"`{word}` is a number, and a name stands here. A name begins with a small letter."
-    if len(word) > 32 and NAME.match(word[:32]):
+    if len(word) > 32 and NAME_PATTERN.match(word[:32]):
         return f"The name `{word[:12]}..` has {len(word)} characters; 32 is the most."
     if word.lower() != word:
         return f"`{word}` has capital letters; a name has small letters, digits and underscores."
@@ -104,12 +107,12 @@ def number_hint(word: str, place: str) -> str:
         return f"`{word}` is no whole number."
     if word == "*":
         return "`*` stands for all odd times in `edge` and `halo` lines alone; here a time is a number."
-    if place == "GATE" and NAME.match(word):
+    if place == "GATE" and NAME_PATTERN.match(word):
         return f"`{word}` is a name; a gate is given by its number, from 0 in order of gate lines."
     return f"`{word}` is no {what}; a number is `0` or digits without leading zeros."
 
 
-def form_hint(words: list[str], form: Form, section: str) -> Hint:
+def form_hint(words: list[str], form: LineForm, section: str) -> Hint:
     """Returns how a line with a known keyword differs from its form."""
     shown = " ".join(form)
     if len(words) != len(form):
@@ -128,19 +131,19 @@ def form_hint(words: list[str], form: Form, section: str) -> Hint:
 def logic_hint(word: str) -> Hint | None:
     """Returns how a gate of ordinary logic is made of those of conservative logic, or None if a word names no such
     gate."""
-    if word not in LOGIC:
+    if word not in LOGIC_GATE_HINTS:
         return None
     gates = ", ".join(f"`{gate}`" for gate in GATE_SIZES)
     return (f"There is no gate `{word}`: the gates of conservative logic are {gates}.",
-            f"{LOGIC[word]} `bbmlab circuit` writes a circuit of a text of such gates, or of a netlist, and `bbmlab "
-            "route` takes them too.")
+            f"{LOGIC_GATE_HINTS[word]} `bbmlab circuit` writes a circuit of a text of such gates, or of a netlist, and "
+            "`bbmlab route` takes them too.")
 
 
-def keyword_hint(word: str, section: str, begun: bool, forms: dict[str, Form]) -> Hint:
+def keyword_hint(word: str, section: str, begun: bool, forms: dict[str, LineForm]) -> Hint:
     """Returns what is wrong with a first word that the section does not have."""
     if word == "limits":
-        return (f"The only line that begins with `limits` is `{LINE}`, and it is the first line of a text.",
-                f"Remove the line, or write `{LINE}` before all sections.")
+        return (f"The only line that begins with `limits` is `{LIMITS_LINE}`, and it is the first line of a text.",
+                f"Remove the line, or write `{LIMITS_LINE}` before all sections.")
     if word == "halo" and section == "certificate":
         return ("`halo` lines belong to `certificate 1`; in version 2 there are none.",
                 "Remove the `halo` lines, or write `certificate 1` in the header.")
@@ -163,7 +166,7 @@ def keyword_hint(word: str, section: str, begun: bool, forms: dict[str, Form]) -
             "The lines of this section begin with: " + ", ".join(f"`{name}`" for name in forms) + ".")
 
 
-def shape_hints(line: str, section: str, begun: bool, forms: dict[str, Form]) -> list[Hint]:
+def shape_hints(line: str, section: str, begun: bool, forms: dict[str, LineForm]) -> list[Hint]:
     """Returns all that is wrong with a line of no form, the bytes first."""
     hints = character_hints(line)
     if not begun and section == "circuit" and line.split(" ")[0].startswith("bbmcheck"):
@@ -171,7 +174,7 @@ def shape_hints(line: str, section: str, begun: bool, forms: dict[str, Form]) ->
     clean = re.sub(r"#.*|//.*", "", line.removeprefix("\xef\xbb\xbf"))
     words = clean.split()
     if not words:
-        return hints or [("The line is empty; these texts have no empty lines.", f"Remove the line. {SEVERAL}")]
+        return hints or [("The line is empty; these texts have no empty lines.", f"Remove the line. {FMT_FIXES_THIS}")]
     form = forms.get(words[0])
     if form is None:
         return [*hints, keyword_hint(words[0], section, begun, forms)]

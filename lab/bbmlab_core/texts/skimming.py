@@ -14,7 +14,7 @@ HEADER = "certificate "
 MODULE_OR_USE = re.compile(r"\n(?:use (\d{1,9})|module ((?:\d{1,9} ){3}\d{1,9}))(?=\n)")
 
 
-def certificate_place(text: str) -> int:
+def certificate_start(text: str) -> int:
     """Returns where the certificate section of a text begins, or the length of a text without one."""
     if text.startswith(HEADER):
         return 0
@@ -23,7 +23,7 @@ def certificate_place(text: str) -> int:
 
 def design_text(text: str) -> str:
     """Returns the circuit and the layout of a text."""
-    return text[:certificate_place(text)]
+    return text[:certificate_start(text)]
 
 
 def certificate_digest(text: str) -> str:
@@ -42,7 +42,7 @@ def certificate_digest(text: str) -> str:
 
 def cuts_of(bundle: str) -> list[list[str]]:
     """Returns the wires that each module of a bundle cuts."""
-    modules = bundle[certificate_place(bundle):].split("\nmodule ")[1:]
+    modules = bundle[certificate_start(bundle):].split("\nmodule ")[1:]
     return [[line.split(" ")[1] for line in module.split("\n", MAX_CUTS + 1)[1:] if line.startswith("cut ")]
             for module in modules]
 
@@ -50,7 +50,7 @@ def cuts_of(bundle: str) -> list[list[str]]:
 def boxes_and_uses(text: str) -> Iterator[tuple[Box, list[int]]]:
     """Yields the box of each module of a text, and the gates that it uses."""
     box, uses = None, list[int]()
-    for line in MODULE_OR_USE.finditer(text, certificate_place(text)):
+    for line in MODULE_OR_USE.finditer(text, certificate_start(text)):
         if line[1]:
             uses.append(int(line[1]))
             continue

@@ -4,17 +4,17 @@ import re
 from dataclasses import dataclass, field
 from typing import Iterator
 
-from .certificates import ORDER as MODULE_ORDER
-from .circuits import ORDER as CIRCUIT_ORDER
+from .certificates import KIND_ORDER as MODULE_ORDER
+from .circuits import KIND_ORDER as CIRCUIT_ORDER
 from .gates import GATE_SIZES
-from .layouts import ORDER as LAYOUT_ORDER
-from .limits import LINE
+from .layouts import KIND_ORDER as LAYOUT_ORDER
+from .limits import LIMITS_LINE
 
-LAST = 10 ** 9
+LAST_RANK = 10 ** 9
 SECTION_ORDERS = {"circuit": CIRCUIT_ORDER, "layout": LAYOUT_ORDER}
 MODULE_RANKS = {kind: rank for rank, kind in enumerate(MODULE_ORDER)}
 # A line that is in its one spelling already, apart from its place.
-SPELLED = re.compile(r"[a-z*1-9][a-z0-9_*]*(?: (?:->|0|[a-z*1-9][a-z0-9_*]*))*")
+SPELLED_LINE = re.compile(r"[a-z*1-9][a-z0-9_*]*(?: (?:->|0|[a-z*1-9][a-z0-9_*]*))*")
 
 
 @dataclass
@@ -26,7 +26,7 @@ class Spelling:
     comments: int = 0
 
 
-def free_words(line: str) -> list[str]:
+def words_without_comment(line: str) -> list[str]:
     """Returns the words of a line that was written freely, without its comment and leading zeros.
 
     A line ends with LF. Words are parted by spaces and tabs, and carriage returns behind the last word are dropped. All
@@ -38,16 +38,16 @@ def free_words(line: str) -> list[str]:
             if word]
 
 
-def mark_length(text: str) -> int:
+def byte_order_mark_length(text: str) -> int:
     """Returns how many characters the byte order mark takes with which a text begins."""
     return 3 if text.startswith("\xef\xbb\xbf") else 1 if text.startswith("\ufeff") else 0
 
 
-def free_lines(text: str, spelling: Spelling) -> Iterator[str]:
+def lines_without_comments(text: str, spelling: Spelling) -> Iterator[str]:
     """Yields the lines that contain a word, with single spaces, and without comments, byte order mark and leading
     zeros."""
-    start = mark_length(text)
-    is_spelled, size = SPELLED.fullmatch, len(text)
+    start = byte_order_mark_length(text)
+    is_spelled, size = SPELLED_LINE.fullmatch, len(text)
     while start < size:
         end = text.find("\n", start)
         line = text[start:end] if end >= 0 else text[start:]
@@ -56,7 +56,7 @@ def free_lines(text: str, spelling: Spelling) -> Iterator[str]:
             yield line
             continue
         spelling.comments += "#" in line
-        words = free_words(line)
+        words = words_without_comment(line)
         if words:
             yield " ".join(words)
 
@@ -64,10 +64,10 @@ def free_lines(text: str, spelling: Spelling) -> Iterator[str]:
 def number_at(words: list[str], index: int) -> int:
     """Returns the number at a place of a line; lines of another form come last."""
     word = words[index] if index < len(words) else ""
-    return int(word) if word.isdecimal() and len(word) <= 9 else LAST
+    return int(word) if word.isdecimal() and len(word) <= 9 else LAST_RANK
 
 
-def module_key(line: str) -> int:
+def module_line_key(line: str) -> int:
     """Returns the key of a line of a module: its kind, and then time, y and x, or the gate.
 
     Kinds without an order keep theirs.
@@ -97,7 +97,7 @@ def rank_of(line: str, order: list[str]) -> int:
 
 def sorted_module(lines: list[str], spelling: Spelling) -> list[str]:
     """Returns the lines of a module, the first aside, in their order, each once."""
-    ordered = sorted(lines, key=module_key)
+    ordered = sorted(lines, key=module_line_key)
     kept: list[str] = []
     for line in ordered:
         if kept and line == kept[-1]:
@@ -144,14 +144,14 @@ def source_line(source: str, text: str, line: int) -> int | None:
     sorted."""
     if source == text:
         return line
-    lines = source[mark_length(source):].split("\n")
-    kept = [(number, words) for number, words in enumerate(map(free_words, lines), 1) if words]
+    lines = source[byte_order_mark_length(source):].split("\n")
+    kept = [(number, words) for number, words in enumerate(map(words_without_comment, lines), 1) if words]
     if [" ".join(words) for _, words in kept] != text.split("\n")[:len(kept)]:
         return None
     return kept[line - 1][0] if line <= len(kept) else len(lines)
 
 
-def spelled(text: str) -> Spelling:
+def spelled_text(text: str) -> Spelling:
     """Returns a text in its one spelling. What it can't change into a good line stays, for the program to refuse."""
     spelling = Spelling()
     parts: list[str] = []
@@ -163,9 +163,9 @@ def spelled(text: str) -> Spelling:
             parts.append("\n".join(sorted_section(section, spelling)) + "\n")
             section.clear()
 
-    for line in free_lines(text, spelling):
-        if line == LINE and not parts and not section:
-            parts.append(f"{LINE}\n")
+    for line in lines_without_comments(text, spelling):
+        if line == LIMITS_LINE and not parts and not section:
+            parts.append(f"{LIMITS_LINE}\n")
             continue
         section.append(line)
         if line == "end":

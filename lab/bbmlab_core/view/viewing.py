@@ -14,12 +14,12 @@ from ..texts import json_form
 from ..texts.documents import Document
 from .page_ways import page_ways
 
-TEMPLATE = Path(__file__).resolve().parent
+TEMPLATE_FOLDER = Path(__file__).resolve().parent
 # The module of the page that imports the others.
-ENTRY = "controls"
+ENTRY_MODULE = "controls"
 IMPORT = re.compile(r'^import (?:\* as (\w+)|(\{[^}]*\})) from "\./(\w+)\.js";\n', re.MULTILINE)
 EXPORT = re.compile(r"^export (\{[^}]*\});$", re.MULTILINE)
-RENAMED = re.compile(r"(\w+) as (\w+)")
+RENAMED_EXPORT = re.compile(r"(\w+) as (\w+)")
 
 
 def page_data(document: Document, explanation: ExplainedAnswer | None) -> str:
@@ -30,37 +30,39 @@ def page_data(document: Document, explanation: ExplainedAnswer | None) -> str:
     return json.dumps(parts, separators=(",", ":")).replace("<", "\\u003c")
 
 
-def source(name: str) -> str:
+def template_text(name: str) -> str:
     """Returns the text of a file of the template."""
-    return (TEMPLATE / name).read_text(encoding="utf-8")
+    return (TEMPLATE_FOLDER / name).read_text(encoding="utf-8")
 
 
-def modules_for(name: str, found: dict[str, str]) -> dict[str, str]:
+def with_imported_modules(name: str, found: dict[str, str]) -> dict[str, str]:
     """Adds a module's text to those found, after the modules that it imports, and returns them by their names."""
-    text = source(f"{name}.js")
+    text = template_text(f"{name}.js")
     for line in IMPORT.finditer(text):
         if line[3] not in found:
-            modules_for(line[3], found)
+            with_imported_modules(line[3], found)
     found[name] = text
     return found
 
 
-def imported(line: re.Match[str]) -> str:
+def import_declaration(line: re.Match[str]) -> str:
     """Returns an import as a declaration that reads `bbmlab`."""
-    names = line[1] or RENAMED.sub(r"\1: \2", line[2])
+    names = line[1] or RENAMED_EXPORT.sub(r"\1: \2", line[2])
     return f"const {names} = bbmlab.{line[3]};\n"
 
 
-def closed(text: str) -> str:
+def module_expression(text: str) -> str:
     """Returns a module's text as an expression whose value is what the module exports."""
-    body = EXPORT.sub(lambda names: "return " + RENAMED.sub(r"\2: \1", names[1]) + ";", IMPORT.sub(imported, text))
+    body = EXPORT.sub(lambda names: "return " + RENAMED_EXPORT.sub(r"\2: \1", names[1]) + ";",
+                      IMPORT.sub(import_declaration, text))
     return f"(() => {{\n{body}}})()"
 
 
-def joined(name: str) -> str:
+def joined_script(name: str) -> str:
     """Returns a module and those that it needs as one script: a page of one file has no other files to import."""
-    needed = modules_for(name, {}).items()
-    return '"use strict";\nconst bbmlab = {};\n' + "".join(f"bbmlab.{own} = {closed(text)};\n" for own, text in needed)
+    needed = with_imported_modules(name, {}).items()
+    return '"use strict";\nconst bbmlab = {};\n' + "".join(
+        f"bbmlab.{own} = {module_expression(text)};\n" for own, text in needed)
 
 
 def source_word(text: str) -> str:
@@ -68,11 +70,11 @@ def source_word(text: str) -> str:
     return f"'sha256-{base64.b64encode(hashlib.sha256(text.encode()).digest()).decode()}'"
 
 
-def page(document: Document, explanation: ExplainedAnswer | None, title: str) -> str:
+def page_text(document: Document, explanation: ExplainedAnswer | None, title: str) -> str:
     """Writes the page: the template with its style, its script and its data in place."""
     assert document.layout
-    before, after = source("page.html").split("DATA")
-    style, script = source("page.css"), f"\n{joined(ENTRY)}"
+    before, after = template_text("page.html").split("DATA")
+    style, script = template_text("page.css"), f"\n{joined_script(ENTRY_MODULE)}"
     # The page takes its own style and script, and nothing else from anywhere.
     policy = (f"default-src 'none'; style-src {source_word(style)}; script-src {source_word(script)}; "
               "base-uri 'none'; form-action 'none'")

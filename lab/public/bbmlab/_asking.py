@@ -7,9 +7,9 @@ import re
 from dataclasses import dataclass
 from typing import Any
 
-from bbmlab_core.commands.explain import text_of
+from bbmlab_core.commands.explain import explanation_text
 from bbmlab_core.explain.explaining import as_json, explain_answer
-from bbmlab_core.explain.trials import Budget, Trial
+from bbmlab_core.explain.trials import Budget, TrialRunner
 from bbmlab_core.farm.answering import why_no_verdict
 from bbmlab_core.host import program as programs
 from bbmlab_core.texts.documents import command_for, read_document
@@ -18,7 +18,7 @@ from bbmlab_core.texts.reports import ReportError, parse_report
 from bbmlab_core.texts.sections import Bundle
 
 from ._errors import ProgramError, RefusedError
-from ._reading import characters
+from ._reading import byte_characters
 
 STATUSES = {0: "yes", 1: "no"}
 COLOUR = re.compile(r"\033\[\d*m")
@@ -120,7 +120,7 @@ def check(text: str | Bundle, *, program: str | None = None, timeout: float | No
     Raises RefusedError if the program refuses the text, TimeoutError after `timeout` seconds, and ProgramError if it
     gives no report.
     """
-    data = characters(text)
+    data = byte_characters(text)
     answer = answer_of(opened_program(program), "check", data, timeout)
     try:
         report = parse_report(answer.output)
@@ -141,7 +141,7 @@ def explain(text: str | Bundle, *, effort: float = 30.0, program: str | None = N
 
     Raises ProgramError if the program gives no answer.
     """
-    data = characters(text)
+    data = byte_characters(text)
     command, asked = command_for(data), opened_program(program)
     command = COMMANDS.get(command, command)
     answer = answer_of(asked, command, data, None)
@@ -149,9 +149,9 @@ def explain(text: str | Bundle, *, effort: float = 30.0, program: str | None = N
     if why:
         raise ProgramError(f"the program gave no verdict: {why}")
     try:
-        explanation = explain_answer(data, command, answer.output, "text", Trial(asked, Budget(seconds=effort)))
+        explanation = explain_answer(data, command, answer.output, "text", TrialRunner(asked, Budget(seconds=effort)))
     except ReportError as error:
         raise ProgramError(str(error)) from error
     fixed = None if explanation.fixed is None else explanation.fixed.encode("latin-1").decode("utf-8", "replace")
-    return Explanation(explanation.verdict, COLOUR.sub("", text_of(explanation)), json.loads(as_json(explanation)),
-                       fixed)
+    return Explanation(explanation.verdict, COLOUR.sub("", explanation_text(explanation)),
+                       json.loads(as_json(explanation)), fixed)

@@ -8,16 +8,16 @@ from typing import Callable, NamedTuple
 from bbmlab_core.circuits import netlists as core
 from bbmlab_core.circuits import truth
 from bbmlab_core.circuits.cleaning import clean as clean_lines
-from bbmlab_core.circuits.gate_lines import read_circuit
+from bbmlab_core.circuits.gate_lines import reread_circuit
 from bbmlab_core.circuits.inverting import inverse as inverse_lines
 from bbmlab_core.circuits.netlists.model import LogicNetlist as CoreNetlist
 from bbmlab_core.circuits.simplifying import simplify as simple_lines
 from bbmlab_core.host.terminal import LabError
 from bbmlab_core.texts.circuits import Circuit, values_under
-from bbmlab_core.texts.sections import Bundle, text_of
+from bbmlab_core.texts.sections import Bundle, text_of_section
 
 from ._errors import NotFoundError
-from ._reading import characters, document_of
+from ._reading import byte_characters, document_of
 
 
 @dataclass(frozen=True)
@@ -52,7 +52,7 @@ class Comparison(NamedTuple):
 
 def read_netlist(text: str, *, form: str | None = None) -> Netlist:
     """Reads a netlist, whose form its content says if none is given. Raises ValueError if it is none."""
-    given = characters(text)
+    given = byte_characters(text)
     try:
         known = core.NetlistFormat(form) if form is not None else core.netlist_format(given)
         netlist = core.read_netlist(given, known)
@@ -73,24 +73,24 @@ def to_conservative(netlist: Netlist | str, *, cycles: int | None = None, state:
         raise ValueError("cycles is from 1, and state is ports or initial")
     read = read_netlist(netlist) if isinstance(netlist, str) else netlist
     try:
-        mapped = core.map_read_netlist(read._core, core.Reading(None, cycles, state == "ports"))
+        mapped = core.map_parsed_netlist(read._core, core.ReadingOptions(None, cycles, state == "ports"))
     except LabError as error:
         raise ValueError(str(error)) from error
     return mapped.circuit
 
 
-def model_of(circuit: Circuit | str) -> Circuit:
+def accepted_circuit(circuit: Circuit | str) -> Circuit:
     """Returns a circuit that the lab's reader takes. Raises RefusedError if it refuses it."""
-    found = document_of(text_of(circuit) if isinstance(circuit, Circuit) else circuit, "circuit").circuit
+    found = document_of(text_of_section(circuit) if isinstance(circuit, Circuit) else circuit, "circuit").circuit
     assert found is not None
     return found
 
 
-def changed(circuit: Circuit, change: Callable[[Circuit], Circuit]) -> Circuit:
+def changed_circuit(circuit: Circuit, change: Callable[[Circuit], Circuit]) -> Circuit:
     """Returns what a change makes of a circuit."""
     try:
-        found = change(model_of(circuit))
-        read_circuit(found)
+        found = change(accepted_circuit(circuit))
+        reread_circuit(found)
     except LabError as error:
         raise NotFoundError(str(error)) from error
     return found
@@ -101,7 +101,7 @@ def inverse(circuit: Circuit) -> Circuit:
 
     Raises RefusedError if the circuit is refused, and NotFoundError with the reason if it has none.
     """
-    return changed(circuit, inverse_lines)
+    return changed_circuit(circuit, inverse_lines)
 
 
 def clean(circuit: Circuit) -> Circuit:
@@ -110,12 +110,12 @@ def clean(circuit: Circuit) -> Circuit:
     Raises RefusedError if the circuit is refused, and NotFoundError if it has no values at some inputs or becomes too
     large.
     """
-    return changed(circuit, clean_lines)
+    return changed_circuit(circuit, clean_lines)
 
 
 def simplify(circuit: Circuit) -> Circuit:
     """Returns a smaller circuit with the same outputs. Raises as `clean` does."""
-    return changed(circuit, simple_lines)
+    return changed_circuit(circuit, simple_lines)
 
 
 def table(circuit: Circuit) -> tuple[Row, ...]:
@@ -123,9 +123,9 @@ def table(circuit: Circuit) -> tuple[Row, ...]:
 
     Raises ValueError if it has more.
     """
-    model = model_of(circuit)
+    model = accepted_circuit(circuit)
     try:
-        choices = truth.choices(model, None)
+        choices = truth.inputs_on_by_row(model, None)
     except LabError as error:
         raise ValueError(str(error)) from error
     rows = []
@@ -141,13 +141,13 @@ def stats(text: Bundle | Circuit) -> dict[str, int]:
 
     Raises RefusedError if the text is refused.
     """
-    document = document_of(text_of(text) if isinstance(text, Circuit) else str(text),
+    document = document_of(text_of_section(text) if isinstance(text, Circuit) else str(text),
                            "circuit" if isinstance(text, Circuit) else None)
-    return {name.strip(): int(value) for name, value in truth.figures(document) if value.isdecimal()}
+    return {name.strip(): int(value) for name, value in truth.text_figures(document) if value.isdecimal()}
 
 
 def equivalent(one: Circuit, other: Circuit, *, common: bool = False) -> Comparison:
     """Compares the outputs of two circuits by their names, or only those that both have: in all choices of up to 16
     inputs, or in samples."""
-    differs, scope = truth.difference(model_of(one), model_of(other), common)
+    differs, scope = truth.output_difference(accepted_circuit(one), accepted_circuit(other), common)
     return Comparison(not differs, differs, scope)

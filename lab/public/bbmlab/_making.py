@@ -8,21 +8,21 @@ from __future__ import annotations
 from dataclasses import replace
 from typing import Callable, Iterable
 
-from bbmlab_core.certify.certifier import CertificatePlan, certified, checked_boxes
+from bbmlab_core.certify.certifier import CertificatePlan, certified_text, legal_grid_boxes
 from bbmlab_core.circuits.netlists import NetlistError, map_netlist, netlist_format
-from bbmlab_core.circuits.row_check import missing_row
+from bbmlab_core.circuits.row_check import first_gate_without_row
 from bbmlab_core.host.terminal import LabError
 from bbmlab_core.route.certificate import circuit_section
-from bbmlab_core.route.command import check_side, require_all_keeps
-from bbmlab_core.route.search import Options, Search
+from bbmlab_core.route.command import require_all_keeps, require_side
+from bbmlab_core.route.search import Search, SearchOptions
 from bbmlab_core.route.settings import Settings
 from bbmlab_core.texts.certificates import Stop
 from bbmlab_core.texts.circuits import Circuit
 from bbmlab_core.texts.documents import read_document
 from bbmlab_core.texts.layouts import Box
-from bbmlab_core.texts.limits import sections_after_line
-from bbmlab_core.texts.sections import Bundle, text_of
-from bbmlab_core.texts.spelling import spelled
+from bbmlab_core.texts.limits import text_without_limits_line
+from bbmlab_core.texts.sections import Bundle, text_of_section
+from bbmlab_core.texts.spelling import spelled_text
 
 from ._errors import NotFoundError, RefusedError
 from ._reading import document_of, read
@@ -31,7 +31,7 @@ from ._reading import document_of, read
 WRONG_ARGUMENTS = 2
 
 
-def own_error(error: LabError) -> Exception:
+def api_error(error: LabError) -> Exception:
     """Returns the error of the API for one of `bbmlab_core`."""
     return ValueError(str(error)) if error.status == WRONG_ARGUMENTS else NotFoundError(str(error))
 
@@ -60,10 +60,10 @@ def certify(bundle: Bundle, *, grid: tuple[int, int] | None = None,
     chosen = [Box(*box) for box in boxes] if boxes is not None else None
     try:
         if grid is not None:
-            chosen = checked_boxes(document.layout, *grid)
-        text = certified(document, chosen, CertificatePlan(version, cuts, known_stops(bundle)))
+            chosen = legal_grid_boxes(document.layout, *grid)
+        text = certified_text(document, chosen, CertificatePlan(version, cuts, known_stops(bundle)))
     except LabError as error:
-        raise own_error(error) from error
+        raise api_error(error) from error
     try:
         return read(text)
     except RefusedError as refused:
@@ -80,7 +80,7 @@ def circuit_text(circuit: Circuit | str) -> str:
     if isinstance(circuit, Circuit):
         return str(circuit)
     if netlist_format(circuit) is None:
-        return circuit_section(spelled(circuit).text)
+        return circuit_section(spelled_text(circuit).text)
     try:
         return map_netlist(circuit).text
     except NetlistError as error:
@@ -104,17 +104,17 @@ def route(circuit: Circuit | str, *, seed: int = 1, size: int | None = None, eff
     if min(seed, jobs) < 1 or effort <= 0:
         raise ValueError("seed and jobs are from 1, and effort is more than 0 seconds")
     given = circuit_text(circuit)
-    model = document_of(text_of(circuit) if isinstance(circuit, Circuit) else given, "circuit").circuit
-    text = sections_after_line(given)
+    model = document_of(text_of_section(circuit) if isinstance(circuit, Circuit) else given, "circuit").circuit
+    text = text_without_limits_line(given)
     assert model is not None
     try:
-        check_side(size)
-        why = missing_row(model)
+        require_side(size)
+        why = first_gate_without_row(model)
         if why:
             raise NotFoundError(why)
         require_all_keeps("the circuit", model)
     except LabError as error:
-        raise ValueError(str(error).removeprefix("--")) if error.status == WRONG_ARGUMENTS else own_error(
+        raise ValueError(str(error).removeprefix("--")) if error.status == WRONG_ARGUMENTS else api_error(
             error) from error
     is_cancelled = False
 
@@ -127,7 +127,7 @@ def route(circuit: Circuit | str, *, seed: int = 1, size: int | None = None, eff
             is_cancelled = True
             raise Cancelled
 
-    outcome = Search(model, text, Options(seed, size, effort, jobs, compact), Settings(), tell).run()
+    outcome = Search(model, text, SearchOptions(seed, size, effort, jobs, compact), Settings(), tell).run()
     if is_cancelled and outcome.routed is None:
         raise NotFoundError(f"the search was cancelled: {outcome.placed} of {outcome.total} gates were placed at most")
     if outcome.is_interrupted and not is_cancelled:

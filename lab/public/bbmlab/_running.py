@@ -6,7 +6,7 @@ from typing import Iterable, Iterator, NamedTuple
 
 from bbmlab_core.physics.simulation import ModuleRun, WholeRun, run_layout
 from bbmlab_core.texts.layouts import Cell, Layout
-from bbmlab_core.texts.sections import Bundle, text_of
+from bbmlab_core.texts.sections import Bundle, text_of_section
 
 from ._reading import document_of
 
@@ -25,7 +25,7 @@ def simulate(layout: Layout, inputs: Iterable[str] = (), steps: int | None = Non
     Raises RefusedError for a layout that is refused, and ValueError for another name than that of an `in` cell or
     negative steps.
     """
-    model = document_of(text_of(layout), "layout").layout
+    model = document_of(text_of_section(layout), "layout").layout
     assert model is not None
     on, last = set(inputs), layout.steps if steps is None else steps
     unknown = sorted(on - {port.name for port in layout.ins})
@@ -64,7 +64,7 @@ def local_run(bundle: Bundle, module: int, assignment: int = 0) -> Iterator[Stat
     run = ModuleRun(circuit, layout, certificate, certificate.modules[module])
     if not run.full >> assignment & 1:
         raise ValueError(f"a gate that module {module} uses has no row under the assignment {assignment}")
-    run.restrict(1 << assignment)
+    run.restrict_assignments(1 << assignment)
     return module_states(run, assignment)
 
 

@@ -12,7 +12,7 @@ from typing import Any, Callable
 from ...texts.circuits import Circuit
 from ...texts.documents import read_document
 from ...texts.gates import input_tables
-from ...texts.sections import text_of
+from ...texts.sections import text_of_section
 from .aiger import read_aiger
 from .blif import read_blif
 from .circuit_text import NamedCircuit
@@ -26,18 +26,18 @@ from .qasm import read_qasm
 from .real import read_real
 from .reversible import LineNetlist
 from .search import map_graph
-from .unrolling import unrolled
+from .unrolling import unrolled_netlist
 from .yosys_json import read_yosys_json
 
-__all__ = ["MappedNetlist", "NetlistError", "NetlistFormat", "Reading", "circuit_from_netlist", "map_netlist",
-           "map_read_netlist", "netlist_format",
+__all__ = ["MappedNetlist", "NetlistError", "NetlistFormat", "ReadingOptions", "circuit_from_netlist", "map_netlist",
+           "map_parsed_netlist", "netlist_format",
            "read_netlist"]
 
 MAX_NETLIST_BYTES = 16_777_216
 # The most outputs of a netlist whose tables are tried.
 MAX_TABLE_OUTPUTS = 16
 # How much of a text is looked at to find its format.
-HEAD = 1_000_000
+HEAD_CHARACTERS = 1_000_000
 # Some editors put these bytes before a text; each is a character here.
 BYTE_ORDER_MARK = "\xef\xbb\xbf"
 AIGER_HEAD = re.compile(r"a[ai]g [0-9]+ [0-9]+ [0-9]+ [0-9]+ [0-9]+")
@@ -52,7 +52,7 @@ READERS: dict[NetlistFormat, Callable[[str], LogicNetlist]] = {
 
 
 @dataclass(frozen=True)
-class Reading:
+class ReadingOptions:
     """How a netlist is read: its format, or None if its content says it, and how a machine becomes a circuit.
 
     A machine runs for some cycles, and None refuses it. Its state comes in and leaves by ports, or begins with its
@@ -64,7 +64,7 @@ class Reading:
     has_state_ports: bool = True
 
     @classmethod
-    def asked(cls, options: Any) -> "Reading":
+    def from_options(cls, options: Any) -> "ReadingOptions":
         """Returns what the options `--from`, `--cycles` and `--state` of a command say."""
         given = getattr(options, "given", None)
         return cls(NetlistFormat(given) if given else None, getattr(options, "cycles", None),
@@ -84,12 +84,12 @@ def netlist_format(text: str) -> NetlistFormat | None:
     """Returns the format of a netlist by its first characters and its lines, or None if the text is no netlist."""
     if is_gate_text(text):
         return NetlistFormat.GATES
-    text = text[:HEAD].removeprefix(BYTE_ORDER_MARK)
+    text = text[:HEAD_CHARACTERS].removeprefix(BYTE_ORDER_MARK)
     if text.lstrip().startswith("{"):
         return NetlistFormat.YOSYS_JSON
     if AIGER_HEAD.match(text):
         return NetlistFormat.AIGER
-    first = first_words(text)
+    first = first_line_without_comment(text)
     if QASM_HEAD.match(first):
         return NetlistFormat.QASM
     if not first.startswith("."):
@@ -100,7 +100,7 @@ def netlist_format(text: str) -> NetlistFormat | None:
     return NetlistFormat.PLA if {".i", ".o"} <= keywords else NetlistFormat.BLIF
 
 
-def first_words(text: str) -> str:
+def first_line_without_comment(text: str) -> str:
     """Returns the first line with more than a comment, without spaces around it."""
     for line in BLOCK_COMMENT.sub(" ", text).split("\n"):
         words = line.split("#")[0].split("//")[0].strip()
@@ -124,19 +124,20 @@ def read_netlist(text: str, form: NetlistFormat | None = None) -> LogicNetlist:
     return READERS[form](text)
 
 
-def map_netlist(text: str, form: NetlistFormat | None = None, reading: Reading = Reading()) -> MappedNetlist:
+def map_netlist(text: str, form: NetlistFormat | None = None,
+                reading: ReadingOptions = ReadingOptions()) -> MappedNetlist:
     """Maps a netlist to a circuit section. Raises NetlistError if it has none within the limits of the formats."""
-    return map_read_netlist(read_netlist(text, form or reading.form), reading)
+    return map_parsed_netlist(read_netlist(text, form or reading.form), reading)
 
 
-def map_read_netlist(netlist: LogicNetlist, reading: Reading = Reading()) -> MappedNetlist:
+def map_parsed_netlist(netlist: LogicNetlist, reading: ReadingOptions = ReadingOptions()) -> MappedNetlist:
     """Maps a netlist that was read, as `map_netlist` does."""
-    netlist = unrolled(netlist, reading.cycles, reading.has_state_ports)
+    netlist = unrolled_netlist(netlist, reading.cycles, reading.has_state_ports)
     if isinstance(netlist, LineNetlist) and netlist.exchanges is not None:
         found = map_exchanges(netlist)
     else:
         found = cheapest_circuit(netlist)
-    text = text_of(found.circuit)
+    text = text_of_section(found.circuit)
     document = read_document(text, "circuit")
     if document.circuit is None or document.refusal is not None:
         raise NetlistError(f"The mapped circuit is wrong: {document.refusal}.")
@@ -159,7 +160,7 @@ def cheapest_circuit(netlist: LogicNetlist) -> NamedCircuit:
     graph = Graph(netlist.inputs)
     literals = [2 * at + 2 for at in range(len(netlist.inputs))]
     graph.outputs = [(name, table_literal(graph, tables[net], literals)) for name, net in netlist.outputs]
-    if len(graph.needed()) > 2 * len(found.circuit.gates):
+    if len(graph.needed_nodes()) > 2 * len(found.circuit.gates):
         return found
     return min(found, map_graph(graph), key=NamedCircuit.cost)
 

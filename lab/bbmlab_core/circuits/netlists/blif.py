@@ -7,15 +7,15 @@ from typing import Iterator
 from .model import MAX_PORTS, Latch, LogicNetlist, NetlistError, TableNode
 
 # Lines that say nothing on the values: attributes of yosys, and timing.
-SKIPPED = {".attr", ".param", ".cname", ".area", ".delay", ".wire_load_slope", ".wire", ".input_arrival",
-           ".default_input_arrival",
-           ".output_required", ".default_output_required", ".input_drive", ".default_input_drive", ".output_load",
-           ".default_output_load",
-           ".max_input_load", ".default_max_input_load", ".clock"}
+SKIPPED_KEYWORDS = {".attr", ".param", ".cname", ".area", ".delay", ".wire_load_slope", ".wire", ".input_arrival",
+                    ".default_input_arrival",
+                    ".output_required", ".default_output_required", ".input_drive", ".default_input_drive",
+                    ".output_load", ".default_output_load",
+                    ".max_input_load", ".default_max_input_load", ".clock"}
 # The types of latches that change at an edge of their clock, and those that do not.
-EDGES = {"re": "rising edge", "fe": "falling edge"}
-LEVELS = {"ah": "while its control is 1", "al": "while its control is 0", "as": "without a clock"}
-REFUSED = {
+LATCH_EDGES = {"re": "rising edge", "fe": "falling edge"}
+LATCH_LEVELS = {"ah": "while its control is 1", "al": "while its control is 0", "as": "without a clock"}
+REFUSED_KEYWORDS = {
     ".mlatch": "a latch of a library. Write it with `.latch`",
     ".gate": "a cell of a library. Write the netlist with `.names` tables",
     ".subckt": "a part of another model or an unknown cell. Flatten the netlist, and write it with `.names` tables",
@@ -23,12 +23,12 @@ REFUSED = {
     ".search": "another file, which is not read",
     ".start_kiss": "a state machine. Write it with `.latch` and `.names`",
 }
-ROW = re.compile(r"[01-]*\Z")
+TABLE_ROW = re.compile(r"[01-]*\Z")
 
-Words = tuple[int, list[str]]
+NumberedWords = tuple[int, list[str]]
 
 
-def word_lines(text: str) -> Iterator[Words]:
+def word_lines(text: str) -> Iterator[NumberedWords]:
     """Yields the number and the words of each line that has words. A backslash at its end joins a line to the next one.
     """
     words: list[str] = []
@@ -54,7 +54,7 @@ class BlifReader:
         self.rows: list[tuple[str, str]] = []
         self.has_model = False
 
-    def read(self, number: int, words: list[str]) -> None:
+    def read_line(self, number: int, words: list[str]) -> None:
         """Reads one line."""
         keyword = words[0]
         if not keyword.startswith("."):
@@ -78,10 +78,10 @@ class BlifReader:
         elif keyword == ".conn":
             if len(words) != 3:
                 raise NetlistError(f"Line {number}: `.conn` takes two nets.")
-            self.netlist.add(TableNode(words[2], (words[1],), ("1",), True))
-        elif keyword in REFUSED:
-            raise NetlistError(f"Line {number} (`{keyword}`) is {REFUSED[keyword]}.")
-        elif keyword not in SKIPPED:
+            self.netlist.add_node(TableNode(words[2], (words[1],), ("1",), True))
+        elif keyword in REFUSED_KEYWORDS:
+            raise NetlistError(f"Line {number} (`{keyword}`) is {REFUSED_KEYWORDS[keyword]}.")
+        elif keyword not in SKIPPED_KEYWORDS:
             raise NetlistError(f"Line {number}: `{keyword}` is no line of BLIF that is read.")
 
     def read_latch(self, number: int, words: list[str]) -> None:
@@ -91,15 +91,14 @@ class BlifReader:
             raise NetlistError(f"Line {number}: a latch is `.latch INPUT OUTPUT [TYPE CONTROL] [INIT]`, with INIT from "
                                "0 to 3.")
         clock = None
-        if len(words) == 4 and words[2] in LEVELS:
-            raise NetlistError(f"Line {number}: the latch `{words[1]}` changes {LEVELS[words[2]]} (`{words[2]}`). "
-                               "Those at an edge are read, `re` and "
-                               "`fe`.")
+        if len(words) == 4 and words[2] in LATCH_LEVELS:
+            raise NetlistError(f"Line {number}: the latch `{words[1]}` changes {LATCH_LEVELS[words[2]]} (`{words[2]}`)."
+                               " Those at an edge are read, `re` and `fe`.")
         if len(words) == 4:
-            if words[2] not in EDGES:
+            if words[2] not in LATCH_EDGES:
                 raise NetlistError(f"Line {number}: `{words[2]}` is no type of a latch. They are `re`, `fe`, `ah`, "
                                    "`al` and `as`.")
-            clock = None if words[3] == "NIL" else (words[3], EDGES[words[2]])
+            clock = None if words[3] == "NIL" else (words[3], LATCH_EDGES[words[2]])
         self.netlist.add_latch(Latch(words[1], words[1], words[0], {"0": False, "1": True}.get(init), clock))
 
     def read_row(self, number: int, words: list[str]) -> None:
@@ -108,7 +107,7 @@ class BlifReader:
             raise NetlistError(f"Line {number}: `{' '.join(words)[:40]}` is a row, and no `.names` line is before it.")
         count = len(self.table[1]) - 1
         row, value = ("", words[0]) if len(words) == 1 and count == 0 else (words[0], words[-1])
-        if len(words) > 2 or len(row) != count or not ROW.match(row) or value not in ("0", "1"):
+        if len(words) > 2 or len(row) != count or not TABLE_ROW.match(row) or value not in ("0", "1"):
             raise NetlistError(f"Line {number}: a row of this table has {count} of `0`, `1` and `-`, a space, and `0` "
                                "or `1`.")
         self.rows.append((row, value))
@@ -122,8 +121,8 @@ class BlifReader:
         if len(values) > 1:
             raise NetlistError(f"Line {number}: the table of `{names[-1]}` has rows for both `0` and `1`.")
         value = "1" in values or not values
-        self.netlist.add(TableNode(names[-1], tuple(names[:-1]), tuple(dict.fromkeys(row for row, _ in self.rows)),
-                                   value))
+        self.netlist.add_node(TableNode(names[-1], tuple(names[:-1]), tuple(dict.fromkeys(row for row, _ in self.rows)),
+                                        value))
         self.table, self.rows = None, []
 
     def finish(self) -> LogicNetlist:
@@ -150,5 +149,5 @@ def read_blif(text: str) -> LogicNetlist:
         if words[0] == ".end":
             reader.end_table()
             continue
-        reader.read(number, words)
+        reader.read_line(number, words)
     return reader.finish()

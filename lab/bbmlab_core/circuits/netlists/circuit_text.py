@@ -23,7 +23,7 @@ class NamedCircuit:
                 + GARBAGE_COST * len(self.circuit.spills))
 
 
-def named(graph: Graph, wiring: MappedGates) -> NamedCircuit:
+def named_circuit(graph: Graph, wiring: MappedGates) -> NamedCircuit:
     """Returns the circuit of a wiring, with a name for each wire."""
     book, names, gates = NameBook(), dict[Wire, str](), list(wiring.gates)
     inputs = [book.port_name(name) for name in graph.input_names]
@@ -46,4 +46,4 @@ def named(graph: Graph, wiring: MappedGates) -> NamedCircuit:
     spills = sorted((names[wire] for wire in garbage), key=lambda name: (len(name), name))
     lines = (Gate(gate.word, tuple(names[wire] for wire in gate.ins), tuple(names[wire] for wire in gate.outs),
                   gate.parameter) for gate in gates)
-    return NamedCircuit(Circuit(tuple(inputs), tuple(lines), tuple(outputs), tuple(spills)), book.notes())
+    return NamedCircuit(Circuit(tuple(inputs), tuple(lines), tuple(outputs), tuple(spills)), book.renaming_notes())

@@ -5,8 +5,8 @@ from ...texts.gates import input_tables
 from .model import Cell, CellNode, LogicNetlist, NetlistError, TableNode
 
 # Up to so many inputs all choices are tried, and above them so many samples.
-MAX_ALL = 16
-SAMPLES = 4096
+MAX_EXHAUSTIVE_INPUTS = 16
+SAMPLE_COUNT = 4096
 
 Table = int
 
@@ -51,18 +51,18 @@ def agreement_words(netlist: LogicNetlist, circuit: Circuit) -> str:
     Raises NetlistError where it has others.
     """
     count = len(netlist.inputs)
-    if count <= MAX_ALL:
+    if count <= MAX_EXHAUSTIVE_INPUTS:
         full, scope = ((1 << (1 << count)) - 1, f"all {1 << count} choices of the inputs" if count
                        else "the one choice of the inputs")
         columns = dict(zip(netlist.inputs, input_tables(count)))
     else:
-        full, scope = (1 << SAMPLES) - 1, f"{SAMPLES} samples of the {count} inputs"
-        columns = sampled_tables(netlist.inputs, SAMPLES)
+        full, scope = (1 << SAMPLE_COUNT) - 1, f"{SAMPLE_COUNT} samples of the {count} inputs"
+        columns = sampled_tables(netlist.inputs, SAMPLE_COUNT)
     theirs = netlist_tables(netlist, columns, full)
     mine = {name: columns[net] for name, net in zip(circuit.inputs, netlist.inputs)}
     own = evaluate_under(circuit, mine, full, range(len(circuit.gates)))
     for name, (port, net) in zip(circuit.outputs, netlist.outputs):
-        if own.defined != full or own.tables[name] != theirs[net]:
+        if own.defined_columns != full or own.tables[name] != theirs[net]:
             raise NetlistError(f"The mapped circuit is wrong: its output `{name}` is not always `{port}` of the "
                                "netlist. This is a fault of the lab.")
     return scope

@@ -1,6 +1,6 @@
 """Maps gates that only exchange lines, one to one: each is a Fredkin gate (Fredkin and Toffoli 1982)."""
 
-from .circuit_text import NamedCircuit, named
+from .circuit_text import NamedCircuit, named_circuit
 from .graph import Graph
 from .mapping import NumberedGate, Wire, MappedGates
 from .reversible import LineNetlist
@@ -33,4 +33,4 @@ def map_exchanges(netlist: LineNetlist) -> NamedCircuit:
     graph.outputs = [(name, 0) for name in netlist.ends.values() if name is not None]
     wiring.outputs = [wires[line] for line, name in netlist.ends.items() if name is not None]
     wiring.garbage = [wires[line] for line, name in netlist.ends.items() if name is None]
-    return named(graph, wiring)
+    return named_circuit(graph, wiring)

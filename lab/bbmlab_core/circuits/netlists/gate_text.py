@@ -6,16 +6,16 @@ The conservative gates may occur too, but for the inverse ones: those have no va
 
 import re
 
-from ...texts.lines import NAME
-from ...texts.spelling import free_words
+from ...texts.lines import NAME_PATTERN
+from ...texts.spelling import words_without_comment
 from .model import MAX_PORTS, Cell, CellNode, LogicNetlist, NetlistError, TableNode
 
 # Gates of two or more inputs: the cell that joins two of them, and the last one.
-JOINED = {"and": (Cell.AND, Cell.AND), "or": (Cell.OR, Cell.OR), "xor": (Cell.XOR, Cell.XOR),
+VARIADIC_CELLS = {"and": (Cell.AND, Cell.AND), "or": (Cell.OR, Cell.OR), "xor": (Cell.XOR, Cell.XOR),
           "nand": (Cell.AND, Cell.NAND),
           "nor": (Cell.OR, Cell.NOR), "xnor": (Cell.XOR, Cell.XNOR)}
 # Gates with a fixed number of inputs and outputs, and for each output its cell and the places of its inputs.
-FIXED: dict[str, tuple[int, list[tuple[Cell, tuple[int, ...]]]]] = {
+FIXED_SIZE_CELLS: dict[str, tuple[int, list[tuple[Cell, tuple[int, ...]]]]] = {
     "not": (1, [(Cell.NOT, (0,))]), "buf": (1, [(Cell.BUF, (0,))]), "mux": (3, [(Cell.MUX, (2, 1, 0))]),
     "fredkin": (3, [(Cell.BUF, (0,)), (Cell.MUX, (2, 1, 0)), (Cell.MUX, (1, 2, 0))]),
     "cswap": (3, [(Cell.BUF, (0,)), (Cell.MUX, (1, 2, 0)), (Cell.MUX, (2, 1, 0))]),
@@ -23,8 +23,8 @@ FIXED: dict[str, tuple[int, list[tuple[Cell, tuple[int, ...]]]]] = {
     "switch": (2, [(Cell.BUF, (0,)), (Cell.AND, (0, 1)), (Cell.ANDNOT, (1, 0))]),
 }
 # How much of a text is looked at for its first word.
-HEAD = 100_000
-INVERSE = {"unswitch", "uninteract"}
+HEAD_CHARACTERS = 100_000
+INVERSE_KINDS = {"unswitch", "uninteract"}
 # A line of a gate that a circuit section does not have. It may be wrong: then the reader says how.
 PLAIN_LINE = re.compile(r"^[ \t]*(?:and|or|xor|nand|nor|xnor|not|buf|mux)[ \t][^\n>]*->", re.MULTILINE | re.IGNORECASE)
 FIRST_WORD = re.compile(r"(?:[ \t\r\n]|#[^\n]*\n)*(circuit|input|source|and|or|xor|nand|nor|xnor|not|buf|mux)(?:[ "
@@ -35,8 +35,8 @@ def is_gate_text(text: str) -> bool:
     """Whether a text is a circuit with at least one gate that a circuit section does not have, and no layout."""
     end = text.find("\nend")
     last = len(text) if end < 0 else end
-    return FIRST_WORD.match(text[:HEAD]) is not None and PLAIN_LINE.search(text, 0,
-                                                                           last) is not None and "\nlayout " not in text
+    return (FIRST_WORD.match(text[:HEAD_CHARACTERS]) is not None and PLAIN_LINE.search(text, 0, last) is not None
+            and "\nlayout " not in text)
 
 
 class GateReader:
@@ -48,11 +48,11 @@ class GateReader:
         self.outputs: set[str] = set()
         self.number = self.made = 0
 
-    def wrong(self, what: str) -> NetlistError:
+    def line_error(self, what: str) -> NetlistError:
         """Returns the error of the present line."""
         return NetlistError(f"Line {self.number}: {what}.")
 
-    def read(self, number: int, words: list[str]) -> None:
+    def read_line(self, number: int, words: list[str]) -> None:
         """Reads one line."""
         self.number = number
         keyword = words[0]
@@ -64,23 +64,24 @@ class GateReader:
             at = words.index("->")
             self.read_gate(keyword, words[1:at], words[at + 1:])
         else:
-            raise self.wrong(f"`{' '.join(words)[:40]}` is no line such as `input a`, `and a b -> c` or `output c`")
+            raise self.line_error(f"`{' '.join(words)[:40]}` is no line such as `input a`, `and a b -> c` or "
+                                  "`output c`")
 
     def read_ports(self, keyword: str, names: list[str]) -> None:
         """Reads inputs or outputs. A wire that is spilled may be, since each wire may be used or not."""
         for name in names:
             if keyword == "input":
-                self.define(name)
+                self.define_wire(name)
                 self.netlist.inputs.append(name)
                 continue
-            self.require_known(name)
+            self.require_defined(name)
             if keyword == "output":
                 if name in self.outputs:
-                    raise self.wrong(f"the output `{name}` is named twice")
+                    raise self.line_error(f"the output `{name}` is named twice")
                 self.outputs.add(name)
                 self.netlist.outputs.append((name, name))
         if not names or max(len(self.netlist.inputs), len(self.netlist.outputs)) > MAX_PORTS:
-            raise self.wrong(f"`{keyword}` takes names, and a circuit has at most {MAX_PORTS} wires")
+            raise self.line_error(f"`{keyword}` takes names, and a circuit has at most {MAX_PORTS} wires")
 
     def read_gate(self, keyword: str, ins: list[str], outs: list[str]) -> None:
         """Reads a gate."""
@@ -88,76 +89,77 @@ class GateReader:
             self.read_source(ins, outs)
             return
         for name in ins:
-            self.require_known(name)
-        if keyword in JOINED:
+            self.require_defined(name)
+        if keyword in VARIADIC_CELLS:
             self.require_counts(keyword, (len(ins), len(outs)), (max(2, len(ins)), 1))
-            self.define(outs[0])
-            self.join(*JOINED[keyword], ins, outs[0])
-        elif keyword in FIXED:
-            count, cells = FIXED[keyword]
+            self.define_wire(outs[0])
+            self.add_cell_tree(*VARIADIC_CELLS[keyword], ins, outs[0])
+        elif keyword in FIXED_SIZE_CELLS:
+            count, cells = FIXED_SIZE_CELLS[keyword]
             self.require_counts(keyword, (len(ins), len(outs)), (count, len(cells)))
             for name, (cell, places) in zip(outs, cells):
-                self.define(name)
-                self.netlist.add(CellNode(name, cell, tuple(ins[place] for place in places)))
-        elif keyword in INVERSE:
-            raise self.wrong(f"`{keyword}` has no values for some of its inputs. Write `or` for what it joins")
+                self.define_wire(name)
+                self.netlist.add_node(CellNode(name, cell, tuple(ins[place] for place in places)))
+        elif keyword in INVERSE_KINDS:
+            raise self.line_error(f"`{keyword}` has no values for some of its inputs. Write `or` for what it joins")
         else:
-            raise self.wrong(f"`{keyword[:40]}` is no gate. These are {', '.join([*JOINED, *FIXED, 'source'])}")
+            gates = ", ".join([*VARIADIC_CELLS, *FIXED_SIZE_CELLS, "source"])
+            raise self.line_error(f"`{keyword[:40]}` is no gate. These are {gates}")
 
     def read_source(self, ins: list[str], outs: list[str]) -> None:
         """Reads a constant."""
         self.require_counts("source", (len(ins), len(outs)), (1, 1))
         if ins[0] not in ("0", "1"):
-            raise self.wrong("`source` takes 0 or 1")
-        self.define(outs[0])
-        self.netlist.add(TableNode(outs[0], (), ("",) if ins[0] == "1" else (), True))
+            raise self.line_error("`source` takes 0 or 1")
+        self.define_wire(outs[0])
+        self.netlist.add_node(TableNode(outs[0], (), ("",) if ins[0] == "1" else (), True))
 
-    def join(self, inner: Cell, last: Cell, ins: list[str], out: str) -> None:
+    def add_cell_tree(self, inner: Cell, last: Cell, ins: list[str], out: str) -> None:
         """Adds the cells that join some wires, as a tree of small depth."""
         level = list(ins)
         while len(level) > 2:
-            level = [self.joined(inner, level[at:at + 2]) for at in range(0, len(level), 2)]
-        self.netlist.add(CellNode(out, last, tuple(level)))
+            level = [self.net_of_pair(inner, level[at:at + 2]) for at in range(0, len(level), 2)]
+        self.netlist.add_node(CellNode(out, last, tuple(level)))
 
-    def joined(self, cell: Cell, pair: list[str]) -> str:
+    def net_of_pair(self, cell: Cell, pair: list[str]) -> str:
         """Returns the net of a cell over two wires, or the one that is left."""
         if len(pair) == 1:
             return pair[0]
         self.made += 1
-        self.netlist.add(CellNode(f" {self.made}", cell, tuple(pair)))
+        self.netlist.add_node(CellNode(f" {self.made}", cell, tuple(pair)))
         return f" {self.made}"
 
     def require_counts(self, keyword: str, found: tuple[int, int], wanted: tuple[int, int]) -> None:
         """Refuses a gate with another number of inputs or outputs."""
         if found != wanted:
-            raise self.wrong(f"`{keyword}` takes {wanted[0]} before the arrow and {wanted[1]} behind it, and has "
+            raise self.line_error(f"`{keyword}` takes {wanted[0]} before the arrow and {wanted[1]} behind it, and has "
                              f"{found[0]} and {found[1]}")
 
-    def define(self, name: str) -> None:
+    def define_wire(self, name: str) -> None:
         """Notes a new wire."""
-        if not NAME.match(name):
-            raise self.wrong(f"`{name[:40]}` is no name: a lower-case letter, then up to 31 of lower-case letters, "
-                             "digits and `_`")
+        if not NAME_PATTERN.match(name):
+            raise self.line_error(f"`{name[:40]}` is no name: a lower-case letter, then up to 31 of lower-case "
+                                  "letters, digits and `_`")
         if name in self.known:
-            raise self.wrong(f"`{name}` is defined already")
+            raise self.line_error(f"`{name}` is defined already")
         self.known.add(name)
 
-    def require_known(self, name: str) -> None:
+    def require_defined(self, name: str) -> None:
         """Refuses a wire that no earlier line defines."""
         if name not in self.known:
-            raise self.wrong(f"no earlier line defines `{name[:40]}`")
+            raise self.line_error(f"no earlier line defines `{name[:40]}`")
 
 
 def read_gates(text: str) -> LogicNetlist:
     """Returns the netlist of a text of gates. Raises NetlistError at the first line that is wrong."""
     reader, has_ended = GateReader(), False
     for number, line in enumerate(text.split("\n"), 1):
-        words = free_words(line)
+        words = words_without_comment(line)
         if words and has_ended:
             raise NetlistError(f"Line {number} follows `end`.")
         has_ended = has_ended or words == ["end"]
         if words and not has_ended:
-            reader.read(number, words)
+            reader.read_line(number, words)
     if not reader.netlist.outputs:
         raise NetlistError("The text names no output.")
     return reader.netlist

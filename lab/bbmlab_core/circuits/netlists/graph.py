@@ -71,7 +71,7 @@ class Graph:
         """Whether there is a XOR node over two literals, inverted or not."""
         return GraphNode(Kind.XOR, (min(left, right) & ~1, max(left, right) & ~1)) in self.numbers
 
-    def product(self, literal: Literal) -> tuple[Literal, Literal] | None:
+    def and_factors(self, literal: Literal) -> tuple[Literal, Literal] | None:
         """Returns the two factors of a literal if it is an AND node that is not inverted."""
         node = self.nodes[literal >> 1]
         return (node.inputs[0], node.inputs[1]) if node.kind is Kind.AND and not literal & 1 else None
@@ -92,7 +92,7 @@ class Graph:
     def _absorption(self, one: Literal, other: Literal) -> tuple[Literal, Literal] | None:
         """Returns two literals whose AND is a simpler form of "one and other" where `other` depends on the value of
         `one`."""
-        factors, inverse_factors = self.product(other), self.product(other ^ 1)
+        factors, inverse_factors = self.and_factors(other), self.and_factors(other ^ 1)
         if factors and one in factors:
             return other, other
         if factors and one ^ 1 in factors:
@@ -113,14 +113,14 @@ class Graph:
         other."""
         first, second = self.conjuncts(left ^ 1), self.conjuncts(right ^ 1)
         common = sorted(literal for literal in first if literal ^ 1 in second)
-        if not common or not (self.product(left ^ 1) and self.product(right ^ 1)):
+        if not common or not (self.and_factors(left ^ 1) and self.and_factors(right ^ 1)):
             return None
         select = next((literal for literal in common if self.nodes[literal >> 1].kind is Kind.XOR), common[0])
         return self._select_literal(select, left ^ 1, right ^ 1)
 
     def _select_literal(self, select: Literal, high: Literal, low: Literal) -> Literal:
         """Returns "high or low", where `high` implies `select` and `low` excludes it."""
-        factors = self.product(high), self.product(low)
+        factors = self.and_factors(high), self.and_factors(low)
         if all(factors) and factors[0] and factors[1]:
             firsts, seconds = set(factors[0]) - {select}, set(factors[1]) - {select ^ 1}
             if len(firsts) == len(seconds) == 1 and next(iter(firsts)) == next(iter(seconds)) ^ 1:
@@ -133,7 +133,7 @@ class Graph:
         """Returns literals that are true if `literal` is, among them those of XOR nodes over pairs of them."""
         found, level = {literal}, [literal]
         for _ in range(CONJUNCT_DEPTH):
-            level = [factor for product in level for factor in self.product(product) or () if factor not in found]
+            level = [factor for product in level for factor in self.and_factors(product) or () if factor not in found]
             found.update(level)
         plain = sorted(found)[:16]
         for index, left in enumerate(plain):
@@ -168,7 +168,7 @@ class Graph:
             return self.or_(first, second)
         return self._select_literal(select, first, second)
 
-    def needed(self) -> list[int]:
+    def needed_nodes(self) -> list[int]:
         """Returns the nodes on which the outputs depend, each after its inputs."""
         needed = {literal >> 1 for _, literal in self.outputs}
         for number in range(len(self.nodes) - 1, 0, -1):
@@ -186,7 +186,7 @@ def table_literal(graph: Graph, table: int, literals: list[Literal]) -> Literal:
     low_half = (1 << (1 << count - 1)) - 1
     halves = []
     for index in range(count):
-        cofactors = cofactor(table, index, count, False), cofactor(table, index, count, True)
+        cofactors = cofactor_table(table, index, count, False), cofactor_table(table, index, count, True)
         rest = literals[:index] + literals[index + 1:]
         if cofactors[0] == cofactors[1]:
             return table_literal(graph, cofactors[0], rest)
@@ -212,7 +212,8 @@ def symmetric_literal(graph: Graph, table: int, literals: list[Literal]) -> Lite
     count = len(literals)
     pairs = [(low, high) for high in range(1, count) for low in range(high)]
     for low, high in sorted(pairs, key=lambda pair: not graph.has_xor(literals[pair[0]], literals[pair[1]])):
-        parts = [cofactor(cofactor(table, high, count, bool(first)), low, count - 1, bool(second)) for first in (0, 1)
+        parts = [cofactor_table(cofactor_table(table, high, count, bool(first)), low, count - 1, bool(second))
+                 for first in (0, 1)
                  for second in (0, 1)]
         if parts[1] == parts[2]:
             rest = literals[:low] + literals[low + 1:high] + literals[high + 1:]
@@ -227,14 +228,14 @@ def split_literal(graph: Graph, halves: list[tuple[tuple[int, int], list[Literal
     def weight(index: int) -> int:
         """Returns on how many inputs the two halves depend."""
         (low, high), rest = halves[index]
-        return sum(cofactor(half, other, len(rest), False) != cofactor(half, other, len(rest), True)
+        return sum(cofactor_table(half, other, len(rest), False) != cofactor_table(half, other, len(rest), True)
                    for half in (low, high) for other in range(len(rest)))
     best = min(range(len(literals)), key=weight)
     (low, high), rest = halves[best]
     return graph.mux(literals[best], table_literal(graph, high, rest), table_literal(graph, low, rest))
 
 
-def cofactor(table: int, index: int, count: int, value: bool) -> int:
+def cofactor_table(table: int, index: int, count: int, value: bool) -> int:
     """Returns the table of `count - 1` inputs that is left if input `index` of a table of `count` inputs has a value.
     """
     run, result = 1 << index, 0
@@ -255,7 +256,7 @@ def table_of_rows(rows: tuple[str, ...], count: int) -> int:
     return table
 
 
-def balanced(graph: Graph, literals: list[Literal], is_product: bool) -> Literal:
+def balanced_tree(graph: Graph, literals: list[Literal], is_product: bool) -> Literal:
     """Returns the product or the sum of literals, as a tree of small depth."""
     level = literals or [TRUE if is_product else FALSE]
     make = graph.and_ if is_product else graph.or_
@@ -272,8 +273,8 @@ def table_node_literal(graph: Graph, node: TableNode, inputs: list[Literal]) -> 
     products = []
     for row in node.rows:
         factors = [literal ^ (sign == "0") for sign, literal in zip(row, inputs) if sign != "-"]
-        products.append(balanced(graph, factors, True))
-    return balanced(graph, products, False) ^ inverted
+        products.append(balanced_tree(graph, factors, True))
+    return balanced_tree(graph, products, False) ^ inverted
 
 
 def cell_literal(graph: Graph, cell: Cell, inputs: list[Literal]) -> Literal:

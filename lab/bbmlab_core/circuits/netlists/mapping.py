@@ -21,10 +21,10 @@ DEPTH_COST = 0.05
 
 # How much a preference can add to the cost of a way, and the most ways for a node.
 NOISE = 0.8
-MAX_WAYS = 10
+MAX_WAYS_PER_NODE = 10
 
 Wire = int
-# The cost of a way to map a node, its name in `WAYS`, and the literals in the order that it takes.
+# The cost of a way to map a node, its name in `MAP_METHODS`, and the literals in the order that it takes.
 Way = tuple[float, str, tuple[Literal, ...]]
 
 
@@ -68,12 +68,12 @@ class Preferences:
     @classmethod
     def at_random(cls, graph: Graph, chooser: random.Random) -> "Preferences":
         """Returns random preferences. XOR nodes come rather early, since they make products too."""
-        needed = graph.needed()
+        needed = graph.needed_nodes()
         ranks = {number: chooser.random() + (graph.nodes[number].kind is not Kind.XOR) * chooser.choice((0, 1))
                  for number in needed}
-        return cls(ranks, {number: [chooser.random() for _ in range(MAX_WAYS)] for number in needed})
+        return cls(ranks, {number: [chooser.random() for _ in range(MAX_WAYS_PER_NODE)] for number in needed})
 
-    def changed(self, chooser: random.Random) -> "Preferences":
+    def with_small_change(self, chooser: random.Random) -> "Preferences":
         """Returns preferences that differ for one to three nodes."""
         new = Preferences(dict(self.ranks), dict(self.noise))
         for _ in range(chooser.choice((1, 1, 2, 3))):
@@ -83,7 +83,7 @@ class Preferences:
             else:
                 # Sometimes more, so that a dear way can be taken.
                 scale = chooser.choice((1, 1, 3))
-                new.noise[number] = [scale * chooser.random() for _ in range(MAX_WAYS)]
+                new.noise[number] = [scale * chooser.random() for _ in range(MAX_WAYS_PER_NODE)]
         return new
 
 
@@ -95,7 +95,7 @@ class Mapper:
         self.wiring = MappedGates()
         self.wire_count = len(graph.input_names)
         self.pool: dict[Literal, list[Wire]] = {}
-        self.needed = graph.needed()
+        self.needed = graph.needed_nodes()
         self.mapped = {number for number in range(1, len(graph.input_names) + 1)}
         self.uses: dict[int, int] = {}
         self.true_uses: dict[int, int] = {}
@@ -108,16 +108,17 @@ class Mapper:
 
     def run(self) -> MappedGates:
         """Maps all needed nodes and the outputs."""
-        for number in self.order():
+        for number in self.node_order():
             if number not in self.mapped:
                 self.map_node(number)
         for _, literal in self.graph.outputs:
             self.uses[literal >> 1] -= 1
-            self.wiring.outputs.append(self.add_constant(literal) if literal in (FALSE, TRUE) else self.take(literal))
+            self.wiring.outputs.append(self.add_constant(literal) if literal in (FALSE, TRUE)
+                                       else self.take_wire(literal))
         self.wiring.garbage += [wire for wires in self.pool.values() for wire in wires]
         return self.wiring
 
-    def order(self) -> list[int]:
+    def node_order(self) -> list[int]:
         """Returns the needed nodes, each after its inputs."""
         nodes, rank = self.graph.nodes, dict(self.preferences.ranks)
         # A node comes as late as the latest of its inputs, plus its own rank.
@@ -136,7 +137,7 @@ class Mapper:
         ways = makers[node.kind](number, node.inputs)
         noise = self.preferences.noise[number]
         _, index = min((way[0] + NOISE * noise[index], index) for index, way in enumerate(ways))
-        WAYS[ways[index][1]](self, number, *ways[index][2])
+        MAP_METHODS[ways[index][1]](self, number, *ways[index][2])
 
     # ---- pools of wires
 
@@ -152,45 +153,46 @@ class Mapper:
         """Adds a constant."""
         return self.add_gate("source", int(literal == TRUE), [], 1)[0]
 
-    def wires(self, literal: Literal) -> list[Wire]:
+    def pool_of(self, literal: Literal) -> list[Wire]:
         """Returns the pool of a literal."""
         return self.pool.setdefault(literal, [])
 
     def carrier_count(self, literal: Literal) -> int:
         """Returns how many wires carry a literal or its inverse."""
-        return len(self.wires(literal)) + len(self.wires(literal ^ 1))
+        return len(self.pool_of(literal)) + len(self.pool_of(literal ^ 1))
 
-    def duplicate(self, literal: Literal) -> None:
+    def duplicate_wire(self, literal: Literal) -> None:
         """Turns a wire of a literal into two, and one of its inverse."""
-        first, second, inverse = self.add_gate("switch", None, [self.wires(literal).pop(), self.add_constant(TRUE)], 3)
+        first, second, inverse = self.add_gate("switch", None, [self.pool_of(literal).pop(), self.add_constant(TRUE)],
+                                               3)
         self.pool[literal] += [first, second]
-        self.wires(literal ^ 1).append(inverse)
+        self.pool_of(literal ^ 1).append(inverse)
 
-    def take(self, literal: Literal) -> Wire:
+    def take_wire(self, literal: Literal) -> Wire:
         """Takes a wire of a literal out of its pool. One of it or of its inverse stays while there are uses."""
-        if not self.wires(literal):
-            self.duplicate(literal ^ 1)
+        if not self.pool_of(literal):
+            self.duplicate_wire(literal ^ 1)
         elif self.carrier_count(literal) == 1 and self.uses[literal >> 1] > 0:
-            self.duplicate(literal)
+            self.duplicate_wire(literal)
         return self.pool[literal].pop()
 
     def take_cost(self, literal: Literal, made: int = 0) -> float:
         """Returns what `take` costs if `made` uses of the literal go, since their products are made by the same gate.
         """
-        is_free = self.wires(literal) and (self.carrier_count(literal) > 1 or self.uses[literal >> 1] <= made)
+        is_free = self.pool_of(literal) and (self.carrier_count(literal) > 1 or self.uses[literal >> 1] <= made)
         return 0 if is_free else COPY_COST
 
-    def borrow(self, literal: Literal) -> tuple[Literal, Wire]:
+    def borrow_wire(self, literal: Literal) -> tuple[Literal, Wire]:
         """Takes a wire of a literal or of its inverse, and says which. The caller gives it back."""
-        found = literal if self.wires(literal) else literal ^ 1
+        found = literal if self.pool_of(literal) else literal ^ 1
         return found, self.pool[found].pop()
 
-    def give(self, literal: Literal | None, wire: Wire) -> None:
+    def give_wire(self, literal: Literal | None, wire: Wire) -> None:
         """Adds a wire to the pool of a literal, or to the garbage if no node has its value."""
         if literal is None:
             self.wiring.garbage.append(wire)
         else:
-            self.wires(literal).append(wire)
+            self.pool_of(literal).append(wire)
 
     def claim_product(self, left: Literal, right: Literal) -> Literal | None:
         """Returns the literal of a product that the next gate makes.
@@ -233,39 +235,40 @@ class Mapper:
             ways.append((GATE_COSTS["interact"] + takes - saved, "meeting", inputs))
         return ways
 
-    def map_product(self, number: int, control: Literal, other: Literal) -> None:
+    def map_and_by_switch(self, number: int, control: Literal, other: Literal) -> None:
         """Maps "control and other" by a switch. The control may be inverted."""
         second = self.claim_product(control ^ 1, other)
-        wire = self.take(other)
-        found, select = self.borrow(control)
+        wire = self.take_wire(other)
+        found, select = self.borrow_wire(control)
         again, high, low = self.add_gate("switch", None, [select, wire], 3)
         product, rest = (high, low) if found == control else (low, high)
-        self.wires(found).append(again)
-        self.wires(2 * number).append(product)
-        self.give(second, rest)
+        self.pool_of(found).append(again)
+        self.pool_of(2 * number).append(product)
+        self.give_wire(second, rest)
 
-    def map_meeting(self, number: int, left: Literal, right: Literal) -> None:
+    def map_and_by_interact(self, number: int, left: Literal, right: Literal) -> None:
         """Maps "left and right" by an interaction, which makes it twice."""
         second, third = self.claim_product(left ^ 1, right), self.claim_product(left, right ^ 1)
-        both, right_alone, left_alone, again = self.add_gate("interact", None, [self.take(left), self.take(right)], 4)
-        self.wires(2 * number).extend((both, again))
-        self.give(second, right_alone)
-        self.give(third, left_alone)
+        both, right_alone, left_alone, again = self.add_gate("interact", None,
+                                                             [self.take_wire(left), self.take_wire(right)], 4)
+        self.pool_of(2 * number).extend((both, again))
+        self.give_wire(second, right_alone)
+        self.give_wire(third, left_alone)
 
-    def map_sum(self, number: int, control: Literal, other: Literal) -> None:
+    def map_or_by_switch(self, number: int, control: Literal, other: Literal) -> None:
         """Maps the inverse of an AND node, "control or other", by a switch and a join."""
         product = self.claim_product(control, other)
-        if self.carrier_count(control) < 2 or not self.wires(control):
-            self.duplicate(control if self.wires(control) else control ^ 1)
-        wire, first = self.take(other), self.pool[control].pop()
-        found, select = self.borrow(control)
+        if self.carrier_count(control) < 2 or not self.pool_of(control):
+            self.duplicate_wire(control if self.pool_of(control) else control ^ 1)
+        wire, first = self.take_wire(other), self.pool[control].pop()
+        found, select = self.borrow_wire(control)
         again, high, low = self.add_gate("switch", None, [select, wire], 3)
         rest, without = (high, low) if found == control else (low, high)
         parts = [first, without] if found == control else [without, first]
         again, result = self.add_gate("unswitch", None, [again, *parts], 2, number)
-        self.wires(found).append(again)
-        self.wires(2 * number + 1).append(result)
-        self.give(product, rest)
+        self.pool_of(found).append(again)
+        self.pool_of(2 * number + 1).append(result)
+        self.give_wire(product, rest)
 
     # ---- XOR
 
@@ -277,57 +280,57 @@ class Mapper:
         for first, second in (inputs, inputs[::-1]):
             for one in (first, first ^ 1):
                 for two in (second, second ^ 1):
-                    if self.wires(one) and self.wires(two):
+                    if self.pool_of(one) and self.pool_of(two):
                         gain = self.product_worth(one, two)
                         copies = (self.carrier_count(first) < 2) + (self.carrier_count(second) < 2
                                                                     and self.uses[second >> 1] > gain)
                         ways.append((1.8 + COPY_COST * copies - gain, "meeting_join", (one, two)))
-            spare = self.wires(second) and self.wires(second ^ 1) and (self.carrier_count(second) > 2
-                                                                       or not self.uses[second >> 1])
+            spare = self.pool_of(second) and self.pool_of(second ^ 1) and (self.carrier_count(second) > 2
+                                                                           or not self.uses[second >> 1])
             if spare:
                 gains = sum(self.product_worth(one, two) for one in (first, first ^ 1) for two in (second, second ^ 1))
                 ways.append((3 - gains, "switch_join", (first, second)))
         return ways
 
-    def map_meeting_join(self, number: int, left: Literal, right: Literal) -> None:
+    def map_xor_by_interact(self, number: int, left: Literal, right: Literal) -> None:
         """Maps a XOR node by an interaction and a join. A wire of `left` is consumed, and another one is the control.
         """
         product = self.claim_product(left, right)
         if self.carrier_count(left) < 2:
-            self.duplicate(left)
-        wire, other = self.pool[left].pop(), self.take(right)
+            self.duplicate_wire(left)
+        wire, other = self.pool[left].pop(), self.take_wire(right)
         both, right_alone, left_alone, again = self.add_gate("interact", None, [wire, other], 4)
-        self.give(product, both)
-        self.give(product, again)
-        found, select = self.borrow(left)
+        self.give_wire(product, both)
+        self.give_wire(product, again)
+        found, select = self.borrow_wire(left)
         parts = [left_alone, right_alone] if found == left else [right_alone, left_alone]
         select, result = self.add_gate("unswitch", None, [select, *parts], 2, number)
-        self.wires(found).append(select)
-        self.wires(2 * number ^ (left & 1) ^ (right & 1)).append(result)
+        self.pool_of(found).append(select)
+        self.pool_of(2 * number ^ (left & 1) ^ (right & 1)).append(result)
 
-    def map_switch_join(self, number: int, left: Literal, right: Literal) -> None:
+    def map_xor_by_switches(self, number: int, left: Literal, right: Literal) -> None:
         """Maps a XOR node by two switches, over a wire and its inverse, and a join."""
-        found, select = self.borrow(left)
+        found, select = self.borrow_wire(left)
         product, second = self.claim_product(found, right), self.claim_product(found ^ 1, right ^ 1)
         select, both, right_alone = self.add_gate("switch", None, [select, self.pool[right].pop()], 3)
         select, left_alone, neither = self.add_gate("switch", None, [select, self.pool[right ^ 1].pop()], 3)
         select, result = self.add_gate("unswitch", None, [select, left_alone, right_alone], 2, number)
-        self.wires(found).append(select)
-        self.wires(2 * number ^ (found & 1)).append(result)
-        self.give(product, both)
-        self.give(second, neither)
+        self.pool_of(found).append(select)
+        self.pool_of(2 * number ^ (found & 1)).append(result)
+        self.give_wire(product, both)
+        self.give_wire(second, neither)
 
-    def map_fredkin(self, number: int, left: Literal, right: Literal) -> None:
+    def map_xor_by_fredkin(self, number: int, left: Literal, right: Literal) -> None:
         """Maps a XOR node by a Fredkin gate over a wire and its inverse."""
-        while not (self.wires(right) and self.wires(right ^ 1)
+        while not (self.pool_of(right) and self.pool_of(right ^ 1)
                    and (self.carrier_count(right) > 2 or not self.uses[right >> 1])):
-            self.duplicate(right if self.wires(right) else right ^ 1)
-        found, select = self.borrow(left)
+            self.duplicate_wire(right if self.pool_of(right) else right ^ 1)
+        found, select = self.borrow_wire(left)
         ins = [select, self.pool[right ^ 1].pop(), self.pool[right].pop()]
         select, result, inverse = self.add_gate("fredkin", None, ins, 3)
-        self.wires(found).append(select)
-        self.wires(2 * number ^ (found & 1)).append(result)
-        self.wires(2 * number + 1 ^ (found & 1)).append(inverse)
+        self.pool_of(found).append(select)
+        self.pool_of(2 * number ^ (found & 1)).append(result)
+        self.pool_of(2 * number + 1 ^ (found & 1)).append(inverse)
 
     # ---- join
 
@@ -335,33 +338,33 @@ class Mapper:
         """Returns the way to map a join."""
         return [(0.0, "inverse_product" if number in self.separate else "join", inputs)]
 
-    def map_join(self, number: int, select: Literal, high: Literal, low: Literal) -> None:
+    def map_join_by_unswitch(self, number: int, select: Literal, high: Literal, low: Literal) -> None:
         """Maps a join by an `unswitch`. The control may be inverted."""
         # The control can be one of the two parts, so a wire of it must stay.
         self.uses[select >> 1] += 1
-        parts = [self.take(high), self.take(low)]
+        parts = [self.take_wire(high), self.take_wire(low)]
         self.uses[select >> 1] -= 1
-        found, control = self.borrow(select)
+        found, control = self.borrow_wire(select)
         control, result = self.add_gate("unswitch", None, [control, *(parts if found == select else parts[::-1])], 2,
                                     number)
-        self.wires(found).append(control)
-        self.wires(2 * number).append(result)
+        self.pool_of(found).append(control)
+        self.pool_of(2 * number).append(result)
 
-    def map_inverse_product(self, number: int, _select: Literal, high: Literal, low: Literal) -> None:
+    def map_join_as_product(self, number: int, _select: Literal, high: Literal, low: Literal) -> None:
         """Maps a join as "not (not high and not low)"."""
         second = self.claim_product(high, low ^ 1)
-        wire = self.take(low ^ 1)
-        found, control = self.borrow(high)
+        wire = self.take_wire(low ^ 1)
+        found, control = self.borrow_wire(high)
         control, one, two = self.add_gate("switch", None, [control, wire], 3)
         product, rest = (two, one) if found == high else (one, two)
-        self.wires(found).append(control)
-        self.wires(2 * number + 1).append(product)
-        self.give(second, rest)
+        self.pool_of(found).append(control)
+        self.pool_of(2 * number + 1).append(product)
+        self.give_wire(second, rest)
 
 
-WAYS: dict[str, Callable[..., None]] = {
-    "product": Mapper.map_product, "meeting": Mapper.map_meeting, "sum": Mapper.map_sum,
-    "meeting_join": Mapper.map_meeting_join,
-    "switch_join": Mapper.map_switch_join, "fredkin": Mapper.map_fredkin, "join": Mapper.map_join,
-    "inverse_product": Mapper.map_inverse_product,
+MAP_METHODS: dict[str, Callable[..., None]] = {
+    "product": Mapper.map_and_by_switch, "meeting": Mapper.map_and_by_interact, "sum": Mapper.map_or_by_switch,
+    "meeting_join": Mapper.map_xor_by_interact, "switch_join": Mapper.map_xor_by_switches,
+    "fredkin": Mapper.map_xor_by_fredkin, "join": Mapper.map_join_by_unswitch,
+    "inverse_product": Mapper.map_join_as_product,
 }

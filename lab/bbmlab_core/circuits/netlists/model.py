@@ -120,7 +120,7 @@ class LogicNetlist:
                                "wires.")
         self.latches.append(latch)
 
-    def add(self, node: Node) -> None:
+    def add_node(self, node: Node) -> None:
         """Adds a node. Raises NetlistError if its net is driven already, or if there are too many nodes."""
         if node.output in self.nodes:
             raise NetlistError(f"The net `{node.output}` has two drivers.")

@@ -2,8 +2,8 @@
 
 import re
 
-MAX_NAME = 32
-ILLEGAL = re.compile(r"[^a-z0-9_]+")
+MAX_NAME_BYTES = 32
+ILLEGAL_CHARACTERS = re.compile(r"[^a-z0-9_]+")
 
 
 class NameBook:
@@ -16,12 +16,12 @@ class NameBook:
 
     def port_name(self, wanted: str) -> str:
         """Returns the name for a port, and remembers it if it is another one than the netlist has."""
-        name = self.fresh_name(legal(wanted))
+        name = self.fresh_name(legal_name(wanted))
         if name != wanted:
             self.changed.append((wanted, name))
         return name
 
-    def notes(self) -> list[str]:
+    def renaming_notes(self) -> list[str]:
         """Returns a sentence on the ports that have other names, or nothing."""
         pairs = ", ".join(f"`{wanted}` is `{name}`" for wanted, name in self.changed)
         return [f"These ports of the netlist have other names in the circuit: {pairs}."] if pairs else []
@@ -32,7 +32,7 @@ class NameBook:
         while name in self.taken:
             self.last[stem] = self.last.get(stem, 1) + 1
             ending = f"_{self.last[stem]}"
-            name = stem[:MAX_NAME - len(ending)] + ending
+            name = stem[:MAX_NAME_BYTES - len(ending)] + ending
         self.taken.add(name)
         return name
 
@@ -46,8 +46,8 @@ class NameBook:
         return f"{stem}{number}"
 
 
-def legal(wanted: str) -> str:
+def legal_name(wanted: str) -> str:
     """Returns a legal name that looks like `wanted`: lower-case letters, digits and underscores, a letter first, at
     most 32 bytes."""
-    name = ILLEGAL.sub("_", wanted.lower()).strip("_")
-    return (name if name[:1].isalpha() else f"w{name}")[:MAX_NAME]
+    name = ILLEGAL_CHARACTERS.sub("_", wanted.lower()).strip("_")
+    return (name if name[:1].isalpha() else f"w{name}")[:MAX_NAME_BYTES]

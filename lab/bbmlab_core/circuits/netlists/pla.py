@@ -5,8 +5,8 @@ import re
 from .model import MAX_PORTS, LogicNetlist, NetlistError, TableNode
 
 NUMBER = re.compile(r"[0-9]{1,9}\Z")
-SKIPPED = {".p", ".phase", ".pair", ".mv"}
-KINDS = {"f", "fd", "fr", "fdr"}
+SKIPPED_KEYWORDS = {".p", ".phase", ".pair", ".mv"}
+PLA_TYPES = {"f", "fd", "fr", "fdr"}
 
 
 class PlaReader:
@@ -18,7 +18,7 @@ class PlaReader:
         self.rows: list[tuple[str, str]] = []
         self.kind = "fd"
 
-    def read(self, number: int, words: list[str]) -> None:
+    def read_line(self, number: int, words: list[str]) -> None:
         """Reads one line."""
         keyword = words[0]
         if keyword in (".i", ".o"):
@@ -29,10 +29,10 @@ class PlaReader:
             self.names[keyword] = words[1:]
         elif keyword == ".type":
             self.kind = words[1] if len(words) > 1 else ""
-            if self.kind not in KINDS:
-                raise NetlistError(f"Line {number}: a type is one of {', '.join(sorted(KINDS))}.")
+            if self.kind not in PLA_TYPES:
+                raise NetlistError(f"Line {number}: a type is one of {', '.join(sorted(PLA_TYPES))}.")
         elif keyword.startswith("."):
-            if keyword not in SKIPPED:
+            if keyword not in SKIPPED_KEYWORDS:
                 raise NetlistError(f"Line {number}: `{keyword}` is no line of a PLA that is read.")
         else:
             self.read_row(number, "".join(words).replace("|", ""))
@@ -58,7 +58,7 @@ class PlaReader:
         netlist = LogicNetlist("", inputs=ins)
         for at, name in enumerate(outs):
             rows = tuple(dict.fromkeys(product for product, values in self.rows if values[at] == "1"))
-            netlist.add(TableNode(f" {name}", tuple(ins), rows, True))
+            netlist.add_node(TableNode(f" {name}", tuple(ins), rows, True))
             netlist.outputs.append((name, f" {name}"))
         return netlist
 
@@ -71,5 +71,5 @@ def read_pla(text: str) -> LogicNetlist:
         if words and words[0] in (".e", ".end"):
             break
         if words:
-            reader.read(number, words)
+            reader.read_line(number, words)
     return reader.finish()

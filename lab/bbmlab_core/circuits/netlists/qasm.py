@@ -11,9 +11,9 @@ from .reversible import Control, LineBuilder, LineNetlist, require_distinct
 
 COMMENT = re.compile(r"//[^\n]*|/\*.*?\*/", re.DOTALL)
 # The gates that are known: how many controls each has, and how many targets.
-GATES = {"x": (0, 1), "cx": (1, 1), "CX": (1, 1), "cnot": (1, 1), "ccx": (2, 1), "toffoli": (2, 1), "c3x": (3, 1),
-         "c4x": (4, 1),
-         "swap": (0, 2), "cswap": (1, 2), "fredkin": (1, 2), "id": (0, 1)}
+KNOWN_GATES = {"x": (0, 1), "cx": (1, 1), "CX": (1, 1), "cnot": (1, 1), "ccx": (2, 1), "toffoli": (2, 1), "c3x": (3, 1),
+               "c4x": (4, 1),
+               "swap": (0, 2), "cswap": (1, 2), "fredkin": (1, 2), "id": (0, 1)}
 REGISTER = re.compile(r"(?:(qreg|creg)\s+(\w+)\s*\[\s*(\d+)\s*\]|(qubit|bit)\s*(?:\[\s*(\d+)\s*\])?\s*(\w+))\Z")
 MEASURE = re.compile(r"(?:measure\s+(.+?)\s*->\s*(.+)|(.+?)\s*=\s*measure\s+(.+))\Z", re.DOTALL)
 CALL = re.compile(r"((?:(?:neg)?ctrl(?:\s*\(\s*\d+\s*\))?\s*@\s*)*)(\w+)\s*(\([^)]*\))?\s+(.+)\Z", re.DOTALL)
@@ -67,7 +67,7 @@ class QasmReader:
         self.todo: list[tuple[list[Control], str, list[str]]] = []
         self.calls = 0
 
-    def read(self, number: int, words: str) -> None:
+    def read_statement(self, number: int, words: str) -> None:
         """Reads a statement."""
         keyword = (re.match(r"\w+", words) or [""])[0]
         if keyword in ("OPENQASM", "include", "barrier"):
@@ -75,13 +75,13 @@ class QasmReader:
         if (register := REGISTER.match(words)) is not None:
             self.add_register(number, register)
         elif (definition := DEFINITION.match(words)) is not None:
-            self.define(number, definition)
+            self.define_gate(number, definition)
         elif (measure := MEASURE.match(words)) is not None:
-            self.measure(number, measure[1] or measure[4], measure[2] or measure[3])
+            self.note_measurement(number, measure[1] or measure[4], measure[2] or measure[3])
         elif keyword == "reset":
             self.reset(number, words[5:].strip())
         elif (call := CALL.match(words)) is not None and "{" not in words:
-            self.call_all(number, call)
+            self.add_broadcast_calls(number, call)
         else:
             raise NetlistError(f"Line {number}: `{words[:40]}` is no statement that bits can follow.")
 
@@ -95,7 +95,7 @@ class QasmReader:
         names = [name] if size is None else [f"{name}[{index}]" for index in range(int(size))]
         (self.registers if kind in ("qreg", "qubit") else self.bits)[name] = names
 
-    def define(self, number: int, found: re.Match[str]) -> None:
+    def define_gate(self, number: int, found: re.Match[str]) -> None:
         """Notes the definition of a gate."""
         name, arguments = found[1], [word.strip() for word in found[3].split(",")]
         if found[2] and found[2][1:-1].strip():
@@ -117,7 +117,7 @@ class QasmReader:
             result.append(names if found[2] is None else [names[int(found[2])]])
         return result
 
-    def measure(self, number: int, qubits: str, bits: str) -> None:
+    def note_measurement(self, number: int, qubits: str, bits: str) -> None:
         """Notes the bits that hold lines at the end."""
         [lines], [names] = self.operands(number, qubits, self.registers), self.operands(number, bits, self.bits)
         if len(lines) != len(names):
@@ -132,7 +132,7 @@ class QasmReader:
                                    "reversible gate does.")
             self.zeros.add(line)
 
-    def call_all(self, number: int, found: re.Match[str]) -> None:
+    def add_broadcast_calls(self, number: int, found: re.Match[str]) -> None:
         """Adds a call, for each place of registers that are named as a whole."""
         operands = self.operands(number, found[4], self.registers)
         sizes = {len(lines) for lines in operands if len(lines) > 1}
@@ -140,9 +140,9 @@ class QasmReader:
             raise NetlistError(f"Line {number}: the registers have {' and '.join(map(str, sorted(sizes)))} elements.")
         for place in range(max(sizes, default=1)):
             lines = [lines[place if len(lines) > 1 else 0] for lines in operands]
-            self.call(number, (found[1], found[2], found[3] or ""), lines, 0)
+            self.add_call(number, (found[1], found[2], found[3] or ""), lines, 0)
 
-    def call(self, number: int, gate: tuple[str, str, str], lines: list[str], depth: int) -> None:
+    def add_call(self, number: int, gate: tuple[str, str, str], lines: list[str], depth: int) -> None:
         """Adds a call of a gate on lines."""
         modifiers, name, angles = gate
         late = next((line for line in lines if line in self.measured), None)
@@ -157,11 +157,11 @@ class QasmReader:
             taken, lines = lines[:int(count or 1)], lines[int(count or 1):]
             controls += [(line, not is_negative) for line in taken]
         if name in self.definitions and not controls:
-            self.call_definition(number, self.definitions[name], lines, depth)
+            self.add_definition_calls(number, self.definitions[name], lines, depth)
         else:
             self.add_gate(number, name, controls, lines, bool(angles.strip("() ")))
 
-    def call_definition(self, number: int, definition: Definition, lines: list[str], depth: int) -> None:
+    def add_definition_calls(self, number: int, definition: Definition, lines: list[str], depth: int) -> None:
         """Adds the calls of a gate's definition."""
         if len(lines) != len(definition.arguments):
             raise NetlistError(f"Line {number}: the gate takes {len(definition.arguments)} qubits, and {len(lines)} "
@@ -174,11 +174,11 @@ class QasmReader:
             arguments = [word.strip() for word in found[4].split(",")] if found else []
             if found is None or any(word not in names for word in arguments):
                 raise NetlistError(f"Line {inner}: `{words[:40]}` is no call of a gate on the arguments.")
-            self.call(inner, (found[1], found[2], found[3] or ""), [names[word] for word in arguments], depth + 1)
+            self.add_call(inner, (found[1], found[2], found[3] or ""), [names[word] for word in arguments], depth + 1)
 
     def add_gate(self, number: int, name: str, controls: list[Control], lines: list[str], has_angle: bool) -> None:
         """Adds a known gate with more controls."""
-        own, targets = GATES.get(name, (len(lines) - 1, 1) if name in ("mcx", "mct") else (-1, 0))
+        own, targets = KNOWN_GATES.get(name, (len(lines) - 1, 1) if name in ("mcx", "mct") else (-1, 0))
         if own < 0 or has_angle:
             raise NetlistError(f"Line {number}: `{name}` is no gate that bits can follow. These are x, cx, ccx, c3x, "
                                "c4x, mcx, swap and cswap.")
@@ -200,9 +200,9 @@ class QasmReader:
             raise NetlistError("The file declares no qubit.")
         for controls, kind, lines in self.todo:
             if kind == "swap":
-                self.builder.swap(controls, lines[0], lines[1])
+                self.builder.add_swap(controls, lines[0], lines[1])
             else:
-                self.builder.flip(controls, lines[0])
+                self.builder.add_not(controls, lines[0])
         if len(set(self.measured.values())) != len(self.measured):
             raise NetlistError("Two qubits are measured into one bit.")
         ends = {line: self.measured.get(line) if self.measured else line for line in self.builder.netlist.lines}
@@ -213,5 +213,5 @@ def read_qasm(text: str) -> LineNetlist:
     """Returns the netlist of an OpenQASM file. Raises NetlistError at the first statement that bits cannot follow."""
     reader = QasmReader()
     for number, words in statements(text):
-        reader.read(number, words)
+        reader.read_statement(number, words)
     return reader.finish()

@@ -6,12 +6,12 @@ from typing import Iterator
 from .model import MAX_PORTS, NetlistError
 from .reversible import Control, LineBuilder, LineNetlist, require_distinct
 
-GATE = re.compile(r"(t|f)([1-9][0-9]*)\Z")
+GATE_WORD = re.compile(r"(t|f)([1-9][0-9]*)\Z")
 WORD = re.compile(r'"([^"]*)"|(\S+)')
-QUANTUM = {"v": "a square root of NOT", "v+": "a square root of NOT", "h": "a Hadamard gate", "q": "a rotation",
-           "rx": "a rotation",
-           "ry": "a rotation", "rz": "a rotation"}
-SKIPPED = {".version", ".inputbus", ".outputbus", ".state", ".specification"}
+QUANTUM_GATES = {"v": "a square root of NOT", "v+": "a square root of NOT", "h": "a Hadamard gate", "q": "a rotation",
+                 "rx": "a rotation",
+                 "ry": "a rotation", "rz": "a rotation"}
+SKIPPED_KEYWORDS = {".version", ".inputbus", ".outputbus", ".state", ".specification"}
 
 
 def word_lines(text: str) -> Iterator[tuple[int, list[str]]]:
@@ -31,13 +31,13 @@ class RealReader:
         self.variables: list[str] = []
         self.has_begun = self.has_ended = False
 
-    def read(self, number: int, words: list[str]) -> None:
+    def read_line(self, number: int, words: list[str]) -> None:
         """Reads one line."""
         keyword = words[0].lower()
         if self.has_ended:
             raise NetlistError(f"Line {number} follows `.end`.")
         if keyword == ".begin":
-            self.begin(number)
+            self.make_lines(number)
         elif keyword == ".end":
             self.has_ended = True
         elif self.has_begun:
@@ -46,10 +46,10 @@ class RealReader:
             self.heads[keyword] = words[1:]
         elif keyword == ".define":
             raise NetlistError(f"Line {number}: `.define` is not read. Write the gates out.")
-        elif keyword not in SKIPPED:
+        elif keyword not in SKIPPED_KEYWORDS:
             raise NetlistError(f"Line {number}: `{words[0]}` is no line before `.begin`.")
 
-    def begin(self, number: int) -> None:
+    def make_lines(self, number: int) -> None:
         """Makes the lines of the circuit from those before `.begin`."""
         if self.has_begun:
             raise NetlistError(f"Line {number}: a second `.begin`.")
@@ -63,8 +63,8 @@ class RealReader:
             raise NetlistError(f"Line {number}: there are {count} variables. A circuit has at most {MAX_PORTS} wires.")
         if len(set(self.variables)) != count:
             raise NetlistError(f"Line {number}: a variable is named twice.")
-        constants = self.signs(number, ".constants", "01-")
-        inputs = self.names(number, ".inputs")
+        constants = self.variable_signs(number, ".constants", "01-")
+        inputs = self.variable_names(number, ".inputs")
         for line, name, sign in zip(self.variables, inputs, constants):
             if sign == "-":
                 self.builder.add_input(line, name)
@@ -73,7 +73,7 @@ class RealReader:
         if len(set(self.builder.netlist.inputs)) != len(self.builder.netlist.inputs):
             raise NetlistError(f"Line {number}: an input is named twice.")
 
-    def signs(self, number: int, keyword: str, allowed: str) -> str:
+    def variable_signs(self, number: int, keyword: str, allowed: str) -> str:
         """Returns a sign for each variable, `-` if the line is missing."""
         signs = "".join(self.heads.get(keyword, [])) or "-" * len(self.variables)
         if len(signs) != len(self.variables) or set(signs) - set(allowed):
@@ -81,7 +81,7 @@ class RealReader:
                                "for each variable.")
         return signs
 
-    def names(self, number: int, keyword: str) -> list[str]:
+    def variable_names(self, number: int, keyword: str) -> list[str]:
         """Returns a name for each variable: its own if the line is missing."""
         names = self.heads.get(keyword) or self.variables
         if len(names) != len(self.variables):
@@ -91,16 +91,16 @@ class RealReader:
 
     def read_gate(self, number: int, keyword: str, words: list[str]) -> None:
         """Reads a gate: Toffoli `t`, Fredkin `f`, or Peres `p`."""
-        if keyword in QUANTUM:
-            raise NetlistError(f"Line {number}: `{keyword}` is {QUANTUM[keyword]}, a quantum gate, which no bits can "
-                               "compute.")
-        controls = [self.control(number, word) for word in words]
+        if keyword in QUANTUM_GATES:
+            raise NetlistError(f"Line {number}: `{keyword}` is {QUANTUM_GATES[keyword]}, a quantum gate, which no bits "
+                               "can compute.")
+        controls = [self.control_of(number, word) for word in words]
         lines = [line for line, _ in controls]
         require_distinct(number, lines)
-        found = GATE.match(keyword)
+        found = GATE_WORD.match(keyword)
         targets = 2 if found and found[1] == "f" else 1
         if keyword in ("p", "p3", "pi") and len(words) == 3:
-            self.peres(keyword == "pi", controls)
+            self.add_peres(keyword == "pi", controls)
         elif found is None:
             raise NetlistError(f"Line {number}: `{keyword}` is no gate that is read. They are t1, t2, .., f2, f3, .., "
                                "and p.")
@@ -109,21 +109,21 @@ class RealReader:
         elif not all(value for _, value in controls[-targets:]):
             raise NetlistError(f"Line {number}: a target has no `-`.")
         elif targets == 2:
-            self.builder.swap(controls[:-2], lines[-2], lines[-1])
+            self.builder.add_swap(controls[:-2], lines[-2], lines[-1])
         else:
-            self.builder.flip(controls[:-1], lines[-1])
+            self.builder.add_not(controls[:-1], lines[-1])
 
-    def peres(self, is_inverse: bool, controls: list[Control]) -> None:
+    def add_peres(self, is_inverse: bool, controls: list[Control]) -> None:
         """Adds a Peres gate: a Toffoli gate and then a NOT of the second line, controlled by the first; or its inverse.
         """
         (first, one), (second, other), (third, _) = controls
         if not is_inverse:
-            self.builder.flip([(first, one), (second, other)], third)
-        self.builder.flip([(first, one)], second)
+            self.builder.add_not([(first, one), (second, other)], third)
+        self.builder.add_not([(first, one)], second)
         if is_inverse:
-            self.builder.flip([(first, one), (second, other)], third)
+            self.builder.add_not([(first, one), (second, other)], third)
 
-    def control(self, number: int, word: str) -> Control:
+    def control_of(self, number: int, word: str) -> Control:
         """Returns a line and its value: false after `-`."""
         line = word if word in self.builder.nets else word.removeprefix("-")
         if line not in self.builder.nets:
@@ -134,8 +134,8 @@ class RealReader:
         """Returns the netlist after the last line."""
         if not self.has_begun or not self.has_ended:
             raise NetlistError(f"Line {last}: the file ends without `.begin` and `.end`.")
-        garbage = self.signs(last, ".garbage", "-1")
-        names = self.names(last, ".outputs")
+        garbage = self.variable_signs(last, ".garbage", "-1")
+        names = self.variable_names(last, ".outputs")
         ends = {line: None if sign == "1" else name for line, name, sign in zip(self.variables, names, garbage)}
         kept = [name for name in ends.values() if name is not None]
         if len(set(kept)) != len(kept):
@@ -150,5 +150,5 @@ def read_real(text: str) -> LineNetlist:
     """
     reader, last = RealReader(), 1
     for last, words in word_lines(text):
-        reader.read(last, words)
+        reader.read_line(last, words)
     return reader.finish(last)

@@ -58,47 +58,48 @@ class LineBuilder:
     def add_constant(self, line: str, bit: bool) -> None:
         """Adds a line that begins with a constant."""
         net = self.fresh_net()
-        self.netlist.add(TableNode(net, (), ("",) if bit else (), True))
+        self.netlist.add_node(TableNode(net, (), ("",) if bit else (), True))
         self.netlist.lines.append(line)
         self.netlist.constants[line] = bit
         self.nets[line] = net
 
-    def cell(self, cell: Cell, *inputs: str) -> str:
+    def add_cell(self, cell: Cell, *inputs: str) -> str:
         """Adds a cell, and returns its net."""
         net = self.fresh_net()
-        self.netlist.add(CellNode(net, cell, inputs))
+        self.netlist.add_node(CellNode(net, cell, inputs))
         return net
 
-    def condition(self, controls: list[Control]) -> str | None:
+    def condition_net(self, controls: list[Control]) -> str | None:
         """Returns the net that is true if all controls have their values, or None if there are no controls."""
         found: str | None = None
         for line, value in controls:
             own = self.nets[line]
             if found is None:
-                found = own if value else self.cell(Cell.NOT, own)
+                found = own if value else self.add_cell(Cell.NOT, own)
             else:
-                found = self.cell(Cell.AND if value else Cell.ANDNOT, found, own)
+                found = self.add_cell(Cell.AND if value else Cell.ANDNOT, found, own)
         return found
 
-    def flip(self, controls: list[Control], target: str) -> None:
+    def add_not(self, controls: list[Control], target: str) -> None:
         """Adds a NOT of a line, if all controls have their values."""
         self.netlist.exchanges = None
-        own, condition = self.nets[target], self.condition(controls)
-        self.nets[target] = self.cell(Cell.NOT, own) if condition is None else self.cell(Cell.XOR, own, condition)
+        own, condition = self.nets[target], self.condition_net(controls)
+        self.nets[target] = (self.add_cell(Cell.NOT, own) if condition is None
+                             else self.add_cell(Cell.XOR, own, condition))
 
-    def swap(self, controls: list[Control], first: str, second: str) -> None:
+    def add_swap(self, controls: list[Control], first: str, second: str) -> None:
         """Exchanges two lines, if all controls have their values."""
         exchanges = self.netlist.exchanges
         if len(controls) > 1 or not all(value for _, value in controls):
             self.netlist.exchanges = None
         elif exchanges is not None:
             exchanges.append(Exchange(controls[0][0] if controls else None, first, second))
-        condition, one, other = self.condition(controls), self.nets[first], self.nets[second]
+        condition, one, other = self.condition_net(controls), self.nets[first], self.nets[second]
         if condition is None:
             self.nets[first], self.nets[second] = other, one
         else:
-            self.nets[first] = self.cell(Cell.MUX, one, other, condition)
-            self.nets[second] = self.cell(Cell.MUX, other, one, condition)
+            self.nets[first] = self.add_cell(Cell.MUX, one, other, condition)
+            self.nets[second] = self.add_cell(Cell.MUX, other, one, condition)
 
     def finish(self, ends: dict[str, str | None]) -> LineNetlist:
         """Returns the netlist. `ends` has the name of each line's output, or None for garbage."""

@@ -5,7 +5,7 @@ import random
 
 from ...texts.limits import SECOND
 from ..cones import keeping_cone
-from .circuit_text import NamedCircuit, named
+from .circuit_text import NamedCircuit, named_circuit
 from .graph import Graph
 from .mapping import Mapper, Preferences, MappedGates
 from .model import NetlistError
@@ -25,7 +25,7 @@ def require_room(gate_count: int, wire_count: int) -> None:
             raise NetlistError(f"The circuit would need {count} {what}. A circuit has at most {most}.")
 
 
-def cheapest(graph: Graph, separate: frozenset[int], size: int) -> MappedGates:
+def cheapest_wiring(graph: Graph, separate: frozenset[int], size: int) -> MappedGates:
     """Returns the cheapest of some wirings: the best of some at random, improved by small changes of its preferences.
 
     The same graph gets the same wiring each time.
@@ -42,7 +42,7 @@ def cheapest(graph: Graph, separate: frozenset[int], size: int) -> MappedGates:
                              key=lambda found: found[0])
     if best.ranks:
         for _ in range(tries - first):
-            found = tried(best.changed(chooser))
+            found = tried(best.with_small_change(chooser))
             if found[0] <= cost:
                 cost, best, wiring = found
     return wiring
@@ -50,15 +50,15 @@ def cheapest(graph: Graph, separate: frozenset[int], size: int) -> MappedGates:
 
 def map_graph(graph: Graph) -> NamedCircuit:
     """Maps a graph. Raises NetlistError if the circuit does not fit the limits of a circuit section."""
-    needed = graph.needed()
+    needed = graph.needed_nodes()
     if len(needed) > MAX_NEEDED_NODES:
         raise NetlistError(f"The netlist needs {len(needed)} nodes of logic, and so more than {SECOND.max_gates} "
                            "gates. "
                            f"A circuit has at most {SECOND.max_gates}.")
     separate: frozenset[int] = frozenset()
     while True:
-        wiring = cheapest(graph, separate, len(needed) + len(graph.outputs))
-        found = named(graph, wiring)
+        wiring = cheapest_wiring(graph, separate, len(needed) + len(graph.outputs))
+        found = named_circuit(graph, wiring)
         require_room(len(found.circuit.gates), len(found.circuit.wires))
         # The nodes whose inverse gate has no cone that shows that it always has a row.
         failed = frozenset(gate.node for number, gate in enumerate(wiring.gates)

@@ -5,7 +5,7 @@ from dataclasses import replace
 from .model import MAX_NODES, MAX_PORTS, CellNode, Latch, LogicNetlist, NetlistError, Node, TableNode
 
 
-def unrolled(netlist: LogicNetlist, cycles: int | None, has_state_ports: bool) -> LogicNetlist:
+def unrolled_netlist(netlist: LogicNetlist, cycles: int | None, has_state_ports: bool) -> LogicNetlist:
     """Returns the logic of some cycles of a machine. A netlist without latches stays as it is, and takes no number of
     cycles.
 
@@ -21,7 +21,7 @@ def unrolled(netlist: LogicNetlist, cycles: int | None, has_state_ports: bool) -
         count = len(netlist.latches)
         raise NetlistError(f"The netlist stores {count} bit{'s' if count > 1 else ''}: say for how many cycles it "
                            "runs, such as --cycles 4.")
-    require_names(netlist)
+    require_distinct_names(netlist)
     clock = clock_of(netlist)
     core = replace(netlist,
                    inputs=[name for name in netlist.inputs if name != clock]
@@ -49,7 +49,7 @@ def nodes_in_order(core: LogicNetlist, clock: str | None) -> list[Node]:
     return order
 
 
-def require_names(netlist: LogicNetlist) -> None:
+def require_distinct_names(netlist: LogicNetlist) -> None:
     """Raises NetlistError if two stored bits have one name or one net."""
     for kind, names in (("name", [latch.name for latch in netlist.latches]),
                         ("net", [latch.output for latch in netlist.latches])):
@@ -93,7 +93,7 @@ class Unroller:
 
     def run(self, cycles: int, has_state_ports: bool) -> LogicNetlist:
         """Returns the netlist of all cycles."""
-        state = {latch.output: self.first(latch, has_state_ports) for latch in self.netlist.latches}
+        state = {latch.output: self.first_value_net(latch, has_state_ports) for latch in self.netlist.latches}
         for cycle in range(cycles):
             state = self.add_cycle(cycle, state)
         self.result.outputs += [(f"{latch.name}_end", state[latch.output]) for latch in self.netlist.latches]
@@ -102,7 +102,7 @@ class Unroller:
                                  "and leaves by `NAME_end`.")
         return self.result
 
-    def first(self, latch: Latch, has_state_ports: bool) -> str:
+    def first_value_net(self, latch: Latch, has_state_ports: bool) -> str:
         """Returns the net of the first value of a latch: an input, or a constant."""
         net = f"{latch.name}_start"
         if has_state_ports:
@@ -111,7 +111,7 @@ class Unroller:
         if latch.start is None:
             raise NetlistError(
                 f"The stored bit `{latch.name}` has no first value: use `--state ports`, or give it one.")
-        self.result.add(TableNode(net, (), ("",) if latch.start else (), True))
+        self.result.add_node(TableNode(net, (), ("",) if latch.start else (), True))
         return net
 
     def add_cycle(self, cycle: int, state: dict[str, str]) -> dict[str, str]:
@@ -124,8 +124,8 @@ class Unroller:
             nets[node.output] = f" {cycle} {node.output}"
             ins = tuple(nets[name] for name in node.inputs)
             if isinstance(node, CellNode):
-                self.result.add(CellNode(nets[node.output], node.cell, ins))
+                self.result.add_node(CellNode(nets[node.output], node.cell, ins))
             else:
-                self.result.add(TableNode(nets[node.output], ins, node.rows, node.value))
+                self.result.add_node(TableNode(nets[node.output], ins, node.rows, node.value))
         self.result.outputs += [(f"{name}_{cycle}", nets[net]) for name, net in self.netlist.outputs]
         return {latch.output: nets[latch.data] for latch in self.netlist.latches}

@@ -9,15 +9,15 @@ from .model import MAX_PORTS, PORTS, Cell, CellNode, Latch, LogicNetlist, Netlis
 
 MAX_LUT_WIDTH = 8
 SIMPLE_CELLS = {cell.value: cell for cell in Cell}
-STORING = ("$_DFF", "$_SDFF", "$_ALDFF", "$_DLATCH", "$_SR", "$_FF_", "$dff", "$adff", "$sdff", "$dlatch", "$mem",
-           "$ff", "$aldff")
+STORING_CELL_TYPES = ("$_DFF", "$_SDFF", "$_ALDFF", "$_DLATCH", "$_SR", "$_FF_", "$dff", "$adff", "$sdff", "$dlatch",
+                      "$mem", "$ff", "$aldff")
 # A flip-flop by its clock, with or without an enable or a reset at the edge of the clock: whether the enable comes
 # before the reset, and the polarities of clock, reset and enable, with the value of the reset.
 FLIP_FLOP = re.compile(
     r"\$_(?:FF_|DFF_(?P<c1>[NP])_|DFFE_(?P<c2>[NP])(?P<e2>[NP])_|SDFF_(?P<c3>[NP])(?P<r3>[NP])(?P<v3>[01])_"
                        r"|SDFF(?P<first>C?)E_(?P<c4>[NP])(?P<r4>[NP])(?P<v4>[01])(?P<e4>[NP])_)\Z")
-RESET_AT_ONCE = re.compile(r"\$_DFFE?_[NP][NP][01][NP]?_\Z|\$_ALDFF|\$_DFFSR|\$al?dff")
-ADVICE = "Make a flat netlist of simple cells with `synth -flatten; abc -g AND,XOR,MUX` in yosys."
+ASYNCHRONOUS_CELL_TYPE = re.compile(r"\$_DFFE?_[NP][NP][01][NP]?_\Z|\$_ALDFF|\$_DFFSR|\$al?dff")
+FLATTENING_ADVICE = "Make a flat netlist of simple cells with `synth -flatten; abc -g AND,XOR,MUX` in yosys."
 
 
 def member(value: Any, name: str, kind: type, where: str) -> Any:
@@ -63,7 +63,7 @@ class ModuleReader:
             self.netlist.notes += [] if note in self.netlist.notes else [note]
         net = f"constant {bit}"
         if net not in self.netlist.nodes:
-            self.netlist.add(TableNode(net, (), ("",) if bit == "1" else (), True))
+            self.netlist.add_node(TableNode(net, (), ("",) if bit == "1" else (), True))
         return net
 
     def read_ports(self) -> None:
@@ -89,7 +89,7 @@ class ModuleReader:
         if name in self.netlist.inputs:
             raise NetlistError(f"The input `{name}` is named twice.")
         self.netlist.inputs.append(name)
-        self.netlist.add(TableNode(net, (name,), ("1",), True))
+        self.netlist.add_node(TableNode(net, (name,), ("1",), True))
 
     def read_cells(self) -> None:
         """Reads the cells."""
@@ -97,21 +97,21 @@ class ModuleReader:
             kind = member(cell, "type", str, f"the cell `{name}`")
             if kind in SIMPLE_CELLS:
                 simple = SIMPLE_CELLS[kind]
-                inputs = tuple(self.bits(cell, name, port, 1)[0] for port in PORTS[simple])
-                self.netlist.add(CellNode(self.bits(cell, name, "Y", 1)[0], simple, inputs))
+                inputs = tuple(self.port_nets(cell, name, port, 1)[0] for port in PORTS[simple])
+                self.netlist.add_node(CellNode(self.port_nets(cell, name, "Y", 1)[0], simple, inputs))
             elif kind == "$lut":
                 self.read_lut(name, cell)
             elif (found := FLIP_FLOP.match(kind)) is not None:
                 self.read_flip_flop(name, cell,
                                     {key[0]: sign for key, sign in found.groupdict().items() if sign is not None})
-            elif RESET_AT_ONCE.match(kind):
+            elif ASYNCHRONOUS_CELL_TYPE.match(kind):
                 raise NetlistError(f"The cell `{name}` is `{kind}`, which is set without its clock. Use `async2sync` "
                                    "in yosys before `synth`.")
-            elif kind.startswith(STORING):
+            elif kind.startswith(STORING_CELL_TYPES):
                 raise NetlistError(f"The cell `{name}` is `{kind}`, which stores a bit and is no simple flip-flop such "
-                                   f"as `$_DFF_P_`. {ADVICE}")
+                                   f"as `$_DFF_P_`. {FLATTENING_ADVICE}")
             elif kind != "$scopeinfo":
-                raise NetlistError(f"The cell `{name}` is `{kind}`, which is no simple cell. {ADVICE}")
+                raise NetlistError(f"The cell `{name}` is `{kind}`, which is no simple cell. {FLATTENING_ADVICE}")
 
     def name_latches(self) -> None:
         """Gives each flip-flop the name and the first value of the net that it drives. Names that yosys made come last.
@@ -137,10 +137,10 @@ class ModuleReader:
         self.netlist.latches = sorted((replace(latch, name=name, start=start) for latch, name, start in found),
                                       key=lambda latch: natural_key(latch.name))
 
-    def cell_net(self, cell: Cell, *inputs: str) -> str:
+    def add_cell(self, cell: Cell, *inputs: str) -> str:
         """Returns the net of a new cell."""
         self.made += 1
-        self.netlist.add(CellNode(f"made {self.made}", cell, inputs))
+        self.netlist.add_node(CellNode(f"made {self.made}", cell, inputs))
         return f"made {self.made}"
 
     def read_flip_flop(self, name: str, cell: Any, signs: dict[str, str]) -> None:
@@ -148,22 +148,22 @@ class ModuleReader:
 
         An enable keeps the bit or takes the new one, and a reset takes its value, both at the edge of the clock.
         """
-        output, data = self.bits(cell, name, "Q", 1)[0], self.bits(cell, name, "D", 1)[0]
+        output, data = self.port_nets(cell, name, "Q", 1)[0], self.port_nets(cell, name, "D", 1)[0]
         chosen: list[tuple[str, bool, str]] = []
         if "r" in signs:
-            chosen.append((self.bits(cell, name, "R", 1)[0], signs["r"] == "P", self.net_of(signs["v"], name)))
+            chosen.append((self.port_nets(cell, name, "R", 1)[0], signs["r"] == "P", self.net_of(signs["v"], name)))
         if "e" in signs:
             # Without the enable the flip-flop keeps its bit.
-            chosen.append((self.bits(cell, name, "E", 1)[0], signs["e"] == "N", output))
+            chosen.append((self.port_nets(cell, name, "E", 1)[0], signs["e"] == "N", output))
         # The choice that comes last in the list of cells is the first one to be made: a reset, unless the enable comes
         # before it.
         for select, is_high, value in chosen if signs.get("f") else chosen[::-1]:
-            data = self.cell_net(Cell.MUX, *((data, value) if is_high else (value, data)), select)
-        clock = (self.bits(cell, name, "C", 1)[0], "rising edge" if signs["c"] == "P"
+            data = self.add_cell(Cell.MUX, *((data, value) if is_high else (value, data)), select)
+        clock = (self.port_nets(cell, name, "C", 1)[0], "rising edge" if signs["c"] == "P"
                  else "falling edge") if "c" in signs else None
         self.netlist.add_latch(Latch(name, output, data, None, clock))
 
-    def bits(self, cell: Any, name: str, port: str, width: int) -> list[str]:
+    def port_nets(self, cell: Any, name: str, port: str, width: int) -> list[str]:
         """Returns the nets of a cell's port, which has `width` bits."""
         bits = member(member(cell, "connections", dict, f"the cell `{name}`"), port, list,
                       f"the connections of `{name}`")
@@ -185,8 +185,8 @@ class ModuleReader:
             raise NetlistError(f"The table of the cell `{name}` has {len(bits)} bits, and {width} inputs make "
                                f"{1 << width}.")
         rows = tuple(f"{index:0{width}b}"[::-1] if width else "" for index in range(1 << width) if table >> index & 1)
-        self.netlist.add(TableNode(self.bits(cell, name, "Y", 1)[0], tuple(self.bits(cell, name, "A", width)), rows,
-                                   True))
+        self.netlist.add_node(TableNode(self.port_nets(cell, name, "Y", 1)[0],
+                                        tuple(self.port_nets(cell, name, "A", width)), rows, True))
 
 
 def bit_index(port: Any, position: int, width: int) -> int:
