@@ -6,7 +6,7 @@ import re
 import unittest
 
 import support
-from bbmlab_core.explain.diagnosis import Diagnosis, Truth
+from bbmlab_core.explain.diagnosis import Diagnosis, Tristate
 from bbmlab_core.explain.explaining import as_gcc, explain_answer
 from bbmlab_core.explain.trials import TrialRunner
 from bbmlab_core.texts.skimming import certificate_digest
@@ -77,7 +77,7 @@ class Explained(unittest.TestCase):
                 all_inputs = itertools.product((0, 1), repeat=len(document.circuit.inputs))
                 found = any(gives(document, dict(zip(document.circuit.inputs, bits)), wanted) for bits in all_inputs)
                 tried += 1
-                self.assertIs(occurrence.occurs, Truth.YES if found else Truth.NO, f"{case.name}: {finding.text}")
+                self.assertIs(occurrence.occurs, Tristate.YES if found else Tristate.NO, f"{case.name}: {finding.text}")
                 if found:
                     self.assertTrue(gives(document, occurrence.inputs, wanted), f"{case.name}: {finding.text}")
         self.assertGreater(tried, 50)

@@ -8,7 +8,7 @@ from collections import Counter
 from types import SimpleNamespace
 
 import support
-from bbmlab_core.explain.diagnosis import Diagnosis, Truth
+from bbmlab_core.explain.diagnosis import Diagnosis, Tristate
 from bbmlab_core.explain.edits import EditError, addition, deletion, edits_between, replacement, text_after
 from bbmlab_core.explain.expected_lines import BorderCheck
 from bbmlab_core.explain.explaining import ExplainedAnswer, explain_answer
@@ -280,7 +280,7 @@ class Reports(support.InRoom):
             document = support.read_document(text, "check")
             self.assertIsNone(document.refusal)
             outcome = Diagnosis(document).whole_outcome
-            self.assertIs(outcome.is_right, Truth.UNKNOWN if is_right else Truth.NO)
+            self.assertIs(outcome.is_right, Tristate.UNKNOWN if is_right else Tristate.NO)
         told = explained(self.many_inputs(False))
         self.assertIn("The layout itself does not do what the circuit asks", " ".join(told.headline))
         self.assertEqual([edit.text for edit in told.fix.edits], ["out i4 20 4"])

@@ -62,7 +62,7 @@ class Certificates(support.InRoom):
 
     def test_no_box_is_tried_twice(self) -> None:
         """If no certificate is found no box was tried twice, though both orders of cuts lead to it."""
-        right, tried = CertificateMaker.module, Counter[Box]()
+        right, tried = CertificateMaker.module_for_box, Counter[Box]()
         for name, cell in (("machine_full_adder", (40, 40)), ("machine_half_adder", (30, 20))):
             def module(self: CertificateMaker, box: Box, cell: tuple[int, int] = cell) -> Module:
                 """Makes no module of the boxes with a cell."""
@@ -71,7 +71,7 @@ class Certificates(support.InRoom):
                     raise ImpossibleModuleError("not here")
                 return right(self, box)
 
-            with (self.subTest(name), mock.patch.object(CertificateMaker, "module", module),
+            with (self.subTest(name), mock.patch.object(CertificateMaker, "module_for_box", module),
                   self.assertRaisesRegex(LabError, "no certificate was found: not here")):
                 tried.clear()
                 certified_text(design(name), None, CertificatePlan())
@@ -84,7 +84,7 @@ class Certificates(support.InRoom):
         text = "circuit\ninput a\nsource 1 -> k\nswitch a k -> b c d\noutput b\noutput c\noutput d\nend\n"
         routed = support.lab("route", "-", "--program", support.program(), text=text).stdout
         document = support.read_document(routed.split("certificate ")[0], "design")
-        with mock.patch.object(CertificateMaker, "module", side_effect=ImpossibleModuleError("not here")):
+        with mock.patch.object(CertificateMaker, "module_for_box", side_effect=ImpossibleModuleError("not here")):
             with self.assertRaisesRegex(LabError, "not here. 2 of 5 wires have the values of an earlier one in all 2 "
                                         "choices of the inputs, as `b` has those of `a`"):
                 certified_text(document, None, CertificatePlan())

@@ -175,7 +175,7 @@ class Yes(Routing):
                 self.assertLessEqual(height, plan.side)
                 self.assertEqual(plan.side, plan.most_side)
         plans = list(search.compact_plans(RouterNetlist(circuit), options, Settings(), routed, 7))
-        self.assertEqual(len(plans), len(search.COMPACT_PARTS))
+        self.assertEqual(len(plans), len(search.COMPACT_SHARES))
 
     def test_attempts_on_a_rectangle(self) -> None:
         """A layout of a plane that is no square lies on it."""

@@ -12,7 +12,7 @@ import time
 from pathlib import Path
 
 import support
-from bbmlab_core.explain.diagnosis import Diagnosis, Truth
+from bbmlab_core.explain.diagnosis import Diagnosis, Tristate
 from bbmlab_core.studio.jobs import Jobs
 from support import processes, wait_for
 
@@ -290,8 +290,8 @@ class Words(Room):
         self.assertRegex(" ".join(ended.stdout.split()), r"the cell \(\d+, 0\) of the rim is live at time 1\. .* no "
                          r"certificate gets a yes before the layout is changed")
         outcome = Diagnosis(support.read_document(text, "check")).whole_outcome
-        self.assertEqual((outcome.is_right, outcome.is_rim), (Truth.NO, True))
-        for name, wanted in (("gate_and_mirror", Truth.YES), ("not_gate", None)):
+        self.assertEqual((outcome.is_right, outcome.is_rim), (Tristate.NO, True))
+        for name, wanted in (("gate_and_mirror", Tristate.YES), ("not_gate", None)):
             document = support.read_document(support.text_of(name), "check")
             if document.certificate and not document.refusal:
                 self.assertEqual(Diagnosis(document).whole_outcome.is_right, wanted, name)

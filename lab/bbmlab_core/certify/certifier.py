@@ -76,7 +76,7 @@ class CertificateMaker:
 
     def certificate(self, boxes: list[Box] | None) -> Certificate:
         """Returns a certificate with given boxes, or with boxes of its own."""
-        modules = [self.module(box)
+        modules = [self.module_for_box(box)
                    for box in boxes] if boxes else self.modules_covering(Box(0, 0, self.layout.width,
                                                                              self.layout.height))
         if len(modules) > SECOND.max_modules:
@@ -112,7 +112,7 @@ class CertificateMaker:
         why = ""
         if max(box.width, box.height) <= MAX_BOX_SIDE:
             try:
-                return [self.module(box)]
+                return [self.module_for_box(box)]
             except ImpossibleModuleError as error:
                 why = str(error)
         for parts in self.best_splits(box):
@@ -160,7 +160,7 @@ class CertificateMaker:
 
     # ---- one module
 
-    def module(self, box: Box) -> ModuleDraft:
+    def module_for_box(self, box: Box) -> ModuleDraft:
         """Returns the module of a box, whose own run has no fault."""
         ring, halo = ring_and_halo_keys(self.layout, box)
         unnamed = [key for key in (*ring, *halo) if self.observer.wires_carried_by(key) is None]

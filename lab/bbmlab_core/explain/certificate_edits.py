@@ -15,7 +15,7 @@ Edits = tuple[Edit, ...]
 # The most edits of all borders together.
 MAX_EDITS_TOGETHER = 400
 # How many steps a stop is moved, and how many cells.
-STOP_TIMES = 4
+MAX_STOP_STEPS = 4
 
 
 @dataclass(frozen=True)
@@ -141,7 +141,7 @@ class CertificateEditor:
 
     def proposals_for_stop(self, module: Module, stop: Stop) -> Iterator[Proposal]:
         """Yields other times and cells for a stop, at which the whole run has its wire, and other wires."""
-        spots = [(stop.time + dt, (stop.x + dx, stop.y + dy)) for dt in range(-STOP_TIMES, STOP_TIMES + 1)
+        spots = [(stop.time + dt, (stop.x + dx, stop.y + dy)) for dt in range(-MAX_STOP_STEPS, MAX_STOP_STEPS + 1)
                  for dx in (-1, 0, 1) for dy in (-1, 0, 1)]
         spots.sort(key=lambda spot: (spot[1] != stop.cell, abs(spot[0] - stop.time), spot))
         for time, cell in spots:

@@ -26,7 +26,7 @@ MAX_STEPS = 5000
 MAX_SECONDS = 20.0
 
 
-class Truth(Enum):
+class Tristate(Enum):
     """Whether something holds: found out that it does, found out that it does not, or not found out."""
 
     YES = "yes"
@@ -36,7 +36,7 @@ class Truth(Enum):
     @property
     def json(self) -> bool | None:
         """The value in a JSON document: `null` stands for unknown."""
-        return None if self is Truth.UNKNOWN else self is Truth.YES
+        return None if self is Tristate.UNKNOWN else self is Tristate.YES
 
 
 @dataclass
@@ -47,7 +47,7 @@ class Occurrence:
     else both are 0.
     """
 
-    occurs: Truth
+    occurs: Tristate
     inputs: dict[str, int] = field(default_factory=dict)
     count: int = 0
     total: int = 0
@@ -72,7 +72,7 @@ class Signal:
     With samples a name is that of a wire which agrees in all samples.
     """
 
-    known: Truth
+    known: Tristate
     name: str = ""
 
 
@@ -85,7 +85,7 @@ class WholeOutcome:
     asks.
     """
 
-    is_right: Truth
+    is_right: Tristate
     fault: str = ""
     is_rim: bool = False
 
@@ -167,10 +167,10 @@ class Diagnosis:
             table &= values.rows[number]
         total = 1 << len(inputs) if is_all else 0
         if not table:
-            return Occurrence(Truth.NO if is_all else Truth.UNKNOWN, total=total)
+            return Occurrence(Tristate.NO if is_all else Tristate.UNKNOWN, total=total)
         chosen = lowest_bit(table)
         given = {name: values.tables[name] >> chosen & 1 for name in inputs}
-        return Occurrence(Truth.YES, given, table.bit_count() if is_all else 0, total)
+        return Occurrence(Tristate.YES, given, table.bit_count() if is_all else 0, total)
 
     def occurring_assignments(self, module: Module) -> Table:
         """Returns a table of assignments of the module's cuts that occur: all of them, or those that occur in the
@@ -258,16 +258,16 @@ class Diagnosis:
         `1`, a wire, or `0` where it is never true.
         """
         if not table:
-            return Signal(Truth.YES, "0")
+            return Signal(Tristate.YES, "0")
         if table == self.values.full:
-            return Signal(Truth.YES, "1")
+            return Signal(Tristate.YES, "1")
         name = next((name for name, other in self.values.tables.items() if other == table), None)
-        return Signal(Truth.NO) if name is None else Signal(Truth.YES, name)
+        return Signal(Tristate.NO) if name is None else Signal(Tristate.YES, name)
 
     def signal_of(self, cell: Cell, time: int) -> Signal:
         """Returns the signal of a cell in the whole run at a time."""
         field_ = self.whole_run_cells(time)
-        return Signal(Truth.UNKNOWN) if field_ is None else self.signal_with_table(field_.live.get(key_of(cell), 0))
+        return Signal(Tristate.UNKNOWN) if field_ is None else self.signal_with_table(field_.live.get(key_of(cell), 0))
 
     def can_run_whole(self) -> bool:
         """Whether a run of the whole layout under all inputs, or under samples, takes seconds at most."""
@@ -279,10 +279,10 @@ class Diagnosis:
         values, rim = self.values, RimWatch(self.layout, self.values.defined_columns)
         run = self.whole_run_to(self.layout.steps, rim.note_live_rim)
         if run is None:
-            return WholeOutcome(Truth.UNKNOWN)
+            return WholeOutcome(Tristate.UNKNOWN)
         if run.left is not None:
             inputs = self.inputs_words(lowest_bit(run.left[1]))
-            return WholeOutcome(Truth.NO,
+            return WholeOutcome(Tristate.NO,
                                 f"with {inputs} step {run.left[0]} makes the cell ({run.left[2][0]}, {run.left[2][1]}) "
                                           "outside the rectangle live")
         wanted = {key_of(cell): table for cell, table in end_tables(self.layout, values.tables, values.full).items()}
@@ -293,14 +293,14 @@ class Diagnosis:
                 inputs, (x, y) = self.inputs_words(lowest_bit(differs)), cell_of(key)
                 is_live = run.field.live.get(key, 0) >> lowest_bit(differs) & 1
                 found, asked = ("live", "dead") if is_live else ("dead", "live")
-                return WholeOutcome(Truth.NO,
+                return WholeOutcome(Tristate.NO,
                                     f"with {inputs} the cell ({x}, {y}) is {found} at the end and should be {asked}")
         if rim.found:
             time, (x, y), table = rim.found
-            return WholeOutcome(Truth.NO,
+            return WholeOutcome(Tristate.NO,
                                 f"with {self.inputs_words(lowest_bit(table))} the cell ({x}, {y}) of the rim is "
                                 f"live at time {time}", True)
-        return WholeOutcome(Truth.YES if values.is_all else Truth.UNKNOWN)
+        return WholeOutcome(Tristate.YES if values.is_all else Tristate.UNKNOWN)
 
     def inputs_words(self, column: int) -> str:
         """Returns a tried choice of inputs as `p=1 q=0`; of many inputs only those that are on."""

@@ -13,7 +13,7 @@ from ..texts.designs import require_report_of
 from ..texts.documents import Document, read_document
 from ..texts.refusals import ExplainedRefusal, explain_code, explain_refusal, name_list
 from ..texts.reports import RUN_ANSWER, ReportLine, ReportOrRefusal, ReportError, parse_report
-from .diagnosis import MAX_STEPS, Diagnosis, Truth
+from .diagnosis import MAX_STEPS, Diagnosis, Tristate
 from .edits import Edit
 from .faults import ExplainedLine, assignment_words, explain_border, explain_keep, explain_local, cell_words
 from .fixing import Fix, Fixer, outcome_words
@@ -223,7 +223,7 @@ def whole_run_words(diagnosis: Diagnosis, faults: list[ReportLine]) -> list[str]
     """Returns whether the whole run ends as the layout asks with a dead rim: a sentence for yes, no, and what was not
     found out."""
     outcome, values = diagnosis.whole_outcome, diagnosis.values
-    if outcome.is_right is Truth.NO:
+    if outcome.is_right is Tristate.NO:
         return [outcome.why_no_yes]
     if not diagnosis.can_run_whole():
         why = "it takes too long" if diagnosis.is_slow else f"it is longer than {MAX_STEPS} steps"
@@ -233,7 +233,7 @@ def whole_run_words(diagnosis: Diagnosis, faults: list[ReportLine]) -> list[str]
                 f"({diagnosis.choices_words}) the whole run "
                 "ends as the layout asks."]
     tried = f"The whole run was tried here {diagnosis.choices_words}: it ends as the layout asks"
-    if outcome.is_right is Truth.UNKNOWN:
+    if outcome.is_right is Tristate.UNKNOWN:
         return [f"{tried}. The other choices were not tried."]
     is_certificate = any(finding.word in ("local", "border") for finding in faults)
     return [f"{tried}, so the fault is in the certificate." if is_certificate else f"{tried}."]
@@ -246,7 +246,7 @@ def missing_certificate_words(document: Document) -> list[str]:
     if design.circuit is None or design.layout is None or document.certificate and document.certificate.modules:
         return []
     outcome = Diagnosis(design).whole_outcome
-    if outcome.is_right is Truth.NO:
+    if outcome.is_right is Tristate.NO:
         return [outcome.why_no_yes]
     return ["The text has no certificate. In the choices of the inputs that were tried the whole run ends as the "
             "layout asks."]

@@ -9,7 +9,7 @@ from ..texts.certificates import Border, Module, Stop, line_words
 from ..texts.circuits import evaluate
 from ..texts.layouts import Cell
 from ..texts.reports import ReportLine, parse_finding
-from .diagnosis import Diagnosis, Difference, Occurrence, Signal, Truth
+from .diagnosis import Diagnosis, Difference, Occurrence, Signal, Tristate
 
 
 @dataclass
@@ -100,9 +100,9 @@ def wanted_end_state(diagnosis: Diagnosis, module: Module, cell: Cell, assignmen
 
 def occurrence_words(diagnosis: Diagnosis, occurrence: Occurrence, names: str) -> str:
     """Returns whether an assignment occurs, in words."""
-    if occurrence.occurs is Truth.UNKNOWN:
+    if occurrence.occurs is Tristate.UNKNOWN:
         return f"No choice that gives these values was found {diagnosis.choices_words}; the others were not tried."
-    if occurrence.occurs is Truth.NO:
+    if occurrence.occurs is Tristate.NO:
         return f"The circuit never gives {names}: no choice of its inputs does."
     if not occurrence.inputs:
         return "This occurs whatever the inputs are."
@@ -140,9 +140,9 @@ def explain_local(diagnosis: Diagnosis, finding: ReportLine) -> ExplainedLine:
     if part and not is_stable(part):
         entry.what.append(f"The cell is of the mirror of line {part.line} (`{diagnosis.document.line(part.line)}`), "
                           "which by itself does not stay as it is.")
-    if occurrence.occurs is Truth.NO:
+    if occurrence.occurs is Tristate.NO:
         add_cause_if_never_occurring(diagnosis, module, entry)
-    elif occurrence.occurs is Truth.YES:
+    elif occurrence.occurs is Tristate.YES:
         add_cause_if_occurring(diagnosis, module, finding, entry, occurrence)
     else:
         entry.what.append("So it was not tried whether the run of the whole layout has this state too.")
@@ -221,11 +221,11 @@ def unheard_words(diagnosis: Diagnosis, module: Module, cell: Cell, time: int, i
 
 def signal_words(diagnosis: Diagnosis, signal: Signal, cell: str) -> list[str]:
     """Returns which wire a cell has the values of, in words: a wire, none, or not found out."""
-    if signal.known is Truth.UNKNOWN:
+    if signal.known is Tristate.UNKNOWN:
         return [
             f"Which wire {cell} carries then was not found out: the whole run is too long, or leaves the rectangle."]
     scope = "" if diagnosis.values.is_all else f" {diagnosis.choices_words}"
-    if signal.known is Truth.NO:
+    if signal.known is Tristate.NO:
         return [f"No wire of the circuit is true in just the choices of the inputs in which {cell} is live then."]
     if signal.name in ("0", "1"):
         return [f"In the whole run {cell} is {'always' if signal.name == '1' else 'never'} live then{scope}."]
@@ -249,11 +249,11 @@ def explain_keep(diagnosis: Diagnosis, finding: ReportLine) -> ExplainedLine:
     entry.facts = {"module": module.number, "gate": gate.number, "assignment": values, "fed": ins,
                    "occurs": occurrence.occurs.json,
                    "inputs": occurrence.inputs}
-    if occurrence.occurs is Truth.YES:
+    if occurrence.occurs is Tristate.YES:
         entry.cause = "circuit"
         entry.what.append(f"So the circuit is wrong: it feeds gate {gate.number} these values. `bbmcheck value` "
                           f"answers `undefined {gate.number}`.")
-    elif occurrence.occurs is Truth.NO:
+    elif occurrence.occurs is Tristate.NO:
         entry.cause = "never_occurs"
     else:
         entry.what.append(f"So it was not tried whether the circuit ever feeds gate {gate.number} these values.")

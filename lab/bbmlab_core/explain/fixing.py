@@ -12,7 +12,7 @@ from ..texts.layouts import Cell
 from ..texts.reports import ReportLine, ReportOrRefusal
 from ..texts.skimming import design_text
 from .certificate_edits import CertificateEditor
-from .diagnosis import Diagnosis, Truth
+from .diagnosis import Diagnosis, Tristate
 from .edits import Edit, EditError, edits_between, text_after
 from .layout_changes import (DesignChange, Testbench, added_ball_changes, added_mirror_changes, circuit_changes,
                              enlarged_layout_changes, missing_port_changes, moved_part_changes, output_exchanges,
@@ -124,7 +124,7 @@ class Fixer:
         if document.refusal or document.circuit is None or document.layout is None or document.certificate is None:
             return None
         diagnosis = self.own if self.own and is_own else Diagnosis(document)
-        if diagnosis.whole_outcome.is_right is Truth.NO:
+        if diagnosis.whole_outcome.is_right is Tristate.NO:
             return self.text_with_changed_design(step, document) or self.text_with_edited_certificate(step, diagnosis)
         return self.text_with_edited_certificate(step, diagnosis) or self.text_with_changed_design(step, document)
 

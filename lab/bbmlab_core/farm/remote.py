@@ -17,7 +17,7 @@ from ..host.sealed import descriptor_path, sealed_copy
 RemoteAnswer = tuple[str, int, str, float, str, str]
 
 
-def digest_of(path: str) -> str:
+def file_digest(path: str) -> str:
     """Returns the SHA-256 of a file."""
     with open(path, "rb") as file:
         return hashlib.sha256(file.read()).hexdigest()
@@ -32,7 +32,7 @@ def stored_program_path(digest: str) -> str:
 def store_program(data: bytes, digest: str) -> str:
     """Stores a program under its digest, and returns where the worker now has it."""
     place = stored_program_path(digest)
-    if not os.path.isfile(place) or digest_of(place) != digest:
+    if not os.path.isfile(place) or file_digest(place) != digest:
         os.makedirs(os.path.dirname(place), exist_ok=True)
         number, beside = tempfile.mkstemp(dir=os.path.dirname(place))
         with os.fdopen(number, "wb") as file:

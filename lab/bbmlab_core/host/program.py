@@ -15,7 +15,7 @@ from .own_digest import why_not_report_of
 from .sealed import descriptor_path, sealed_copy
 from .signals import allow_stop, delay_stop
 
-HERE = Path(__file__).resolve().parent.parent
+PACKAGE_FOLDER = Path(__file__).resolve().parent.parent
 
 
 class BadProgramError(Exception):
@@ -83,7 +83,7 @@ def program_candidates(given: str | None) -> list[str]:
     if os.environ.get("BBMCHECK"):
         return [os.environ["BBMCHECK"]]
     # The last is next to the command, or next to a link to it, as pipx makes.
-    own = [HERE.parent.parent / "bbmcheck", HERE.parent.parent.parent / "bin" / "bbmcheck",
+    own = [PACKAGE_FOLDER.parent.parent / "bbmcheck", PACKAGE_FOLDER.parent.parent.parent / "bin" / "bbmcheck",
            Path(sys.prefix) / "bin" / "bbmcheck",
            Path(sys.argv[0]).absolute().parent / "bbmcheck"]
     return [*(str(place) for place in own if place.is_file()), "bbmcheck"]
@@ -94,7 +94,7 @@ def program_behind_wrapper(found: str) -> str:
 
     Any other program is returned as it is.
     """
-    wrapper = HERE.parent.parent / "bbmcheck"
+    wrapper = PACKAGE_FOLDER.parent.parent / "bbmcheck"
     if not wrapper.is_file() or not os.path.samefile(found, wrapper):
         return found
     asked = subprocess.run([os.path.abspath(found), "--wrapper-program"], stdin=subprocess.DEVNULL,

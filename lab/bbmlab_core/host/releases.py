@@ -3,13 +3,13 @@
 import subprocess
 from dataclasses import dataclass
 
-from .program import HERE, Executable, BadProgramError, kill_session
+from .program import PACKAGE_FOLDER, Executable, BadProgramError, kill_session
 from .terminal import LabError, read_bytes
 
 # Where a MANIFEST may be: in the repository, and in an installation.
-MANIFEST_PATHS = [*(HERE.parent.parent / "release" / target / "MANIFEST"
+MANIFEST_PATHS = [*(PACKAGE_FOLDER.parent.parent / "release" / target / "MANIFEST"
                     for target in ("x86_64-linux-gnu", "x86_64-v3-linux-gnu")),
-                  HERE.parent.parent.parent / "share" / "doc" / "bbmcheck" / "MANIFEST"]
+                  PACKAGE_FOLDER.parent.parent.parent / "share" / "doc" / "bbmcheck" / "MANIFEST"]
 # How long `--version` may take.
 VERSION_SECONDS = 10.0
 

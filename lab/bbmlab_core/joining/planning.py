@@ -16,7 +16,7 @@ from .turning import TURNINGS, UPRIGHT, Placing, Turning
 
 # The part of the plane between the parts that may be taken by estimate, and the cells that a ball newly touches in a
 # step.
-FILL = 0.2
+FILL_SHARE = 0.2
 STEP_CELLS = 2.6
 
 
@@ -49,7 +49,7 @@ SHALLOW_CELLS = 150
 # The place of the first spare steps in `SPARES` if a ball is led so deep.
 DEEP_SPARE_INDEX = 2
 # How often all parts are turned anew.
-TURNS = 2
+TURN_ROUNDS = 2
 # For each connection the place of its spare steps in `SPARES`.
 SpareIndices = list[int]
 
@@ -172,7 +172,7 @@ def parts_turned_at(composed: Composition, places: list[Place], spares: SpareInd
     placed = [PlacedPart(part, x, y) for part, (x, y) in zip(composed.parts, places)]
     set_times(composed, placed, spares)
     connected = {name for own in composed.connections for name in (own.source, own.target)}
-    for own in (own for _ in range(TURNS) for own in placed if own.part.name in connected):
+    for own in (own for _ in range(TURN_ROUNDS) for own in placed if own.part.name in connected):
         ends = dict[Turning, tuple[int, int]]()
         for turning in turnings_of(own):
             own.turning = turning
@@ -248,7 +248,7 @@ def estimated_side(composed: Composition, spares: SpareIndices) -> int:
         plan = make_plan(composed, side, spares)
         if plan is not None:
             free = side ** 2 - sum(own.area.width * own.area.height for own in plan.placed)
-            if STEP_CELLS * sum(job.steps for job in plan.jobs) <= FILL * free:
+            if STEP_CELLS * sum(job.steps for job in plan.jobs) <= FILL_SHARE * free:
                 break
         side = min(SECOND.max_side, (math.ceil(side * 1.05) + 2 * TILE - 1) // (2 * TILE) * 2 * TILE)
     return side

@@ -13,9 +13,9 @@ from ..texts.documents import Document, read_document
 from ..texts.layouts import Cell, Layout, row_order_key
 from .longer_runs import longer_runs
 
-HERE = Path(__file__).resolve().parent.parent
+PACKAGE_FOLDER = Path(__file__).resolve().parent.parent
 # The cells of a clone or of `make install`, else those of a Python package.
-CELLS_FOLDER = HERE.parent / "cells" if (HERE.parent / "cells").is_dir() else HERE / "cells"
+CELLS_FOLDER = (PACKAGE_FOLDER.parent if (PACKAGE_FOLDER.parent / "cells").is_dir() else PACKAGE_FOLDER) / "cells"
 # What each cell does, in the order in which they are listed.
 CELL_DESCRIPTIONS = {
     "turn_left": "turns a ball to its left by one mirror",

@@ -17,9 +17,9 @@ DIRECTIONS = (DIAGONAL_STRIDE, -DIAGONAL_STRIDE, ROW_STRIDE - 1, 1 - ROW_STRIDE,
 FALLING, BACK_FALLING, RISING, BACK_RISING = range(4)
 LINE_SPEEDS = ((1, 1), (-1, -1), (-1, 1), (1, -1))
 # The two other cells of the block that lie at the sides of a ball's move.
-SIDES = ((1, ROW_STRIDE), (-1, -ROW_STRIDE), (-1, ROW_STRIDE), (1, -ROW_STRIDE))
+SIDE_OFFSETS = ((1, ROW_STRIDE), (-1, -ROW_STRIDE), (-1, ROW_STRIDE), (1, -ROW_STRIDE))
 # By whether x and y of a ball differ from the parity of the time, the direction in which it flies.
-FLYING = ((FALLING, BACK_RISING), (RISING, BACK_FALLING))
+FLIGHT_DIRECTIONS = ((FALLING, BACK_RISING), (RISING, BACK_FALLING))
 ROW_BITS = ROW_STRIDE.bit_length() - 1
 COLUMN_MASK = ROW_STRIDE - 1
 # A shorter flight costs more than its steps.

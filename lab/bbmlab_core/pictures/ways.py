@@ -8,8 +8,8 @@ from typing import Iterable, Iterator
 
 from ..physics.simulation import DIAGONAL_STRIDE, ROW_STRIDE, Table, cell_of, key_of
 from ..texts.layouts import Box, Cell, Layout
-from .flights import (BACK_FALLING, BACK_RISING, DIRECTIONS, FALLING, FLYING, RISING, ROW_BITS, SIDES, Flights, Walls,
-                      is_firm, mirror_cells)
+from .flights import (BACK_FALLING, BACK_RISING, DIRECTIONS, FALLING, FLIGHT_DIRECTIONS, RISING, ROW_BITS, SIDE_OFFSETS,
+                      Flights, Walls, is_firm, mirror_cells)
 
 # A straight piece of a way: its first and its last cell.
 Piece = tuple[Cell, Cell]
@@ -73,8 +73,8 @@ class WayRun:
         """Lets balls fly that can, at most until a time."""
         live, flights, time, odd, stay = self.live, self.flights, self.time, self.time & 1, list[int]()
         for key in self.moving:
-            direction = FLYING[key & 1 ^ odd][key >> ROW_BITS & 1 ^ odd]
-            one, other = SIDES[direction]
+            direction = FLIGHT_DIRECTIONS[key & 1 ^ odd][key >> ROW_BITS & 1 ^ odd]
+            one, other = SIDE_OFFSETS[direction]
             is_free = not (key + DIRECTIONS[direction] in live or key + one in live or key + other in live)
             number = flights.take_off(key, direction, time, until) if is_free else None
             if number is None:

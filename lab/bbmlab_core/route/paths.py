@@ -20,12 +20,12 @@ LEAST_LEG = 12
 SPARE_STEPS = 30
 # A way behind an open end goes on for the first number of steps after its bounce, and the second number of steps is
 # free when it is found. The straight way is kept free for the third number of steps behind the bounce.
-OPEN_LEG = 24
-OPEN_ROOM = 40
-OPEN_PAST = 4
+OPEN_LEG_STEPS = 24
+OPEN_FREE_STEPS = 40
+OPEN_STRAIGHT_STEPS = 4
 NO_ITEM = Item(frozenset())
 # A path without a return has at most this many steps to spare.
-STAIR_STEPS = 24
+MAX_STAIR_SPARE = 24
 
 
 @dataclass(frozen=True, eq=False)
@@ -197,7 +197,7 @@ class PathFinder:
         for legs in self.legs_past_bounce(ball, sign, most):
             way = path_item(ball if sign > 0 else self.ball_before(ball, legs), legs)
             # A few steps of the straight way keep mirrors so far away that a search sees the bounce.
-            steps = OPEN_PAST + (legs[0] if sign > 0 else legs[-1]).steps
+            steps = OPEN_STRAIGHT_STEPS + (legs[0] if sign > 0 else legs[-1]).steps
             straight = path_item(ball if sign > 0 else ball.flown(-steps), [Leg(steps, None)])
             if way is None or straight is None or not self.world.can_add(way) or not self.world.can_add(straight):
                 continue
@@ -215,16 +215,16 @@ class PathFinder:
         first = 1 if sign > 0 else 3
         rooms = [place - first for place, step in ((ball.x, sign * ball.dx), (ball.y, sign * ball.dy)) if step < 0]
         room = min(rooms, default=most + 1)
-        if OPEN_PAST <= room <= most and max(ball.x, ball.y) + most < self.world.size - MARGIN_CELLS - 1:
-            yield [Leg(room - OPEN_PAST, None)]
+        if OPEN_STRAIGHT_STEPS <= room <= most and max(ball.x, ball.y) + most < self.world.size - MARGIN_CELLS - 1:
+            yield [Leg(room - OPEN_STRAIGHT_STEPS, None)]
         most = self.world.free_steps(ball if sign > 0 else ball.reversed(), most)
         for steps in range(0 if sign > 0 else BOUNCE_STEPS, most + 1):
             at = ball.flown(sign * steps)
             for turn in Turn:
                 after, mirror = bounce(at, turn) if sign > 0 else bounce_before(at, turn)
                 clear = after.flown(BOUNCE_STEPS) if sign > 0 else after.reversed()
-                if self.world.can_hold(mirror) and self.world.free_steps(clear, OPEN_ROOM) >= OPEN_ROOM:
-                    ends = [Leg(steps, turn), Leg(OPEN_LEG, None)], [Leg(OPEN_LEG, turn), Leg(steps, None)]
+                if self.world.can_hold(mirror) and self.world.free_steps(clear, OPEN_FREE_STEPS) >= OPEN_FREE_STEPS:
+                    ends = [Leg(steps, turn), Leg(OPEN_LEG_STEPS, None)], [Leg(OPEN_LEG_STEPS, turn), Leg(steps, None)]
                     yield ends[sign < 0]
 
     def ball_before(self, ball: Ball, legs: list[Leg]) -> Ball:
@@ -387,7 +387,7 @@ class PathFinder:
         first, last = self.known_departures.get(key) or self.departures(start, total), self.approaches(goal, total)
         self.known_departures[key] = first
         spare = total - max(abs(start.x - goal.x), abs(start.y - goal.y))
-        returns = (True, True, True, False) if spare <= STAIR_STEPS else (True,)
+        returns = (True, True, True, False) if spare <= MAX_STAIR_SPARE else (True,)
         joins = [(before, after, is_return) for way, before in first.items() for is_return in returns
                  for after in [last.get((-way[0], -way[1]) if is_return else way)] if after]
         for _ in range(tries if joins else 0):

@@ -25,7 +25,8 @@ from .crowding import Crowding, crowding_of
 from .design import Design, cropped_design
 from .estimate import Estimate, estimate_of
 from .netlist import RouterNetlist
-from .partial import EFFORT_PART, INTERRUPT_SECONDS, SECONDS, PartialRoute, hurried_design, partial_design, partial_text
+from .partial import (EFFORT_SHARE, INTERRUPT_SECONDS, LEAST_SECONDS, PartialRoute, hurried_design, partial_design,
+                      partial_text)
 from .settings import Settings
 from .world import TILE
 
@@ -35,7 +36,7 @@ ATTEMPTS_PER_SIDE = 2
 # The part of the first plane's cells that paths and gates may touch by estimate, and the cells that a ball touches in a
 # step. Planes grow, so a small first one gives tight layouts: with 0.16 in place of 0.3 six circuits of 5 to 48 gates
 # took 1.6 times the area, and 0.7 of the time.
-FILL = 0.3
+FILL_SHARE = 0.3
 CELLS_PER_STEP = 2.6
 # If more balls than this end beyond those that begin, attempts also run backward in time, and first if the circuit
 # takes few steps by estimate: two levels of 48 gates got 640 cells a side and 257 steps backward, and 704 and 370
@@ -44,7 +45,7 @@ MOST_GROWTH = 20
 SHALLOW_STEPS = 200
 # The attempts of `--compact` after a layout, by the part of its area that the plane has at most. The first one that
 # succeeds gives the next layout.
-COMPACT_PARTS = (*(0.8,) * 3, *(0.9,) * 6)
+COMPACT_SHARES = (*(0.8,) * 3, *(0.9,) * 6)
 # How often paths to the last time make way for others in a part that is kept: fewer gates are tried sooner. With 30 in
 # place of 150, 53 of 60 placed gates were kept in eight seconds, and not 46.
 PARTIAL_RIPS = 30
@@ -122,7 +123,7 @@ def estimated_side(netlist: RouterNetlist) -> int:
     balls = max(len(netlist.free_roots()), len(netlist.circuit.outputs) + len(netlist.circuit.spills))
     area += balls * (steps + 16) * CELLS_PER_STEP
     side = LEAST_SIDE
-    while side < SECOND.max_side and side * side * FILL < area:
+    while side < SECOND.max_side and side * side * FILL_SHARE < area:
         side += 2 * TILE
     return side
 
@@ -201,7 +202,7 @@ def compact_plans(netlist: RouterNetlist, options: SearchOptions, settings: Sett
     """Yields what attempts on smaller planes than a layout are made with; `first` is the number of the first of them.
     """
     tight = compact_settings(settings)
-    for index, part in enumerate(COMPACT_PARTS, first):
+    for index, part in enumerate(COMPACT_SHARES, first):
         width, height = smaller_plane(routed.width, routed.height, part)
         if height >= LEAST_SIDE // 2:
             yield AttemptPlan(netlist, width, width, attempt_seed(options, index), tight, height)
@@ -449,7 +450,7 @@ def partial_bundle(circuit: Circuit, outcome: SearchOutcome, options: SearchOpti
     if outcome.is_interrupted:
         found = hurried_design(part, costs, INTERRUPT_SECONDS)
     else:
-        found = partial_design(part, costs, max(SECONDS, EFFORT_PART * options.effort))
+        found = partial_design(part, costs, max(LEAST_SECONDS, EFFORT_SHARE * options.effort))
     if found is None:
         return None
     try:

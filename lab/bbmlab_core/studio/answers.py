@@ -5,7 +5,7 @@ from functools import lru_cache
 from pathlib import Path
 from typing import Any, Callable
 
-from ..host.program import HERE, BadProgramError
+from ..host.program import PACKAGE_FOLDER, BadProgramError
 from ..host.releases import identity_of
 from ..host.terminal import LabError
 from ..physics import standard_cells
@@ -20,8 +20,8 @@ from .jobs import Jobs
 from .routes import RouteSearches
 
 # The folders of the examples, in a clone and in an installation.
-EXAMPLE_FOLDERS = [HERE.parent.parent / "examples",
-                   HERE.parent.parent.parent / "share" / "doc" / "bbmcheck" / "examples"]
+EXAMPLE_FOLDERS = [PACKAGE_FOLDER.parent.parent / "examples",
+                   PACKAGE_FOLDER.parent.parent.parent / "share" / "doc" / "bbmcheck" / "examples"]
 EMPTY_TEXT = "circuit\nend\nlayout 48 48 40\nend\n"
 Answer = dict[str, Any]
 NO_PROGRAM: Answer = {"error": "The program was not found: name it with --program PATH or set BBMCHECK."}

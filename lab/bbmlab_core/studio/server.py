@@ -16,7 +16,7 @@ from .answers import Answers, text_member
 from .guard import MAX_REQUEST_BYTES, Denied, Guard
 
 ADDRESS = "127.0.0.1"
-HERE = Path(__file__).resolve().parent
+STUDIO_FOLDER = Path(__file__).resolve().parent
 CONTENT_TYPES = {".js": "text/javascript", ".css": "text/css", ".html": "text/html"}
 POLICY = ("default-src 'none'; script-src 'self'; worker-src 'self'; style-src 'self'; connect-src 'self'; img-src "
           "data:; base-uri 'none'; "
@@ -36,11 +36,11 @@ def page_files() -> dict[str, tuple[str, bytes]]:
     """Returns the files of the page with their types, by their paths: the viewer's scripts and style, and the studio's
     own."""
     found = {}
-    for folder, place in (("view", viewing.TEMPLATE_FOLDER), ("studio", HERE)):
+    for folder, place in (("view", viewing.TEMPLATE_FOLDER), ("studio", STUDIO_FOLDER)):
         for path in sorted(place.iterdir()):
             if path.suffix in (".js", ".css"):
                 found[f"{folder}/{path.name}"] = (CONTENT_TYPES[path.suffix], path.read_bytes())
-    found[""] = (CONTENT_TYPES[".html"], (HERE / "studio.html").read_bytes())
+    found[""] = (CONTENT_TYPES[".html"], (STUDIO_FOLDER / "studio.html").read_bytes())
     return found
 
 

@@ -7,7 +7,7 @@ from dataclasses import dataclass, field
 from typing import Any, Sequence
 
 from ..certify.certifier import CertificatePlan, certified_text
-from ..explain.diagnosis import Diagnosis, Truth
+from ..explain.diagnosis import Diagnosis, Tristate
 from ..explain.explaining import explain_report, tried_in_vain_words
 from ..explain.fixing import Fix, Fixer, outcome_words
 from ..explain.trials import Budget, TrialRunner
@@ -156,7 +156,7 @@ class Judge:
             if quick.verdict == "yes":
                 return quick
             outcome = Diagnosis(read_document(quick.bundle, "check")).whole_outcome
-            if outcome.is_right is Truth.NO:
+            if outcome.is_right is Tristate.NO:
                 quick.words.append(outcome.why_no_yes)
                 return quick
             return self.bundle_verdict(certified_text(design, None, CertificatePlan(until=self.until)), "certify")

@@ -20,7 +20,7 @@ COPY_COST = GATE_COSTS["switch"] + GATE_COSTS["source"]
 DEPTH_COST = 0.05
 
 # How much a preference can add to the cost of a way, and the most ways for a node.
-NOISE = 0.8
+MAX_NOISE = 0.8
 MAX_WAYS_PER_NODE = 10
 
 Wire = int
@@ -136,7 +136,7 @@ class Mapper:
         makers = {Kind.AND: self.and_ways, Kind.XOR: self.xor_ways, Kind.JOIN: self.join_ways}
         ways = makers[node.kind](number, node.inputs)
         noise = self.preferences.noise[number]
-        _, index = min((way[0] + NOISE * noise[index], index) for index, way in enumerate(ways))
+        _, index = min((way[0] + MAX_NOISE * noise[index], index) for index, way in enumerate(ways))
         MAP_METHODS[ways[index][1]](self, number, *ways[index][2])
 
     # ---- pools of wires
