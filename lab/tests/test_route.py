@@ -2,6 +2,7 @@
 
 import contextlib
 import io
+import multiprocessing
 import os
 import random
 import re
@@ -344,6 +345,17 @@ class Hostile(Routing):
                                     lambda *_: None).run()
         self.assertTrue(outcome.is_interrupted)
         self.assertEqual((outcome.routed, outcome.interrupt_status), (found, 143))
+
+    def test_attempts_that_succeed_at_once(self) -> None:
+        """Of two attempts whose routes come at once, the first in order counts, and the other one is ended."""
+        pool = search.AttemptPool(mock.MagicMock(deadline=time.monotonic() + 60), iter(()), 0)
+        pool.search.options.jobs = 0
+        for index in range(2):
+            here, there = multiprocessing.Pipe(duplex=False)
+            there.send(("routed", 1, 64, search.RoutedBundle("", "", 64, 64, 1, 0, 1, 0, 1)))
+            there.close()
+            pool.workers[here] = search.AttemptWorker(mock.Mock(), index)
+        self.assertEqual(pool.run(), 0)
 
 
 class Delays(Routing):

@@ -384,7 +384,8 @@ class AttemptPool:
                 if not self.workers:
                     break
                 for connection in wait(list(self.workers), max(0.05, search.deadline + 1 - time.monotonic())):
-                    if isinstance(connection, Connection):
+                    # A message that was taken before may have ended this attempt.
+                    if isinstance(connection, Connection) and connection in self.workers:
                         self.receive(connection)
         finally:
             for worker in self.workers.values():
