@@ -13,7 +13,7 @@ from array import array
 from dataclasses import dataclass
 from functools import cache, cached_property
 from itertools import chain
-from typing import Iterable, Iterator
+from typing import Iterable, Iterator, Protocol
 
 from ..texts.layouts import Cell
 from .balls import BOUNCE_STEPS, Ball, Leg, Mirror, Turn, block_cells, bounce, mirror_cells, path_run
@@ -33,6 +33,9 @@ TILE_BITS = 4
 # The square of `taken_around` has sides of twice this many cells.
 AROUND = 32
 BITS = [1 << index for index in range(ROW)]
+# The steps of a bounce in which the lead and the tail claim the blocks that they would claim if they flew on, and the
+# steps before the next flight in which they claim blocks as if it began earlier. These are all blocks of the bounce.
+LEAD_PAST, TAIL_PAST, EARLY = 1, 2, 1
 
 
 def cell_number(cell: Cell) -> int:
@@ -105,9 +108,11 @@ class Item:
 
 @dataclass(frozen=True)
 class BounceShape:
-    """The blocks and cells of a bounce, as differences to the number of the lead's cell at the time of the bounce."""
+    """The cells of a bounce, as differences to the number of the lead's cell at the time of the bounce.
 
-    claims: tuple[int, ...]
+    Its blocks at times are those of the flights before and behind it: see `LEAD_PAST`.
+    """
+
     touched: tuple[int, ...]
     mirror: tuple[int, ...]
 
@@ -119,25 +124,31 @@ def bounce_shape(turn: Turn, dx: int, dy: int) -> BounceShape:
     run = path_run(lead.flown(-2), [Leg(2, turn), Leg(BOUNCE_STEPS, None)])
     own = mirror_cells([bounce(lead, turn)[1]])
     base = cell_number((lead.x, lead.y))
-    claims, touched = [], set()
-    for time, corners in enumerate(run.blocks[2:]):
-        claims += [time * STEP + cell_number(corner) - base for corner in sorted(corners)]
-        touched |= {cell for corner in corners for cell in block_cells(corner)}
-    return BounceShape(tuple(claims), tuple(sorted(cell_number(cell) - base for cell in touched - own)),
+    touched = {cell for corners in run.blocks[2:] for corner in corners for cell in block_cells(corner)}
+    return BounceShape(tuple(sorted(cell_number(cell) - base for cell in touched - own)),
                        tuple(sorted(cell_number(cell) - base for cell in own)))
 
 
-def add_flight(ball: Ball, steps: int, claims: list[Iterable[int]], touched: list[Iterable[int]]) -> None:
-    """Adds the blocks and cells of a straight flight, as ranges."""
+def add_claims(ball: Ball, steps: int, early: int, has_bounce: bool, claims: list[Iterable[int]]) -> None:
+    """Adds the blocks at times of a straight flight, as ranges: from `early` steps before it on, and with its part of
+    the bounce at its end if there is one."""
+    x, y, dx, dy, time = ball
+    along = dy * ROW + dx
+    step = STEP + along
+    lead = time * STEP + (y if dy > 0 else y - 1) * ROW + (x if dx > 0 else x - 1)
+    for first, past in ((lead, LEAD_PAST), (lead - 2 * along, TAIL_PAST)):
+        own = range(first - early * step, first + (steps + past if has_bounce else steps) * step, step)
+        if own:
+            claims.append(own)
+
+
+def add_touched(ball: Ball, steps: int, touched: list[Iterable[int]]) -> None:
+    """Adds the cells of a straight flight, as ranges."""
     if steps <= 0:
         return
-    x, y, dx, dy, time = ball
+    x, y, dx, dy, _ = ball
     corner = (y if dy > 0 else y - 1) * ROW + (x if dx > 0 else x - 1)
     along = dy * ROW + dx
-    lead, step = time * STEP + corner, STEP + along
-    claims.append(range(lead, lead + steps * step, step))
-    tail = lead - 2 * along
-    claims.append(range(tail, tail + steps * step, step))
     # Two cells of a block are on the diagonal of the flight, where one block's first cell is the last one's second; two
     # are beside it.
     first, last = corner - 2 * along, corner + steps * along
@@ -155,19 +166,23 @@ def path_item(ball: Ball, legs: Iterable[Leg], begun: int = 0) -> Item | None:
     claims: list[Iterable[int]] = []
     touched: list[Iterable[int]] = []
     mirrors: list[int] = []
+    early = 0
     for steps, turn in legs:
         if begun > steps:
             return None
-        add_flight(ball.flown(begun), steps - begun, claims, touched)
+        first = ball.flown(begun)
+        add_claims(first, steps - begun, early, turn is not None, claims)
+        add_touched(first, steps - begun, touched)
         ball = ball.flown(steps)
         if turn is None:
             break
         shape, base = bounce_shape(turn, ball.dx, ball.dy), cell_number((ball.x, ball.y))
-        start = ball.time * STEP + base
-        claims.append([start + number for number in shape.claims])
         touched.append([base + number for number in shape.touched])
         mirrors += [base + number for number in shape.mirror]
-        ball, begun = bounce(ball, turn)[0], BOUNCE_STEPS
+        ball, begun, early = bounce(ball, turn)[0], BOUNCE_STEPS, EARLY
+    else:
+        # The legs end at a bounce.
+        add_claims(ball.flown(begun), 0, early, False, claims)
     item = Item(frozenset(mirrors), tuple(touched), tuple(claims))
     return item if all(item.mirrors.isdisjoint(part) for part in touched) else None
 
@@ -196,6 +211,22 @@ def cell_shape(cell: GateCell) -> tuple[list[int], list[int], list[int]]:
     return shape
 
 
+class Claims(Protocol):
+    """The blocks at times that items on the plane claim: numbers, or what stands for them."""
+
+    def update(self, *parts: Iterable[int]) -> None:
+        """Adds numbers."""
+
+    def difference_update(self, *parts: Iterable[int]) -> None:
+        """Takes numbers away."""
+
+    def isdisjoint(self, part: Iterable[int], /) -> bool:
+        """Whether none of some numbers is there."""
+
+    def __len__(self) -> int:
+        """Returns 0 if nothing is claimed."""
+
+
 class World:
     """A rectangle of cells with the items on it, which can grow. Rows and diagonals of cells are bits of numbers.
 
@@ -204,11 +235,11 @@ class World:
 
     def __init__(self, size: int, height: int | None = None) -> None:
         self.size, self.height = size, height or size
-        self.claims: set[int] = set()
+        self.claims: Claims = set()
         self.mirrors: set[int] = set()
         # How many parts of items touch a cell or have a mirror there, and the same cells as bits of rows: no new mirror
         # may be there.
-        self.counts = array("H", bytes(2 * ROW * self.height))
+        self.counts = array("H", [0]) * (ROW * self.height)
         self.blocked = [0] * (ROW + 8)
         # The mirrors by falling diagonals (y - x + ROW) and rising ones (y + x), as bits of x; and so the blocked
         # cells.
@@ -219,7 +250,7 @@ class World:
         """Adds columns at the right and rows below. What is there stays."""
         self.size += cells
         self.height += cells
-        self.counts.frombytes(bytes(2 * ROW * cells))
+        self.counts.extend(array("H", [0]) * (ROW * cells))
 
     def add(self, item: Item) -> None:
         """Adds an item."""
