@@ -9,11 +9,11 @@ from ..circuits.netlists.naming import MAX_NAME
 from ..host.terminal import LabError
 from ..route.balls import Ball
 from ..route.netlist import RouterNetlist
-from ..route.world import Item, cell_number
+from ..route.world import STEP, Item, cell_number
 from ..texts.circuits import Circuit, Gate
-from ..texts.layouts import Cell
 from ..texts.limits import sections_after_line
 from ..texts.sections import text_of
+from .flight_claims import flights_without
 from .lone_ways import LoneWay
 from .parts import ALWAYS, PartText, PartPort, part_item
 
@@ -62,19 +62,18 @@ class NamedPart:
 
     def shape(self) -> Item:
         """Returns what the part takes without the lone ways."""
-        claims = self.text.item.claims.difference(*(way.claims for way in self.ways.values()))
+        claims = set[int]().union(*(way.claims for way in self.ways.values()))
+        flights = [own for flight in self.text.flights
+                   for own in ((flight,) if claims.isdisjoint(flight) else flights_without(flight, claims))]
         left = {cell_number(cell) for way in self.ways.values() for cell in way.mirrors}
-        return part_item(self.text.item.mirrors - left, claims)
+        return part_item(self.text.item.mirrors - left, flights)
 
     @cached_property
-    def missing(self) -> set[tuple[int | None, Cell]]:
-        """The times and cells of border lines that are left out with the lone ways; None is the time of a mirror."""
-        found: set[tuple[int | None, Cell]] = {cell for way in self.ways.values() for cell in way.moving}
-        return found | {(None, cell) for way in self.ways.values() for cell in way.mirrors}
-
-    def mirror_cells(self) -> set[Cell]:
-        """Returns the cells of the mirrors that stay."""
-        return self.text.layout.mirror_cells().difference(*(way.mirrors for way in self.ways.values()))
+    def missing(self) -> set[int]:
+        """The border lines that are left out with the lone ways: numbers of cells at times, -1 for those of mirrors."""
+        # Border lines have odd times.
+        found = {number for way in self.ways.values() for number in way.moving if number // STEP % 2}
+        return found | {cell_number(cell) - STEP for way in self.ways.values() for cell in way.mirrors}
 
     def wire(self, own: str) -> str:
         """Returns what the join calls a wire of the part. A ball that is always there has no wire."""
