@@ -7,9 +7,10 @@ from typing import Iterable
 import support  # noqa: F401
 from bbmlab_core.joining.flight_claims import DIRECTIONS, FlightClaims, flights_in, flights_without
 from bbmlab_core.joining.lone_ways import LoneBalls
-from bbmlab_core.joining.parts import block_counts, part_item
+from bbmlab_core.joining.parts import BlockCounts, part_item
 from bbmlab_core.route.balls import Ball
 from bbmlab_core.route.world import ROW, STEP
+from bbmlab_core.texts.layouts import Layout
 
 # Blocks are in a small square for a short time, so that many flights meet.
 SIDE, STEPS = 12, 12
@@ -73,8 +74,8 @@ class FlightClaimsTest(unittest.TestCase):
             item = part_item(mirrors, flights)
             self.assertEqual((item.touched, item.mirrors), (around - mirrors, mirrors))
             self.assertEqual(item.claims, {number for flight in flights for number in flight})
-            counts = block_counts((number for flight in flights for number in flight), ROW)
-            self.assertTrue(all(counts[corner] == corners.count(corner) for corner in around))
+            counts = BlockCounts(Layout(128, 128, 64), (number for flight in flights for number in flight))
+            self.assertTrue(all(counts.count(corner) == corners.count(corner) for corner in (*around, -1, 128)))
 
     def test_lone_balls(self) -> None:
         """Balls are as they were."""

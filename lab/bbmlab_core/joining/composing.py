@@ -56,9 +56,10 @@ class NamedPart:
         if not self.ways:
             return self.text.item
         key = frozenset((wire, way.ball.time) for wire, way in self.ways.items())
-        if key not in self.text.shapes:
-            self.text.shapes[key] = self.shape()
-        return self.text.shapes[key]
+        shape = self.text.shapes.get(key)
+        if shape is None:
+            shape = self.text.shapes[key] = self.shape()
+        return shape
 
     def shape(self) -> Item:
         """Returns what the part takes without the lone ways."""

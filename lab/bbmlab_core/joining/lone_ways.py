@@ -10,7 +10,7 @@ from array import array
 from collections import Counter
 from dataclasses import dataclass
 from functools import cached_property
-from typing import Callable, Container, Iterable, Iterator, Sequence
+from typing import Callable, Container, Iterable, Iterator
 
 from ..route.balls import Ball, block_cells, run_exactly, start_state
 from ..route.world import BITS, STEP, cell_number, number_cell
@@ -178,9 +178,8 @@ class LoneRuns:
                     run.note_meeting(time)
 
 
-def removable_way(run: LoneRun, ball: Ball, counts: Sequence[int], mirrors: set[Cell]) -> LoneWay:
-    """Returns what a run leaves out if it is cut at a ball. `counts` has for each block how often the part claims it.
-    """
+def removable_way(run: LoneRun, ball: Ball, claim_count: Callable[[int], int], mirrors: set[Cell]) -> LoneWay:
+    """Returns what a run leaves out if it is cut at a ball. `claim_count` tells how often the part claims a block."""
     steps = run.steps(ball.time)
     moving = array("q", (time * STEP + cell for time in steps for cell in run.states.at(time)))
     own = array("q", (claim for claim, time in run.claims() if time in steps))
@@ -189,7 +188,7 @@ def removable_way(run: LoneRun, ball: Ball, counts: Sequence[int], mirrors: set[
 
     def is_claimed(corner: int) -> bool:
         """Whether something else claims a block."""
-        return 0 <= corner < len(counts) and counts[corner] > own_counts[corner]
+        return claim_count(corner) > own_counts[corner]
 
     return LoneWay(ball, moving, own, frozenset(free_mirrors(beside, is_claimed, mirrors)))
 

@@ -5,11 +5,13 @@ from collections import defaultdict
 from dataclasses import dataclass, field, replace
 from itertools import chain, compress
 from typing import Collection, Iterable, Sequence
+from weakref import WeakValueDictionary
+
 from ..host.terminal import LabError
 from ..physics.simulation import local_values
 from ..route.balls import Ball, block_corner, stepped
 from ..route.netlist import RouterNetlist
-from ..route.world import ROW, STEP, Item, cell_number
+from ..route.world import ROW, ROW_BITS, STEP, Item, cell_number, number_cell
 from ..texts.certificates import Border, Certificate, Module
 from ..texts.circuits import Circuit
 from ..texts.documents import read_document
@@ -49,13 +51,12 @@ class PartText:
     starts: list[PartPort]
     ends: list[PartPort]
     item: Item
+    counts: "BlockCounts"
     start_fault: str = ""
     end_fault: str = ""
-    # How often each block is claimed, by its number.
-    counts: "array[int]" = field(default_factory=lambda: array("H"))
-    # The lone ways of wires that are cut at a time, and what the part takes without some of them.
+    # The lone ways of wires that are cut at a time, and what the part takes without some of them, while it is in use.
     ways: dict[tuple[str, int], LoneWay] = field(default_factory=dict)
-    shapes: dict[frozenset[tuple[str, int]], Item] = field(default_factory=dict)
+    shapes: "WeakValueDictionary[frozenset[tuple[str, int]], Item]" = field(default_factory=WeakValueDictionary)
 
     @property
     def flights(self) -> list[range]:
@@ -71,7 +72,7 @@ class PartText:
         """Returns the lone way of a wire's run that is cut at a ball."""
         key = wire, ball.time
         if key not in self.ways:
-            self.ways[key] = removable_way(run, ball, self.counts, self.layout.mirror_cells())
+            self.ways[key] = removable_way(run, ball, self.counts.count, self.layout.mirror_cells())
         return self.ways[key]
 
 
@@ -90,13 +91,13 @@ def read_part(name: str, text: str, connected: Collection[str] = ()) -> PartText
     lone = {} if not connected else lone_runs(circuit, layout, certificate, connected)
     run = PartRun(circuit, layout, certificate, LoneRuns(list(lone.values())))
     last = run.run()
-    counts = block_counts(run.claims, layout.height)
+    counts = BlockCounts(layout, run.claims)
     item = part_item(frozenset(map(cell_number, run.mirrors)), list(flights_in(run.claims)))
     starts, start_fault = start_ports(layout)
     ends, end_fault = end_ports(circuit, layout, run.wires_at_end(last))
     starts = [replace(port, run=lone.get(("in", port.wire))) for port in starts]
     ends = [replace(port, run=lone.get(("out", port.wire))) for port in ends]
-    return PartText(circuit, layout, certificate, starts, ends, item, start_fault, end_fault, counts)
+    return PartText(circuit, layout, certificate, starts, ends, item, counts, start_fault, end_fault)
 
 
 def lone_runs(circuit: Circuit, layout: Layout, certificate: Certificate,
@@ -175,12 +176,19 @@ def part_item(mirrors: frozenset[int], flights: Sequence[range]) -> Item:
     return Item(mirrors, (touched,), tuple(flights))
 
 
-def block_counts(claims: Iterable[int], height: int) -> "array[int]":
-    """Returns how often each block of a layout's rows is claimed, by the number of its upper left cell."""
-    counts = array("H", [0]) * (ROW * height)
-    for claim in claims:
-        counts[claim % STEP] += 1
-    return counts
+class BlockCounts:
+    """How often each block of a layout is claimed, by the number of its upper left cell."""
+
+    def __init__(self, layout: Layout, claims: Iterable[int] = ()) -> None:
+        self.width, self.height = layout.width, layout.height
+        self.counts = array("H", [0]) * (self.width * self.height)
+        for claim in claims:
+            self.counts[(claim % STEP >> ROW_BITS) * self.width + (claim & ROW - 1)] += 1
+
+    def count(self, corner: int) -> int:
+        """Returns how often a block is claimed, which is 0 outside the layout."""
+        x, y = number_cell(corner)
+        return self.counts[y * self.width + x] if x < self.width and 0 <= y < self.height else 0
 
 
 class PartRun:
