@@ -38,6 +38,21 @@ class PartPort:
     run: LoneRun | None = None
 
 
+class BlockCounts:
+    """How often each block of a layout is claimed, by the number of its upper left cell."""
+
+    def __init__(self, layout: Layout, claims: Iterable[int] = ()) -> None:
+        self.width, self.height = layout.width, layout.height
+        self.counts = array("H", [0]) * (self.width * self.height)
+        for claim in claims:
+            self.counts[(claim % STEP >> ROW_BITS) * self.width + (claim & ROW - 1)] += 1
+
+    def count(self, corner: int) -> int:
+        """Returns how often a block is claimed, which is 0 outside the layout."""
+        x, y = number_cell(corner)
+        return self.counts[y * self.width + x] if x < self.width and 0 <= y < self.height else 0
+
+
 @dataclass(frozen=True)
 class PartText:
     """A bundle that was read. Its ports and what it takes do not depend on the name that a join gives it.
@@ -51,9 +66,9 @@ class PartText:
     starts: list[PartPort]
     ends: list[PartPort]
     item: Item
-    counts: "BlockCounts"
     start_fault: str = ""
     end_fault: str = ""
+    counts: BlockCounts = field(default_factory=lambda: BlockCounts(Layout(0, 0, 0)))
     # The lone ways of wires that are cut at a time, and what the part takes without some of them, while it is in use.
     ways: dict[tuple[str, int], LoneWay] = field(default_factory=dict)
     shapes: "WeakValueDictionary[frozenset[tuple[str, int]], Item]" = field(default_factory=WeakValueDictionary)
@@ -97,7 +112,7 @@ def read_part(name: str, text: str, connected: Collection[str] = ()) -> PartText
     ends, end_fault = end_ports(circuit, layout, run.wires_at_end(last))
     starts = [replace(port, run=lone.get(("in", port.wire))) for port in starts]
     ends = [replace(port, run=lone.get(("out", port.wire))) for port in ends]
-    return PartText(circuit, layout, certificate, starts, ends, item, counts, start_fault, end_fault)
+    return PartText(circuit, layout, certificate, starts, ends, item, start_fault, end_fault, counts)
 
 
 def lone_runs(circuit: Circuit, layout: Layout, certificate: Certificate,
@@ -174,21 +189,6 @@ def part_item(mirrors: frozenset[int], flights: Sequence[range]) -> Item:
     rows = (range(start, start + width) for start in range(0, len(cells), ROW))
     touched = array("i", chain.from_iterable(compress(row, cells[row.start:row.stop]) for row in rows))
     return Item(mirrors, (touched,), tuple(flights))
-
-
-class BlockCounts:
-    """How often each block of a layout is claimed, by the number of its upper left cell."""
-
-    def __init__(self, layout: Layout, claims: Iterable[int] = ()) -> None:
-        self.width, self.height = layout.width, layout.height
-        self.counts = array("H", [0]) * (self.width * self.height)
-        for claim in claims:
-            self.counts[(claim % STEP >> ROW_BITS) * self.width + (claim & ROW - 1)] += 1
-
-    def count(self, corner: int) -> int:
-        """Returns how often a block is claimed, which is 0 outside the layout."""
-        x, y = number_cell(corner)
-        return self.counts[y * self.width + x] if x < self.width and 0 <= y < self.height else 0
 
 
 class PartRun:

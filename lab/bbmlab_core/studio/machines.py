@@ -5,11 +5,12 @@ count as meeting, under whichever choices each is there.
 """
 
 from array import array
-from dataclasses import dataclass
+from dataclasses import dataclass, replace
 
 from ..host.terminal import LabError
+from ..joining.flight_claims import flights_in
 from ..joining.lone_ways import balls_of
-from ..joining.parts import start_ports
+from ..joining.parts import part_item, start_ports
 from ..pictures.drawing import wire_tables
 from ..route.balls import Ball, block_corner, start_state, stepped
 from ..route.world import ROW, STEP, Item, cell_number
@@ -96,10 +97,6 @@ class MachineRun:
 
     def item(self, numbers: set[int], is_for_mirrors: bool) -> Item:
         """Returns what some machines take. Mirrors, which are nobody's, are in one of the items."""
-        claims = array("q", (claim for number, own in enumerate(self.claims) if self.find(number) in numbers
-                             for claim in own))
-        mirrors = frozenset(map(cell_number, self.mirrors))
-        corners = {claim % STEP for claim in claims}
-        touched = {corner + offset for corner in corners for offset in (0, 1, ROW, ROW + 1)} - mirrors
-        return Item(mirrors if is_for_mirrors else frozenset(), (array("q", sorted(touched)),),
-                    (array("q", sorted(claims)),))
+        claims = {claim for number, own in enumerate(self.claims) if self.find(number) in numbers for claim in own}
+        item = part_item(frozenset(map(cell_number, self.mirrors)), list(flights_in(claims)))
+        return item if is_for_mirrors else replace(item, mirrors=frozenset())
