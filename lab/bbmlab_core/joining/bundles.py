@@ -1,14 +1,15 @@
 """The text of a join: the circuit, the layout with all parts and paths, and the certificate."""
 
+from functools import cached_property
+from itertools import chain
 from typing import Iterator
 
-from ..route.certificate import rectangles
 from ..route.design import outermost_cell_numbers
 from ..route.netlist import RouterNetlist
 from ..route.paths import Path
 from ..route.search import RoutedBundle
-from ..route.world import RIM_CELLS, ROW_STRIDE, TILE, cell_of_number
-from ..texts.layouts import Cell, row_order_key
+from ..route.world import BITS, RIM_CELLS, ROW_STRIDE, ROW_BITS, TILE
+from ..texts.layouts import Box, Cell, row_order_key
 from ..texts.limits import limits_for, with_limits_line
 from .composing import Composition
 from .modules import JoinedModules
@@ -61,7 +62,7 @@ class JoinedLayout:
         """Yields the lines of the layout section."""
         plan, circuit = self.plan, self.composed.circuit
         yield f"layout {plan.width} {plan.height} {plan.end}"
-        for x, y, width, height in rectangles(self.mirrors()):
+        for x, y, width, height in rectangles(self.mirror_rows):
             yield f"mirror {x} {y} {width} {height}"
         for x, y in sorted(self.starts.get(ALWAYS_SIGNAL, []), key=row_order_key):
             yield f"ball {x} {y}"
@@ -77,10 +78,19 @@ class JoinedLayout:
             yield f"waste {x} {y}"
         yield "end"
 
-    def mirrors(self) -> set[Cell]:
-        """Returns the cells of all mirrors."""
-        found = {cell for placed in self.plan.placed for cell in map(placed.placing.cell, placed.part.mirror_cells())}
-        return found | {cell_of_number(number) for path in self.paths for number in path.item.mirrors}
+    @cached_property
+    def mirror_rows(self) -> list[int]:
+        """The cells of all mirrors, as bits of rows."""
+        rows = [0] * self.plan.height
+        parts = (placed.placing.cell_numbers().of_all(placed.part.item.mirrors) for placed in self.plan.placed)
+        for number in chain.from_iterable(chain(parts, (path.item.mirrors for path in self.paths))):
+            rows[number >> ROW_BITS] |= BITS[number & ROW_STRIDE - 1]
+        return rows
+
+    @property
+    def mirror_count(self) -> int:
+        """The number of cells of mirrors."""
+        return sum(row.bit_count() for row in self.mirror_rows)
 
     def ports(self) -> Iterator[tuple[Cell, str]]:
         """Yields the cells of inputs and outputs with their wires."""
@@ -89,6 +99,22 @@ class JoinedLayout:
             for wire in wires:
                 for cell in cells.get(wire, []):
                     yield cell, wire
+
+
+def rectangles(rows: list[int]) -> Iterator[Box]:
+    """Yields rectangles that do not overlap and together have the cells of rows of bits, by y and then x."""
+    left = list(rows)
+    for y in range(len(left)):
+        while left[y]:
+            x = (left[y] & -left[y]).bit_length() - 1
+            beyond = ~(left[y] >> x)
+            width, height = (beyond & -beyond).bit_length() - 1, 1
+            own = (1 << width) - 1 << x
+            while y + height < len(left) and left[y + height] & own == own:
+                height += 1
+            for below in range(y, y + height):
+                left[below] ^= own
+            yield Box(x, y, width, height)
 
 
 def crop_plane(plan: JoinPlan, paths: list[Path]) -> None:
@@ -115,4 +141,4 @@ def joined_bundle(composed: Composition, plan: JoinPlan, modules: JoinedModules,
     limits = limits_for(side, plan.end, count, len(circuit.gates), len(circuit.wires))
     text = with_limits_line("".join([composed.section, "\n".join(layout.lines()), "\n", *texts, "end\n"]), limits)
     gates = sum(gate.kind not in ("source", "delay") for gate in circuit.gates)
-    return RoutedBundle(text, "", plan.width, plan.height, plan.end, len(layout.mirrors()), count, most_cuts, gates)
+    return RoutedBundle(text, "", plan.width, plan.height, plan.end, layout.mirror_count, count, most_cuts, gates)

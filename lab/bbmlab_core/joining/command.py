@@ -202,12 +202,15 @@ class JoinSearch:
             enclosed = [cut for cut in slack.moved if wiring.is_enclosed(cut.connection, cut.is_output)]
             self.closed.update(enclosed)
             if enclosed:
+                # The next world is made when this one is no longer in memory.
+                del modules, wiring
                 continue
             self.moved = slack.moved
             moved = {(cut.connection, 1 if cut.is_output else -1) for cut in slack.moved}
             closed = [] if self.attempts else wiring.blocked_ends(moved)
             if not closed:
                 return plan, modules, wiring
+            del modules, wiring
             self.made = with_whole_ports(self.made, plan, closed)
 
 

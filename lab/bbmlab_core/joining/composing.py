@@ -9,11 +9,11 @@ from ..circuits.netlists.naming import MAX_NAME_BYTES
 from ..host.terminal import LabError
 from ..route.balls import Ball
 from ..route.netlist import RouterNetlist
-from ..route.world import Item, cell_number
+from ..route.world import STEP_STRIDE, Item, cell_number
 from ..texts.circuits import Circuit, Gate
-from ..texts.layouts import Cell
 from ..texts.limits import text_without_limits_line
 from ..texts.sections import text_of_section
+from .flight_claims import flights_without
 from .lone_ways import LoneWay
 from .parts import ALWAYS_SIGNAL, PartText, PartPort, part_item
 
@@ -56,25 +56,25 @@ class NamedPart:
         if not self.ways:
             return self.text.item
         key = frozenset((wire, way.ball.time) for wire, way in self.ways.items())
-        if key not in self.text.shapes:
-            self.text.shapes[key] = self.make_item()
-        return self.text.shapes[key]
+        shape = self.text.shapes.get(key)
+        if shape is None:
+            shape = self.text.shapes[key] = self.make_item()
+        return shape
 
     def make_item(self) -> Item:
         """Returns what the part takes without the lone ways."""
-        claims = self.text.item.claims.difference(*(way.claims for way in self.ways.values()))
+        claims = set[int]().union(*(way.claims for way in self.ways.values()))
+        flights = [own for flight in self.text.flights
+                   for own in ((flight,) if claims.isdisjoint(flight) else flights_without(flight, claims))]
         left = {cell_number(cell) for way in self.ways.values() for cell in way.mirrors}
-        return part_item(self.text.item.mirrors - left, claims)
+        return part_item(self.text.item.mirrors - left, flights)
 
     @cached_property
-    def left_out_lines(self) -> set[tuple[int | None, Cell]]:
-        """The times and cells of border lines that are left out with the lone ways; None is the time of a mirror."""
-        found: set[tuple[int | None, Cell]] = {cell for way in self.ways.values() for cell in way.moving}
-        return found | {(None, cell) for way in self.ways.values() for cell in way.mirrors}
-
-    def mirror_cells(self) -> set[Cell]:
-        """Returns the cells of the mirrors that stay."""
-        return self.text.layout.mirror_cells().difference(*(way.mirrors for way in self.ways.values()))
+    def left_out_lines(self) -> set[int]:
+        """The border lines that are left out with the lone ways: numbers of cells at times, -1 for those of mirrors."""
+        # Border lines have odd times.
+        found = {number for way in self.ways.values() for number in way.moving if number // STEP_STRIDE % 2}
+        return found | {cell_number(cell) - STEP_STRIDE for way in self.ways.values() for cell in way.mirrors}
 
     def joined_wire(self, own: str) -> str:
         """Returns what the join calls a wire of the part. A ball that is always there has no wire."""

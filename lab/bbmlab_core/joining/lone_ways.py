@@ -6,13 +6,14 @@ the ball comes later, or leaves earlier. Blocks change by themselves (Margolus 1
 move as before.
 """
 
+from array import array
 from collections import Counter
 from dataclasses import dataclass
 from functools import cached_property
-from typing import Callable, Container, Iterable, Iterator, Mapping
+from typing import Callable, Container, Iterable, Iterator
 
 from ..route.balls import Ball, block_cells, run_exactly, start_state
-from ..route.world import ROW_STRIDE, STEP_STRIDE, cell_number, cell_of_number
+from ..route.world import BITS, STEP_STRIDE, cell_number, cell_of_number
 from ..texts.layouts import Cell
 
 
@@ -25,7 +26,7 @@ def whole_balls_of(cells: Iterable[Cell], time: int) -> list[Ball] | None:
 
     def direction(cell: Cell) -> Cell:
         """Returns the direction in which a lone cell moves."""
-        return 1 - 2 * ((cell[0] + time) % 2), 1 - 2 * ((cell[1] + time) % 2)
+        return direction_at(*cell, time)
 
     for x, y in sorted(left, key=lambda cell: (direction(cell), -cell[0] * direction(cell)[0], cell[1])):
         dx, dy = direction((x, y))
@@ -39,17 +40,66 @@ def whole_balls_of(cells: Iterable[Cell], time: int) -> list[Ball] | None:
     return found
 
 
+def direction_at(x: int, y: int, time: int) -> tuple[int, int]:
+    """Returns the direction in which a lone cell moves that is at a place at a time."""
+    return 1 - 2 * ((x + time) % 2), 1 - 2 * ((y + time) % 2)
+
+
 @dataclass(frozen=True)
 class LoneWay:
-    """What a join leaves out: the moving cells of a ball by time, the blocks at times that they claim, and mirrors.
+    """What a join leaves out: the moving cells of a ball at times, the blocks at times that they claim, and mirrors.
 
-    `ball` is where the way inside the part begins or ends without it.
+    A cell at a time is a number like that of a block at a time. `ball` is where the way inside the part begins or ends
+    without it.
     """
 
     ball: Ball
-    moving: frozenset[tuple[int, Cell]]
-    claims: frozenset[int]
+    moving: "array[int]"
+    claims: "array[int]"
     mirrors: frozenset[Cell]
+
+
+class NumbersByTime:
+    """Some numbers of each time from the time `first` on, in few bytes."""
+
+    def __init__(self, first: int, lists: Iterable[Iterable[int]]) -> None:
+        self.first, self.numbers, self.ends = first, array("i"), array("i", [0])
+        for numbers in lists:
+            self.numbers.extend(numbers)
+            self.ends.append(len(self.numbers))
+
+    def at(self, time: int) -> "array[int]":
+        """Returns the numbers of a time."""
+        index = time - self.first
+        return self.numbers[self.ends[index]:self.ends[index + 1]]
+
+    @property
+    def times(self) -> range:
+        """Returns the times."""
+        return range(self.first, self.first + len(self.ends) - 1)
+
+
+class LoneBalls:
+    """Balls at different times, by the numbers of their leads' cells. A place and a time tell the direction."""
+
+    def __init__(self, balls: Iterable[Ball]) -> None:
+        self.leads, self.times = array("i"), array("i")
+        for ball in balls:
+            self.leads.append(cell_number((ball.x, ball.y)))
+            self.times.append(ball.time)
+
+    def __len__(self) -> int:
+        """Returns how many balls there are."""
+        return len(self.times)
+
+    def __getitem__(self, index: int) -> Ball:
+        """Returns a ball."""
+        (x, y), time = cell_of_number(self.leads[index]), self.times[index]
+        return Ball(x, y, *direction_at(x, y, time), time)
+
+    def __iter__(self) -> Iterator[Ball]:
+        """Yields the balls."""
+        return map(self.__getitem__, range(len(self)))
 
 
 class LoneRun:
@@ -63,11 +113,13 @@ class LoneRun:
         # The rule is run backwards from the last time, which is made time 1: blocks alternate, so it must be odd.
         first = ball.reversed().moved(0, 0, 1) if is_output else ball
         run = run_exactly(mirrors, start_state([(first, 1)]), first.time, first.time + steps)
-        sign = -1 if is_output else 1
-        self.states = {ball.time + sign * count: frozenset(state) for count, state in enumerate(run.states)}
-        self.corners = {ball.time + sign * count - is_output: own for count, own in enumerate(run.blocks)}
+        # A run backwards has the last state first.
+        order = -1 if is_output else 1
+        begin = ball.time - len(run.blocks) if is_output else ball.time
+        self.states = NumbersByTime(begin, (map(cell_number, state) for state in run.states[::order]))
+        self.corners = NumbersByTime(begin, (map(cell_number, corners) for corners in run.blocks[::order]))
         if not run.is_stable:
-            self.note_meeting(ball.time + sign * len(run.blocks) - is_output)
+            self.note_meeting(begin - 1 if is_output else begin + len(run.blocks))
 
     def note_meeting(self, time: int) -> None:
         """Notes that the ball shares a block with another one in the step from a time."""
@@ -75,29 +127,30 @@ class LoneRun:
 
     def claims(self) -> Iterator[tuple[int, int]]:
         """Yields the blocks at times that the run claims, each with its time."""
-        for time, corners in self.corners.items():
-            for x, y in corners:
-                yield time * STEP_STRIDE + y * ROW_STRIDE + x, time
+        for time in self.corners.times:
+            for corner in self.corners.at(time):
+                yield time * STEP_STRIDE + corner, time
 
     def is_alone(self, time: int, corner: Cell, live: Container[Cell]) -> bool:
         """Whether the ball's own cells alone are live in a block."""
-        own = self.states[time]
-        return all((cell in live) == (cell in own) for cell in block_cells(corner))
+        own = self.states.at(time)
+        return all((cell in live) == (cell_number(cell) in own) for cell in block_cells(corner))
 
     def cut_times(self) -> range:
         """Returns the times at which the way may be cut, the best first."""
         if self.is_output:
-            return range(self.bound, max(self.states) + 1)
+            return range(self.bound, self.states.times.stop)
         return range(self.bound, -1, -1)
 
     @cached_property
-    def cut_balls(self) -> list[Ball]:
+    def cut_balls(self) -> LoneBalls:
         """The balls at which the way may be cut, the best first. The last one leaves nothing out."""
-        return [ball for time in self.cut_times() for ball in [lone_ball(self.states[time], time)] if ball]
+        cells = ((map(cell_of_number, self.states.at(time)), time) for time in self.cut_times())
+        return LoneBalls(ball for own, time in cells for ball in [lone_ball(own, time)] if ball)
 
     def left_out_steps(self, cut: int) -> range:
         """Returns the times of the steps that are left out if the way is cut at a time."""
-        return range(cut, max(self.states)) if self.is_output else range(cut)
+        return range(cut, self.states.times[-1]) if self.is_output else range(cut)
 
 
 class LoneRuns:
@@ -105,36 +158,42 @@ class LoneRuns:
 
     def __init__(self, runs: list[LoneRun]) -> None:
         self.runs = runs
-        self.claimants: dict[int, list[LoneRun]] = {}
-        for run in runs:
+        # The runs that claim a block at a time, as the bits of a number.
+        self.claimants: dict[int, int] = {}
+        for bit, run in zip(BITS, runs):
             for claim, _ in run.claims():
-                self.claimants.setdefault(claim, []).append(run)
+                others = self.claimants.setdefault(claim, bit)
+                if others != bit:
+                    self.claimants[claim] = others | bit
+
+    def claimants_of(self, claim: int) -> Iterator[LoneRun]:
+        """Yields the runs that claim a block at a time."""
+        return (run for bit, run in zip(BITS, self.runs) if self.claimants[claim] & bit)
 
     def compare_blocks(self, time: int, claims: Iterable[int], live: Container[Cell]) -> None:
         """Compares the blocks in which something moves in the step from a time."""
         for claim in self.claimants.keys() & claims:
-            for run in self.claimants[claim]:
+            for run in self.claimants_of(claim):
                 if not run.is_alone(time, cell_of_number(claim % STEP_STRIDE), live):
                     run.note_meeting(time)
 
 
-def removable_way(run: LoneRun, ball: Ball, counts: Mapping[int, int], mirrors: set[Cell]) -> LoneWay:
-    """Returns what a run leaves out if it is cut at a ball. `counts` has for each block how often the part claims it.
-    """
+def removable_way(run: LoneRun, ball: Ball, claim_count: Callable[[int], int], mirrors: set[Cell]) -> LoneWay:
+    """Returns what a run leaves out if it is cut at a ball. `claim_count` tells how often the part claims a block."""
     steps = run.left_out_steps(ball.time)
-    moving = frozenset((time, cell) for time in steps for cell in run.states[time])
-    own = frozenset(claim for claim, time in run.claims() if time in steps)
+    moving = array("q", (time * STEP_STRIDE + cell for time in steps for cell in run.states.at(time)))
+    own = array("q", (claim for claim, time in run.claims() if time in steps))
     own_counts = Counter(claim % STEP_STRIDE for claim in own)
     beside = {cell for corner in own_counts for cell in block_cells(cell_of_number(corner))} & mirrors
 
     def is_claimed(corner: int) -> bool:
         """Whether something else claims a block."""
-        return counts.get(corner, 0) > own_counts[corner]
+        return claim_count(corner) > own_counts[corner]
 
     return LoneWay(ball, moving, own, frozenset(unclaimed_mirrors(beside, is_claimed, mirrors)))
 
 
-def lone_ball(cells: frozenset[Cell], time: int) -> Ball | None:
+def lone_ball(cells: Iterable[Cell], time: int) -> Ball | None:
     """Returns the ball that some cells are at a time, or None during a bounce."""
     balls = whole_balls_of(cells, time)
     return balls[0] if balls and len(balls) == 1 else None

@@ -34,6 +34,11 @@ NO_WIRES: frozenset[str] = frozenset()
 CORNER_OFFSETS = (ROW_STRIDE + 1, ROW_STRIDE - 1, 1 - ROW_STRIDE, -ROW_STRIDE - 1)
 
 
+def line_number(line: Border) -> int:
+    """Returns the number of a border line's cell at its time, which is -1 for all times."""
+    return (-1 if line.time is None else line.time) * STEP_STRIDE + line.y * ROW_STRIDE + line.x
+
+
 class JoinedModules:
     """The modules of a join while paths are led. `extra` counts for each module the paths that bring it a wire.
 
@@ -107,7 +112,7 @@ class JoinedModules:
         module.keeps = [part.first_gate + number for number in own.keeps]
         module.edges = [Border(None if line.time is None else line.time + time, *cell(line.cell),
                                part.joined_wire(line.signal))
-                        for line in own.edges if (line.time, line.cell) not in part.left_out_lines]
+                        for line in own.edges if line_number(line) not in part.left_out_lines]
         module.stops = [Stop(line.time + time, part.wires[line.name], *cell(line.cell)) for line in own.stops]
 
     # --- wires --------------------------------------------------------------------------------------------------------

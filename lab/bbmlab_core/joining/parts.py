@@ -1,21 +1,25 @@
 """The parts of a join: bundles with the balls at their starts and ends, and what their balls and mirrors take."""
 
 from array import array
-from collections import Counter, defaultdict
+from collections import defaultdict
 from dataclasses import dataclass, field, replace
-from typing import Collection
+from itertools import chain, compress
+from typing import Collection, Iterable, Sequence
+from weakref import WeakValueDictionary
+
 from ..host.terminal import LabError
 from ..physics.simulation import local_values
 from ..route.balls import Ball, block_corner, state_after_step
 from ..route.netlist import RouterNetlist
-from ..route.world import ROW_STRIDE, STEP_STRIDE, Item, cell_number
-from ..texts.certificates import Certificate, Module
+from ..route.world import ROW_STRIDE, ROW_BITS, STEP_STRIDE, Item, cell_number, cell_of_number
+from ..texts.certificates import Border, Certificate, Module
 from ..texts.circuits import Circuit
 from ..texts.documents import read_document
 from ..texts.gates import Table
 from ..texts.layouts import Cell, Layout
 from ..texts.owners import Owners
 from ..texts.refusals import refusal_words
+from .flight_claims import flights_in
 from .lone_ways import LoneRun, LoneRuns, LoneWay, removable_way, whole_balls_of
 
 # The wire of a ball that is always there.
@@ -34,6 +38,21 @@ class PartPort:
     run: LoneRun | None = None
 
 
+class BlockCounts:
+    """How often each block of a layout is claimed, by the number of its upper left cell."""
+
+    def __init__(self, layout: Layout, claims: Iterable[int] = ()) -> None:
+        self.width, self.height = layout.width, layout.height
+        self.counts = array("H", [0]) * (self.width * self.height)
+        for claim in claims:
+            self.counts[(claim % STEP_STRIDE >> ROW_BITS) * self.width + (claim & ROW_STRIDE - 1)] += 1
+
+    def count(self, corner: int) -> int:
+        """Returns how often a block is claimed, which is 0 outside the layout."""
+        x, y = cell_of_number(corner)
+        return self.counts[y * self.width + x] if x < self.width and 0 <= y < self.height else 0
+
+
 @dataclass(frozen=True)
 class PartText:
     """A bundle that was read. Its ports and what it takes do not depend on the name that a join gives it.
@@ -49,11 +68,15 @@ class PartText:
     item: Item
     start_fault: str = ""
     end_fault: str = ""
-    # How often each block is claimed.
-    counts: Counter[int] = field(default_factory=Counter)
-    # The lone ways of wires that are cut at a time, and what the part takes without some of them.
+    counts: BlockCounts = field(default_factory=lambda: BlockCounts(Layout(0, 0, 0)))
+    # The lone ways of wires that are cut at a time, and what the part takes without some of them, while it is in use.
     ways: dict[tuple[str, int], LoneWay] = field(default_factory=dict)
-    shapes: dict[frozenset[tuple[str, int]], Item] = field(default_factory=dict)
+    shapes: "WeakValueDictionary[frozenset[tuple[str, int]], Item]" = field(default_factory=WeakValueDictionary)
+
+    @property
+    def flights(self) -> list[range]:
+        """The flights whose blocks the part claims."""
+        return [part for part in self.item.claim_parts if isinstance(part, range)]
 
     @property
     def can_wait(self) -> bool:
@@ -64,7 +87,7 @@ class PartText:
         """Returns the lone way of a wire's run that is cut at a ball."""
         key = wire, ball.time
         if key not in self.ways:
-            self.ways[key] = removable_way(run, ball, self.counts, self.layout.mirror_cells())
+            self.ways[key] = removable_way(run, ball, self.counts.count, self.layout.mirror_cells())
         return self.ways[key]
 
 
@@ -82,12 +105,13 @@ def read_part(name: str, text: str, connected: Collection[str] = ()) -> PartText
         raise LabError(f"{name}: its certificate has version 1: `bbmcheck migrate` writes version 2", 1)
     lone = {} if not connected else lone_runs(circuit, layout, certificate, connected)
     run = PartRun(circuit, layout, certificate, LoneRuns(list(lone.values())))
-    item, last = run.run()
+    last = run.run()
+    counts = BlockCounts(layout, run.claims)
+    item = part_item(frozenset(map(cell_number, run.mirrors)), list(flights_in(run.claims)))
     starts, start_fault = start_ports(layout)
     ends, end_fault = end_ports(circuit, layout, run.wires_at_end(last))
     starts = [replace(port, run=lone.get(("in", port.wire))) for port in starts]
     ends = [replace(port, run=lone.get(("out", port.wire))) for port in ends]
-    counts = Counter(claim % STEP_STRIDE for claim in run.claims)
     return PartText(circuit, layout, certificate, starts, ends, item, start_fault, end_fault, counts)
 
 
@@ -148,11 +172,23 @@ def ports_of(cells: dict[str, list[Cell]], time: int, what: str) -> tuple[list[P
     return ports, ""
 
 
-def part_item(mirrors: frozenset[int], claims: set[int]) -> Item:
-    """Returns what a part takes whose balls claim some blocks at times."""
-    corners = {claim % STEP_STRIDE for claim in claims}
-    touched = {corner + offset for corner in corners for offset in (0, 1, ROW_STRIDE, ROW_STRIDE + 1)} - mirrors
-    return Item(mirrors, (array("q", sorted(touched)),), (array("q", sorted(claims)),))
+def part_item(mirrors: frozenset[int], flights: Sequence[range]) -> Item:
+    """Returns what a part takes whose balls claim the blocks at times of some flights."""
+    ends = [(flight[0] % STEP_STRIDE, flight[-1] % STEP_STRIDE) for flight in flights]
+    width = max((corner % ROW_STRIDE for own in ends for corner in own), default=0) + 2
+    height = max((corner // ROW_STRIDE for own in ends for corner in own), default=0) + 2
+    # A byte for each cell, which is 1 if it is touched.
+    cells = bytearray(ROW_STRIDE * height)
+    for flight, own in zip(flights, ends):
+        first, last = min(own), max(own)
+        step, ones = (last - first) // max(1, len(flight) - 1) or 1, b"\1" * len(flight)
+        for offset in (0, 1, ROW_STRIDE, ROW_STRIDE + 1):
+            cells[first + offset:last + offset + 1:step] = ones
+    for number in filter(range(len(cells)).__contains__, mirrors):
+        cells[number] = 0
+    rows = (range(start, start + width) for start in range(0, len(cells), ROW_STRIDE))
+    touched = array("i", chain.from_iterable(compress(row, cells[row.start:row.stop]) for row in rows))
+    return Item(mirrors, (touched,), tuple(flights))
 
 
 class PartRun:
@@ -167,31 +203,38 @@ class PartRun:
         for part in layout.parts:
             if part.kind in ("in", "ball"):
                 self.starts[self.owners.owner_at(part.cell)][part.cell] = part.name or ALWAYS_SIGNAL
-        # What each module hears, by time.
-        self.heard: dict[int, dict[int, dict[Cell, str]]] = defaultdict(lambda: defaultdict(dict))
+        # The lines that each module hears.
+        self.heard: dict[int, list[Border]] = defaultdict(list)
         for module in certificate.modules:
             for line in module.edges:
                 if line.time is not None or line.cell not in self.mirrors:
-                    self.note_edge(module, line.time, line.cell, line.signal)
+                    self.note_edge(module, line)
 
-    def note_edge(self, module: Module, time: int | None, cell: Cell, signal: str) -> None:
+    def note_edge(self, module: Module, line: Border) -> None:
         """Notes which modules hear a line."""
-        x, y = cell
+        x, y = line.cell
         near = {self.owners.owner_at((x + i, y + j)) for i in (-1, 1) for j in (-1, 1)}
         for number in near - {module.number, -1}:
-            for odd in (time,) if time is not None else range(1, self.layout.steps, 2):
-                self.heard[number][odd][cell] = signal
+            self.heard[number].append(line)
 
-    def run(self) -> tuple[Item, dict[Cell, tuple[Module, Table]]]:
-        """Runs all modules; returns what the part takes, and the cells that move at the end, with their tables."""
+    def heard_by(self, number: int) -> dict[int, dict[Cell, str]]:
+        """Returns the wires of the cells that a module hears, by time."""
+        heard: dict[int, dict[Cell, str]] = defaultdict(dict)
+        for line in self.heard.pop(number, ()):
+            for time in (line.time,) if line.time is not None else range(1, self.layout.steps, 2):
+                heard[time][line.cell] = line.signal
+        return heard
+
+    def run(self) -> dict[Cell, tuple[Module, Table]]:
+        """Runs all modules; returns the cells that move at the end, with their tables."""
         last: dict[Cell, tuple[Module, Table]] = {}
         for module in self.certificate.modules:
             last.update((cell, (module, table)) for cell, table in self.run_module(module).items())
-        return part_item(frozenset(map(cell_number, self.mirrors)), self.claims), last
+        return last
 
     def run_module(self, module: Module) -> dict[Cell, Table]:
         """Runs a module, notes the blocks in which something moves, and returns the cells that move at the end."""
-        heard, box, steps = self.heard[module.number], module.box, self.layout.steps
+        heard, box, steps = self.heard_by(module.number), module.box, self.layout.steps
         times, starts = sorted(heard, reverse=True), self.starts[module.number]
         if not times and not starts:
             return {}

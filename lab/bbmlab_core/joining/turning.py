@@ -51,13 +51,9 @@ class NumberMap(NamedTuple):
         step = self(own[1]) - first if len(own) > 1 else 1
         return range(first, first + step * len(own), step)
 
-    def inverse(self) -> "NumberMap":
-        """Returns the map that leads back. A number of a cell outside the part becomes no number of the part's."""
-        columns = {abs(self.column): 1 if self.column > 0 else -1,
-                   abs(self.row): ROW_STRIDE if self.row > 0 else -ROW_STRIDE}
-        at = self.first % STEP_STRIDE
-        back = NumberMap(at - self.first, columns[1], columns[ROW_STRIDE])
-        return back._replace(first=back.first - (back.column * (at % ROW_STRIDE) + back.row * (at // ROW_STRIDE)))
+    def of_part(self, part: Iterable[int]) -> "range | array[int]":
+        """Returns what the numbers of a part of an item become."""
+        return self.of_range(part) if isinstance(part, range) else self.of_all(part)
 
 
 class Placing(NamedTuple):

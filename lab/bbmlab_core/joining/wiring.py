@@ -6,10 +6,10 @@ free cells. If a ball finds no way, the paths across its straight way make room 
 
 import random
 import time
-from array import array
 from dataclasses import dataclass
+from functools import partial
 from itertools import chain, islice
-from typing import Callable, Collection, Iterable, NamedTuple
+from typing import Callable, Collection
 
 from ..route.balls import Ball, Leg, follow_legs, reversed_legs
 from ..route.board import FailureKind, NoRouteError
@@ -18,10 +18,10 @@ from ..route.settings import Settings
 from ..route.world import STEP_STRIDE, TILE, Item, World, cell_number, cell_of_number, path_item
 from ..texts.layouts import Box
 from .coil_ways import CoilGround, CoilSearch, OpenSearch
+from .flight_claims import FlightClaims
 from .modules import JoinedModules
 from .parts import ALWAYS_SIGNAL
 from .planning import SHALLOW_CELLS, BallJob, JoinPlan, PlacedPart
-from .turning import NumberMap
 
 # The steps at the open ends of balls that wait which are kept free, the first that fit.
 STUB_STEPS = (20, 14, 10, 6, 3)
@@ -81,51 +81,21 @@ def item_of_path(path: Path) -> Item:
 
 def sealed_item(item: Item, box: Box) -> Item:
     """Returns what a path takes whose coil no other ball can enter: the ring of its box is closed as by mirrors."""
-    claims = tuple(part for part in map(compact_numbers, item.claim_parts)
+    flights = (part for part in item.claim_parts if isinstance(part, range))
+    claims = tuple(part for part in flights
                    if not all(box.has(cell_of_number(number % STEP_STRIDE)) for number in (part[0], part[-1])))
     return Item(item.mirrors.union(map(cell_number, box.ring())), item.touched_parts, claims)
-
-
-def compact_numbers(part: Iterable[int]) -> "range | array[int]":
-    """Returns numbers in little memory."""
-    return part if isinstance(part, range) else array("q", part)
-
-
-def compact_item(item: Item) -> Item:
-    """Returns an item in little memory."""
-    return Item(item.mirrors, tuple(map(compact_numbers, item.touched_parts)),
-                tuple(map(compact_numbers, item.claim_parts)))
-
-
-class PartClaims(NamedTuple):
-    """The blocks at times that a part claims, by its own numbers, with its corners and its numbers of those of the
-    join."""
-
-    corners: tuple[int, int, int, int]
-    numbers: NumberMap
-    claims: set[int]
-
-    def has_claim_of(self, part: "range | array[int]", corners: tuple[int, int, int, int]) -> bool:
-        """Whether some claims between two corners meet those of the part."""
-        left, top, right, bottom = self.corners
-        x, y, far, low = corners
-        if far < left - 8 or x > right + 8 or low < top - 8 or y > bottom + 8:
-            return False
-        own = self.numbers.of_range(part) if isinstance(part, range) else self.numbers.of_all(part)
-        return not self.claims.isdisjoint(own)
 
 
 class JoinWorld(World):
     """A world with parts, in which cells inside a part are dear: balls leave parts, so that they enclose no other port.
 
-    Without this, 59 of 85 balls of four joined adders were led before the search ended, and with it all. Parts of one
-    text share the set of their claims.
+    Without this, 59 of 85 balls of four joined adders were led before the search ended, and with it all.
     """
 
     def __init__(self, plan: JoinPlan) -> None:
         super().__init__(plan.side)
-        self.part_claims: list[PartClaims] = []
-        self.claim_sets: dict[int, set[int]] = {}
+        self.claims = FlightClaims()
         self.boxes = [(own.x, own.y, own.x + own.area.width, own.y + own.area.height) for own in plan.placed]
         # Parts are at whole tiles, and take whole tiles.
         self.box_of_tile = {(column, row): box for box in self.boxes
@@ -134,22 +104,9 @@ class JoinWorld(World):
 
     def add_part(self, placed: PlacedPart) -> None:
         """Adds a part where and when it is in the join."""
-        item, area = placed.part.item, placed.area
-        cells = placed.placing.cell_numbers()
-        self.add(Item(frozenset(cells.of_all(item.mirrors)), tuple(map(cells.of_all, item.touched_parts))))
-        corners = placed.x, placed.y, placed.x + area.width, placed.y + area.height
-        claims = self.claim_sets.setdefault(id(item), item.claims)
-        self.part_claims.append(PartClaims(corners, placed.placing.block_numbers().inverse(), claims))
-
-    def can_add(self, item: Item) -> bool:
-        """Whether an item may be added: it meets nothing that is there, neither in space nor in time."""
-        return super().can_add(item) and not any(map(self.has_claim_of_part, map(compact_numbers, item.claim_parts)))
-
-    def has_claim_of_part(self, claims: "range | array[int]") -> bool:
-        """Whether some claims on a straight way, or near each other, meet those of a part."""
-        (x, y), (far, low) = cell_of_number(claims[0] % STEP_STRIDE), cell_of_number(claims[-1] % STEP_STRIDE)
-        corners = min(x, far), min(y, low), max(x, far), max(y, low)
-        return any(own.has_claim_of(claims, corners) for own in self.part_claims)
+        item, cells, blocks = placed.part.item, placed.placing.cell_numbers(), placed.placing.block_numbers()
+        self.add(Item(frozenset(cells.of_all(item.mirrors)), tuple(map(cells.of_part, item.touched_parts)),
+                      tuple(map(blocks.of_part, item.claim_parts))))
 
     def depth(self, x: int, y: int) -> int:
         """Returns how far a cell is from the border of the part that it is in, or 0."""
@@ -167,6 +124,12 @@ class JoinWorld(World):
         return super().new_cell_count(ball, steps)
 
 
+def require_time(deadline: float) -> None:
+    """Raises NoRouteError when the time is over."""
+    if time.monotonic() > deadline:
+        raise NoRouteError("the time was over", FailureKind.TIME)
+
+
 class JoinWiring:
     """The paths of a join, in a world that has its parts."""
 
@@ -177,17 +140,13 @@ class JoinWiring:
             self.world.add_part(placed)
         self.chance = random.Random(seed)
         self.finder = PathFinder(self.world, self.chance, settings)
-        self.finder.check_time = self.check_time
+        # A method of this object would keep the world in memory when it is no longer used.
+        self.finder.check_time = partial(require_time, deadline)
         around = [Box(x - CLEAR_CELLS, y - CLEAR_CELLS, far - x + 2 * CLEAR_CELLS, low - y + 2 * CLEAR_CELLS)
                   for x, y, far, low in self.world.boxes]
         self.ground = CoilGround(self.world, around)
         self.stubs: dict[int, list[Item]] = {}
         self.paths: dict[int, Path] = {}
-
-    def check_time(self) -> None:
-        """Raises NoRouteError when the time is over."""
-        if time.monotonic() > self.deadline:
-            raise NoRouteError("the time was over", FailureKind.TIME)
 
     def run(self, progress: Callable[[int, int], None], can_loosen: Collection[int] = ()) -> list[Path]:
         """Returns the paths of all balls; raises NoRouteError.
@@ -200,7 +159,7 @@ class JoinWiring:
         queue = sorted(range(len(jobs)), key=lambda index: (not jobs[index].is_between, -jobs[index].steps))
         left = RIPS_PER_BALL * len(jobs)
         while queue:
-            self.check_time()
+            require_time(self.deadline)
             index = queue.pop(0)
             if tight and not jobs[index].is_between:
                 break
@@ -355,8 +314,8 @@ class JoinWiring:
             start = job.start or self.finder.ball_before(ball, legs)
             path = self.finder.path_of_legs(job.wire, start, follow_legs(start, legs)[0], legs)
             if path is not None:
-                item = compact_item(path.item)
-                return CoiledPath(job.wire, start, path.end, path.legs, item, sealed_item(item, coil.box), coil.box)
+                sealed = sealed_item(path.item, coil.box)
+                return CoiledPath(job.wire, start, path.end, path.legs, path.item, sealed, coil.box)
         return None
 
     def find_connecting_path(self, wire: str, start: Ball, goal: Ball) -> Path | None:

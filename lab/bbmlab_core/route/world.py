@@ -13,14 +13,14 @@ from array import array
 from dataclasses import dataclass
 from functools import cache, cached_property
 from itertools import chain
-from typing import Iterable, Iterator
+from typing import Iterable, Iterator, Protocol
 
 from ..texts.layouts import Cell
 from .balls import BOUNCE_STEPS, Ball, Leg, Mirror, Turn, block_cells, bounce, mirror_cells, path_run
 from .cells import GateCell
 
-# The number of a cell is its row times ROW plus its column, and that of a block at a time is STEP times the time plus
-# its corner.
+# The number of a cell is its row times ROW_STRIDE plus its column, and that of a block at a time is STEP_STRIDE times
+# the time plus its corner.
 ROW_BITS = 12
 ROW_STRIDE = 1 << ROW_BITS
 STEP_STRIDE = ROW_STRIDE * ROW_STRIDE
@@ -33,6 +33,9 @@ TILE_BITS = 4
 # The square of `taken_count_around` has sides of twice this many cells.
 AROUND_CELLS = 32
 BITS = [1 << index for index in range(ROW_STRIDE)]
+# The steps of a bounce in which the lead and the tail claim the blocks that they would claim if they flew on, and the
+# steps before the next flight in which they claim blocks as if it began earlier. These are all blocks of the bounce.
+LEAD_PAST, TAIL_PAST, EARLY = 1, 2, 1
 
 
 def cell_number(cell: Cell) -> int:
@@ -46,7 +49,7 @@ def cell_of_number(number: int) -> Cell:
 
 
 def tiles_of(cells: Iterable[int]) -> set[int]:
-    """Returns the tiles of cells: the tile (i, j) is ROW times j plus i."""
+    """Returns the tiles of cells: the tile (i, j) is ROW_STRIDE times j plus i."""
     return {(number >> ROW_BITS + TILE_BITS) * ROW_STRIDE + ((number & ROW_STRIDE - 1) >> TILE_BITS)
             for number in cells}
 
@@ -106,9 +109,11 @@ class Item:
 
 @dataclass(frozen=True)
 class BounceShape:
-    """The blocks and cells of a bounce, as differences to the number of the lead's cell at the time of the bounce."""
+    """The cells of a bounce, as differences to the number of the lead's cell at the time of the bounce.
 
-    claims: tuple[int, ...]
+    Its blocks at times are those of the flights before and behind it: see `LEAD_PAST`.
+    """
+
     touched: tuple[int, ...]
     mirror: tuple[int, ...]
 
@@ -120,25 +125,31 @@ def bounce_shape(turn: Turn, dx: int, dy: int) -> BounceShape:
     run = path_run(lead.flown(-2), [Leg(2, turn), Leg(BOUNCE_STEPS, None)])
     own = mirror_cells([bounce(lead, turn)[1]])
     base = cell_number((lead.x, lead.y))
-    claims, touched = [], set()
-    for time, corners in enumerate(run.blocks[2:]):
-        claims += [time * STEP_STRIDE + cell_number(corner) - base for corner in sorted(corners)]
-        touched |= {cell for corner in corners for cell in block_cells(corner)}
-    return BounceShape(tuple(claims), tuple(sorted(cell_number(cell) - base for cell in touched - own)),
+    touched = {cell for corners in run.blocks[2:] for corner in corners for cell in block_cells(corner)}
+    return BounceShape(tuple(sorted(cell_number(cell) - base for cell in touched - own)),
                        tuple(sorted(cell_number(cell) - base for cell in own)))
 
 
-def add_flight(ball: Ball, steps: int, claims: list[Iterable[int]], touched: list[Iterable[int]]) -> None:
-    """Adds the blocks and cells of a straight flight, as ranges."""
+def add_claims(ball: Ball, steps: int, early: int, has_bounce: bool, claims: list[Iterable[int]]) -> None:
+    """Adds the blocks at times of a straight flight, as ranges: from `early` steps before it on, and with its part of
+    the bounce at its end if there is one."""
+    x, y, dx, dy, time = ball
+    along = dy * ROW_STRIDE + dx
+    step = STEP_STRIDE + along
+    lead = time * STEP_STRIDE + (y if dy > 0 else y - 1) * ROW_STRIDE + (x if dx > 0 else x - 1)
+    for first, past in ((lead, LEAD_PAST), (lead - 2 * along, TAIL_PAST)):
+        own = range(first - early * step, first + (steps + past if has_bounce else steps) * step, step)
+        if own:
+            claims.append(own)
+
+
+def add_touched(ball: Ball, steps: int, touched: list[Iterable[int]]) -> None:
+    """Adds the cells of a straight flight, as ranges."""
     if steps <= 0:
         return
-    x, y, dx, dy, time = ball
+    x, y, dx, dy, _ = ball
     corner = (y if dy > 0 else y - 1) * ROW_STRIDE + (x if dx > 0 else x - 1)
     along = dy * ROW_STRIDE + dx
-    lead, step = time * STEP_STRIDE + corner, STEP_STRIDE + along
-    claims.append(range(lead, lead + steps * step, step))
-    tail = lead - 2 * along
-    claims.append(range(tail, tail + steps * step, step))
     # Two cells of a block are on the diagonal of the flight, where one block's first cell is the last one's second; two
     # are beside it.
     first, last = corner - 2 * along, corner + steps * along
@@ -157,19 +168,23 @@ def path_item(ball: Ball, legs: Iterable[Leg], begun: int = 0) -> Item | None:
     claims: list[Iterable[int]] = []
     touched: list[Iterable[int]] = []
     mirrors: list[int] = []
+    early = 0
     for steps, turn in legs:
         if begun > steps:
             return None
-        add_flight(ball.flown(begun), steps - begun, claims, touched)
+        first = ball.flown(begun)
+        add_claims(first, steps - begun, early, turn is not None, claims)
+        add_touched(first, steps - begun, touched)
         ball = ball.flown(steps)
         if turn is None:
             break
         shape, base = bounce_shape(turn, ball.dx, ball.dy), cell_number((ball.x, ball.y))
-        start = ball.time * STEP_STRIDE + base
-        claims.append([start + number for number in shape.claims])
         touched.append([base + number for number in shape.touched])
         mirrors += [base + number for number in shape.mirror]
-        ball, begun = bounce(ball, turn)[0], BOUNCE_STEPS
+        ball, begun, early = bounce(ball, turn)[0], BOUNCE_STEPS, EARLY
+    else:
+        # The legs end at a bounce.
+        add_claims(ball.flown(begun), 0, early, False, claims)
     item = Item(frozenset(mirrors), tuple(touched), tuple(claims))
     return item if all(item.mirrors.isdisjoint(part) for part in touched) else None
 
@@ -200,6 +215,22 @@ def cell_shape(cell: GateCell) -> tuple[list[int], list[int], list[int]]:
     return shape
 
 
+class Claims(Protocol):
+    """The blocks at times that items on the plane claim: numbers, or what stands for them."""
+
+    def update(self, *parts: Iterable[int]) -> None:
+        """Adds numbers."""
+
+    def difference_update(self, *parts: Iterable[int]) -> None:
+        """Takes numbers away."""
+
+    def isdisjoint(self, part: Iterable[int], /) -> bool:
+        """Whether none of some numbers is there."""
+
+    def __len__(self) -> int:
+        """Returns 0 if nothing is claimed."""
+
+
 class World:
     """A rectangle of cells with the items on it, which can grow. Rows and diagonals of cells are bits of numbers.
 
@@ -208,14 +239,14 @@ class World:
 
     def __init__(self, size: int, height: int | None = None) -> None:
         self.size, self.height = size, height or size
-        self.claims: set[int] = set()
+        self.claims: Claims = set()
         self.mirrors: set[int] = set()
         # How many parts of items touch a cell or have a mirror there, and the same cells as bits of rows: no new mirror
         # may be there.
-        self.counts = array("H", bytes(2 * ROW_STRIDE * self.height))
+        self.counts = array("H", [0]) * (ROW_STRIDE * self.height)
         self.blocked = [0] * (ROW_STRIDE + 8)
-        # The mirrors by falling diagonals (y - x + ROW) and rising ones (y + x), as bits of x; and so the blocked
-        # cells.
+        # The mirrors by falling diagonals (y - x + ROW_STRIDE) and rising ones (y + x), as bits of x; and so the
+        # blocked cells.
         self.mirror_falling, self.mirror_rising = [0] * (2 * ROW_STRIDE + 8), [0] * (2 * ROW_STRIDE + 8)
         self.blocked_falling, self.blocked_rising = [0] * (2 * ROW_STRIDE + 8), [0] * (2 * ROW_STRIDE + 8)
 
@@ -223,7 +254,7 @@ class World:
         """Adds columns at the right and rows below. What is there stays."""
         self.size += cells
         self.height += cells
-        self.counts.frombytes(bytes(2 * ROW_STRIDE * cells))
+        self.counts.extend(array("H", [0]) * (ROW_STRIDE * cells))
 
     def add(self, item: Item) -> None:
         """Adds an item."""

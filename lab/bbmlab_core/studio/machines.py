@@ -5,11 +5,12 @@ count as meeting, under whichever choices each is there.
 """
 
 from array import array
-from dataclasses import dataclass
+from dataclasses import dataclass, replace
 
 from ..host.terminal import LabError
+from ..joining.flight_claims import flights_in
 from ..joining.lone_ways import whole_balls_of
-from ..joining.parts import start_ports
+from ..joining.parts import part_item, start_ports
 from ..pictures.drawing import wire_tables
 from ..route.balls import Ball, block_corner, start_state, state_after_step
 from ..route.world import ROW_STRIDE, STEP_STRIDE, Item, cell_number
@@ -96,11 +97,7 @@ class MachineRun:
 
     def machines_item(self, numbers: set[int], is_for_mirrors: bool) -> Item:
         """Returns what some machines take. Mirrors, which are nobody's, are in one of the items."""
-        claims = array("q",
-                       (claim for number, own in enumerate(self.claims) if self.machine_of_number(number) in numbers
-                             for claim in own))
-        mirrors = frozenset(map(cell_number, self.mirrors))
-        corners = {claim % STEP_STRIDE for claim in claims}
-        touched = {corner + offset for corner in corners for offset in (0, 1, ROW_STRIDE, ROW_STRIDE + 1)} - mirrors
-        return Item(mirrors if is_for_mirrors else frozenset(), (array("q", sorted(touched)),),
-                    (array("q", sorted(claims)),))
+        claims = {claim for number, own in enumerate(self.claims) if self.machine_of_number(number) in numbers
+                  for claim in own}
+        machines_item = part_item(frozenset(map(cell_number, self.mirrors)), list(flights_in(claims)))
+        return machines_item if is_for_mirrors else replace(machines_item, mirrors=frozenset())
