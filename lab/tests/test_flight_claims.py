@@ -9,7 +9,7 @@ from bbmlab_core.joining.flight_claims import DIRECTIONS, FlightClaims, flights_
 from bbmlab_core.joining.lone_ways import LoneBalls
 from bbmlab_core.joining.parts import BlockCounts, part_item
 from bbmlab_core.route.balls import Ball
-from bbmlab_core.route.world import ROW, STEP
+from bbmlab_core.route.world import ROW_STRIDE, STEP_STRIDE
 from bbmlab_core.texts.layouts import Layout
 
 # Blocks are in a small square for a short time, so that many flights meet.
@@ -20,7 +20,7 @@ def some_flight(chance: random.Random) -> range:
     """Returns a flight in any direction. At a time, all blocks are in even columns and rows, or all in odd ones."""
     time, step, count = chance.randrange(STEPS), chance.choice([*DIRECTIONS]), chance.choice((1, 1, 2, 5, 20))
     x, y = (64 + 2 * chance.randrange(SIDE // 2) + time % 2 for _ in range(2))
-    first = time * STEP + y * ROW + x
+    first = time * STEP_STRIDE + y * ROW_STRIDE + x
     return range(first, first + count * step, step)
 
 
@@ -68,9 +68,9 @@ class FlightClaimsTest(unittest.TestCase):
         chance = random.Random(1)
         for _ in range(20):
             flights = [some_flight(chance) for _ in range(15)]
-            corners = [number % STEP for flight in flights for number in flight]
-            around = {corner + offset for corner in corners for offset in (0, 1, ROW, ROW + 1)}
-            mirrors = frozenset([*chance.sample(sorted(around), 9), ROW * ROW - 1])
+            corners = [number % STEP_STRIDE for flight in flights for number in flight]
+            around = {corner + offset for corner in corners for offset in (0, 1, ROW_STRIDE, ROW_STRIDE + 1)}
+            mirrors = frozenset([*chance.sample(sorted(around), 9), ROW_STRIDE * ROW_STRIDE - 1])
             item = part_item(mirrors, flights)
             self.assertEqual((item.touched, item.mirrors), (around - mirrors, mirrors))
             self.assertEqual(item.claims, {number for flight in flights for number in flight})
