@@ -36,7 +36,7 @@ def late_command(module: str, function: str = "run") -> Callable[[argparse.Names
     return run
 
 
-def grid_sides(word: str) -> tuple[int, int]:
+def parse_grid_sides(word: str) -> tuple[int, int]:
     """Returns the sides of boxes, written W,H or WxH."""
     sides = word.lower().replace("x", ",").split(",")
     if len(sides) != 2 or not all(side.isdigit() for side in sides):
@@ -54,7 +54,7 @@ def number_from_zero(word: str) -> int:
     return whole_number(word, 0)
 
 
-def ball_size(word: str) -> float:
+def parse_ball_size(word: str) -> float:
     """Returns a size of a ball in cells."""
     try:
         size = float(word)
@@ -65,7 +65,7 @@ def ball_size(word: str) -> float:
     return size
 
 
-def port_number(word: str) -> int:
+def parse_port_number(word: str) -> int:
     """Returns the number of a port, or 0 for a free one."""
     number = whole_number(word, 0)
     if number > 65535:
@@ -80,7 +80,7 @@ def whole_number(word: str, least: int) -> int:
     return int(word)
 
 
-def seconds(word: str) -> float:
+def parse_seconds(word: str) -> float:
     """Returns a number of seconds above 0."""
     number = float(word)
     if not 0 < number < 1e9:
@@ -88,7 +88,7 @@ def seconds(word: str) -> float:
     return number
 
 
-def result_names(words: str) -> list[str]:
+def parse_result_names(words: str) -> list[str]:
     """Returns names of results, with commas between."""
     found = words.split(",")
     unknown = [word for word in found if word not in RESULT_NAMES]
@@ -99,8 +99,8 @@ def result_names(words: str) -> list[str]:
 
 def parse_shard(word: str) -> Any:
     """Returns a part of a set, written K/N."""
-    from .farm.sharding import shard_of_word
-    return shard_of_word(word)
+    from .farm.sharding import read_shard
+    return read_shard(word)
 
 
 def arg(names: str, about: str, **options: Any) -> tuple[list[str], dict[str, Any]]:
@@ -201,7 +201,7 @@ def add_arguments(parser: argparse._ActionsContainer, arguments: list[Any]) -> N
 OUTPUT_OPTION = arg("-o --output", "write to this file (default: standard output)", metavar="FILE")
 PROGRAM_OPTIONS = [arg("--program", "the program (else $BBMCHECK, the repository's, or bbmcheck on PATH)",
                        metavar="PATH"),
-                   arg("--timeout", "how long the program may take on a file", type=seconds,
+                   arg("--timeout", "how long the program may take on a file", type=parse_seconds,
                        metavar="SECONDS")]
 ON_OPTION = arg("--on", "the inputs that are on, with commas between", metavar="NAMES")
 NETLIST_OPTIONS = [
@@ -226,8 +226,8 @@ COMMANDS: dict[str, tuple[str, str, str, list[Any]]] = {
         arg("--jobs", "files at a time (default: %(default)s)", type=positive_number,
             default=min(4, os.cpu_count() or 1), metavar="N"),
         arg("--format", "how results are written (default: text)", choices=RESULT_FORMATS, default="text"),
-        arg("--only", "list only files with these results, such as no,refused; all are checked", type=result_names,
-            metavar="RESULTS"),
+        arg("--only", "list only files with these results, such as no,refused; all are checked",
+            type=parse_result_names, metavar="RESULTS"),
         arg("--receipts", "write a receipt of each answer here, and skip texts whose receipt holds", metavar="DIR"),
         flag("--again", "with --receipts: check all texts"),
         arg("--shard", "check only part K of N, by the digests of the names", type=parse_shard, metavar="K/N"),
@@ -252,7 +252,7 @@ COMMANDS: dict[str, tuple[str, str, str, list[Any]]] = {
         flag("--fix", "write the text with the edits that were found, after trying them"),
         arg("-o --output", "with --fix: write to this file (default: standard output)", metavar="FILE"),
         flag("-i --in-place", "with --fix: write the file again"),
-        arg("--effort", "how much processor time the search for fixes takes (default: 30)", type=seconds,
+        arg("--effort", "how much processor time the search for fixes takes (default: 30)", type=parse_seconds,
             default=30.0, metavar="SECONDS"),
         arg("--command", "the command of the program (default: by the sections of the text)",
             dest="command_of_program", choices=["check", "run", "value", "modules", "migrate"]),
@@ -284,7 +284,7 @@ COMMANDS: dict[str, tuple[str, str, str, list[Any]]] = {
         arg("--wires", "bring out the ways of these wires, with commas between", metavar="NAMES"),
         arg("--cone", "bring out the ways of this wire and of all wires on which it depends", metavar="NAME"),
         flag("--arrows", "show where the balls go, on ways that are long enough"),
-        arg("--ball", "the least size of a ball (default: by the layout)", type=ball_size, default=0.0,
+        arg("--ball", "the least size of a ball (default: by the layout)", type=parse_ball_size, default=0.0,
             metavar="CELLS")]),
     "view": ("view", "Write one HTML file that shows a layout in a browser, without a network.",
              "view examples/wrong_edge.txt -o wrong_edge.html", [
@@ -295,7 +295,7 @@ COMMANDS: dict[str, tuple[str, str, str, list[Any]]] = {
                "studio my_gate.txt", [
         arg("file", "the text to open (default: a new layout in this folder)", nargs="?", metavar="FILE"),
         arg("--no-open", "print the address, and open no browser", dest="open", action="store_false"),
-        arg("--port", "listen at this port of 127.0.0.1 (default: a free one)", type=port_number, metavar="N"),
+        arg("--port", "listen at this port of 127.0.0.1 (default: a free one)", type=parse_port_number, metavar="N"),
         arg("--memory", "the memory limit of the program and of the lab (default: 4096)", type=positive_number,
             default=4096, metavar="MIB"),
         *PROGRAM_OPTIONS]),
@@ -303,7 +303,7 @@ COMMANDS: dict[str, tuple[str, str, str, list[Any]]] = {
                 "certify design.txt -o bundle.txt", [
         file_argument("a text that begins with a circuit and a layout"), OUTPUT_OPTION,
         ExclusiveArguments([arg("--grid", "take boxes of W by H cells, even and at most 64 (default: the lab chooses)",
-                                type=grid_sides, metavar="W,H"),
+                                type=parse_grid_sides, metavar="W,H"),
                             arg("--boxes", "take the boxes of the lines `module X Y W H` of this text", metavar="FILE"),
                             flag("--plain", "one module for the whole layout, without edge lines")]),
         arg("--version", "certificate version (default: 2)", dest="version_of_text", type=int, choices=[1, 2],
@@ -340,7 +340,7 @@ COMMANDS: dict[str, tuple[str, str, str, list[Any]]] = {
         arg("--seed", "another seed gives another layout (default: 1)", type=positive_number, default=1, metavar="N"),
         arg("--size", "the side of the layout, a multiple of 16 up to 4096 (default: as needed)", type=positive_number,
             metavar="N"),
-        arg("--effort", "how long to search (default: 60)", type=seconds, default=60.0, metavar="SECONDS"),
+        arg("--effort", "how long to search (default: 60)", type=parse_seconds, default=60.0, metavar="SECONDS"),
         arg("--jobs", "attempts at a time, each in a process (default: 1)", type=positive_number, default=1,
             metavar="N"),
         flag("--compact", "go on with ever smaller planes, until no attempt on one finds a route"),
@@ -362,7 +362,7 @@ COMMANDS: dict[str, tuple[str, str, str, list[Any]]] = {
         arg("--seed", "another seed gives other paths (default: 1)", type=positive_number, default=1, metavar="N"),
         arg("--size", "the side of the plane, a multiple of 16 up to 4096 (default: as needed)", type=positive_number,
             metavar="N"),
-        arg("--effort", "how long to search (default: 60)", type=seconds, default=60.0, metavar="SECONDS"),
+        arg("--effort", "how long to search (default: 60)", type=parse_seconds, default=60.0, metavar="SECONDS"),
         *PROGRAM_OPTIONS]),
     "cells": ("cells", "List the standard cells with their ports, or show one of them.",
               "cells fredkin --svg -o fredkin.svg", [

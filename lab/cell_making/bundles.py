@@ -2,7 +2,7 @@
 
 from dataclasses import dataclass, field, replace
 
-from bbmlab_core.certify.certifier import CertificatePlan, certified_text, grid_boxes
+from bbmlab_core.certify.certifier import CertificateOptions, certified_text, grid_boxes
 from bbmlab_core.route.balls import Ball, BallRun, Mirror, block_cells, mirror_cells, run_exactly, start_state
 from bbmlab_core.texts.certificates import MAX_BOX_SIDE, Certificate, Stop, local_wires, whole_module
 from bbmlab_core.texts.circuits import Circuit, evaluate_all
@@ -38,7 +38,7 @@ class Machine:
         """The last time of the run."""
         return max(ball.time for ball in [*self.outs.values(), *self.garbage.values()]) + self.rest
 
-    def ports(self) -> list[tuple[str, Ball]]:
+    def stop_balls(self) -> list[tuple[str, Ball]]:
         """Returns the wires that get stops, with their balls."""
         return [*self.ins.items(), *self.inner.items(), *self.outs.items(), *self.garbage.items()]
 
@@ -64,14 +64,14 @@ def run_machine(machine: Machine, tables: dict[str, Table], full: Table) -> Ball
     run = run_exactly(mirror_cells(machine.mirrors), start_state(start), 0, machine.last_time)
     if not run.is_stable:
         raise ValueError(f"{machine.name}: a mirror breaks in the step from time {len(run.blocks)}")
-    for name, ball in machine.ports():
+    for name, ball in machine.stop_balls():
         for cell in ball.cells():
             if run.state(ball.time).get(cell, 0) != tables[name]:
                 raise ValueError(f"{machine.name}: the ball of {name} is not at {cell} at time {ball.time}")
     return run
 
 
-def move_and_size(machine: Machine, run: BallRun) -> tuple[int, int, int, int]:
+def offset_and_size(machine: Machine, run: BallRun) -> tuple[int, int, int, int]:
     """Returns how far to move the machine, by even numbers, and the even width and height of its layout."""
     cells = mirror_cells(machine.mirrors) | {cell for corners in run.blocks for corner in corners
                                              for cell in block_cells(corner)}
@@ -102,7 +102,7 @@ def bundle_text(machine: Machine) -> str:
     circuit = read_circuit(machine.circuit_text())
     values = evaluate_all(circuit)
     run = run_machine(machine, values.tables, values.full)
-    dx, dy, width, height = move_and_size(machine, run)
+    dx, dy, width, height = offset_and_size(machine, run)
 
     def shifted(ball: Ball) -> list[Cell]:
         """Returns the cells of a ball in the layout."""
@@ -119,7 +119,7 @@ def bundle_text(machine: Machine) -> str:
     layout = Layout(width, height, machine.last_time,
                     tuple(Box(mirror.x, mirror.y, mirror.width, mirror.height) for mirror in mirrors), balls,
                     ports(machine.ins, 0), outs, tuple(sorted(wastes, key=row_order_key)))
-    stops = [Stop(ball.time, name, *cell) for name, ball in machine.ports() for cell in shifted(ball)]
+    stops = [Stop(ball.time, name, *cell) for name, ball in machine.stop_balls() for cell in shifted(ball)]
     certificate = with_stops(certificate_for(circuit, layout), circuit, stops)
     return f"{circuit}{layout}{certificate}"
 
@@ -128,7 +128,7 @@ def certificate_for(circuit: Circuit, layout: Layout) -> Certificate:
     """Returns the certificate of a design: one module if it is small enough, else modules on a grid."""
     if max(layout.width, layout.height) <= MAX_BOX_SIDE:
         return Certificate(2, (whole_module(circuit, layout),))
-    plan, boxes = CertificatePlan(2, "safe"), grid_boxes(layout, MAX_BOX_SIDE, MAX_BOX_SIDE)
+    plan, boxes = CertificateOptions(2, "safe"), grid_boxes(layout, MAX_BOX_SIDE, MAX_BOX_SIDE)
     made = read_document(certified_text(read_document(f"{circuit}{layout}", "design"), boxes, plan)).certificate
     assert made is not None
     return made
@@ -138,7 +138,8 @@ def with_stops(certificate: Certificate, circuit: Circuit, stops: list[Stop]) ->
     """Returns a certificate with stops added to the modules that have their cells. Their wires become local there."""
     modules = []
     for module in certificate.modules:
-        own = sorted((stop for stop in stops if module.box.has(stop.cell)), key=lambda stop: (stop.place, stop.name))
+        own = sorted((stop for stop in stops if module.box.has(stop.cell)),
+                     key=lambda stop: (stop.order_key, stop.name))
         if own:
             cuts, uses = circuit.cone({*local_wires(circuit, module), *(stop.name for stop in own)})
             module = replace(module, cuts=tuple(cuts), uses=tuple(uses), stops=tuple(own))

@@ -13,12 +13,12 @@ from .full_adder import full_adder_machine
 
 FLAT, UPRIGHT = Turn.FLAT, Turn.UPRIGHT
 # The steps from the start of a cell's run until its inputs arrive.
-LEAD_IN = 4
+LEAD_IN_STEPS = 4
 
 
 def path_machine(name: str, legs: list[Leg], gates: list[str], out: str) -> Machine:
     """Returns a machine of one ball and its mirrors."""
-    start = Ball(4, 4, 1, 1, LEAD_IN)
+    start = Ball(4, 4, 1, 1, LEAD_IN_STEPS)
     end, mirrors = follow_legs(start, legs)
     return Machine(name, gates, {"a": start}, {out: end}, mirrors)
 
@@ -37,13 +37,13 @@ def delay_machine(steps: int) -> Machine:
 
 def crossing_machine() -> Machine:
     """Returns two balls whose tracks cross. The second is at the crossing four steps after the first."""
-    ins = {"a": Ball(4, 4, 1, 1, LEAD_IN), "b": Ball(0, 17, 1, -1, LEAD_IN)}
+    ins = {"a": Ball(4, 4, 1, 1, LEAD_IN_STEPS), "b": Ball(0, 17, 1, -1, LEAD_IN_STEPS)}
     return Machine("crossing", [], ins, {name: ball.flown(20) for name, ball in ins.items()})
 
 
 def collision_machine() -> Machine:
     """Returns two balls that meet at a right angle, without a mirror."""
-    ins = {"p": Ball(4, 4, 1, 1, LEAD_IN), "q": Ball(4, 17, 1, -1, LEAD_IN)}
+    ins = {"p": Ball(4, 4, 1, 1, LEAD_IN_STEPS), "q": Ball(4, 17, 1, -1, LEAD_IN_STEPS)}
     late = {name: ball.moved(-2, 0, 0) for name, ball in ins.items()}
     outs = {"a": late["q"], "b": ins["q"], "c": ins["p"], "d": late["p"]}
     return Machine("collision", ["interact p q -> a b c d"], ins, {name: ball.flown(14) for name, ball in outs.items()})
@@ -52,7 +52,7 @@ def collision_machine() -> Machine:
 def gate_machine(name: str, cell: GateCell) -> Machine:
     """Returns the machine of a gate's cell. Its inputs arrive together, when the first of them has to."""
     arrival = min(ball.time for ball in cell.ins.values())
-    shift = LEAD_IN - arrival + arrival % 2
+    shift = LEAD_IN_STEPS - arrival + arrival % 2
     ins = {port: ball.at(arrival).moved(0, 0, shift) for port, ball in cell.ins.items()}
     outs = {port: ball.moved(0, 0, shift) for port, ball in cell.outs.items()}
     line = f"{cell.word} {' '.join(ins)} -> {' '.join(outs)}"

@@ -32,16 +32,16 @@ function commandsOf(model, draw, cells) {
       if (box) model.add([part("mirror", box)]);
     },
     () => model.add([part("mirror", [...cell(), 1 + draw(4), 1 + draw(4)])]),
-    () => model.addCells(geometry.pairCells(cell(), 0).map((at) => part("ball", [...at, 1, 1]))),
+    () => model.addCellParts(geometry.pairCells(cell(), 0).map((at) => part("ball", [...at, 1, 1]))),
     () => {
       const name = names();
-      model.addCells(geometry.pairCells(cell(), 0).map((at) => part("in", [...at, 1, 1], name)));
+      model.addCellParts(geometry.pairCells(cell(), 0).map((at) => part("in", [...at, 1, 1], name)));
     },
     () => {
       const name = names();
-      model.addCells([part("out", [...cell(), 1, 1], name)]);
+      model.addCellParts([part("out", [...cell(), 1, 1], name)]);
     },
-    () => model.addCells([part("waste", [...cell(), 1, 1])]),
+    () => model.addCellParts([part("waste", [...cell(), 1, 1])]),
     () => model.remove(lines()), () => model.move(lines(), draw(9) - 4, draw(9) - 4),
       () => model.turn(lines(), ["rotate", "flip-x", "flip-y"][draw(3)]),
     () => model.rename(lines(), names()),
@@ -49,7 +49,7 @@ function commandsOf(model, draw, cells) {
         "paste"),
     () => model.resize(model.header.width + 2 * draw(3) - 2, model.header.height + 2 * draw(3) - 2,
       Math.max(0, model.header.steps + draw(7) - 3), draw(2) === 1),
-    () => model.insertCell(cells[draw(cells.length)], 2 * draw(10), 2 * draw(10), draw(2) === 1),
+    () => model.insertStandardCell(cells[draw(cells.length)], 2 * draw(10), 2 * draw(10), draw(2) === 1),
     () => model.setHead(`${model.headText}# ${draw(100)}`.replace(/(# \d+)+$/, (found) => found.slice(0, 40)),
       draw(2) ? "typing" : null),
     () => model.setTail(draw(2) ? `certificate 2\nmodule 0 0 ${2 * draw(9)} 2\nend\n` : ""), () => model.undo(),

@@ -6,7 +6,7 @@ import sys
 
 import support
 from bbmlab_core.host.program import ask
-from bbmlab_core.physics.simulation import run_layout
+from bbmlab_core.physics.simulation import layout_run
 from bbmlab_core.texts.circuits import values_under
 from bbmlab_core.texts.layouts import Cell, Layout
 from bbmlab_core.physics.standard_cells import CELLS_FOLDER, CELL_DESCRIPTIONS, cell_names, read_cell
@@ -25,7 +25,7 @@ FUNCTIONS = {
 
 def states_of(layout: Layout, on: set[str]) -> list[set[Cell]]:
     """Returns the live cells at each time."""
-    run = run_layout(layout, on)
+    run = layout_run(layout, on)
     states = [run.field.state()]
     while run.time < layout.steps:
         assert run.step(), "a ball left"

@@ -14,7 +14,7 @@ import support
 from bbmlab_core.host.program import open_program
 from bbmlab_core.host.terminal import LabError
 from bbmlab_core.physics import standard_cells
-from bbmlab_core.physics.simulation import run_layout
+from bbmlab_core.physics.simulation import layout_run
 from bbmlab_core.studio import connecting, machines
 from bbmlab_core.studio.connecting import ConnectedText, connect_ports
 from bbmlab_core.studio.verdicts import Judge
@@ -58,7 +58,7 @@ class Connecting(unittest.TestCase):
         document = read_document(text, "design")
         self.assertEqual((document.circuit.inputs, document.circuit.outputs), (("a",), ("q",)))
         for on in ([], ["a"]):
-            run = run_layout(document.layout, on)
+            run = layout_run(document.layout, on)
             self.assertTrue(run.run_to(document.layout.steps))
             outs = {part.cell for part in document.layout.of_kind("out")}
             self.assertEqual(outs <= run.field.state(), bool(on))
@@ -116,15 +116,15 @@ class Connecting(unittest.TestCase):
             with self.subTest(ports=ports, words=words), self.assertRaises(LabError) as caught:
                 connected(own, *ports)
             self.assertIn(words, str(caught.exception))
-        with mock.patch.object(connecting, "ADDED_CELLS", (0,)), self.assertRaises(LabError) as caught:
+        with mock.patch.object(connecting, "MARGINS_BY_ATTEMPT", (0,)), self.assertRaises(LabError) as caught:
             connected(two_nots(88, 44, (0, 0), (44, 0)), seconds=2)
         self.assertIn("There is no room", str(caught.exception))
 
     def test_two_machines(self) -> None:
         """The balls of one gate are one machine, and those of another gate another one."""
         run = machines.MachineRun(read_document(two_nots(200, 160, (20, 60), (120, 70)), "design"))
-        left = {run.machine_of_number(number) for number, port in enumerate(run.starts) if port.ball.x < 90}
-        right = {run.machine_of_number(number) for number, port in enumerate(run.starts) if port.ball.x > 90}
+        left = {run.machine_of_ball(number) for number, port in enumerate(run.starts) if port.ball.x < 90}
+        right = {run.machine_of_ball(number) for number, port in enumerate(run.starts) if port.ball.x > 90}
         self.assertEqual((len(left), len(right), left & right), (1, 1, set()))
 
     def test_too_many_moves(self) -> None:

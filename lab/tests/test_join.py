@@ -22,17 +22,17 @@ from bbmlab_core.joining import coil_ways, coils, command, lone_ways, modules, p
 from bbmlab_core.joining.composing import Composition, Connection, NamedPart, compose, feeding_order
 from bbmlab_core.joining.lone_ways import whole_balls_of
 from bbmlab_core.joining.parts import read_part
-from bbmlab_core.joining.places import LEAST_GAP, Area, all_places
+from bbmlab_core.joining.places import LEAST_GAP, Extent, all_places
 from bbmlab_core.joining.slack import LoneWayCuts, WayCut
-from bbmlab_core.joining.turning import TURNINGS, UPRIGHT, Placing
-from bbmlab_core.physics.simulation import run_layout
+from bbmlab_core.joining.turning import ORIENTATIONS, UPRIGHT, Placing
+from bbmlab_core.physics.simulation import layout_run
 from bbmlab_core.route.attempt import Attempt
 from bbmlab_core.route.balls import BOUNCE_STEPS, Ball, Turn, bounce, follow_legs, mirror_cells
 from bbmlab_core.route.command import ProgressLine
 from bbmlab_core.route.netlist import RouterNetlist
 from bbmlab_core.route.paths import PathFinder
 from bbmlab_core.route.settings import OPEN_STEPS, Settings
-from bbmlab_core.route.world import (MARGIN_CELLS, ROW_STRIDE, STEP_STRIDE, TILE, Item, World, cell_number,
+from bbmlab_core.route.world import (MARGIN_CELLS, ROW_STRIDE, STEP_STRIDE, TILE, Footprint, World, cell_number,
                                      cell_of_number, path_item)
 from bbmlab_core.texts.certificates import Module
 from bbmlab_core.texts.circuits import values_under
@@ -93,7 +93,7 @@ class Joining(unittest.TestCase):
         assert circuit and layout
         for _ in range(3):
             on = {name for name in circuit.inputs if chance.random() < 0.6}
-            run = run_layout(layout, on)
+            run = layout_run(layout, on)
             self.assertTrue(run.run_to(layout.steps))
             live, values = run.field.state(), values_under(circuit, on)[0]
             for part in layout.of_kind("out"):
@@ -138,7 +138,7 @@ class Joining(unittest.TestCase):
         self.assertEqual(document.layout.steps, max(own.layout.steps for own in parts.values()))
         plan = planning.make_plan(compose(parts, []), 512, [])
         assert plan
-        self.assertTrue(all(plan.end - own.end < 2 for own in plan.placed), plan.placed)
+        self.assertTrue(all(plan.end - own.end_time < 2 for own in plan.placed), plan.placed)
         self.assert_runs(document)
 
     def test_delays_and_inverse_gates(self) -> None:
@@ -170,7 +170,7 @@ class Joining(unittest.TestCase):
             self.assertTrue(way.ball.is_legal)
             self.assertFalse(way.mirrors - made.parts[0].text.layout.mirror_cells())
         parts = {part.name: part.text for part in made.parts}
-        with mock.patch.object(planning, "turnings_of", lambda placed: [UPRIGHT]):
+        with mock.patch.object(planning, "fitting_orientations", lambda placed: [UPRIGHT]):
             whole = planning.make_plan(compose(parts, made.connections, set(ways)), 512, [0])
             plan = planning.make_plan(made, 512, [0])
         assert plan and whole
@@ -235,7 +235,7 @@ class Joining(unittest.TestCase):
     def test_paths_that_ignore_a_part(self) -> None:
         """Paths through the parts get a no if the world has only their mirrors."""
         def add_mirrors(own: wiring.JoinWorld, placed: planning.PlacedPart) -> None:
-            own.add(Item(frozenset(map(placed.placing.cell_numbers(), placed.part.item.mirrors))))
+            own.add(Footprint(frozenset(map(placed.placing.cell_number_map(), placed.part.footprint.mirrors))))
 
         change = mock.patch.object(wiring.JoinWorld, "add_part", add_mirrors)
         # Balls wander through the parts, which cost nothing.
@@ -257,7 +257,7 @@ class Joining(unittest.TestCase):
     def test_places(self) -> None:
         """Parts have gaps between them and around them, in eight ways for each number of rows, and each is beside the
         next one."""
-        areas = [Area(160 + 16 * (index % 3), 160) for index in range(7)]
+        areas = [Extent(160 + 16 * (index % 3), 160) for index in range(7)]
         found = list(all_places(areas, 800))
         self.assertEqual(len({tuple(places) for places in found}), 8 * ROW_COUNTS)
         for places in found:
@@ -312,8 +312,8 @@ class Joining(unittest.TestCase):
             steps, deep = [ball.time + call.args[1]
                            for call in wander.call_args_list], max(0, depth - planning.SHALLOW_CELLS)
             self.assertEqual(len(steps), wiring.CONNECT_TRIES)
-            self.assertGreaterEqual(min(steps), wiring.BACK_STEPS[0] + deep)
-            self.assertLessEqual(max(steps), wiring.BACK_STEPS[1] + 2 * deep)
+            self.assertGreaterEqual(min(steps), wiring.STEPS_BACK_RANGE[0] + deep)
+            self.assertLessEqual(max(steps), wiring.STEPS_BACK_RANGE[1] + 2 * deep)
 
     def test_more_time_for_one_ball(self) -> None:
         """A ball between two parts that cannot be led in its time gets more, and no other one does."""
@@ -380,7 +380,7 @@ class Joining(unittest.TestCase):
         """What a leg to a coil takes is in its rectangle. A bounce is sought wherever its mirror has room."""
         world, chance = World(512), random.Random(1)
         for _ in range(300):
-            world.add(Item(frozenset([cell_number((chance.randrange(180, 330), chance.randrange(180, 330)))])))
+            world.add(Footprint(frozenset([cell_number((chance.randrange(180, 330), chance.randrange(180, 330)))])))
         finder = PathFinder(world, chance, command.SETTINGS)
         for dx, dy, is_backward in itertools.product((1, -1), (1, -1), (False, True)):
             ball = Ball(256 + (dx < 0), 256 + (dy < 0), dx, dy, 1000)
@@ -405,12 +405,12 @@ class Joining(unittest.TestCase):
         """A way out of a part or into it meets nothing, and ends or begins on open ground."""
         world, chance, part = World(512), random.Random(1), Box(176, 176, 160, 160)
         for _ in range(60):
-            world.add(Item(frozenset([cell_number((chance.randrange(180, 330), chance.randrange(180, 330)))])))
+            world.add(Footprint(frozenset([cell_number((chance.randrange(180, 330), chance.randrange(180, 330)))])))
         finder, ground = PathFinder(world, chance, command.SETTINGS), coil_ways.CoilGround(world, [part])
         for dx, dy, is_backward in itertools.product((1, -1), (1, -1), (False, True)):
             inner = Ball(256 + (dx < 0), 256 + (dy < 0), dx, dy, 2000)
             other = Ball(60, 60, 1, 1, 1000 if is_backward else 3000)
-            for cells in wiring.GOAL_CELLS:
+            for cells in wiring.GOAL_STEP_COSTS:
                 search = coil_ways.OpenSearch(finder, ground, inner, other, is_backward, lambda _: True, cells)
                 legs = next(search.ways())
                 first = finder.ball_before(inner, legs) if is_backward else inner
@@ -426,7 +426,7 @@ class Joining(unittest.TestCase):
         """Squares are free if nothing is in them or near them. Tiles far away from them need as many steps at least."""
         size, part, world = 160, Box(50, 40, 20, 30), World(160)
         taken = [(30, 100), (100, 60), *part.ring()]
-        world.add(Item(frozenset(map(cell_number, taken[:2]))))
+        world.add(Footprint(frozenset(map(cell_number, taken[:2]))))
         ground, side, street = coil_ways.CoilGround(world, [part]), 40, coil_ways.PATH_STREET_CELLS
         ground.take_coil(Box(130, 120, 20, 20))
         squares = ground.squares(side, 80)
@@ -445,33 +445,33 @@ class Joining(unittest.TestCase):
     def test_turned_numbers(self) -> None:
         """The numbers of the cells and of the blocks of a turned part are those of its turned cells."""
         chance = random.Random(1)
-        for turning in TURNINGS:
+        for turning in ORIENTATIONS:
             placing = Placing(160, 96, 320, 640, 40, turning)
-            cells, blocks = placing.cell_numbers(), placing.block_numbers()
+            cells, blocks = placing.cell_number_map(), placing.block_number_map()
             for _ in range(20):
                 x, y, time = chance.randrange(0, 158), chance.randrange(0, 94), chance.randrange(100)
-                self.assertEqual(cell_of_number(cells(cell_number((x, y)))), placing.cell((x, y)))
+                self.assertEqual(cell_of_number(cells(cell_number((x, y)))), placing.placed_cell((x, y)))
                 number = time * STEP_STRIDE + cell_number((x, y))
                 own = blocks(number)
                 self.assertEqual((own // STEP_STRIDE, cell_of_number(own % STEP_STRIDE)),
-                                 (time + 40, placing.box(Box(x, y, 2, 2))[:2]))
+                                 (time + 40, placing.placed_box(Box(x, y, 2, 2))[:2]))
                 flight = range(number, number + 5 * (STEP_STRIDE + ROW_STRIDE + 1), STEP_STRIDE + ROW_STRIDE + 1)
                 for part in (flight, list(flight), flight[:1]):
                     self.assertEqual(list(blocks.of_part(part)), [blocks(each) for each in part])
                 dx, dy = chance.choice((-1, 1)), chance.choice((-1, 1))
                 ball = Ball(2 * (x // 2) + (dx < 0), 2 * (y // 2) + (dy < 0), dx, dy, 2 * time)
-                there = placing.ball(ball)
+                there = placing.placed_ball(ball)
                 self.assertTrue(ball.is_legal and there.is_legal)
-                self.assertEqual(there.cells(), tuple(map(placing.cell, ball.cells())))
-                self.assertEqual(placing.ball(ball.flown(7)), there.flown(7))
+                self.assertEqual(there.cells(), tuple(map(placing.placed_cell, ball.cells())))
+                self.assertEqual(placing.placed_ball(ball.flown(7)), there.flown(7))
 
     def test_turned_parts(self) -> None:
         """A join of parts that are mirrored, and turned if they are squares, gets a yes in all ways."""
-        turnings = planning.turnings_of(planning.PlacedPart(self.made().parts[0]))
+        turnings = planning.fitting_orientations(planning.PlacedPart(self.made().parts[0]))
         self.assertGreaterEqual(len(turnings), 4)
         for turning in turnings[1:]:
             with self.subTest(turning):
-                change = mock.patch.object(planning, "turnings_of", lambda placed, own=turning: [own])
+                change = mock.patch.object(planning, "fitting_orientations", lambda placed, own=turning: [own])
                 self.assertIn("verdict yes", self.verdict_with(change))
 
     # --- balls --------------------------------------------------------------------------------------------------------

@@ -13,7 +13,7 @@ from pathlib import Path
 from unittest import mock
 
 import support
-from bbmlab_core.certify.certifier import CertificatePlan, certified_text
+from bbmlab_core.certify.certifier import CertificateOptions, certified_text
 from bbmlab_core.cli import main
 from bbmlab_core.explain.diagnosis import Diagnosis
 from bbmlab_core.explain.expected_lines import BorderCheck
@@ -23,13 +23,13 @@ from bbmlab_core.explain.trials import Budget, TrialRunner
 from bbmlab_core.host.program import ask
 from bbmlab_core.host.terminal import LabError
 from bbmlab_core.physics import tracing
-from bbmlab_core.physics.simulation import Fault, ModuleRun, WholeRun, key_of, lowest_bit, run_layout
+from bbmlab_core.physics.simulation import Fault, ModuleRun, WholeRun, key_of, lowest_bit, layout_run
 from bbmlab_core.pictures.golly import golly_text
 from bbmlab_core.texts import designs
 from bbmlab_core.texts.assigns import AssignReader
 from bbmlab_core.texts.certificates import Certificate, CertificateReader
 from bbmlab_core.texts.circuits import Circuit, CircuitReader, Gate, evaluate_samples, sampled_tables
-from bbmlab_core.texts.documents import HEADER_LINE, HEADERS, Document
+from bbmlab_core.texts.documents import HEADER_LINE_PATTERN, HEADERS, Document
 from bbmlab_core.texts.json_form import indented_json
 from bbmlab_core.texts.layouts import Box, Layout, LayoutReader, Part
 from bbmlab_core.texts.lines import LineForm, Values, match_line, word_value
@@ -85,7 +85,7 @@ class Runs(unittest.TestCase):
                         certificate = Certificate(certificate.version, (*certificate.modules[:number], module,
                                                                         *certificate.modules[number + 1:]))
                     wanted = plain_least_fault(ModuleRun(circuit, layout, certificate, module))
-                    self.assertEqual(ModuleRun(circuit, layout, certificate, module).least_fault(), wanted,
+                    self.assertEqual(ModuleRun(circuit, layout, certificate, module).run_to_fault(), wanted,
                                      (name, number))
                     count, faults = count + 1, faults + (wanted is not None)
         self.assertGreater(min(count, faults), 150)
@@ -99,7 +99,7 @@ class Runs(unittest.TestCase):
         assert document.circuit and document.layout and document.certificate
         run = ModuleRun(document.circuit, document.layout, document.certificate, document.certificate.modules[0])
         with mock.patch.object(run, "step", wraps=run.step) as step:
-            self.assertIsNone(run.least_fault())
+            self.assertIsNone(run.run_to_fault())
         self.assertLess(step.call_count, 20)
 
     def test_traces(self) -> None:
@@ -109,7 +109,7 @@ class Runs(unittest.TestCase):
         for _ in range(120):
             layout = random_layout(chooser, 0, 30)
             on = [name for name in "pq" if chooser.randrange(2)]
-            trace, run = tracing.trace_layout(layout, on, 0, layout.steps), run_layout(layout, on)
+            trace, run = tracing.trace_layout(layout, on, 0, layout.steps), layout_run(layout, on)
             states = [run.field.state()]
             while run.time < layout.steps and run.step():
                 states.append(run.field.state())
@@ -124,8 +124,8 @@ class Runs(unittest.TestCase):
         """The tables of ring cells by time are those of a run that looks at all cells at each odd time."""
         for name, document in bundles().items():
             diagnosis = Diagnosis(document)
-            check, run = BorderCheck(diagnosis), WholeRun(diagnosis.layout, diagnosis.values.tables,
-                                                          diagnosis.values.full)
+            check, run = BorderCheck(diagnosis), WholeRun(diagnosis.layout, diagnosis.wire_tables.tables,
+                                                          diagnosis.wire_tables.full)
             borders = {cell for module in diagnosis.certificate.modules for cell in module.box.ring()
                        if not diagnosis.layout.is_rim(cell)}
             wanted: dict[tuple[int, int], dict[int, int]] | None = {}
@@ -227,7 +227,7 @@ class Forms(unittest.TestCase):
         for _ in range(5000):
             text = "".join(chance.choice(parts) for _ in range(chance.randrange(1, 14)))
             lines = [line.strip().split(" ")[0] for line in text.split("\n")]
-            self.assertEqual(HEADER_LINE.findall(text), [word for word in lines if word in HEADERS], text)
+            self.assertEqual(HEADER_LINE_PATTERN.findall(text), [word for word in lines if word in HEADERS], text)
 
     def test_what_needs_no_certificate(self) -> None:
         """`trace` of a whole layout and `golly` do not read the certificate of a long text."""
@@ -306,7 +306,7 @@ class Once(support.InRoom):
             self.assertIsNone(BorderCheck(diagnosis, -1.0).ring_tables)
             self.assertLessEqual(step.call_count, 1)
             with self.assertRaises(LabError):
-                certified_text(document, None, CertificatePlan(until=0.0))
+                certified_text(document, None, CertificateOptions(until=0.0))
             self.assertLessEqual(step.call_count, 2)
             self.assertIsNotNone(BorderCheck(Diagnosis(document), 30.0).ring_tables)
             self.assertGreater(step.call_count, 5)

@@ -12,16 +12,16 @@ from pathlib import Path
 from typing import Callable
 
 import support
-from bbmlab_core.certify.certifier import CertificatePlan, certified_text
+from bbmlab_core.certify.certifier import CertificateOptions, certified_text
 from bbmlab_core.farm.receipts import section_digests
 from bbmlab_core.physics import tracing
 from bbmlab_core.pictures import golly
 from bbmlab_core.texts import json_form
 from bbmlab_core.texts.documents import Document, read_document
 from bbmlab_core.texts.layouts import Box
-from bbmlab_core.texts.limits import FIRST, SECOND
+from bbmlab_core.texts.limits import FIRST_LIMITS, SECOND_LIMITS
 from bbmlab_core.texts.refusals import explain_refusal, refusal_words
-from bbmlab_core.texts.spelling import spelled_text
+from bbmlab_core.texts.spelling import spelling_of
 from bbmlab_core.view import viewing
 
 sys.path.insert(0, str(support.LAB / "public"))
@@ -181,10 +181,10 @@ class Forms(unittest.TestCase):
     def test_fmt_keeps_the_line(self) -> None:
         """A text in its one spelling keeps the line, which may be written freely before all sections."""
         text = LINE + EMPTY + layout(514)
-        self.assertEqual(spelled_text(text).text, text)
-        self.assertEqual(spelled_text(f"\ufeff# large\n\n  limits   02 # as below\r\n{EMPTY}{layout(514)}").text, text)
-        self.assertEqual(spelled_text(LINE + LINE + EMPTY).text, LINE + LINE + EMPTY)
-        self.assertEqual(spelled_text(LINE + "circuit\noutput a\ninput a\nend\n").text,
+        self.assertEqual(spelling_of(text).text, text)
+        self.assertEqual(spelling_of(f"\ufeff# large\n\n  limits   02 # as below\r\n{EMPTY}{layout(514)}").text, text)
+        self.assertEqual(spelling_of(LINE + LINE + EMPTY).text, LINE + LINE + EMPTY)
+        self.assertEqual(spelling_of(LINE + "circuit\noutput a\ninput a\nend\n").text,
                          LINE + "circuit\ninput a\noutput a\nend\n")
 
     def test_json(self) -> None:
@@ -234,13 +234,14 @@ class Forms(unittest.TestCase):
         """A certificate of a layout within the first limits comes without the line, and any other with it."""
         for side, has_line in ((512, False), (514, True)):
             for front in {"", LINE} if not has_line else {LINE}:
-                made = certified_text(read_document(front + EMPTY + layout(side, 4), "design"), None, CertificatePlan())
+                made = certified_text(read_document(front + EMPTY + layout(side, 4), "design"), None,
+                                      CertificateOptions())
                 self.assertEqual(made.startswith(LINE), has_line)
                 self.assertIsNone(refusal_of(made))
-        tall = certified_text(read_document(EMPTY + layout(512, 512), "design"), [], CertificatePlan())
+        tall = certified_text(read_document(EMPTY + layout(512, 512), "design"), [], CertificateOptions())
         self.assertFalse(tall.startswith(LINE))
         many = certified_text(read_document(EMPTY + layout(128, 130), "design"), small_boxes(128, 130),
-                              CertificatePlan())
+                              CertificateOptions())
         self.assertTrue(many.startswith(LINE))
 
     def test_studio_has_the_same_numbers(self) -> None:
@@ -251,7 +252,8 @@ console.log(JSON.stringify([FIRST, SECOND]));"""
         ended = subprocess.run(["node", "--input-type=module", "-e", script], capture_output=True, text=True,
                                check=True)
         told = [(own["line"], own["maxSide"], own["maxSteps"]) for own in json.loads(ended.stdout)]
-        self.assertEqual(told, [(own.head.strip(), own.max_side, own.max_steps) for own in (FIRST, SECOND)])
+        self.assertEqual(told, [(own.line_text.strip(), own.max_side, own.max_steps)
+                                for own in (FIRST_LIMITS, SECOND_LIMITS)])
 
 
 class Runs(support.InRoom):

@@ -13,17 +13,17 @@ from pathlib import Path
 from unittest import mock
 
 import support
-from bbmlab_core.certify.certifier import (CertificateMaker, ImpossibleModuleError, CertificatePlan, certified_text,
+from bbmlab_core.certify.certifier import (CertificateMaker, ImpossibleModuleError, CertificateOptions, certified_text,
                                            legal_grid_boxes)
 from bbmlab_core.host.terminal import LabError
-from bbmlab_core.physics.simulation import run_layout
+from bbmlab_core.physics.simulation import layout_run
 from bbmlab_core.pictures import golly
 from bbmlab_core.pictures.drawing import cell_centre, module_parts
 from bbmlab_core.texts import json_form
 from bbmlab_core.texts.certificates import Module
 from bbmlab_core.texts.layouts import Box
 from bbmlab_core.texts.reports import parse_report
-from bbmlab_core.texts.spelling import spelled_text
+from bbmlab_core.texts.spelling import spelling_of
 
 # Examples, and grids by which they have a certificate.
 GRIDS = [("fredkin_gate", (14, 14)), ("full_adder", (26, 34)), ("timed_modules", (4, 4)), ("gate_and_mirror", (8, 12)),
@@ -44,7 +44,7 @@ class Certificates(support.InRoom):
         for name, grid in GRIDS:
             for version in (1, 2):
                 for cuts in ("safe", "auto"):
-                    text = by_grid(name, grid, CertificatePlan(version, cuts))
+                    text = by_grid(name, grid, CertificateOptions(version, cuts))
                     with self.subTest(f"{name} {grid} {version} {cuts}"):
                         self.assertIn("verdict yes", support.checked(text))
 
@@ -58,7 +58,7 @@ class Certificates(support.InRoom):
         """Where a cell has the value of no wire, that is said with time and cell: here c without x goes to (8, 10)."""
         with self.assertRaisesRegex(LabError, r"at time 1 the cell \(8, 10\) is live with `c` on, and no wire of the "
                                     r"circuit is true in just"):
-            by_grid("fredkin_gate", (10, 10), CertificatePlan())
+            by_grid("fredkin_gate", (10, 10), CertificateOptions())
 
     def test_no_box_is_tried_twice(self) -> None:
         """If no certificate is found no box was tried twice, though both orders of cuts lead to it."""
@@ -74,7 +74,7 @@ class Certificates(support.InRoom):
             with (self.subTest(name), mock.patch.object(CertificateMaker, "module_for_box", module),
                   self.assertRaisesRegex(LabError, "no certificate was found: not here")):
                 tried.clear()
-                certified_text(design(name), None, CertificatePlan())
+                certified_text(design(name), None, CertificateOptions())
             self.assertGreater(len(tried), 20)
             self.assertEqual(max(tried.values()), 1)
 
@@ -87,16 +87,16 @@ class Certificates(support.InRoom):
         with mock.patch.object(CertificateMaker, "module_for_box", side_effect=ImpossibleModuleError("not here")):
             with self.assertRaisesRegex(LabError, "not here. 2 of 5 wires have the values of an earlier one in all 2 "
                                         "choices of the inputs, as `b` has those of `a`"):
-                certified_text(document, None, CertificatePlan())
+                certified_text(document, None, CertificateOptions())
             with self.assertRaisesRegex(LabError, "not here$"):
                 certified_text(support.read_document("circuit\ninput a\noutput a\nend\nlayout 8 8 0\nin a 4 4\nout a 4 "
-                                                     "4\nend\n", "design"), None, CertificatePlan())
+                                                     "4\nend\n", "design"), None, CertificateOptions())
 
     def test_own_boxes_avoid_cells_without_a_wire(self) -> None:
         """Without a grid the lab finds boxes by itself, though a grid of 10 by 10 cells has no certificate."""
         for name, _ in GRIDS:
             for version in (1, 2):
-                text = certified_text(design(name), None, CertificatePlan(version))
+                text = certified_text(design(name), None, CertificateOptions(version))
                 with self.subTest(f"{name} {version}"):
                     self.assertIn("verdict yes", support.checked(text))
 
@@ -114,7 +114,7 @@ class Certificates(support.InRoom):
 
     def test_auto_uses_fewer_gates(self) -> None:
         """Cuts at wires that come in use fewer gates somewhere than safe cuts."""
-        safe, auto = (by_grid("gate_and_mirror", (8, 12), CertificatePlan(2, cuts)) for cuts in ("safe", "auto"))
+        safe, auto = (by_grid("gate_and_mirror", (8, 12), CertificateOptions(2, cuts)) for cuts in ("safe", "auto"))
         self.assertLess(auto.count("\nuse "), safe.count("\nuse "))
 
     def test_own_stops_are_kept(self) -> None:
@@ -140,7 +140,7 @@ class Certificates(support.InRoom):
                 self.assertIn("\ncertificate 2\n", ended.stdout)
 
 
-def by_grid(name: str, grid: tuple[int, int], plan: CertificatePlan) -> str:
+def by_grid(name: str, grid: tuple[int, int], plan: CertificateOptions) -> str:
     """Returns an example with a certificate whose boxes are those of a grid."""
     document = design(name)
     assert document.layout is not None
@@ -155,7 +155,7 @@ class Spelling(unittest.TestCase):
         for case in support.worked_cases():
             if case.status in (0, 1) and len(case.input) < 20000:
                 with self.subTest(case.name):
-                    self.assertEqual(spelled_text(support.decode(case.input)).text, support.decode(case.input))
+                    self.assertEqual(spelling_of(support.decode(case.input)).text, support.decode(case.input))
 
     def test_free_texts_come_back(self) -> None:
         """A text with comments, odd spaces, other line ends and shuffled lists of modules comes back."""
@@ -163,7 +163,7 @@ class Spelling(unittest.TestCase):
         for name in ("gate_and_mirror", "four_modules", "timed_modules", "full_adder"):
             text = support.text_of(name)
             with self.subTest(name):
-                self.assertEqual(spelled_text(roughened(text, chooser)).text, text)
+                self.assertEqual(spelling_of(roughened(text, chooser)).text, text)
 
     def test_a_refused_text_is_mended(self) -> None:
         """`fmt` on a Windows text is what the program takes."""
@@ -211,7 +211,7 @@ class Json(unittest.TestCase):
         for name in ("head_on", "off_a_mirror", "full_adder"):
             document = support.read_document(support.text_of(name))
             lines = document.text[document.text.index("layout "):].split("\nend\n")[0].split("\n") + ["end"]
-            live = run_layout(document.layout, ["p"]).field.state()
+            live = layout_run(document.layout, ["p"]).field.state()
             text = golly.golly_text(document.layout, live, ["p"], lines)
             with self.subTest(name):
                 self.assertEqual(golly.layout_from_golly(text), "\n".join(lines) + "\n")
@@ -225,7 +225,7 @@ class Json(unittest.TestCase):
                          ("full_adder", ["a", "b"])):
             document = support.read_document(support.text_of(name))
             for time in range(0, document.layout.steps + 1, max(1, document.layout.steps // 5)):
-                run = run_layout(document.layout, on)
+                run = layout_run(document.layout, on)
                 run.run_to(time)
                 with self.subTest(f"{name} at {time}"):
                     self.assertEqual(golly_run(document, on, time), run.field.state())
@@ -238,7 +238,7 @@ class Json(unittest.TestCase):
 
 def golly_run(document: support.Document, on: list[str], time: int) -> set:
     """Returns the live cells that Golly has at a time."""
-    start = run_layout(document.layout, on).field.state()
+    start = layout_run(document.layout, on).field.state()
     with tempfile.TemporaryDirectory() as room:
         before, after = Path(room) / "before.rle", Path(room) / "after.rle"
         before.write_text(golly.golly_text(document.layout, start, on, []))

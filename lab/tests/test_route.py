@@ -23,7 +23,7 @@ from bbmlab_core.route.attempt import Attempt
 from bbmlab_core.route.design import used_tile_bounds
 from bbmlab_core.route.netlist import RouterNetlist
 from bbmlab_core.route.settings import Settings
-from bbmlab_core.route.world import Item
+from bbmlab_core.route.world import Footprint
 from bbmlab_core.texts.circuits import evaluate_all
 from bbmlab_core.texts.documents import Document, read_document
 
@@ -228,9 +228,9 @@ class Mistakes(Routing):
         """Paths claim no blocks and touch no cells, so that balls meet outside gates."""
         right = world.path_item
 
-        def wrong(*words: object) -> Item | None:
+        def wrong(*words: object) -> Footprint | None:
             item = right(*words)  # type: ignore[arg-type]
-            return Item(item.mirrors) if item else None
+            return Footprint(item.mirrors) if item else None
 
         with contextlib.ExitStack() as stack:
             for module in ("world", "paths", "board", "placement"):

@@ -88,7 +88,7 @@ class Backward(unittest.TestCase):
 
     def assert_books(self, board: Board) -> None:
         """Asserts that the world has exactly the items of the board."""
-        world = World(board.size)
+        world = World(board.width)
         items = [item for step in board.steps for item in [step.gate.item,
                                                            *(path.item for path in [*step.paths, *step.parked])]]
         items += [path.item for path in board.ends]
@@ -121,7 +121,7 @@ class Backward(unittest.TestCase):
     def test_books_of_ends(self) -> None:
         """If no ball finds its way to the last time at once, paths to gates make way for some, and the books agree in
         the end."""
-        right, lead, made, asked = Attempt.add_path_through, Attempt.add_last_path, [], set()
+        right, lead, made, asked = Attempt.add_path_making_way, Attempt.add_end_path, [], set()
 
         def unwilling(self: Attempt, root: str, ball: Ball | None, end: int) -> Path | None:
             if root in asked:
@@ -135,8 +135,8 @@ class Backward(unittest.TestCase):
             return path
 
         attempt = Attempt(RouterNetlist(read_circuit(made_circuit("forward", 12, 8, 1))), 384, 1, Settings())
-        with mock.patch.object(Attempt, "add_path_through", counted), \
-                mock.patch.object(Attempt, "add_last_path", unwilling):
+        with mock.patch.object(Attempt, "add_path_making_way", counted), \
+                mock.patch.object(Attempt, "add_end_path", unwilling):
             attempt.run()
         self.assert_books(attempt.board)
         self.assertEqual(len({path.end.time for path in attempt.board.ends}), 1)
@@ -145,7 +145,7 @@ class Backward(unittest.TestCase):
     def test_long_ways(self) -> None:
         """A ball is led on for 9,000 steps, which take more legs than the tries of a short wander."""
         attempt = Attempt(RouterNetlist(read_circuit(circuit_text("a", "", "a"))), 1200, 1, Settings())
-        path = attempt.add_last_path("a", Ball(600, 600, 1, 1, 0), 9000)
+        path = attempt.add_end_path("a", Ball(600, 600, 1, 1, 0), 9000)
         self.assertEqual((path.end.time, follow_legs(path.start, path.legs)[0]), (9000, path.end))
         world = World(1200)
         world.add(path.item)

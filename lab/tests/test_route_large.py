@@ -97,7 +97,7 @@ class BitRows(unittest.TestCase):
         """Without time to spare there is no middle, and a goal that comes two steps later gets longer legs."""
         first = bit_rows.Bend(0, Turn.FLAT, Ball(100, 101, 1, -1, 0))
         last = bit_rows.Bend(10, Turn.FLAT, Ball(140, 160, -1, 1, 30))
-        self.assertIsNone(bit_rows.middle_of(first, last, 500))
+        self.assertIsNone(bit_rows.legs_between(first, last, 500))
 
     def test_what_is_there_stays(self) -> None:
         """A plane that grew has the same rows and diagonals, and takes items beyond its old border, which were refused
@@ -128,11 +128,11 @@ class BitRows(unittest.TestCase):
                 attempt.run()
             except NoRouteError:
                 pass
-            grown.append(attempt.board.size)
+            grown.append(attempt.board.width)
             fixed = Attempt(netlist, 128, seed, Settings(), most_size=128)
             with self.assertRaises(NoRouteError):
                 fixed.run()
-            self.assertEqual(fixed.board.size, 128)
+            self.assertEqual(fixed.board.width, 128)
         self.assertGreater(max(grown), 128)
         self.assertLessEqual(max(grown), 192)
 
@@ -146,7 +146,7 @@ class BitRows(unittest.TestCase):
         for most, is_grown in ((4096, True), (160, False)):
             attempt = Attempt(RouterNetlist(read_circuit(text)), 160, 1, Settings(), most_size=most)
             attempt.make_room_for_ends()
-            side, least = attempt.board.size, (30 * 300 * Settings().step_cells / Settings().end_fill) ** 0.5
+            side, least = attempt.board.width, (30 * 300 * Settings().step_cells / Settings().end_fill) ** 0.5
             self.assertEqual(side > 160, is_grown)
             self.assertLess(side, 1.3 * least)
             self.assertEqual(side >= least, is_grown)

@@ -8,10 +8,10 @@ from pathlib import Path
 
 import support
 from bbmlab_core.route.board import Board
-from bbmlab_core.route.crowding import COLOURS, class_runs, crowding_of, tile_class, tile_counts
+from bbmlab_core.route.crowding import COLOURS, class_runs, crowding_of, tile_class, half_taken_counts
 from bbmlab_core.route.netlist import RouterNetlist
 from bbmlab_core.route.settings import Settings
-from bbmlab_core.route.world import ROW_STRIDE, TILE, Item, World
+from bbmlab_core.route.world import ROW_STRIDE, TILE, Footprint, World
 from bbmlab_core.texts.documents import read_document
 
 sys.path.insert(0, str(support.TOP / "bench"))
@@ -23,8 +23,8 @@ SVG = "{http://www.w3.org/2000/svg}"
 def world_with(size: int, cells: list[tuple[int, int]]) -> World:
     """Returns a plane on which some cells are taken, some of them twice."""
     world = World(size)
-    world.add(Item(frozenset(y * ROW_STRIDE + x for x, y in cells)))
-    world.add(Item(frozenset(), ([y * ROW_STRIDE + x for x, y in cells[::2]],)))
+    world.add(Footprint(frozenset(y * ROW_STRIDE + x for x, y in cells)))
+    world.add(Footprint(frozenset(), ([y * ROW_STRIDE + x for x, y in cells[::2]],)))
     return world
 
 
@@ -39,14 +39,14 @@ class Counts(support.InRoom):
             wanted = [[0] * (size // TILE) for _ in range(size // TILE)]
             for x, y in set(cells):
                 wanted[y // TILE][x // TILE] += 1
-            found = [list(row) for row in tile_counts(world_with(size, cells))]
+            found = [list(row) for row in half_taken_counts(world_with(size, cells))]
             self.assertEqual(found, [[count // 2 for count in row] for row in wanted])
 
     def test_full_tile(self) -> None:
         """A full tile is in the last class, an empty one in the first, and half a full one in the middle."""
         cells = [(x, y) for x in range(TILE) for y in range(TILE)] + [(x, y) for x in range(TILE, 2 * TILE)
                                                                       for y in range(TILE // 2)]
-        row = next(tile_counts(world_with(48, cells)))
+        row = next(half_taken_counts(world_with(48, cells)))
         self.assertEqual([tile_class(half) for half in row], [len(COLOURS) - 1, 4, 0])
 
     def test_runs(self) -> None:

@@ -20,8 +20,8 @@ from bbmlab_core.route.board import NoRouteError, Placement, WaitingBall
 from bbmlab_core.route.command import report_failure
 from bbmlab_core.route.design import Design
 from bbmlab_core.route.netlist import RouterNetlist
-from bbmlab_core.route.partial import (PartialRoute, finishable_step_count, partial_circuit, partial_design,
-                                       partial_text, steps_without)
+from bbmlab_core.route.partial import (PartialRoute, finishable_placement_count, partial_circuit, partial_design,
+                                       circuit_section_text, placements_without)
 from bbmlab_core.route.paths import Path as BallPath
 from bbmlab_core.route.search import Search, SearchOptions, SearchOutcome, routed_bundle
 from bbmlab_core.route.settings import Settings
@@ -66,7 +66,7 @@ class Parts(support.InRoom):
         """Asserts that so many gates of a part are kept, with a yes."""
         design = partial_design(part, Settings(), 60)
         self.assertEqual(len(design.gates), count)
-        bundle = routed_bundle(partial_text(design.circuit), design).text
+        bundle = routed_bundle(circuit_section_text(design.circuit), design).text
         ended = subprocess.run([support.program(), "check"], input=bundle.encode(), capture_output=True, check=False)
         self.assertIn("\nverdict yes\n", ended.stdout.decode())
 
@@ -82,14 +82,14 @@ class Parts(support.InRoom):
     def test_paths_make_way(self) -> None:
         """Some ball of these parts has a way to the end only since paths to gates were led again."""
         made: Counter[bool] = Counter()
-        right = partial.Attempt.add_path_through
+        right = partial.Attempt.add_path_making_way
 
         def counted(self: Attempt, root: str, ball: Ball | None, end: int) -> BallPath | None:
             path = right(self, root, ball, end)
             made[path is not None] += 1
             return path
 
-        with mock.patch.object(partial.Attempt, "add_path_through", counted):
+        with mock.patch.object(partial.Attempt, "add_path_making_way", counted):
             for seed in range(1, 30):
                 part = placed_part(made_circuit("inverse", 40, 10, 1), 256, seed)
                 self.assert_yes(part, len(part.steps))
@@ -107,16 +107,17 @@ class Parts(support.InRoom):
     def test_affordable_count(self) -> None:
         """Without time no gate is kept after an interrupt, with much time all are, and with more time never fewer."""
         part = placed_part(made_circuit("forward", 12, 8, 1), 512, 1)
-        counts = [finishable_step_count(part.circuit, part.steps, seconds) for seconds in (0.0, 0.05, 0.1, 0.2, 100.0)]
+        counts = [finishable_placement_count(part.circuit, part.steps, seconds)
+                  for seconds in (0.0, 0.05, 0.1, 0.2, 100.0)]
         self.assertEqual((counts[0], counts[-1], counts), (0, len(part.steps), sorted(counts)))
 
     def test_which_gate_is_left_out(self) -> None:
         """The maker of a wire if nothing follows from it, and else the last gate."""
         part = placed_part(circuit_text("abc", "switch a b -> d e f\nswitch d c -> g h i", "efghi"), 384, 1)
         first, second = part.steps
-        self.assertEqual(steps_without(part.steps, "g"), [first])
-        self.assertEqual(steps_without(part.steps, "e"), [first])
-        self.assertEqual(steps_without([second, first], "e"), [second])
+        self.assertEqual(placements_without(part.steps, "g"), [first])
+        self.assertEqual(placements_without(part.steps, "e"), [first])
+        self.assertEqual(placements_without([second, first], "e"), [second])
 
     def test_no_room_to_wait(self) -> None:
         """A ball whose way was given to a path that was led later is named, and does not take it as well."""
@@ -143,7 +144,7 @@ class Parts(support.InRoom):
             outcome = SearchOutcome(None, "", Counter(), 1, 12, 12, part.steps, 512, is_interrupted)
             said = io.StringIO()
             with mock.patch.object(partial, "led_design", slow_above(3)), \
-                    mock.patch.object(partial, "finishable_step_count", lambda *_: 3), \
+                    mock.patch.object(partial, "finishable_placement_count", lambda *_: 3), \
                     contextlib.redirect_stderr(said):
                 report_failure(part.circuit, outcome, options, find_program(support.program()))
             kept = sum(line.split(" ")[0] in GATE_SIZES for line in Path(options.output).read_text().split("\n"))

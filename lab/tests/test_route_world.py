@@ -7,7 +7,7 @@ import support  # noqa: F401
 from bbmlab_core.route.balls import (BOUNCE_STEPS, Ball, BallRun, Leg, Turn, follow_legs, mirror_cells, path_run,
                                      run_exactly, start_state)
 from bbmlab_core.route.cells import cell_library
-from bbmlab_core.route.world import STEP_STRIDE, Item, World, cell_item, cell_number, path_item
+from bbmlab_core.route.world import STEP_STRIDE, Footprint, World, cell_item, cell_number, path_item
 from bbmlab_core.texts.layouts import Cell
 
 # The steps of the runs that are compared.
@@ -18,7 +18,7 @@ class Piece:
     """A path or a gate with straight ways in and out, from time 0 to `LAST`: its item, its mirrors, and its balls at
     time 0."""
 
-    def __init__(self, item: Item, mirrors: set[Cell], balls: list[Ball]) -> None:
+    def __init__(self, item: Footprint, mirrors: set[Cell], balls: list[Ball]) -> None:
         self.item, self.mirrors, self.balls = item, mirrors, balls
 
     def run(self) -> BallRun:
@@ -60,8 +60,8 @@ def random_gate(chance: random.Random) -> Piece | None:
         if not plane.can_add(part):
             return None
         plane.add(part)
-    item = Item(parts[0].mirrors, tuple(own for part in parts for own in part.touched_parts),
-                tuple(own for part in parts for own in part.claim_parts))
+    item = Footprint(parts[0].mirrors, tuple(own for part in parts for own in part.touched_parts),
+                     tuple(own for part in parts for own in part.claim_parts))
     return Piece(item, {(u + x, v + y) for u, v in cell.mirrors}, [ball.at(0) for ball in ins])
 
 
@@ -151,7 +151,7 @@ class Claims(unittest.TestCase):
             other = random_path(chance)
             if other is None:
                 continue
-            mirrors = Item(other.item.mirrors)
+            mirrors = Footprint(other.item.mirrors)
             plane.add(mirrors)
             steps = plane.free_steps(ball, 200)
             item = path_item(ball, [Leg(steps, None)])

@@ -6,7 +6,7 @@ import unittest
 from dataclasses import replace
 
 import support
-from bbmlab_core.physics.simulation import ModuleRun, run_layout
+from bbmlab_core.physics.simulation import ModuleRun, layout_run
 from bbmlab_core.physics.tracing import layout_lines, text_for_run
 
 # The runs of this bundle take some seconds each; it is one of many.
@@ -15,7 +15,7 @@ SLOW = {"bundle_bouncers_64_v1"}
 
 def run_answer(document: support.Document) -> str:
     """Returns what `run` writes, by the lab's simulation."""
-    run = run_layout(document.layout, document.on or [])
+    run = layout_run(document.layout, document.on or [])
     left = None if run.run_to(document.layout.steps) else run.left[0]
     return support.run_words(support.sorted_cells(run.field.state()), left)
 
@@ -69,7 +69,7 @@ def local_lines(document: support.Document) -> list[str]:
     """Returns the `local` lines of a report, by the lab's runs."""
     lines = []
     for module in document.certificate.modules:
-        fault = ModuleRun(document.circuit, document.layout, document.certificate, module).least_fault()
+        fault = ModuleRun(document.circuit, document.layout, document.certificate, module).run_to_fault()
         if fault:
             lines.append(f"local {module.number} {fault.report_words()}")
     return lines

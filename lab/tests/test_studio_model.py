@@ -10,12 +10,12 @@ from typing import Any
 
 import support
 from bbmlab_core.physics.mirrors import falling_mirrors, is_stable
-from bbmlab_core.physics.simulation import run_layout
+from bbmlab_core.physics.simulation import layout_run
 from bbmlab_core.studio import answers, server
 from bbmlab_core.texts import json_form
 from bbmlab_core.texts.circuits import values_under
 from bbmlab_core.texts.layouts import Box, Layout, Part
-from bbmlab_core.texts.spelling import spelled_text
+from bbmlab_core.texts.spelling import spelling_of
 from support import text_of as example
 
 STUDIO = Path(server.__file__).resolve().parent
@@ -49,7 +49,7 @@ def texts() -> list[str]:
 
 def cells(*names: str) -> list[dict[str, Any]]:
     """Returns standard cells as the page has them."""
-    return [cell for cell in answers.cells() if cell["name"] in names]
+    return [cell for cell in answers.cell_catalogue() if cell["name"] in names]
 
 
 def part(kind: str, *box: int, name: str | None = None) -> dict[str, Any]:
@@ -139,11 +139,11 @@ class Commands(unittest.TestCase):
     def test_order_of_kinds(self) -> None:
         """New parts of any order of kinds are read."""
         text = "circuit\nend\nlayout 12 12 3\nend\n"
-        steps = [["addCells", [part("in", 4, 4, name="p")]], ["addCells", [part("ball", 7, 7)]],
-                 ["addCells", [part("waste", 7, 4)]],
+        steps = [["addCellParts", [part("in", 4, 4, name="p")]], ["addCellParts", [part("ball", 7, 7)]],
+                 ["addCellParts", [part("waste", 7, 4)]],
                  ["setHead", "circuit\ninput p\nsource 1 -> one\ninteract p one -> a b c d\nspill a\nspill c\nspill "
                   "d\nend"],
-                 ["addCells", [part("out", 4, 4, name="b")]], ["addCells", [part("waste", 4, 7)]]]
+                 ["addCellParts", [part("out", 4, 4, name="b")]], ["addCellParts", [part("waste", 4, 7)]]]
         made = node(["commands", text, steps])[0]
         self.assertEqual(made.split("end\n")[1], example("not_gate").split("end\n")[1])
         self.assertIsNone(support.read_document(made, "design").refusal)
@@ -189,7 +189,7 @@ class Commands(unittest.TestCase):
     def test_line_of_limits_stays_first(self) -> None:
         """A text of the line and a layout gets its circuit between the two."""
         made = node(["commands", "limits 2\nlayout 1024 12 0\nend\n",
-                     [["addCells", [part("in", 900, 4, name="p")]], ["addCells", [part("out", 900, 4, name="p")]]]])[0]
+                     [["addCellParts", [part("in", 900, 4, name="p")]], ["addCellParts", [part("out", 900, 4, name="p")]]]])[0]
         self.assertEqual(made, "limits 2\ncircuit\ninput p\noutput p\nend\nlayout 1024 12 0\nin p 900 4\nout p 900 "
                          "4\nend\n")
         self.assertIsNone(support.read_document(made, "design").refusal)
@@ -208,7 +208,7 @@ class Commands(unittest.TestCase):
                                 (["resize", 6, 6, 3], "ball at (7, 7) would be outside the layout of 6 by 6 cells."),
                                 (["resize", 13, 12, 3], "Width and height are even numbers from 2 to 512."),
                                 (["move", [10], 20, 0], "ball at (27, 7) is outside the layout of 12 by 12 cells."),
-                                (["insertCell", {"layout": {}, "circuit": []}, 1, 0, False],
+                                (["insertStandardCell", {"layout": {}, "circuit": []}, 1, 0, False],
                                  "A cell is moved by even numbers of columns and rows.")):
             self.assertEqual(node(["commands", text, [command]])[0], reason)
 
@@ -220,7 +220,7 @@ class Commands(unittest.TestCase):
     def test_freely_written_words(self) -> None:
         """Arrows without spaces and leading zeros are read as the lab reads them."""
         free = "circuit\nsource 1->k\noutput k\nend\nlayout 08 08 00\nmirror 3 04 2 2\nball 02 02\nout k 02 5\nend\n"
-        layout = support.read_document(spelled_text(free).text, "design").layout
+        layout = support.read_document(spelling_of(free).text, "design").layout
         self.assertEqual(node(["parts", free])[0],
                          {"size": [layout.width, layout.height, layout.steps], "isWhole": True,
                           "parts": sorted([part.kind, part.x, part.y] for part in layout.parts)})
@@ -248,10 +248,10 @@ class Commands(unittest.TestCase):
     def test_standard_cells(self) -> None:
         """Each standard cell that is put into an empty layout computes its circuit there; two of one kind get wires of
         their own."""
-        for cell in (cell for cell in answers.cells() if cell["layout"]["width"] < 90):
+        for cell in (cell for cell in answers.cell_catalogue() if cell["layout"]["width"] < 90):
             width, height, steps = (cell["layout"][side] for side in ("width", "height", "steps"))
             empty = f"circuit\nend\nlayout {width + 4} {height + 2} 0\nend\n"
-            text = node(["commands", empty, [["insertCell", cell, 2, 2, True]]])[0]
+            text = node(["commands", empty, [["insertStandardCell", cell, 2, 2, True]]])[0]
             document = support.read_document(text, "design")
             self.assertIsNone(document.refusal, cell["name"])
             self.assertEqual(document.layout.steps, steps)
@@ -259,7 +259,7 @@ class Commands(unittest.TestCase):
             self.assertTrue(all(output["wanted"] == output["found"] for row in rows for output in row["outputs"]),
                             cell["name"])
         twice = node(["commands", "circuit\nend\nlayout 96 48 0\nend\n",
-                      [["insertCell", cells("not")[0], 0, 0, True], ["insertCell", cells("not")[0], 50, 0, True]]])[0]
+                      [["insertStandardCell", cells("not")[0], 0, 0, True], ["insertStandardCell", cells("not")[0], 50, 0, True]]])[0]
         self.assertIn("switch a_2 k_2 -> d_2 y_2 z_2", twice)
         self.assertEqual(len(node(["truth", twice])[0]), 4)
 
@@ -274,7 +274,7 @@ class Runs(unittest.TestCase):
             document, told = support.read_document(example(name)), node(["ends", example(name)])[0]
             self.assertEqual(len(told["states"]), 2 ** len(document.circuit.inputs))
             for state in told["states"]:
-                run = run_layout(document.layout, state["on"])
+                run = layout_run(document.layout, state["on"])
                 run.run_to(document.layout.steps)
                 self.assertEqual({tuple(cell) for cell in state["live"]}, set(run.field.state()), (name, state["on"]))
 
@@ -286,7 +286,7 @@ class Runs(unittest.TestCase):
         layouts, count = [random_layout(random.Random(seed)) for seed in seeds], 0
         for layout, told in zip(layouts, node(*[["ends", text_of(layout)] for layout in layouts])):
             for state in told["states"] if told["leftAt"] is None else []:
-                run = run_layout(layout, state["on"])
+                run = layout_run(layout, state["on"])
                 run.run_to(layout.steps)
                 self.assertEqual({tuple(cell) for cell in state["live"]}, set(run.field.state()), text_of(layout))
                 count += 1
@@ -313,7 +313,7 @@ class Runs(unittest.TestCase):
                              [list(values) for values in itertools.product((False, True), repeat=len(inputs))])
             for number, row in enumerate(rows):
                 on = {wire for wire, value in zip(inputs, row["inputs"]) if value}
-                run, values = run_layout(document.layout, on), values_under(document.circuit, on)[0]
+                run, values = layout_run(document.layout, on), values_under(document.circuit, on)[0]
                 run.run_to(document.layout.steps)
                 for output in row["outputs"]:
                     states = {port.cell in run.field.state() for port in document.layout.of_kind("out")
@@ -379,7 +379,7 @@ class Sources(unittest.TestCase):
         for told in node(*[["random", example("machine_fredkin"), cells("not", "turn_left"), seed + 31, 100, False]
                            for seed in range(3)]):
             for text in [*told["texts"], told["last"]]:
-                self.assertEqual(spelled_text(text).text, text)
+                self.assertEqual(spelling_of(text).text, text)
 
     def test_the_page_has_no_script_of_its_own(self) -> None:
         """The page has no script of its own."""

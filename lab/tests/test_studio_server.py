@@ -17,13 +17,13 @@ from typing import Any
 import support
 from bbmlab_core.studio import routes
 from test_connecting import two_nots
-from bbmlab_core.studio.answers import EMPTY_TEXT, Answers
+from bbmlab_core.studio.answers import BLANK_BUNDLE_TEXT, Answers
 from bbmlab_core.studio.folder import Folder
 from bbmlab_core.studio.guard import MAX_REQUEST_BYTES
 from bbmlab_core.studio.jobs import Jobs, JobWorker
 from bbmlab_core.studio.server import POLICY, Studio, studio_server
 from bbmlab_core.texts.skimming import cuts_of
-from bbmlab_core.texts.spelling import source_line
+from bbmlab_core.texts.spelling import source_line_number
 from support import processes, text_of, wait_for
 
 MEMORY = 4096
@@ -250,11 +250,11 @@ class Files(Served):
     def test_a_new_file(self) -> None:
         """A file that is missing is an empty layout, and is written only if it is still missing."""
         opened = self.ask("open", name="new.txt")
-        self.assertEqual((opened["text"], opened["digest"]), (EMPTY_TEXT, None))
+        self.assertEqual((opened["text"], opened["digest"]), (BLANK_BUNDLE_TEXT, None))
         (self.room / "new.txt").write_text("there\n")
-        self.assertTrue(self.ask("save", name="new.txt", text=EMPTY_TEXT, digest=None)["changed"])
+        self.assertTrue(self.ask("save", name="new.txt", text=BLANK_BUNDLE_TEXT, digest=None)["changed"])
         (self.room / "new.txt").unlink()
-        self.assertIn("digest", self.ask("save", name="new.txt", text=EMPTY_TEXT, digest=None))
+        self.assertIn("digest", self.ask("save", name="new.txt", text=BLANK_BUNDLE_TEXT, digest=None))
         self.assertEqual(sorted(path.name for path in self.room.iterdir()), ["gate.txt", "new.txt"])
 
     def test_refusals(self) -> None:
@@ -265,7 +265,7 @@ class Files(Served):
         told = self.ask("refusal", text=wrong)["refusal"]
         self.assertEqual((told["line"], told["code"]), (wrong.split("\n").index("spill a") + 1, 5))
         self.assertTrue(told["words"] and told["rule"])
-        self.assertIsNone(source_line("b\na\n", "a\nb\n", 1))
+        self.assertIsNone(source_line_number("b\na\n", "a\nb\n", 1))
 
     def test_spelling(self) -> None:
         """A text with comments has a one spelling without them; a text of one spelling is its own."""
@@ -278,7 +278,7 @@ class Files(Served):
         """New texts are an empty layout, standard cells and examples; other names are none."""
         start = self.ask("start")
         self.assertEqual(start["text"], text_of("not_gate"))
-        self.assertEqual(self.ask("template", name="empty")["text"], EMPTY_TEXT)
+        self.assertEqual(self.ask("template", name="empty")["text"], BLANK_BUNDLE_TEXT)
         self.assertIn("layout 44 44 37", self.ask("template", name="not")["text"])
         self.assertIn("fredkin_gate", start["examples"])
         self.assertEqual(self.ask("template", name="example not_gate")["text"], start["text"])
@@ -495,7 +495,7 @@ class Limits(support.InRoom):
     def test_time_limit(self) -> None:
         """A program that does not end is killed."""
         jobs = Jobs(self.fake(f"exec sleep 987654.{os.getpid()}"), 0.5, MEMORY)
-        told = jobs.answer_job("a", {"kind": "verdict", "text": EMPTY_TEXT})
+        told = jobs.answer_job("a", {"kind": "verdict", "text": BLANK_BUNDLE_TEXT})
         jobs.close()
         self.assertEqual((told["verdict"], told["words"]),
                          ("unknown", ["The program gave no answer within 0.5 seconds."]))
@@ -507,9 +507,9 @@ class Limits(support.InRoom):
         mark = self.fake(f"exec {SLEEP}")
         jobs, answers = Jobs(mark, 600, MEMORY), []
         first = threading.Thread(target=lambda: answers.append(jobs.answer_job("a", {"kind": "verdict",
-                                                                                     "text": EMPTY_TEXT})))
+                                                                                     "text": BLANK_BUNDLE_TEXT})))
         other = threading.Thread(target=lambda: answers.append(jobs.answer_job("b", {"kind": "verdict",
-                                                                                     "text": EMPTY_TEXT})))
+                                                                                     "text": BLANK_BUNDLE_TEXT})))
         first.start()
         wait_for(lambda: processes().count(SLEEP) == 1)
         other.start()
@@ -529,12 +529,12 @@ class Limits(support.InRoom):
     def test_memory_limit(self) -> None:
         """The process of the jobs and the program run under a memory limit, and one that needs more gets no verdict."""
         worker = JobWorker(self.fake("exit 0"), 5, 1024)
-        self.addCleanup(worker.release)
+        self.addCleanup(worker.close_pipes)
         self.addCleanup(worker.end)
-        worker.answer({"kind": "verdict", "text": EMPTY_TEXT}, 60)
+        worker.answer({"kind": "verdict", "text": BLANK_BUNDLE_TEXT}, 60)
         self.assertEqual(resource.prlimit(worker.process.pid, resource.RLIMIT_AS), (1024 * 2 ** 20, 1024 * 2 ** 20))
         jobs = Jobs(self.fake(f"exec {sys.executable} -c 'x = bytes(3 << 30)'"), 20, 2048)
-        told = jobs.answer_job("a", {"kind": "verdict", "text": EMPTY_TEXT})
+        told = jobs.answer_job("a", {"kind": "verdict", "text": BLANK_BUNDLE_TEXT})
         jobs.close()
         self.assertEqual(told["verdict"], "unknown")
         self.assertIn("There is no verdict", told["words"][0])

@@ -8,7 +8,7 @@ import random
 import re
 
 import support
-from bbmlab_core.physics.simulation import ModuleRun, run_layout
+from bbmlab_core.physics.simulation import ModuleRun, layout_run
 from bbmlab_core.texts.circuits import values_under
 from support import data_of, sorted_cells
 from test_view_engine import node
@@ -16,7 +16,7 @@ from test_view_engine import node
 
 def state_at(document: support.Document, on: list[str], time: int) -> list[list[int]]:
     """Returns the live cells at a time by the lab's run."""
-    run = run_layout(document.layout, on)
+    run = layout_run(document.layout, on)
     run.run_to(time)
     return sorted_cells(run.field.state())
 

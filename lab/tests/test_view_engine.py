@@ -48,7 +48,7 @@ class Engine(unittest.TestCase):
         """Each example ends as the program's `run` says, under three choices of inputs, also by way of other times."""
         program, chooser, asked, jobs = support.program(), random.Random(43), [], []
         for name, document in support.drawn_documents():
-            names, steps = tracing.port_names(document.layout), document.layout.steps
+            names, steps = tracing.input_names(document.layout), document.layout.steps
             for share in (0.0, 0.5, 1.0):
                 on = [wire for wire in names if chooser.random() < share]
                 asked.append((name, on,
@@ -64,7 +64,7 @@ class Engine(unittest.TestCase):
         """Each time of each example is as in the lab's trace, on the way there and on the way back."""
         jobs, wanted = [], []
         for name, document in support.drawn_documents():
-            on = tracing.port_names(document.layout)
+            on = tracing.input_names(document.layout)
             trace = tracing.trace_layout(document.layout, on, 0, 200)
             states = [[at, tracing.sorted_cells(state)] for at, state in enumerate(trace.states)]
             times = list(range(len(states))) + list(range(len(states) - 1, -1, -1))

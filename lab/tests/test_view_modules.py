@@ -155,7 +155,7 @@ class Pictures(unittest.TestCase):
         jobs, wanted = [], []
         for name in ("full_adder", "head_on", "gate_and_mirror", "off_a_mirror", "machine_fredkin"):
             document = example(name)
-            layout, on = document.layout, tracing.port_names(document.layout)
+            layout, on = document.layout, tracing.input_names(document.layout)
             states = tracing.trace_layout(layout, on, 0, layout.steps).states
             time = min(len(states) - 1, 30)
             moves = []

@@ -155,7 +155,7 @@ class Ways(unittest.TestCase):
         document = read_document("\n".join(["layout 512 512 400", "mirror 490 1 4 2", *balls, "end"]) + "\n")
         assert document.layout
         run = Counted(document.layout, {}, 1)
-        self.assertTrue(run.fly(400))
+        self.assertTrue(run.run_to(400))
         self.assertEqual(crossed, [])
         self.assertEqual(run.move_count, 20 * 400)
         self.assertEqual(len(list(run.pieces())), 20)
@@ -175,7 +175,7 @@ class Ways(unittest.TestCase):
                 return key
 
         tables, full, _ = drawing.wire_tables(document, [])
-        Counted(layout, tables, full).fly(layout.steps)
+        Counted(layout, tables, full).run_to(layout.steps)
         return sum(counts)
 
     def test_directed_ways(self) -> None:

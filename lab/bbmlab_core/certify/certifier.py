@@ -18,12 +18,12 @@ from ..texts.certificates import (MAX_BOX_SIDE, MAX_BORDER_LINES, MAX_CUTS, MAX_
 from ..texts.circuits import Circuit, Gate
 from ..texts.documents import Document, pause_garbage_collection
 from ..texts.layouts import Box, Cell, Layout, row_order_key
-from ..texts.limits import SECOND, limits_for, text_without_limits_line, with_limits_line
+from ..texts.limits import SECOND_LIMITS, limits_for, text_without_limits_line, with_limits_line
 from .observing import Observer, ring_and_halo_keys
 
 # How many steps back from the wires of a box to the gates that make them are tried, before all gates back to the
 # inputs.
-MAX_DEPTH = 4
+MAX_GATES_BACK = 4
 
 
 class ImpossibleModuleError(Exception):
@@ -43,7 +43,7 @@ class CutsAndUses:
 
 
 @dataclass
-class CertificatePlan:
+class CertificateOptions:
     """What the user asked for: the kind of cuts, stops that are kept, and the processor time at which the search ends.
 
     Without `is_tried` the lab does not run the modules: the first cuts that fit are taken, and only the program finds a
@@ -60,7 +60,7 @@ class CertificatePlan:
 class CertificateMaker:
     """Makes certificates of one circuit and layout."""
 
-    def __init__(self, circuit: Circuit, layout: Layout, plan: CertificatePlan) -> None:
+    def __init__(self, circuit: Circuit, layout: Layout, plan: CertificateOptions) -> None:
         self.circuit, self.layout, self.plan = circuit, layout, plan
         self.observer = Observer(circuit, layout, bool(plan.stops), plan.until)
         self.observer.require_quiet_rim()
@@ -79,8 +79,8 @@ class CertificateMaker:
         modules = [self.module_for_box(box)
                    for box in boxes] if boxes else self.modules_covering(Box(0, 0, self.layout.width,
                                                                              self.layout.height))
-        if len(modules) > SECOND.max_modules:
-            raise LabError(f"the certificate takes {len(modules)} modules; {SECOND.max_modules} is the most", 1)
+        if len(modules) > SECOND_LIMITS.max_modules:
+            raise LabError(f"the certificate takes {len(modules)} modules; {SECOND_LIMITS.max_modules} is the most", 1)
         for gate in self.circuit.gates:
             if gate.is_inverse:
                 self.add_keep(gate, modules)
@@ -190,7 +190,7 @@ class CertificateMaker:
 
     def fault_of(self, module: Module) -> Fault | None:
         """Returns the least fault of a module's own run."""
-        return ModuleRun(self.circuit, self.layout, Certificate(1, (module,)), module).least_fault()
+        return ModuleRun(self.circuit, self.layout, Certificate(1, (module,)), module).run_to_fault()
 
     def border_lines(self, keys: list[int]) -> list[Border]:
         """Returns the lines for cells of a ring or a halo."""
@@ -201,7 +201,7 @@ class CertificateMaker:
                 lines.append(Border(None, x, y, "1"))
             lines += [Border(time, x, y, self.observer.signals[table])
                       for time, table in self.observer.observed.seen.get(key, ())]
-        return sorted(lines, key=lambda line: line.place)
+        return sorted(lines, key=lambda line: line.order_key)
 
     def possible_cuts_and_uses(self, box: Box, needed: set[str], inside: list[int],
                                halo: list[int]) -> Iterable[CutsAndUses]:
@@ -210,7 +210,7 @@ class CertificateMaker:
         if self.plan.cuts != "safe":
             seen: set[tuple[str, ...]] = set()
             incoming = self.incoming_wires(box, needed, inside, halo)
-            for depth in range(MAX_DEPTH + 1):
+            for depth in range(MAX_GATES_BACK + 1):
                 for wiring in self.cuts_of_incoming_wires(needed, incoming):
                     if tuple(wiring.cuts) not in seen:
                         seen.add(tuple(wiring.cuts))
@@ -312,7 +312,7 @@ class CertificateMaker:
             for wire in (used, made):
                 time, cell = seen[wire]
                 stops.setdefault(wire, Stop(time, wire, *cell))
-        return sorted(stops.values(), key=lambda stop: stop.place)
+        return sorted(stops.values(), key=lambda stop: stop.order_key)
 
     def cell_carrying(self, wire: str, live: dict[int, Table]) -> Cell | None:
         """Returns a cell that carries a wire, an `out` cell of it first."""
@@ -329,7 +329,7 @@ def grid_boxes(layout: Layout, width: int, height: int) -> list[Box]:
             for y in range(0, layout.height, height) for x in range(0, layout.width, width)]
 
 
-def certified_text(document: Document, boxes: list[Box] | None, plan: CertificatePlan,
+def certified_text(document: Document, boxes: list[Box] | None, plan: CertificateOptions,
                    notes: list[str] | None = None) -> str:
     """Returns the text of a circuit and a layout with a certificate of its own, with given boxes or with boxes that it
     chooses.
@@ -340,7 +340,7 @@ def certified_text(document: Document, boxes: list[Box] | None, plan: Certificat
         return make_certified_text(document, boxes, plan, notes)
 
 
-def make_certified_text(document: Document, boxes: list[Box] | None, plan: CertificatePlan,
+def make_certified_text(document: Document, boxes: list[Box] | None, plan: CertificateOptions,
                         notes: list[str] | None) -> str:
     """Returns the text of `certified_text`."""
     circuit, layout = document.circuit, document.layout
@@ -350,7 +350,7 @@ def make_certified_text(document: Document, boxes: list[Box] | None, plan: Certi
     try:
         certificate = maker.certificate(boxes)
     except ImpossibleModuleError as error:
-        raise LabError(f"no certificate was found: {error}{maker.observer.hidden_wires_words()}", 1) from error
+        raise LabError(f"no certificate was found: {error}{maker.observer.equal_wires_words()}", 1) from error
     if notes is not None:
         notes += maker.notes
     head = text_without_limits_line(document.text).split("\nend\n", 2)

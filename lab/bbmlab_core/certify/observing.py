@@ -9,10 +9,10 @@ from ..host.terminal import LabError
 from ..physics.simulation import Table, WholeRun, cell_of, key_of, lowest_bit
 from ..texts.circuits import Circuit, evaluate_choices
 from ..texts.layouts import Box, Cell, Layout, row_order_key
-from ..texts.refusals import name_list
+from ..texts.refusals import names_words
 
 # Up to this many inputs all choices are tried, and else so many samples.
-MAX_TRIED_INPUTS = 12
+MAX_EXHAUSTIVE_INPUTS = 12
 SAMPLE_COUNT = 1024
 # A layout with a delay is remembered at each time; this is the most that is kept.
 MAX_REMEMBERED_CELLS = 4_000_000
@@ -41,7 +41,7 @@ class Observer:
         self.circuit, self.layout, self.until = circuit, layout, until
         # Whether the cells are remembered at each time, for stops.
         self.remembers = remembers or any(gate.kind == "delay" for gate in circuit.gates)
-        self.values = evaluate_choices(circuit, MAX_TRIED_INPUTS, SAMPLE_COUNT)
+        self.values = evaluate_choices(circuit, MAX_EXHAUSTIVE_INPUTS, SAMPLE_COUNT)
         self.require_rows()
         self.signals: dict[Table, str] = {}
         for name, table in self.values.tables.items():
@@ -50,7 +50,7 @@ class Observer:
         self.observed = self.run()
         self.wires: dict[int, frozenset[str] | None] = {}
 
-    def hidden_wires_words(self) -> str:
+    def equal_wires_words(self) -> str:
         """Says how many wires have the values of an earlier one, by whose name the cells go: a box may lack the wires
         that its gate takes."""
         named = set(self.signals.values())
@@ -68,7 +68,7 @@ class Observer:
         for number, table in self.values.rows.items():
             if table != self.values.full:
                 on = self.values.true_names(lowest_bit(self.values.full ^ table))
-                raise LabError(f"gate {number} has no row with {name_list(on) or 'none of the inputs'} on: no "
+                raise LabError(f"gate {number} has no row with {names_words(on) or 'none of the inputs'} on: no "
                                "certificate gets a yes", 1)
 
     def run(self) -> ObservedCells:
@@ -94,8 +94,8 @@ class Observer:
                 raise LabError("no certificate was found in the time that was given", 1)
             if not run.step():
                 on = values.true_names(lowest_bit(run.left[1])) if run.left else []
-                raise LabError(f"step {run.time} leaves the rectangle with {name_list(on) or 'none of the inputs'} on: "
-                               "no certificate gets a yes", 1)
+                raise LabError(f"step {run.time} leaves the rectangle with {names_words(on) or 'none of the inputs'} on"
+                               ": no certificate gets a yes", 1)
             for key in run.field.changed:
                 self.note_change(observed, moving, key, run.field.live.get(key, 0), run.time)
 
@@ -143,7 +143,7 @@ class Observer:
         """Says when a cell carries no wire."""
         time, y, x = self.first_moment_without_wire(key)
         table = dict(self.observed.seen[key])[time]
-        on = name_list(self.values.true_names(lowest_bit(table))) or "none of the inputs"
+        on = names_words(self.values.true_names(lowest_bit(table))) or "none of the inputs"
         return (f"at time {time} the cell ({x}, {y}) is live with {on} on, and no wire of the circuit is true in just "
                 "the cases in which it is live")
 

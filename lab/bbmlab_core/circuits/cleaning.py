@@ -7,7 +7,7 @@ outputs. What is left are the inputs, and the constants.
 
 from ..texts.circuits import Circuit, Gate
 from .cones import keeping_cone
-from .gate_lines import reread_circuit, source_line
+from .gate_lines import reread_circuit, constant_gate
 from .inverting import INVERSES, require_rows
 from .netlists.naming import MAX_NAME_BYTES, NameBook
 
@@ -60,18 +60,18 @@ class Cleaner:
             return [Gate(gate.kind, ins, outs, gate.parameter)]
         zero = self.fresh_name("zero", "")
         if gate.kind == "switch":
-            return [source_line(0, zero), Gate("fredkin", (*ins, zero), outs)]
+            return [constant_gate(0, zero), Gate("fredkin", (*ins, zero), outs)]
         # `interact` is a switch of q by p, and then one of p by "p and q".
         other = self.fresh_name("zero", "")
         control, both = (self.fresh_name(name, "_on") for name in (ins[0], outs[0]))
-        return [source_line(0, zero), Gate("fredkin", (*ins, zero), (control, both, outs[1])),
-                source_line(0, other), Gate("fredkin", (both, control, other), (outs[0], outs[3], outs[2]))]
+        return [constant_gate(0, zero), Gate("fredkin", (*ins, zero), (control, both, outs[1])),
+                constant_gate(0, other), Gate("fredkin", (both, control, other), (outs[0], outs[3], outs[2]))]
 
     def add_copy(self, wire: str, name: str) -> str:
         """Adds the copy of a wire, which gets the name of the output, and returns the name of its complement."""
         one = self.fresh_name("one", "")
         passed, complement = (self.fresh_name(name, ending) for ending in ("_read", "_not"))
-        self.gates += [source_line(1, one), Gate("switch", (wire, one), (passed, name, complement))]
+        self.gates += [constant_gate(1, one), Gate("switch", (wire, one), (passed, name, complement))]
         self.now[wire] = passed
         return complement
 

@@ -13,9 +13,9 @@ def few_cuts_and_uses(circuit: Circuit, wires: Iterable[str], used: Iterable[int
     between two local wires are used too.
     """
     gates, local = set(used), set(wires)
-    gates |= delays_between(circuit,
-                            local | {wire for number in gates
-                                     for wire in circuit.gates[number].ins + circuit.gates[number].outs})
+    gates |= delay_gates_between(circuit,
+                                 local | {wire for number in gates
+                                          for wire in circuit.gates[number].ins + circuit.gates[number].outs})
     for number in gates:
         local |= set(circuit.gates[number].ins)
     cuts = local - {wire for number in gates for wire in circuit.gates[number].outs}
@@ -37,7 +37,7 @@ def few_cuts_and_uses(circuit: Circuit, wires: Iterable[str], used: Iterable[int
     return cuts, gates
 
 
-def delays_between(circuit: Circuit, wires: set[str]) -> set[int]:
+def delay_gates_between(circuit: Circuit, wires: set[str]) -> set[int]:
     """Returns the delays that lead from one of some wires to another one.
 
     One ball carries both wires in turn. A module that cut both would also run them with different values, which never

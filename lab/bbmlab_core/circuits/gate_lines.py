@@ -8,7 +8,7 @@ from ..texts.refusals import refusal_words
 from ..texts.sections import text_of_section
 
 
-def source_line(bit: int, name: str) -> Gate:
+def constant_gate(bit: int, name: str) -> Gate:
     """Returns the line of a constant."""
     return Gate("source", (), (name,), bit)
 

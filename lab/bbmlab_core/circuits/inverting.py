@@ -4,7 +4,7 @@ Toffoli 1982).
 
 from ..host.terminal import LabError
 from ..texts.circuits import Circuit, Gate, Valuation, evaluate_choices
-from .gate_lines import reread_circuit, source_line
+from .gate_lines import reread_circuit, constant_gate
 from .row_check import first_gate_without_row
 
 # Up to so many inputs all choices are tried, and above them so many samples.
@@ -51,7 +51,7 @@ def inverse(circuit: Circuit) -> Circuit:
             raise LabError(f"there is no inverse: the garbage `{name}` is 1 {inputs_for_bit_words(values, name, 1)} "
                            f"and 0 {inputs_for_bit_words(values, name, 0)}, so no constant can take its place. Make it "
                            "an output", 1)
-        gates.append(source_line(bit, name))
+        gates.append(constant_gate(bit, name))
     gates += [Gate(INVERSES[gate.kind], tuple(gate.outs), tuple(gate.ins), gate.parameter)
                     for gate in reversed(circuit.gates) if gate.kind != "source"]
     spills = tuple(gate.outs[0] for gate in circuit.gates if gate.kind == "source")

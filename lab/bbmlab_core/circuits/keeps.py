@@ -16,7 +16,7 @@ from .cones import few_cuts_and_uses, keeping_cone
 # at most to add gates, and to leave gates out: less than a second each.
 SAMPLE_COUNT = 1024
 BEAM_WIDTH = 4
-MOST_RUNS = 60_000
+MOST_GATE_RUNS = 60_000
 
 GateSet = frozenset[int]
 Cone = tuple[list[str], list[int]]
@@ -101,7 +101,7 @@ class KeepSearch:
         """Returns what is found by adding gates to a core, those first that leave the fewest assignments without a row.
         """
         level, seen = [core], {core}
-        while level and self.runs < MOST_RUNS:
+        while level and self.runs < MOST_GATE_RUNS:
             ranked: list[tuple[int, int, int, GateSet]] = []
             for larger in self.larger_gate_sets(level):
                 if larger in seen or len(larger) > MAX_USES:
@@ -128,7 +128,7 @@ class KeepSearch:
         wires to cut."""
         self.runs = 0
         level, seen = [frozenset({*self.before, self.number})], set[GateSet]()
-        while level and self.runs < MOST_RUNS:
+        while level and self.runs < MOST_GATE_RUNS:
             ranked: list[tuple[int, int, GateSet]] = []
             for smaller in (gates - {number} for gates in level for number in sorted(gates - core)):
                 if smaller in seen:

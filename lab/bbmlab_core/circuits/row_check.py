@@ -8,7 +8,7 @@ take minutes to fail.
 from ..physics.simulation import lowest_bit
 from ..texts.circuits import Circuit, Gate, Valuation, evaluate_choices
 
-MAX_INPUTS = 12
+MAX_EXHAUSTIVE_INPUTS = 12
 SAMPLE_COUNT = 256
 # How many inputs that are on are named.
 MAX_NAMED_INPUTS = 12
@@ -21,7 +21,7 @@ def first_gate_without_row(circuit: Circuit) -> str | None:
     """
     if not any(gate.is_inverse for gate in circuit.gates):
         return None
-    values = evaluate_choices(circuit, MAX_INPUTS, SAMPLE_COUNT)
+    values = evaluate_choices(circuit, MAX_EXHAUSTIVE_INPUTS, SAMPLE_COUNT)
     before = values.full
     for gate in circuit.gates:
         missing = before & ~values.rows[gate.number]

@@ -291,7 +291,7 @@ def with_exchanged_uses(lines: Circuit, swaps: dict[str, str]) -> Circuit:
     return Circuit(lines.inputs, tuple(gates), lines.outputs, named(tuple(spills)))
 
 
-def kept_gate_count(circuit: Circuit) -> int:
+def kept_inverse_count(circuit: Circuit) -> int:
     """Returns how many inverse gates a cone keeps, or 0 for a circuit with too many of them."""
     inverse = [gate.number for gate in circuit.gates if gate.is_inverse]
     if len(inverse) > MAX_SEARCHED_GATES:
@@ -321,7 +321,7 @@ def simplify(circuit: Circuit) -> Circuit:
     for may_share in (True, False):
         found = simplified_by_passes(lines, may_share)
         result = reread_circuit(found)
-        lost = sum(gate.is_inverse for gate in result.gates) - kept_gate_count(result)
-        if not lost or lost <= sum(gate.is_inverse for gate in circuit.gates) - kept_gate_count(circuit):
+        lost = sum(gate.is_inverse for gate in result.gates) - kept_inverse_count(result)
+        if not lost or lost <= sum(gate.is_inverse for gate in circuit.gates) - kept_inverse_count(circuit):
             return found
     return lines

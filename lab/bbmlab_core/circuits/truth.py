@@ -80,7 +80,7 @@ def circuit_figures(circuit: Circuit) -> list[tuple[str, str]]:
             ("width", str(peak_wire_count(circuit)))]
 
 
-def text_figures(document: Document) -> list[tuple[str, str]]:
+def section_figures(document: Document) -> list[tuple[str, str]]:
     """Returns the figures of a text's sections."""
     found = circuit_figures(document.circuit) if document.circuit else []
     layout = document.layout

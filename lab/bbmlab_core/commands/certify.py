@@ -2,7 +2,7 @@
 
 import argparse
 
-from ..certify.certifier import CertificatePlan, certified_text, legal_grid_boxes
+from ..certify.certifier import CertificateOptions, certified_text, legal_grid_boxes
 from ..host.program import BadProgramError, ProgramTimeout, ask, find_program
 from ..host.terminal import LabError, read_text, tell, write_text
 from ..texts.certificates import MAX_BOX_SIDE
@@ -20,13 +20,13 @@ def run(options: argparse.Namespace) -> int:
     document = design_of(text, options.file)
     # A plain certificate has no cuts to choose: the program's no to it is about the layout, and shows where it is
     # wrong.
-    plan = CertificatePlan(options.version_of_text, "safe" if options.plain else options.cuts,
-                           is_tried=not options.plain)
+    plan = CertificateOptions(options.version_of_text, "safe" if options.plain else options.cuts,
+                              is_tried=not options.plain)
     # Only the stops of an old certificate are kept.
     old = read_document(text, "check") if "\nstop " in text else document
     if old.certificate and not old.refusal:
         plan.stops = sorted((stop for module in old.certificate.modules for stop in module.stops),
-                            key=lambda stop: stop.place)
+                            key=lambda stop: stop.order_key)
     assert document.layout is not None
     notes: list[str] = []
     bundle = certified_text(document, chosen_boxes(options, document.layout), plan, notes)

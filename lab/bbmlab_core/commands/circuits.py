@@ -105,7 +105,7 @@ def run_stats(options: argparse.Namespace) -> int:
     if document.circuit is None or document.layout is None or not document.layout.width:
         found = truth.circuit_figures(circuit_of(options.file, ReadingOptions.from_options(options), text)[1])
     else:
-        found = truth.text_figures(document)
+        found = truth.section_figures(document)
     longest = max(len(name) for name, _ in found)
     write_text(options.output, "".join(f"{name.ljust(longest)} {value}\n" for name, value in found))
     return 0

@@ -32,7 +32,7 @@ def picture_of(design: tuple[Document, Layout], names: str | None, time: int | N
         picture.title = "ways of the balls" + (under if names is not None else drawing.sampled_words(document))
     else:
         picture.live, picture.title = tracing.state_at(layout, on, time), f"time {time}{under}"
-    wanted = wanted_wires(look, document.circuit, tracing.port_names(layout))
+    wanted = wanted_wires(look, document.circuit, tracing.input_names(layout))
     if wanted:
         picture.ways = with_others_grouped(picture.ways, picture.labels, wanted)
     for finding in report.faults if report else []:
@@ -40,7 +40,8 @@ def picture_of(design: tuple[Document, Layout], names: str | None, time: int | N
             picture.faults.append(((finding.number("x"), finding.number("y")), finding.text))
     # In a large layout dashes cannot be told apart.
     most = len(drawing.COLOURS) if is_large else drawing.MAX_LEGEND
-    wires = drawing.group_by_levels(picture, document.circuit, most) if document.circuit else tracing.port_names(layout)
+    wires = drawing.group_by_levels(picture, document.circuit,
+                                    most) if document.circuit else tracing.input_names(layout)
     return drawing.svg(layout, picture, wires)
 
 

@@ -5,7 +5,7 @@ import sys
 
 from ..host.terminal import LabError, escape_controls, read_bytes, tell, write_bytes
 from ..texts.documents import read_document
-from ..texts.spelling import Spelling, spelled_text
+from ..texts.spelling import Spelling, spelling_of
 
 MAX_SHOWN_NOTES = 20
 
@@ -19,7 +19,7 @@ def run(options: argparse.Namespace) -> int:
     changed = 0
     for file in options.files:
         data = read_bytes(file)
-        spelling = spelled_text(data.decode("latin-1"))
+        spelling = spelling_of(data.decode("latin-1"))
         after = spelling.text.encode("latin-1")
         if options.check:
             changed += after != data

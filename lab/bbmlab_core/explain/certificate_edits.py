@@ -13,7 +13,7 @@ from .expected_lines import BorderCheck, CellEdits
 
 Edits = tuple[Edit, ...]
 # The most edits of all borders together.
-MAX_EDITS_TOGETHER = 400
+MAX_BORDER_EDITS = 400
 # How many steps a stop is moved, and how many cells.
 MAX_STOP_STEPS = 4
 
@@ -40,7 +40,7 @@ class CertificateEditor:
         """Yields edits for a whole report: all borders together, then each by itself, then those for each line of the
         report."""
         together = tuple(dict.fromkeys(edit for group in self.groups for edit in group.edits))
-        if together and len(together) <= MAX_EDITS_TOGETHER:
+        if together and len(together) <= MAX_BORDER_EDITS:
             yield Proposal("border lines as the whole run has them", together)
         for finding in findings:
             yield from self.proposals_for_line(finding)
@@ -137,7 +137,7 @@ class CertificateEditor:
 
     def wire_table(self, name: str) -> Table | None:
         """Returns the table of a wire over the tried inputs."""
-        return self.diagnosis.values.tables.get(name)
+        return self.diagnosis.wire_tables.tables.get(name)
 
     def proposals_for_stop(self, module: Module, stop: Stop) -> Iterator[Proposal]:
         """Yields other times and cells for a stop, at which the whole run has its wire, and other wires."""
@@ -165,8 +165,8 @@ class CertificateEditor:
         """Returns the edits that move a stop to its place in the list."""
         at, text = module.line_number("stop", old), line_words("stop", new)
         rest = [stop for stop in module.stops if stop is not old]
-        before = [stop for stop in module.stops if stop.place < old.place]
-        if all((stop.place < new.place) == (stop in before) for stop in rest):
+        before = [stop for stop in module.stops if stop.order_key < old.order_key]
+        if all((stop.order_key < new.order_key) == (stop in before) for stop in rest):
             return (replacement(at, text),)
         return deletion(at), self.line_addition(module, text)
 

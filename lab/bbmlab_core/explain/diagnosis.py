@@ -18,7 +18,7 @@ from ..texts.documents import Document
 from ..texts.layouts import Cell, Layout, row_order_key
 from ..texts.reports import ReportLine
 
-MAX_INPUTS = 12
+MAX_EXHAUSTIVE_INPUTS = 12
 # How many choices of the inputs are tried where they are more than MAX_INPUTS.
 SAMPLE_COUNT = 256
 # The most steps for which the whole run is made under all inputs or samples, and the most seconds that it takes.
@@ -146,22 +146,22 @@ class Diagnosis:
         return self._local[module.number]
 
     @cached_property
-    def values(self) -> Valuation:
+    def wire_tables(self) -> Valuation:
         """The tables of all wires over all choices of the inputs, or over samples of them."""
-        return evaluate_choices(self.circuit, MAX_INPUTS, SAMPLE_COUNT)
+        return evaluate_choices(self.circuit, MAX_EXHAUSTIVE_INPUTS, SAMPLE_COUNT)
 
     @property
     def choices_words(self) -> str:
         """In how many choices of the inputs the whole run was tried, in words."""
-        return self.values.choices_words
+        return self.wire_tables.choices_words
 
     def occurrence(self, module: Module, assignment: int) -> Occurrence:
         """Returns whether the circuit gives the module's cuts these values, and for which inputs."""
         inputs, gates = self.circuit.cone(module.cuts)
-        is_all = len(inputs) <= MAX_INPUTS
-        values = evaluate(self.circuit, inputs, gates) if is_all else self.values
+        is_all = len(inputs) <= MAX_EXHAUSTIVE_INPUTS
+        values = evaluate(self.circuit, inputs, gates) if is_all else self.wire_tables
         table = values.full
-        for name, value in module.assignment_names(assignment).items():
+        for name, value in module.cut_values(assignment).items():
             table &= values.tables[name] if value else values.full ^ values.tables[name]
         for number in gates:
             table &= values.rows[number]
@@ -176,7 +176,7 @@ class Diagnosis:
         """Returns a table of assignments of the module's cuts that occur: all of them, or those that occur in the
         samples."""
         inputs, gates = self.circuit.cone(module.cuts)
-        values = evaluate(self.circuit, inputs, gates) if len(inputs) <= MAX_INPUTS else self.values
+        values = evaluate(self.circuit, inputs, gates) if len(inputs) <= MAX_EXHAUSTIVE_INPUTS else self.wire_tables
         columns = values.full
         for number in gates:
             columns &= values.rows[number]
@@ -195,7 +195,7 @@ class Diagnosis:
         none."""
         run = ModuleRun(self.circuit, self.layout, self.certificate, module)
         run.restrict_assignments(self.occurring_assignments(module))
-        return run.least_fault() if run.full else None
+        return run.run_to_fault() if run.full else None
 
     def module_state(self, module: Module, assignment: int, time: int) -> tuple[set[Cell], set[Cell]]:
         """Returns the live cells of a module's own run, and the cells of its halo that it hears to be live then."""
@@ -244,7 +244,8 @@ class Diagnosis:
         """
         if not self.can_run_whole():
             return None
-        run, end = WholeRun(self.layout, self.values.tables, self.values.full), processor_seconds() + MAX_SECONDS
+        run, end = WholeRun(self.layout, self.wire_tables.tables,
+                            self.wire_tables.full), processor_seconds() + MAX_SECONDS
         while run.time < time and run.step():
             look(run)
             if processor_seconds() > end:
@@ -259,9 +260,9 @@ class Diagnosis:
         """
         if not table:
             return Signal(Tristate.YES, "0")
-        if table == self.values.full:
+        if table == self.wire_tables.full:
             return Signal(Tristate.YES, "1")
-        name = next((name for name, other in self.values.tables.items() if other == table), None)
+        name = next((name for name, other in self.wire_tables.tables.items() if other == table), None)
         return Signal(Tristate.NO) if name is None else Signal(Tristate.YES, name)
 
     def signal_of(self, cell: Cell, time: int) -> Signal:
@@ -276,7 +277,7 @@ class Diagnosis:
     @cached_property
     def whole_outcome(self) -> WholeOutcome:
         """Whether the whole run ends as the layout asks with a dead rim, whatever the certificate says."""
-        values, rim = self.values, RimWatch(self.layout, self.values.defined_columns)
+        values, rim = self.wire_tables, RimWatch(self.layout, self.wire_tables.defined_columns)
         run = self.whole_run_to(self.layout.steps, rim.note_live_rim)
         if run is None:
             return WholeOutcome(Tristate.UNKNOWN)
@@ -307,12 +308,12 @@ class Diagnosis:
         names = self.circuit.inputs
         if not names:
             return "no inputs"
-        if len(names) <= MAX_INPUTS:
-            return " ".join(f"{name}={self.values.tables[name] >> column & 1}" for name in names)
-        on = self.values.true_names(column)
-        shown = " ".join(f"{name}=1" for name in on[:MAX_INPUTS])
-        return f"{len(on)} of the {len(names)} inputs on" + (f" ({shown}{' ..' if len(on) > MAX_INPUTS else ''})" if on
-                                                             else "")
+        if len(names) <= MAX_EXHAUSTIVE_INPUTS:
+            return " ".join(f"{name}={self.wire_tables.tables[name] >> column & 1}" for name in names)
+        on = self.wire_tables.true_names(column)
+        shown = " ".join(f"{name}=1" for name in on[:MAX_EXHAUSTIVE_INPUTS])
+        more = " .." if len(on) > MAX_EXHAUSTIVE_INPUTS else ""
+        return f"{len(on)} of the {len(names)} inputs on" + (f" ({shown}{more})" if on else "")
 
     def module_of(self, finding: ReportLine) -> Module:
         """Returns the module of a line of a report."""

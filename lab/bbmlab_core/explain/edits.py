@@ -12,7 +12,7 @@ ACTIONS = ("add", "replace", "delete")
 MAX_COMPARED_LINES = 4000
 # The most pairs of equal lines for that: a search for the longest match looks at all of them, and each match is
 # searched by itself.
-MAX_PAIRS = 40_000
+MAX_EQUAL_LINE_PAIRS = 40_000
 
 
 class EditError(Exception):
@@ -95,7 +95,7 @@ def edits_between(old: str, new: str) -> list[Edit]:
     middle, other = before[first:len(before) - last], after[first:len(after) - last]
     # In how many ways a line of one text and an equal line of the other can be chosen.
     counts = Counter(other)
-    if max(len(middle), len(other)) > MAX_COMPARED_LINES or sum(counts[line] for line in middle) > MAX_PAIRS:
+    if max(len(middle), len(other)) > MAX_COMPARED_LINES or sum(counts[line] for line in middle) > MAX_EQUAL_LINE_PAIRS:
         return hunk_edits(first, len(middle), other)
     edits: list[Edit] = []
     for _, low, high, start, end in difflib.SequenceMatcher(None, middle, other, autojunk=False).get_opcodes():

@@ -14,8 +14,8 @@ from .diagnosis import MAX_SECONDS, Diagnosis
 from .edits import Edit, addition, deletion, insertion_line_in_module, replacement
 
 # The most lines that one cell gets, and how many wires with the values of a cell are proposed.
-MAX_LINES = 40
-MAX_WIRES = 4
+MAX_LINES_PER_CELL = 40
+MAX_LIKELY_WIRES = 4
 
 
 @dataclass
@@ -106,7 +106,7 @@ class BorderCheck:
         or leaves."""
         if not self.diagnosis.can_run_whole():
             return None
-        values = self.diagnosis.values
+        values = self.diagnosis.wire_tables
         run, end = WholeRun(self.layout, values.tables, values.full), processor_seconds() + self.seconds
         watch = LiveTimes(run.field.live, lambda cell: self.edge_line_owner(cell) is not None, self.layout.steps)
         while run.time < self.layout.steps:
@@ -120,18 +120,18 @@ class BorderCheck:
 
     def signal_table(self, signal: str) -> Table:
         """Returns the table of a signal."""
-        return self.diagnosis.values.full if signal == "1" else self.diagnosis.values.tables[signal]
+        return self.diagnosis.wire_tables.full if signal == "1" else self.diagnosis.wire_tables.tables[signal]
 
     def all_cell_edits(self) -> list[CellEdits]:
         """Returns the edits of all cells whose lines are wrong, in order of the first wrong time."""
         if self.ring_tables is None:
             return []
-        found = [self.cell_edits(cell, self.lines_at.get(cell, []))
-                 for cell in sorted(self.ring_tables.keys() | self.lines_at.keys())]
+        found = [self.cell_edits(cell, self.lines_by_cell.get(cell, []))
+                 for cell in sorted(self.ring_tables.keys() | self.lines_by_cell.keys())]
         return sorted((group for group in found if group), key=lambda group: group.time)
 
     @cached_property
-    def lines_at(self) -> dict[Cell, list[tuple[Module, Border]]]:
+    def lines_by_cell(self) -> dict[Cell, list[tuple[Module, Border]]]:
         """The border lines of each cell, with their modules."""
         lines: dict[Cell, list[tuple[Module, Border]]] = {}
         for module in self.certificate.modules:
@@ -146,24 +146,24 @@ class BorderCheck:
             return None
         actual = self.ring_tables.get(cell, {})
         hearers = [other for other in self.certificate.neighbours(owner) if other.box.has_in_halo(cell)]
-        wrong = self.first_wrong_time(owner, actual, lines)
+        wrong = self.first_wrong_times(owner, actual, lines)
         if self.certificate.version == 1:
-            wrong += [time for hearer in hearers for time in self.first_wrong_time(hearer, actual, lines)]
+            wrong += [time for hearer in hearers for time in self.first_wrong_times(hearer, actual, lines)]
         if not wrong:
             return None
-        edits = [self.edits_to_signals(cell, owner, hearers, signals)
+        edits = [self.edits_for_signals(cell, owner, hearers, signals)
                  for signals in self.possible_signals(cell, actual, [owner, *hearers], lines)]
         if not edits:
             return None
         return CellEdits(cell, min(wrong), {module.number for module in (owner, *hearers)}, edits[0], edits[1:])
 
-    def edits_to_signals(self, cell: Cell, owner: Module, hearers: list[Module],
-                         signals: dict[int | None, str]) -> list[Edit]:
+    def edits_for_signals(self, cell: Cell, owner: Module, hearers: list[Module],
+                          signals: dict[int | None, str]) -> list[Edit]:
         """Returns the edits after which all modules have just these signals of a cell, and know their wires."""
-        edits = self.edits_to_lines(cell, owner, "edge", signals)
+        edits = self.edits_for_lines(cell, owner, "edge", signals)
         for hearer in hearers:
             if self.certificate.version == 1:
-                edits += self.edits_to_lines(cell, hearer, "halo", signals)
+                edits += self.edits_for_lines(cell, hearer, "halo", signals)
             edits += self.edits_to_local_wires(hearer, signals)
         return list(dict.fromkeys(edits + self.edits_to_local_wires(owner, signals)))
 
@@ -172,15 +172,15 @@ class BorderCheck:
         """Returns the signals that a cell may have, the likeliest first; none if no wire has its values, or if it needs
         too many lines."""
         found: list[dict[int | None, str]] = []
-        for rank in range(MAX_WIRES):
+        for rank in range(MAX_LIKELY_WIRES):
             signals = self.expected_signals(cell, actual, modules, lines, rank)
-            if signals is None or len(signals) > MAX_LINES or signals in found:
+            if signals is None or len(signals) > MAX_LINES_PER_CELL or signals in found:
                 break
             found.append(signals)
         return found
 
-    def first_wrong_time(self, module: Module, actual: dict[int, Table],
-                         lines: list[tuple[Module, Border]]) -> list[int]:
+    def first_wrong_times(self, module: Module, actual: dict[int, Table],
+                          lines: list[tuple[Module, Border]]) -> list[int]:
         """Returns the first odd time at which the lines of a module about a cell differ from the run, in a list that
         may be empty."""
         own = {line.time: self.signal_table(line.signal) for other, line in lines if other is module}
@@ -197,7 +197,7 @@ class BorderCheck:
         Where no line tells it, the wire is the one with this rank among those that have the values, or the last of
         them.
         """
-        full = self.diagnosis.values.full
+        full = self.diagnosis.wire_tables.full
         if actual and all(actual.get(time) == full for time in range(1, self.layout.steps, 2)):
             return {None: "1"}
         signals: dict[int | None, str] = {}
@@ -217,7 +217,7 @@ class BorderCheck:
 
         Of those that as many know, first comes the one of the nearest line about a cell next to this one.
         """
-        wires = [name for name, other in self.diagnosis.values.tables.items() if other == table]
+        wires = [name for name, other in self.diagnosis.wire_tables.tables.items() if other == table]
         if len(wires) < 2:
             return wires
         neighbours = [(cell[0] + dx, cell[1] + dy) for dx in (-1, 0, 1) for dy in (-1, 0, 1) if dx or dy]
@@ -229,14 +229,14 @@ class BorderCheck:
     def time_distances(self, cells: Iterable[Cell], time: int) -> dict[str, int]:
         """Returns how far from a time the nearest line about one of some cells is, for each signal."""
         found: dict[str, int] = {}
-        for line in (line for cell in cells for _, line in self.lines_at.get(cell, ())):
+        for line in (line for cell in cells for _, line in self.lines_by_cell.get(cell, ())):
             far = 0 if line.time is None else abs(line.time - time)
             found[line.signal] = min(far, found.get(line.signal, far))
         return found
 
-    def edits_to_lines(self, cell: Cell, module: Module, kind: str, signals: dict[int | None, str]) -> list[Edit]:
+    def edits_for_lines(self, cell: Cell, module: Module, kind: str, signals: dict[int | None, str]) -> list[Edit]:
         """Returns the edits after which a module has just these lines about a cell."""
-        old = {line.time: (at, line.signal) for at, line in module.numbered(kind) if line.cell == cell}
+        old = {line.time: (at, line.signal) for at, line in module.numbered_lines(kind) if line.cell == cell}
         edits = [deletion(at) for time, (at, _) in old.items() if time not in signals]
         for time, signal in signals.items():
             text = line_words(kind, Border(time, *cell, signal))

@@ -11,8 +11,8 @@ from ..texts.circuits import Circuit
 from ..texts.code_names import CODE_NAMES
 from ..texts.designs import require_report_of
 from ..texts.documents import Document, read_document
-from ..texts.refusals import ExplainedRefusal, explain_code, explain_refusal, name_list
-from ..texts.reports import RUN_ANSWER, ReportLine, ReportOrRefusal, ReportError, parse_report
+from ..texts.refusals import ExplainedRefusal, explain_code, explain_refusal, names_words
+from ..texts.reports import RUN_ANSWER_PATTERN, ReportLine, ReportOrRefusal, ReportError, parse_report
 from .diagnosis import MAX_STEPS, Diagnosis, Tristate
 from .edits import Edit
 from .faults import ExplainedLine, assignment_words, explain_border, explain_keep, explain_local, cell_words
@@ -23,10 +23,10 @@ from .trials import TrialRunner
 # looked for.
 MAX_DETAILED_LINES = 12
 # How many mirrors that fall apart are named.
-MAX_MIRRORS = 3
+MAX_NAMED_MIRRORS = 3
 
 # What the other commands of the program write.
-ANSWER_PATTERNS = {"run": RUN_ANSWER, "value": re.compile(r"([a-z]\w* [01]\n)*(undefined \d+\n)?"),
+ANSWER_PATTERNS = {"run": RUN_ANSWER_PATTERN, "value": re.compile(r"([a-z]\w* [01]\n)*(undefined \d+\n)?"),
                    "modules": re.compile(r"(module .*\n)+"), "migrate": re.compile(r"circuit\n.*end\n", re.DOTALL)}
 
 
@@ -87,7 +87,7 @@ def explain_delay(diagnosis: Diagnosis, finding: ReportLine) -> ExplainedLine:
         entry.what.append(f"So the delay takes {found} steps, as it says.")
     elif found == "missing":
         missing = [wire for wire in (used, made) if not diagnosis.certificate.stops_of(wire)]
-        entry.what.append(f"So nothing shows how long the delay takes: there is no stop for {name_list(missing)}.")
+        entry.what.append(f"So nothing shows how long the delay takes: there is no stop for {names_words(missing)}.")
     elif found == "before":
         entry.what.append("So the output is seen before the input.")
     else:
@@ -174,9 +174,9 @@ def falling_mirror_words(diagnosis: Diagnosis) -> list[str]:
     fallen = falling_mirrors(diagnosis.layout)
     words = [f"The mirror of line {mirror.part.line} (`{diagnosis.document.line(mirror.part.line)}`) falls apart by "
              f"itself: step {mirror.step} "
-             f"moves its cell {cell_words(mirror.cell)}." for mirror in fallen[:MAX_MIRRORS]]
-    if len(fallen) > MAX_MIRRORS:
-        words.append(f"{len(fallen) - MAX_MIRRORS} more mirrors do.")
+             f"moves its cell {cell_words(mirror.cell)}." for mirror in fallen[:MAX_NAMED_MIRRORS]]
+    if len(fallen) > MAX_NAMED_MIRRORS:
+        words.append(f"{len(fallen) - MAX_NAMED_MIRRORS} more mirrors do.")
     if fallen:
         words.append("A mirror stays if its width and height are even and its upper left cell has exactly one odd "
                      "coordinate.")
@@ -222,7 +222,7 @@ def tried_in_vain_words(fixer: Fixer, trial: TrialRunner) -> list[str]:
 def whole_run_words(diagnosis: Diagnosis, faults: list[ReportLine]) -> list[str]:
     """Returns whether the whole run ends as the layout asks with a dead rim: a sentence for yes, no, and what was not
     found out."""
-    outcome, values = diagnosis.whole_outcome, diagnosis.values
+    outcome, values = diagnosis.whole_outcome, diagnosis.wire_tables
     if outcome.is_right is Tristate.NO:
         return [outcome.why_no_yes]
     if not diagnosis.can_run_whole():
@@ -278,7 +278,7 @@ def explain_refused(document: Document, report: ReportOrRefusal, file: str,
 def explain_run(document: Document, output: str, file: str) -> ExplainedAnswer:
     """Returns the answer of `run` in words."""
     word, count = output.split("\n", 1)[0].split(" ")
-    on = name_list(document.on or []) or "none of the inputs"
+    on = names_words(document.on or []) or "none of the inputs"
     if word == "cells":
         headline = [f"With {on} on, {count} cells are live after {document.layout.steps if document.layout else 0} "
                     "steps, all in the rectangle."]
@@ -303,8 +303,8 @@ def explain_value(document: Document, output: str, file: str) -> ExplainedAnswer
     assert document.circuit
     number = undefined_gate(document.circuit, output)
     values = dict(line.split(" ") for line in output.splitlines()[:None if number is None else -1])
-    true = name_list([name for name, value in values.items() if value == "1"], 40) or "none"
-    headline = [f"With {name_list(document.on or []) or 'none of the inputs'} on, these wires are true: {true}."]
+    true = names_words([name for name, value in values.items() if value == "1"], 40) or "none"
+    headline = [f"With {names_words(document.on or []) or 'none of the inputs'} on, these wires are true: {true}."]
     if number is not None:
         gate = document.circuit.gates[number]
         headline.append(f"Gate {gate.number} (`{gate.kind}`, line {gate.line}) has no row for "
@@ -371,13 +371,13 @@ def as_gcc(explanation: ExplainedAnswer) -> list[str]:
         text = " ".join([*explanation.refused.what,
                          *labelled_fix_words(explanation.fix.words if explanation.fix else []), *hints])
         return [escape_controls(f"{explanation.file}:{explanation.line}: error: {text} [code {explanation.code}]")]
-    return [escape_controls(f"{explanation.file}:{editor_line(entry)}: error: "
+    return [escape_controls(f"{explanation.file}:{editor_line_number(entry)}: error: "
                             f"{' '.join([*entry.what, *labelled_fix_words(entry.fixes)])} "
                   f"[{entry.report_line}]")
             for entry in explanation.entries if entry.is_against]
 
 
-def editor_line(entry: ExplainedLine) -> int:
+def editor_line_number(entry: ExplainedLine) -> int:
     """Returns the line of the text that an editor shows for a line of the report: its own, else that of its module."""
     return entry.line or int(entry.facts.get("module_line", 1))
 

@@ -116,7 +116,7 @@ def explain_local(diagnosis: Diagnosis, finding: ReportLine) -> ExplainedLine:
     module, time = diagnosis.module_of(finding), finding.number("time")
     cell, assignment = (finding.number("x"), finding.number("y")), finding.number("assignment")
     wanted = wanted_state(diagnosis, module, finding)
-    values = module.assignment_names(assignment)
+    values = module.cut_values(assignment)
     names = assignment_words(values)
     occurrence = diagnosis.occurrence(module, assignment)
     found, want = ("dead", "live") if wanted.is_live else ("live", "dead")
@@ -157,13 +157,13 @@ def add_cause_if_never_occurring(diagnosis: Diagnosis, module: Module, entry: Ex
         entry.cause = "never_occurs"
         entry.what.append("Under the values that do occur the module has no fault.")
         return
-    names = assignment_words(module.assignment_names(fault.assignment))
+    names = assignment_words(module.cut_values(fault.assignment))
     last = ", the last time," if fault.kind == "end" else ""
     entry.what.append(f"Under values that do occur the module has a fault too: with {names}, at time "
                       f"{fault.time}{last} at the cell "
                       f"{cell_words((fault.x, fault.y))}.")
     entry.facts["fault_that_occurs"] = {"kind": fault.kind, "time": fault.time, "cell": [fault.x, fault.y],
-                                        "assignment": module.assignment_names(fault.assignment)}
+                                        "assignment": module.cut_values(fault.assignment)}
     finding = parse_finding(f"local {module.number} {fault.report_words()}")
     add_cause_if_occurring(diagnosis, module, finding, entry, diagnosis.occurrence(module, fault.assignment))
 
@@ -224,7 +224,7 @@ def signal_words(diagnosis: Diagnosis, signal: Signal, cell: str) -> list[str]:
     if signal.known is Tristate.UNKNOWN:
         return [
             f"Which wire {cell} carries then was not found out: the whole run is too long, or leaves the rectangle."]
-    scope = "" if diagnosis.values.is_all else f" {diagnosis.choices_words}"
+    scope = "" if diagnosis.wire_tables.is_all else f" {diagnosis.choices_words}"
     if signal.known is Tristate.NO:
         return [f"No wire of the circuit is true in just the choices of the inputs in which {cell} is live then."]
     if signal.name in ("0", "1"):
@@ -236,7 +236,7 @@ def explain_keep(diagnosis: Diagnosis, finding: ReportLine) -> ExplainedLine:
     """Returns a `keep` line in words."""
     module, gate = diagnosis.module_of(finding), diagnosis.circuit.gates[finding.number("gate")]
     assignment = finding.number("assignment")
-    values = module.assignment_names(assignment)
+    values = module.cut_values(assignment)
     occurrence = diagnosis.occurrence(module, assignment)
     ins = {name: wire_value(diagnosis, module, name, assignment) for name in gate.ins}
     keeps = module.line_number("keep", gate.number)

@@ -4,7 +4,7 @@ from dataclasses import dataclass, field
 from itertools import chain
 from typing import Iterable, Iterator
 
-from ..certify.certifier import CertificatePlan, certified_text
+from ..certify.certifier import CertificateOptions, certified_text
 from ..host.processor import processor_seconds
 from ..host.terminal import LabError
 from ..texts.documents import Document, read_document
@@ -26,7 +26,7 @@ MAX_ROUNDS = 12
 MAX_TRIED_TEXTS = 80
 # The most changed layouts that are kept for the program's verdict, and the most edits that a fix names one by one.
 MAX_KEPT_TEXTS = 6
-MAX_EDITS = 12
+MAX_NAMED_EDITS = 12
 # The most other fixes that are named.
 MAX_OTHER_FIXES = 3
 # The share of the seconds that are left which one certificate may take.
@@ -64,9 +64,9 @@ class Fix:
 def change_words(text: str, edits: list[Edit], remakes: bool) -> list[str]:
     """Returns what a fix changes, a sentence for each edit."""
     lines = text.split("\n")
-    words = [edit.words(lines) for edit in edits[:MAX_EDITS]]
-    if len(edits) > MAX_EDITS:
-        words.append(f"And {len(edits) - MAX_EDITS} more edits: `bbmlab explain --fix` writes the whole text.")
+    words = [edit.words(lines) for edit in edits[:MAX_NAMED_EDITS]]
+    if len(edits) > MAX_NAMED_EDITS:
+        words.append(f"And {len(edits) - MAX_NAMED_EDITS} more edits: `bbmlab explain --fix` writes the whole text.")
     if remakes:
         verb = "make the certificate again" if design_text(text) != text else "add a certificate"
         words.append(f"Then {verb}: `bbmlab certify` does." if edits
@@ -249,7 +249,7 @@ class Fixer:
                 return None
             try:
                 until = processor_seconds() + self.trial.seconds_left() * CERTIFY_SHARE
-                text = certified_text(document, boxes, CertificatePlan(version, until=until))
+                text = certified_text(document, boxes, CertificateOptions(version, until=until))
             except LabError:
                 continue
             report = self.trial.report(text)

@@ -15,18 +15,18 @@ from ..physics.simulation import Table, WholeRun, cell_of, end_tables, key_of
 from ..texts.circuits import Circuit, Gate, Valuation, evaluate_all, evaluate_choices
 from ..texts.layouts import Cell, Layout, Part, cells_of
 from ..texts.limits import limits_of
-from .diagnosis import MAX_INPUTS, MAX_STEPS
+from .diagnosis import MAX_EXHAUSTIVE_INPUTS, MAX_STEPS
 from .edits import Edit, addition, deletion, insertion_line_in_section, replacement
 from .meeting_places import cells_where_runs_differ_least, start_of_wanted_end
 
 # How many samples of the inputs are tried first, if they are more than so many.
-SAMPLE_COUNT, FEW_INPUTS = 20, 4
+SAMPLE_COUNT, FEW_EXHAUSTIVE_INPUTS = 20, 4
 # The most lines of one change.
-MAX_LINES = 8
+MAX_CHANGE_LINES = 8
 # How far from a place that is likely wrong a mirror is added, in cells.
-NEAR_CELLS = 2
+NEAR_DISTANCE = 2
 # The kinds of parts that take a cell at the start, and at the end.
-START_KINDS, END_KINDS = ("mirror", "ball", "in"), ("mirror", "out", "waste")
+START_PART_KINDS, END_PART_KINDS = ("mirror", "ball", "in"), ("mirror", "out", "waste")
 
 
 @dataclass(frozen=True)
@@ -40,7 +40,7 @@ class DesignChange:
 
 def values_in_few_choices(circuit: Circuit) -> Valuation:
     """Returns the tables of all wires in at most 20 choices of the inputs, all of them if they are few."""
-    return evaluate_choices(circuit, FEW_INPUTS, SAMPLE_COUNT)
+    return evaluate_choices(circuit, FEW_EXHAUSTIVE_INPUTS, SAMPLE_COUNT)
 
 
 def wrong_cells(circuit_values: Valuation, layout: Layout, live: dict[int, Table]) -> dict[int, Table]:
@@ -67,7 +67,7 @@ class Testbench:
         self.near = near
         self.tried = 0
         self.values = values_in_few_choices(circuit)
-        self.all_values = self.values if self.values.is_all or len(circuit.inputs) > MAX_INPUTS else \
+        self.all_values = self.values if self.values.is_all or len(circuit.inputs) > MAX_EXHAUSTIVE_INPUTS else \
             evaluate_all(circuit)
         self.touched: dict[int, int] = {}
         self.last = self.last_state(layout, self.values, notes=True)
@@ -95,7 +95,7 @@ class Testbench:
         for all_of_them in (False, True):
             if change.circuit is self.circuit:
                 values = self.all_values if all_of_them else self.values
-            elif all_of_them and len(self.circuit.inputs) <= MAX_INPUTS:
+            elif all_of_them and len(self.circuit.inputs) <= MAX_EXHAUSTIVE_INPUTS:
                 values = evaluate_all(change.circuit)
             else:
                 values = values_in_few_choices(change.circuit)
@@ -109,13 +109,13 @@ class Testbench:
     @cached_property
     def parts_by_taken_cell(self) -> tuple[dict[Cell, Part], dict[Cell, Part]]:
         """The parts that take cells at the start, and those that take cells at the end."""
-        starts = {cell: part for part in self.layout.parts if part.kind in START_KINDS for cell in part.cells()}
-        ends = {cell: part for part in self.layout.parts if part.kind in END_KINDS for cell in part.cells()}
+        starts = {cell: part for part in self.layout.parts if part.kind in START_PART_KINDS for cell in part.cells()}
+        ends = {cell: part for part in self.layout.parts if part.kind in END_PART_KINDS for cell in part.cells()}
         return starts, ends
 
     def is_possible(self, new: list[Part], removed: set[Part]) -> bool:
         """Whether new parts lie in the rectangle and share no cell that only one part may take."""
-        for kinds, taken in zip((START_KINDS, END_KINDS), self.parts_by_taken_cell):
+        for kinds, taken in zip((START_PART_KINDS, END_PART_KINDS), self.parts_by_taken_cell):
             cells = [cell for part in new if part.kind in kinds for cell in part.cells()]
             if len(set(cells)) < len(cells) or any(cell in taken and taken[cell] not in removed for cell in cells):
                 return False
@@ -214,7 +214,7 @@ def port_changes(bench: Testbench, reach: int | None, is_exchange: bool = False)
     freed = [part for part in bench.layout.of_kind("waste") if part.cell in {new.cell for new in swaps.values()}]
     wastes = [part_for_stray_ball(bench, cell, table) for cell, table in places if key_of(cell) in wrong
               and cell not in taken | covered]
-    if len(swaps) + len(wastes) + len(freed) <= MAX_LINES and (swaps or wastes):
+    if len(swaps) + len(wastes) + len(freed) <= MAX_CHANGE_LINES and (swaps or wastes):
         yield from bench.part_changes(swaps, wastes, freed)
 
 
@@ -238,7 +238,7 @@ def missing_port_changes(bench: Testbench) -> Iterator[DesignChange]:
         cells = [cell_of(key) for key in sorted(wrong) if bench.last.get(key) == bench.values.tables[name]
                  and bench.layout.has(cell_of(key))]
         new += [Part("out", name, *cell) for cell in cells if cell not in {part.cell for part in new}]
-    if new and len(new) <= MAX_LINES:
+    if new and len(new) <= MAX_CHANGE_LINES:
         yield from bench.part_changes({}, new)
 
 
@@ -253,7 +253,7 @@ def output_exchanges(bench: Testbench) -> Iterator[DesignChange]:
         for two in names[index + 1:]:
             swaps = {part: part._replace(name=two if part.name == one else one) for part in outs
                      if part.name in (one, two)}
-            if len(swaps) <= MAX_LINES:
+            if len(swaps) <= MAX_CHANGE_LINES:
                 yield from bench.part_changes(swaps)
     for one in names:
         for two in bench.circuit.outputs:
@@ -307,7 +307,7 @@ def start_changes(bench: Testbench) -> Iterator[DesignChange]:
     own = {key: full if part.kind == "ball" else bench.values.tables[part.name or ""] for key, part in parts.items()}
     differing = [key for key in start.keys() | own.keys() if key not in mirrors
                  and start.get(key, 0) != own.get(key, 0)]
-    if len(differing) > MAX_LINES:
+    if len(differing) > MAX_CHANGE_LINES:
         return
     names = {bench.values.tables[name]: name for name in reversed(bench.circuit.inputs)}
     new: list[Part] = []
@@ -383,8 +383,9 @@ def added_mirror_changes(bench: Testbench, is_near: bool) -> Iterator[DesignChan
                           + [(2, 2), (2, 4), (4, 2)])
     keys = sorted(bench.touched, key=lambda key: bench.touched[key])
     if is_near:
-        keys = [key_of((x + dx, y + dy)) for x, y in bench.suspect_cells for dy in range(-NEAR_CELLS, NEAR_CELLS + 1)
-                for dx in range(-NEAR_CELLS, NEAR_CELLS + 1)]
+        keys = [key_of((x + dx, y + dy)) for x,
+                y in bench.suspect_cells for dy in range(-NEAR_DISTANCE, NEAR_DISTANCE + 1)
+                for dx in range(-NEAR_DISTANCE, NEAR_DISTANCE + 1)]
     seen = set()
     for x, y in map(cell_of, keys):
         for width, height in sizes:

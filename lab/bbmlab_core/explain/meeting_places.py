@@ -9,7 +9,7 @@ from ..texts.circuits import Valuation
 from ..texts.layouts import Cell, Layout
 
 # The most cells that are kept over all times, and how many places are enough.
-MAX_KEPT = 2_000_000
+MAX_KEPT_CELLS = 2_000_000
 MAX_PLACES = 24
 
 State = dict[int, Table]
@@ -45,7 +45,7 @@ def moving_states(layout: Layout, values: Valuation) -> list[State] | None:
     while True:
         states.append({key: table for key, table in field.live.items() if key not in still})
         kept += len(states[-1])
-        if kept > MAX_KEPT:
+        if kept > MAX_KEPT_CELLS:
             return None
         if field.time == layout.steps:
             return states

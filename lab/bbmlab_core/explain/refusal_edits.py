@@ -6,9 +6,9 @@ from typing import Any, Callable, Iterable, Iterator
 from ..texts.certificates import Module, local_wires
 from ..texts.circuits import Circuit
 from ..texts.documents import Document
-from ..texts.limits import FIRST, LIMITS_LINE
+from ..texts.limits import FIRST_LIMITS, LIMITS_LINE
 from ..texts.lines import match_line
-from ..texts.spelling import spelled_text
+from ..texts.spelling import spelling_of
 from .edits import Edit, addition, deletion, edits_between, insertion_line_in_module, replacement
 
 Edits = tuple[Edit, ...]
@@ -26,7 +26,7 @@ def cleaned_line(line: str) -> str:
     """Returns a line with the signs of the formats in place of those that editors write, and with single spaces."""
     for sign, plain in SIGN_REPLACEMENTS.items():
         line = line.replace(sign, plain)
-    return spelled_text(line + "\n").text.rstrip("\n")
+    return spelling_of(line + "\n").text.rstrip("\n")
 
 
 def shape_edits(document: Document, number: int, facts: dict[str, Any]) -> Iterator[Edits]:
@@ -76,7 +76,7 @@ def unconsumed_wire_edits(_document: Document, number: int, facts: dict[str, Any
     yield tuple(addition(number - 1, f"spill {name}") for name in facts["names"])
 
 
-def edits_to_local_wire(lines: list[str], circuit: Circuit, module: Module, name: str) -> Iterator[Edit]:
+def local_wire_edits(lines: list[str], circuit: Circuit, module: Module, name: str) -> Iterator[Edit]:
     """Yields lines by which a module comes to know a wire: the gate that makes it, if the module knows what it uses,
     and a cut."""
     gate, local = circuit.maker.get(name), local_wires(circuit, module)
@@ -89,7 +89,7 @@ def unknown_wire_edits(document: Document, number: int, facts: dict[str, Any]) -
     assert document.circuit and document.certificate
     lines, module = document.text.split("\n"), document.certificate.modules[facts["module"]]
     for name in [facts["name"]] if "name" in facts else facts["names"]:
-        for edit in edits_to_local_wire(lines, document.circuit, module, name):
+        for edit in local_wire_edits(lines, document.circuit, module, name):
             yield (edit,)
         gate = document.circuit.maker.get(name)
         if gate:
@@ -99,7 +99,7 @@ def unknown_wire_edits(document: Document, number: int, facts: dict[str, Any]) -
     yield (deletion(number),)
 
 
-def many_wires_edits(document: Document, number: int, facts: dict[str, Any]) -> Iterator[Edits]:
+def unknown_use_edits(document: Document, number: int, facts: dict[str, Any]) -> Iterator[Edits]:
     """Yields cuts of all inputs of a gate that a module does not know."""
     assert document.certificate
     lines, module = document.text.split("\n"), document.certificate.modules[facts["module"]]
@@ -113,7 +113,7 @@ def port_edits(document: Document, _number: int, facts: dict[str, Any]) -> Itera
     assert document.certificate and document.circuit
     lines, module = document.text.split("\n"), document.certificate.modules[facts["module"]]
     names = list(dict.fromkeys(port.name for port in facts["ports"]))
-    choices = [list(edits_to_local_wire(lines, document.circuit, module, name)) for name in names]
+    choices = [list(local_wire_edits(lines, document.circuit, module, name)) for name in names]
     yield tuple(dict.fromkeys(choice[0] for choice in choices))
     yield tuple(dict.fromkeys(choice[-1] for choice in choices))
 
@@ -125,7 +125,7 @@ def heard_wire_edits(document: Document, _number: int, facts: dict[str, Any]) ->
     lines = document.text.split("\n")
     wanted = dict.fromkeys((number, line.signal) for number, line, _, _ in facts["missing"])
     modules = document.certificate.modules
-    choices = [list(edits_to_local_wire(lines, document.circuit, modules[number], name)) for number, name in wanted]
+    choices = [list(local_wire_edits(lines, document.circuit, modules[number], name)) for number, name in wanted]
     yield tuple(dict.fromkeys(choice[0] for choice in choices))
     yield tuple(dict.fromkeys(choice[-1] for choice in choices))
     yield tuple(dict.fromkeys(deletion(at) for *_, at in facts["missing"]))
@@ -210,7 +210,7 @@ def no_module_edits(document: Document, number: int, facts: dict[str, Any]) -> I
 
 def limit_edits(document: Document, number: int, facts: dict[str, Any]) -> Iterator[Edits]:
     """Yields the text with the line that raises its limits, and then the line with another number."""
-    if facts["limits"] is FIRST:
+    if facts["limits"] is FIRST_LIMITS:
         yield (addition(0, LIMITS_LINE),)
     if "number" in facts:
         yield from number_edits(document, number, facts)
@@ -227,7 +227,7 @@ EDIT_FINDERS: dict[str, EditFinder] = {cause: finder for finder, causes in (
     (gap_edits, "gap"),
     (no_module_edits, "no_module"),
     (unknown_wire_edits, "wire_not_local"),
-    (many_wires_edits, "use_input_not_local"),
+    (unknown_use_edits, "use_input_not_local"),
     (name_edits, "wire_not_defined wire_unknown port_unknown"),
     (number_edits, "gate_unknown keep_not_inverse border_place box_odd box_outside box_overlap box_side "
                    "certificate_version delay_limit"),
@@ -244,7 +244,7 @@ def refusal_edits(document: Document) -> Iterator[Edits]:
     refusal = document.refusal
     if refusal is None:
         return
-    in_order = edits_between(document.text, spelled_text(document.text).text)
+    in_order = edits_between(document.text, spelling_of(document.text).text)
     if in_order:
         yield tuple(in_order)
     if refusal.cause == "use_output_local":

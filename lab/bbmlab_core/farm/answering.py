@@ -11,7 +11,7 @@ RESULT_WORDS = {"yes": "yes", "no": "no", "refused": "refused", "timeout": "time
                 "error": "error"}
 
 # The status with which the program ends after each kind of report.
-STATUS_OF = {"yes": 0, "no": 1, "refused": 3}
+EXIT_STATUS_OF = {"yes": 0, "no": 1, "refused": 3}
 
 
 @dataclass
@@ -39,7 +39,7 @@ def result_of_report(file: str, status: int, output: str) -> Result:
     except ReportError as error:
         return Result(file, "error", str(error), 0)
     word = "refused" if report.refused else report.verdict
-    if status != STATUS_OF[word]:
+    if status != EXIT_STATUS_OF[word]:
         return Result(file, "error", f"the report says {word}, and the status is {status}", 0)
     if report.refused:
         return Result(file, "refused", output.strip(), 0, output=output)
@@ -57,8 +57,8 @@ def why_no_verdict(said: Answer) -> str | None:
     return result.detail if result.result == "error" else None
 
 
-def check_answer(program: Executable, file: str, text: bytes, timeout: float | None,
-                 running: RunningPrograms) -> Result:
+def result_of_check(program: Executable, file: str, text: bytes, timeout: float | None,
+                    running: RunningPrograms) -> Result:
     """Returns what the program says of a text, without the time that it took."""
     try:
         said = ask(program, "check", text, timeout, running)
@@ -71,10 +71,10 @@ def check_answer(program: Executable, file: str, text: bytes, timeout: float | N
     return result_of_report(file, said.status, said.output)
 
 
-def timed_check_answer(program: Executable, file: str, text: bytes, timeout: float | None,
-                       running: RunningPrograms) -> Result:
+def timed_result(program: Executable, file: str, text: bytes, timeout: float | None,
+                 running: RunningPrograms) -> Result:
     """Returns what the program says of a text, and how many seconds it took."""
     started = time.monotonic()
-    result = check_answer(program, file, text, timeout, running)
+    result = result_of_check(program, file, text, timeout, running)
     result.seconds = round(time.monotonic() - started, 3)
     return result

@@ -17,14 +17,14 @@ from typing import Callable, Iterable, Iterator, Protocol
 from ..host.program import Executable, ProgramTimeout, RunningPrograms
 from ..host.signals import keep_interrupting
 from ..host.terminal import LabError, read_bytes
-from .answering import RESULT_WORDS, Result, timed_check_answer
+from .answering import RESULT_WORDS, Result, timed_result
 
 __all__ = ["RESULT_WORDS", "Checker", "ResultKeeper", "Result", "result_counts", "exit_status", "summary", "text_files"]
 
 # Seconds between two looks whether a worker has a result, and how long a worker may take to end.
 POLL_SECONDS, GRACE_SECONDS = 0.2, 2.0
 # The results that are kept: what the program said.
-KEPT_RESULTS = ("yes", "no", "refused")
+KEPT_RESULT_NAMES = ("yes", "no", "refused")
 
 
 def files_below(folder: str, tell: Callable[[str], None] = lambda _: None) -> list[str]:
@@ -95,8 +95,8 @@ class WorkerSettings:
         if isinstance(text, Result):
             return text
         before = children_seconds()
-        result = timed_check_answer(self.program, file, text, self.timeout, running)
-        if self.keeper and result.result in KEPT_RESULTS:
+        result = timed_result(self.program, file, text, self.timeout, running)
+        if self.keeper and result.result in KEPT_RESULT_NAMES:
             return keep_result(self.keeper, text, result, children_seconds() - before)
         return result
 

@@ -15,7 +15,7 @@ from ..host.program import Executable
 from ..host.terminal import LabError
 from . import remote
 from .answering import Result, result_of_report
-from .checking import KEPT_RESULTS, Checker, keep_result, text_or_failure
+from .checking import KEPT_RESULT_NAMES, Checker, keep_result, text_or_failure
 from .receipts import ReceiptFolder, sha256
 
 # How many groups of texts are on their way for each thread of the workers, and seconds between two looks.
@@ -91,7 +91,7 @@ class ClusterChecker(Checker):
         self.thread_count, self.counted_until = 1, 0.0
         if sends:
             self.client.run(remote.store_program, program.program_bytes(), self.digest)
-        for complaint in sorted(set(self.client.run(remote.complaint_about, self.digest).values()) - {""}):
+        for complaint in sorted(set(self.client.run(remote.why_no_program, self.digest).values()) - {""}):
             self.stop()
             raise LabError(complaint)
 
@@ -179,7 +179,7 @@ class ClusterChecker(Checker):
             return Result(file, "error", f"two answers to {file} by one program: {other!r} and {output!r} (on {host})",
                           0, is_fatal=True)
         keeper = self.order.keeper
-        return keep_result(keeper, text, result, seconds) if keeper and result.result in KEPT_RESULTS else result
+        return keep_result(keeper, text, result, seconds) if keeper and result.result in KEPT_RESULT_NAMES else result
 
     def stop(self) -> None:
         """Lets the cluster go: one that was started here ends."""

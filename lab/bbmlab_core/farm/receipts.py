@@ -16,9 +16,9 @@ from urllib.parse import quote
 from ..host.releases import ProgramIdentity
 from ..host.replacing import replace_file
 from ..host.terminal import LabError, read_bytes
-from ..texts.limits import SECOND
+from ..texts.limits import SECOND_LIMITS
 from ..texts.reports import parse_report
-from .answering import STATUS_OF, Result, result_of_report
+from .answering import EXIT_STATUS_OF, Result, result_of_report
 from .checking import Contradiction
 
 FORMAT = "bbmlab receipt 1"
@@ -26,7 +26,7 @@ SECTIONS = ("circuit", "layout", "certificate")
 SECTION_HEADER = re.compile(rb"(circuit|layout|certificate)(?: |\n)")
 # The most characters of a name of a file that stand in the name of its receipt.
 MAX_NAME_BYTES = 180
-DIGEST = re.compile(r"[0-9a-f]{64}\Z")
+DIGEST_PATTERN = re.compile(r"[0-9a-f]{64}\Z")
 
 
 class ReceiptError(Exception):
@@ -42,7 +42,7 @@ def section_digests(text: bytes) -> dict[str, str | None]:
     """Returns the digest of each section of a text, from its header through the line feed of its `end`, or None for one
     that is not there."""
     digests: dict[str, str | None] = dict.fromkeys(SECTIONS)
-    front = SECOND.head.encode()
+    front = SECOND_LIMITS.line_text.encode()
     start = len(front) if text.startswith(front) else 0
     for name in SECTIONS:
         header = SECTION_HEADER.match(text, start)
@@ -93,7 +93,7 @@ def receipt_of(text: bytes, result: Result, program: ProgramIdentity, seconds: f
     """Returns the receipt of a result that is a verdict or a refusal."""
     date = time.strftime("%Y-%m-%dT%H:%M:%SZ", time.gmtime())
     return Receipt(result.file, len(text), sha256(text), section_digests(text), result.output, result.result,
-                   STATUS_OF[result.result], program,
+                   EXIT_STATUS_OF[result.result], program,
                    1, seconds, date, result)
 
 
@@ -110,7 +110,7 @@ def member(document: Any, name: str, kind: Any) -> Any:
 def digest_member(document: Any, name: str) -> str:
     """Returns a member that is a digest."""
     value: str = member(document, name, str)
-    if not DIGEST.match(value):
+    if not DIGEST_PATTERN.match(value):
         raise ReceiptError(f"its member `{name}` is no digest of 64 hexadecimal digits")
     return value
 

@@ -61,7 +61,7 @@ def program_with_digest(digest: str) -> tuple[str, bytes, str]:
     return "", b"", f"the worker on {host} has another program: {own} with SHA-256 {found}, and not {digest}"
 
 
-def complaint_about(digest: str) -> str:
+def why_no_program(digest: str) -> str:
     """Returns why this worker has no program with a digest, or nothing if it has one."""
     return program_with_digest(digest)[2]
 

@@ -13,7 +13,7 @@ class Shard(NamedTuple):
     parts: int
 
 
-def shard_of_word(word: str) -> Shard:
+def read_shard(word: str) -> Shard:
     """Returns a part, written K/N."""
     number, slash, count = word.partition("/")
     if not slash or not (number.isdecimal() and count.isdecimal()) or max(len(number),

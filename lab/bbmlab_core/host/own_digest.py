@@ -2,7 +2,7 @@
 
 import hashlib
 
-HEADER = b"\ncertificate "
+CERTIFICATE_HEADER = b"\ncertificate "
 
 
 def why_not_report_of(text: bytes, output: str) -> str | None:
@@ -12,6 +12,6 @@ def why_not_report_of(text: bytes, output: str) -> str | None:
     if lines[0] != "bbmcheck 1" or word != "certificate":
         return None
     # The program read the text, so its last section begins at the only line with this header, and ends with the text.
-    own = hashlib.sha256(text[text.rfind(HEADER) + 1:]).hexdigest()
+    own = hashlib.sha256(text[text.rfind(CERTIFICATE_HEADER) + 1:]).hexdigest()
     return (None if digest == own else f"its report is of a certificate with the digest {digest[:16]}.., and that of "
             f"the text has {own[:16]}..")

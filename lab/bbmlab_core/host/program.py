@@ -170,7 +170,7 @@ class RunningPrograms:
 
 # The runs that `ask` starts if it is not told otherwise. A process that can be stopped from outside sets it once, at
 # its start.
-SHARED_PROGRAMS: RunningPrograms | None = None
+SHARED_RUNNING_PROGRAMS: RunningPrograms | None = None
 
 
 def kill_session(process: "subprocess.Popen[bytes]") -> None:
@@ -206,7 +206,7 @@ def ask(program: Executable | str, command: str, text: bytes, timeout: float | N
         running: RunningPrograms | None = None) -> Answer:
     """Runs a command of the program on a text. The program is opened already, or a path."""
     program = open_program(program)
-    answer = command_answer(program, command, text, timeout, running or SHARED_PROGRAMS or RunningPrograms())
+    answer = command_answer(program, command, text, timeout, running or SHARED_RUNNING_PROGRAMS or RunningPrograms())
     if answer.status not in (0, 1, 3, 4, 5):
         raise BadProgramError(f"{program} ended with status {answer.status}: "
                            f"{answer.errors.splitlines()[0] if answer.errors else 'no message'}")

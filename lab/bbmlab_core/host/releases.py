@@ -25,7 +25,7 @@ class ProgramIdentity:
     sources: str | None = None
 
 
-def manifest_lines(text: str) -> dict[str, str]:
+def manifest_values(text: str) -> dict[str, str]:
     """Returns the words and values of a MANIFEST."""
     return dict(line.split(" ", 1) for line in text.splitlines() if " " in line)
 
@@ -36,10 +36,10 @@ def known_releases(more: tuple[str, ...] = ()) -> dict[str, dict[str, str]]:
     texts = [place.read_text(encoding="utf-8", errors="replace") for place in MANIFEST_PATHS if place.is_file()]
     for name in more:
         text = read_bytes(name).decode("utf-8", "replace")
-        if "program_sha256" not in manifest_lines(text):
+        if "program_sha256" not in manifest_values(text):
             raise LabError(f"{name}: this is no MANIFEST of a release: it has no line `program_sha256 ..`")
         texts.append(text)
-    found = (manifest_lines(text) for text in texts)
+    found = (manifest_values(text) for text in texts)
     return {lines["program_sha256"]: lines for lines in found if "program_sha256" in lines}
 
 

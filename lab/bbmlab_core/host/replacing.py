@@ -7,7 +7,7 @@ import os
 import stat
 
 # The most names that are tried for a file beside another one.
-MAX_NAMES = 1000
+MAX_TRIED_NAMES = 1000
 
 
 class ChangedFileError(OSError):
@@ -122,11 +122,11 @@ def write_in_place(target: str, data: bytes) -> None:
 
 def keep_beside(beside: str, target: str) -> str:
     """Gives a file a name of its own beside another one, and returns the name. No file is replaced."""
-    for number in range(1, MAX_NAMES):
+    for number in range(1, MAX_TRIED_NAMES):
         name = f"{target}.new{number if number > 1 else ''}"
         try:
             os.link(beside, name)
             return name
         except FileExistsError:
             continue
-    raise OSError(errno.EEXIST, f"there are {MAX_NAMES} results beside it already")
+    raise OSError(errno.EEXIST, f"there are {MAX_TRIED_NAMES} results beside it already")

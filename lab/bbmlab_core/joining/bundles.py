@@ -43,12 +43,12 @@ class JoinedLayout:
             for own in layout.parts:
                 if own.kind in ("in", "ball") and own.name not in taken:
                     self.starts.setdefault(part.joined_wire(own.name or ALWAYS_SIGNAL),
-                                           []).append(placed.cell(own.cell))
-        if placed.end == self.plan.end:
+                                           []).append(placed.placed_cell(own.cell))
+        if placed.end_time == self.plan.end:
             for own in (own for own in layout.of_kind("out") if own.name not in given):
-                self.ends.setdefault(part.joined_wire(own.name or ""), []).append(placed.cell(own.cell))
+                self.ends.setdefault(part.joined_wire(own.name or ""), []).append(placed.placed_cell(own.cell))
             for own in layout.of_kind("waste"):
-                self.ends.setdefault("", []).append(placed.cell(own.cell))
+                self.ends.setdefault("", []).append(placed.placed_cell(own.cell))
 
     def add_never_true_outputs(self) -> None:
         """Gives each output that is never true and has no cell a cell of the first rows, where nothing moves."""
@@ -82,7 +82,7 @@ class JoinedLayout:
     def mirror_rows(self) -> list[int]:
         """The cells of all mirrors, as bits of rows."""
         rows = [0] * self.plan.height
-        parts = (placed.placing.cell_numbers().of_all(placed.part.item.mirrors) for placed in self.plan.placed)
+        parts = (placed.placing.cell_number_map().of_all(placed.part.footprint.mirrors) for placed in self.plan.placed)
         for number in chain.from_iterable(chain(parts, (path.item.mirrors for path in self.paths))):
             rows[number >> ROW_BITS] |= BITS[number & ROW_STRIDE - 1]
         return rows
@@ -121,9 +121,9 @@ def crop_plane(plan: JoinPlan, paths: list[Path]) -> None:
     """Leaves out whole tiles of a plane at the right and below that nothing reaches."""
     numbers = [number for path in paths for number in outermost_cell_numbers(path.item)]
     right = max([0, *(number % ROW_STRIDE + RIM_CELLS for number in numbers),
-                 *(own.x + own.area.width for own in plan.placed)])
+                 *(own.x + own.extent.width for own in plan.placed)])
     bottom = max([0, *(number // ROW_STRIDE + RIM_CELLS for number in numbers),
-                  *(own.y + own.area.height for own in plan.placed)])
+                  *(own.y + own.extent.height for own in plan.placed)])
     plan.width = min(plan.side, (right // TILE + 1) * TILE)
     plan.height = min(plan.side, (bottom // TILE + 1) * TILE)
 

@@ -12,7 +12,7 @@ from typing import Callable, Iterable, Iterator, NamedTuple
 from ..route.balls import BOUNCE_STEPS, Ball, Leg, Turn, bounce, reversed_legs
 from ..route.bit_rows import BitJoiner
 from ..route.paths import PathFinder, is_in_reach
-from ..route.world import MARGIN_CELLS, ROW_STRIDE, TILE, Item, World, path_item
+from ..route.world import MARGIN_CELLS, ROW_STRIDE, TILE, Footprint, World, path_item
 from ..texts.layouts import Box
 from .coils import Coil, coils_of, least_width
 
@@ -24,7 +24,7 @@ MAX_ROWS_AWAY = 1100
 # The bounces that a search tries at most, the longest leg, and the cells in which it comes to a place once.
 MOST_BOUNCES = 2000
 LONGEST_LEG = 150
-PLACE_CELLS = 4
+SEARCH_GRID_CELLS = 4
 # The steps of a leg at which a bounce is tried: all for the first bounces, as a ball has few ways out of its part.
 EVERY_STEP_BOUNCES = 40
 LEG_STRIDE = 8
@@ -38,11 +38,11 @@ FARTHEST_TILES = 140
 # A ball can fly at least so many steps on behind a bounce.
 LEAST_STEPS_ON = 9
 # The side of the free squares that are open ground, and the steps to spare with which a ball comes there.
-OPEN_SIDE = 48
+OPEN_SQUARE_SIDE = 48
 OPEN_SPARE_STEPS = 110
 # The first bit of each tile of a row, and the digits 0 and 1 for these numbers.
-FIRST_BITS = sum(1 << column for column in range(0, ROW_STRIDE, TILE))
-DIGITS = bytes.maketrans(b"\0\1", b"01")
+TILE_FIRST_BITS = sum(1 << column for column in range(0, ROW_STRIDE, TILE))
+DIGIT_TABLE = bytes.maketrans(b"\0\1", b"01")
 # What a leg takes is less than so many cells away from the rectangle between its ends.
 AROUND_LEG_CELLS = 12
 # The balls behind bounces, by the direction before them, as seen from the cell of the bounce.
@@ -147,8 +147,8 @@ def tile_bits(row: int) -> int:
     for shift in (1, 2, 4, 8):
         row |= row >> shift
     # Each tile's bits come together in its first one: a digit of a number with two bytes a tile.
-    words = (row & FIRST_BITS).to_bytes(ROW_STRIDE // 8, "big")
-    return int(words[1::2].translate(DIGITS), 2)
+    words = (row & TILE_FIRST_BITS).to_bytes(ROW_STRIDE // 8, "big")
+    return int(words[1::2].translate(DIGIT_TABLE), 2)
 
 
 def square_corners(rows: list[int], side: int) -> list[int]:
@@ -179,7 +179,7 @@ def column_starts(rows: list[int], length: int) -> list[int]:
 class LegSpan(NamedTuple):
     """What a leg takes, and a rectangle that has it: the first column and the last one, and so for the rows."""
 
-    item: Item
+    item: Footprint
     left: int
     right: int
     top: int
@@ -193,7 +193,7 @@ class LegSpan(NamedTuple):
                    for number in one.mirrors for part in own.touched_parts)
 
 
-def span_of(item: Item, first: Ball, last: Ball) -> LegSpan:
+def span_of(item: Footprint, first: Ball, last: Ball) -> LegSpan:
     """Returns what a leg takes that leads from a ball to another one."""
     return LegSpan(item, min(first.x, last.x) - AROUND_LEG_CELLS, max(first.x, last.x) + AROUND_LEG_CELLS,
                    min(first.y, last.y) - AROUND_LEG_CELLS, max(first.y, last.y) + AROUND_LEG_CELLS)
@@ -232,9 +232,9 @@ class CoilOption(NamedTuple):
     turn: Turn
 
 
-def search_place(ball: Ball) -> tuple[int, int, int, int]:
+def place_key(ball: Ball) -> tuple[int, int, int, int]:
     """Returns the place and direction of a ball, about: a search comes to each once."""
-    return ball.x // PLACE_CELLS, ball.y // PLACE_CELLS, ball.dx, ball.dy
+    return ball.x // SEARCH_GRID_CELLS, ball.y // SEARCH_GRID_CELLS, ball.dx, ball.dy
 
 
 class CoilSearch:
@@ -244,7 +244,7 @@ class CoilSearch:
     """
 
     def __init__(self, finder: PathFinder, ground: CoilGround, ball: Ball, end: int, is_backward: bool,
-                 has_room: Callable[[Item], bool] = lambda _: True, width: int | None = None) -> None:
+                 has_room: Callable[[Footprint], bool] = lambda _: True, width: int | None = None) -> None:
         self.finder, self.world, self.is_backward, self.end = finder, finder.world, is_backward, end
         # Whether the modules where a leg passes have room for its wire.
         self.has_room = has_room
@@ -270,7 +270,7 @@ class CoilSearch:
         """Yields the bounces that the search comes to, and how far the ball can fly on straight."""
         bend: CoilBounce | None = self.first if any(self.squares.rows) else None
         while bend is not None and self.tried < MOST_BOUNCES:
-            self.seen.add(search_place(bend.ball))
+            self.seen.add(place_key(bend.ball))
             self.tried += 1
             room = self.straight_steps(bend)
             yield bend, room
@@ -283,7 +283,7 @@ class CoilSearch:
         while self.queue:
             _, _, cost, before, steps, turn = heapq.heappop(self.queue)
             ball = bounce(before.ball.flown(steps), turn)[0]
-            if search_place(ball) not in self.seen:
+            if place_key(ball) not in self.seen:
                 bend = self.with_leg_item(CoilBounce(ball, cost, before, Leg(steps, turn), before.spans))
                 if bend is not None:
                     return bend
@@ -316,7 +316,8 @@ class CoilSearch:
             # This runs most often: no more balls are made than needed.
             for turn, right, down, across, along, _, taken in turns:
                 i, j = column + right, row + down
-                if taken >> column - low & 1 or (i // PLACE_CELLS, j // PLACE_CELLS, across, along) in self.seen:
+                if taken >> column - low & 1 or (i // SEARCH_GRID_CELLS, j // SEARCH_GRID_CELLS, across,
+                                                 along) in self.seen:
                     continue
                 on = Ball(i + BOUNCE_STEPS * across, j + BOUNCE_STEPS * along, across, along, 0)
                 if self.world.free_steps(on, LEAST_STEPS_ON) >= LEAST_STEPS_ON:
@@ -340,7 +341,7 @@ class CoilSearch:
             return None
         return bend._replace(spans=(*bend.spans, span))
 
-    def leg_item(self, bend: CoilBounce, leg: Leg) -> Item | None:
+    def leg_item(self, bend: CoilBounce, leg: Leg) -> Footprint | None:
         """Returns what a leg takes behind a bounce."""
         begun = min(bend.steps_to_track, leg.steps)
         if not self.is_backward:
@@ -370,13 +371,13 @@ class OpenSearch(CoilSearch):
     """
 
     def __init__(self, finder: PathFinder, ground: CoilGround, ball: Ball, goal: Ball, is_backward: bool,
-                 has_room: Callable[[Item], bool], goal_cells: float) -> None:
+                 has_room: Callable[[Footprint], bool], goal_cells: float) -> None:
         self.goal, self.goal_cells = goal.reversed() if is_backward else goal, goal_cells
-        super().__init__(finder, ground, ball, self.goal.time, is_backward, has_room, OPEN_SIDE)
+        super().__init__(finder, ground, ball, self.goal.time, is_backward, has_room, OPEN_SQUARE_SIDE)
 
     def ways(self) -> Iterator[list[Leg]]:
         """Yields the legs of ways, in their order of time. They end or begin with a straight flight."""
-        half = OPEN_SIDE // 2
+        half = OPEN_SQUARE_SIDE // 2
         for bend, room in self.reached_bounces():
             for ahead in range(max(LEAST_STEPS_AHEAD, bend.steps_to_track), room + 1, LEG_STRIDE):
                 ball = bend.ball.flown(ahead)

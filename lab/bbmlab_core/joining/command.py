@@ -12,13 +12,13 @@ from ..host.program import Executable, ask, find_program
 from ..host.terminal import LabError, coloured, escape_controls, read_bytes, require_output, write_text
 from ..route.balls import Ball
 from ..route.board import NoRouteError
-from ..route.command import ProgressLine, require_side, verdict_line
-from ..route.estimate import plural
+from ..route.command import ProgressLine, require_legal_side, verdict_line
+from ..route.estimate import counted_noun
 from ..route.search import RoutedBundle
 from ..route.settings import Settings
 from ..route.world import TILE
 from ..texts.documents import pause_garbage_collection
-from ..texts.limits import SECOND
+from ..texts.limits import SECOND_LIMITS
 from .bundles import joined_bundle
 from .composing import Composition, Connection, compose
 from .modules import JoinedModules
@@ -27,11 +27,11 @@ from .planning import SPARES, JoinPlan, estimated_side, first_spares, make_plan
 from .slack import LoneWayCuts, WayCut
 from .wiring import JoinWiring, TightError, ball_words
 
-PART_NAME = re.compile(r"[a-z][a-z0-9_]{0,15}")
+PART_NAME_PATTERN = re.compile(r"[a-z][a-z0-9_]{0,15}")
 CONNECTION_PATTERN = re.compile(r"(\w+)\.(\w+)=(\w+)\.(\w+)")
 SETTINGS = Settings(wander_detour=0.07, wander_options=16)
 # By how much the plane grows after an attempt that failed.
-GROWTH = 1.12
+PLANE_GROWTH = 1.12
 
 
 @dataclass(frozen=True)
@@ -49,7 +49,7 @@ def part_files(words: list[str]) -> dict[str, str]:
     for index, word in enumerate(words):
         given, sign, file = word.partition("=")
         name = given.lower()
-        if not sign or not PART_NAME.fullmatch(name):
+        if not sign or not PART_NAME_PATTERN.fullmatch(name):
             name, file = letter_name(index), word
         if name in found:
             raise LabError(f"{word}: there is a part {name} already: name this one by NAME=FILE", 2)
@@ -82,8 +82,8 @@ def read_parts(files: dict[str, str], connected: Collection[str], program: Execu
     for name, file in files.items():
         data = read_bytes(file)
         if data not in known:
-            if len(data) > SECOND.max_bytes:
-                raise LabError(f"{file}: the text is longer than {SECOND.max_bytes} bytes", 1)
+            if len(data) > SECOND_LIMITS.max_bytes:
+                raise LabError(f"{file}: the text is longer than {SECOND_LIMITS.max_bytes} bytes", 1)
             answer = ask(program, "check", data, timeout)
             if answer.status == 1:
                 raise LabError(f"{file}: the program says no to it: `join` takes bundles with a yes", 1)
@@ -114,8 +114,9 @@ def require_whole_balls(plan: JoinPlan) -> None:
         text, name = placed.part.text, placed.part.name
         if placed.time > 0 and text.start_fault:
             raise LabError(f"{name} begins at time {placed.time} of the join, but {text.start_fault}", 1)
-        if placed.end < plan.end and text.end_fault:
-            raise LabError(f"{name} ends at time {placed.end} of the join of {plan.end} steps, but {text.end_fault}", 1)
+        if placed.end_time < plan.end and text.end_fault:
+            raise LabError(f"{name} ends at time {placed.end_time} of the join of {plan.end} steps, but "
+                           f"{text.end_fault}", 1)
 
 
 @dataclass
@@ -146,7 +147,7 @@ class JoinSearch:
             except NoRouteError as error:
                 why = str(error)
                 if not self.asked.side:
-                    self.side = min(SECOND.max_side, int(self.side * GROWTH) // (2 * TILE) * 2 * TILE)
+                    self.side = min(SECOND_LIMITS.max_side, int(self.side * PLANE_GROWTH) // (2 * TILE) * 2 * TILE)
         return None, why
 
     def add_spare_steps(self, connections: list[int]) -> None:
@@ -176,7 +177,7 @@ class JoinSearch:
         plan, modules, wiring = self.prepare_attempt()
         self.attempts += 1
         if self.attempts == 1:
-            counts = f"{plural(len(plan.placed), 'part')}, {plural(len(plan.jobs), 'ball')} to lead"
+            counts = f"{counted_noun(len(plan.placed), 'part')}, {counted_noun(len(plan.jobs), 'ball')} to lead"
             print(f"bbmlab: {counts}, {plan.end} steps: first side {self.side}.", file=sys.stderr, flush=True)
         loose = [index for index, spare in enumerate(self.spares) if spare < len(SPARES) - 1]
         paths = wiring.run(lambda led, total: self.line.show(self.attempts, self.side, led, total), loose)
@@ -191,7 +192,7 @@ class JoinSearch:
             plan = make_plan(self.made, self.side, self.spares)
             if plan is None:
                 raise LabError(f"the parts have no room on a plane of {self.side} by {self.side} cells", 1)
-            require_steps(plan.end)
+            require_legal_steps(plan.end)
             require_whole_balls(plan)
             slack = self.lone_way_cuts(plan)
             plan = slack.plan_with_cuts()
@@ -233,15 +234,15 @@ def with_whole_ports(made: Composition, plan: JoinPlan, closed: list[tuple[int, 
     return compose({part.name: part.text for part in made.parts}, made.connections, whole | missing)
 
 
-def require_steps(steps: int) -> None:
+def require_legal_steps(steps: int) -> None:
     """Raises LabError if a layout cannot have so many steps."""
-    if steps > SECOND.max_steps:
-        raise LabError(f"the join needs {steps} steps; a layout has at most {SECOND.max_steps}", 1)
+    if steps > SECOND_LIMITS.max_steps:
+        raise LabError(f"the join needs {steps} steps; a layout has at most {SECOND_LIMITS.max_steps}", 1)
 
 
 def join_command(options: argparse.Namespace) -> int:
     """Runs `bbmlab join`."""
-    require_side(options.size)
+    require_legal_side(options.size)
     files = part_files(options.files)
     require_output(options.output, list(files.values()))
     connections = [parse_connection(word) for word in options.connect]
@@ -257,7 +258,7 @@ def join_command(options: argparse.Namespace) -> int:
     attempts = search.attempts
     line.clear()
     if routed is None:
-        tried = f"{plural(attempts, 'attempt')} and {options.effort:g} seconds"
+        tried = f"{counted_noun(attempts, 'attempt')} and {options.effort:g} seconds"
         print(f"bbmlab: no join in {tried}: {escape_controls(why)}", file=sys.stderr)
         return 1
     answer = ask(program, "check", routed.text.encode("latin-1"), options.timeout)

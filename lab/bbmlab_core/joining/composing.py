@@ -9,7 +9,7 @@ from ..circuits.netlists.naming import MAX_NAME_BYTES
 from ..host.terminal import LabError
 from ..route.balls import Ball
 from ..route.netlist import RouterNetlist
-from ..route.world import STEP_STRIDE, Item, cell_number
+from ..route.world import STEP_STRIDE, Footprint, cell_number
 from ..texts.circuits import Circuit, Gate
 from ..texts.limits import text_without_limits_line
 from ..texts.sections import text_of_section
@@ -51,17 +51,17 @@ class NamedPart:
         return way.ball if way else next(port.ball for port in ports if port.wire == wire)
 
     @cached_property
-    def item(self) -> Item:
+    def footprint(self) -> Footprint:
         """What the part takes without the lone ways. Parts of one text with the same connected ports share it."""
         if not self.ways:
             return self.text.item
         key = frozenset((wire, way.ball.time) for wire, way in self.ways.items())
         shape = self.text.shapes.get(key)
         if shape is None:
-            shape = self.text.shapes[key] = self.make_item()
+            shape = self.text.shapes[key] = self.make_footprint()
         return shape
 
-    def make_item(self) -> Item:
+    def make_footprint(self) -> Footprint:
         """Returns what the part takes without the lone ways."""
         claims = set[int]().union(*(way.claims for way in self.ways.values()))
         flights = [own for flight in self.text.flights
@@ -109,7 +109,7 @@ def compose(parts: dict[str, PartText], connections: list[Connection],
         for wire in part.text.circuit.wires:
             own = fed.get((part.name, wire))
             part.wires[wire] = by_name[own.source].wires[own.output] if own else joined_name(part.name, wire)
-    lines = circuit_lines(named, connections)
+    lines = joined_circuit(named, connections)
     return Composition(named, connections, text_without_limits_line(text_of_section(lines)), reread_circuit(lines))
 
 
@@ -167,7 +167,7 @@ def feeding_order(names: list[str], connections: list[Connection]) -> list[str]:
     return order
 
 
-def circuit_lines(parts: list[NamedPart], connections: list[Connection]) -> Circuit:
+def joined_circuit(parts: list[NamedPart], connections: list[Connection]) -> Circuit:
     """Returns the lines of the circuit of the join. Connected ports are neither inputs nor outputs."""
     given = {(own.source, own.output) for own in connections}
     taken = {(own.target, own.input) for own in connections}

@@ -14,17 +14,17 @@ from ..route.balls import moving_cells
 from ..route.board import FailureKind, NoRouteError
 from ..route.netlist import RouterNetlist
 from ..route.paths import Path
-from ..route.world import ROW_STRIDE, STEP_STRIDE, TILE, Item, cell_of_number, cells_entering_tiles, tiles_of
+from ..route.world import ROW_STRIDE, STEP_STRIDE, TILE, Footprint, cell_of_number, cells_entering_tiles, tiles_of
 from ..texts.certificates import MAX_CUTS, MAX_USES, Border, Module, ModuleDraft, Stop, local_wires
 from ..texts.layouts import Box, Cell
-from ..texts.limits import SECOND
+from ..texts.limits import SECOND_LIMITS
 from ..texts.owners import NOBODY, Owners
 from .composing import Composition
 from .parts import ALWAYS_SIGNAL
 from .planning import JoinPlan, PlacedPart
 
 # Tiles that nothing reaches become boxes of so many tiles in each direction.
-QUIET_TILES = 4
+QUIET_BOX_SIDE = 4
 # A line of a path is a number: its place by the order of lines, times this number, plus the number of the path. A line
 # of a mirror has the number of no path.
 MAX_PATHS = 1 << 14
@@ -52,7 +52,7 @@ class JoinedModules:
         self.origins: list[tuple[PlacedPart, Module]] = []
         for placed in plan.placed:
             for own in placed.part.text.certificate.modules:
-                self.add_box(placed.placing.box(own.box))
+                self.add_box(placed.placing.placed_box(own.box))
                 self.origins.append((placed, own))
         for box in self.tiles_between():
             self.add_box(box)
@@ -64,7 +64,7 @@ class JoinedModules:
 
     def add_box(self, box: Box) -> None:
         """Adds the box of a module."""
-        self.owners.take_blocks(box, len(self.boxes))
+        self.owners.give_blocks(box, len(self.boxes))
         self.boxes.append(box)
 
     def tiles_between(self) -> Iterator[Box]:
@@ -108,7 +108,7 @@ class JoinedModules:
         Lines of lone ways are left out.
         """
         placed, own = self.origins[module.number]
-        part, time, cell = placed.part, placed.time, placed.placing.cell
+        part, time, cell = placed.part, placed.time, placed.placing.placed_cell
         module.keeps = [part.first_gate + number for number in own.keeps]
         module.edges = [Border(None if line.time is None else line.time + time, *cell(line.cell),
                                part.joined_wire(line.signal))
@@ -153,11 +153,11 @@ class JoinedModules:
                     return False
         return True
 
-    def room_test(self, wire: str) -> Callable[[Item], bool]:
+    def room_test(self, wire: str) -> Callable[[Footprint], bool]:
         """Returns what tells whether the modules that touch an item have room for a wire, as long as none changes."""
         known: dict[int, bool] = {}
 
-        def has_room(item: Item) -> bool:
+        def has_room(item: Footprint) -> bool:
             """Whether the modules have room."""
             cells = (number for part in item.touched_parts for own in CORNER_OFFSETS
                      for number in cells_entering_tiles(part, own))
@@ -228,7 +228,7 @@ class JoinedModules:
                 if number < len(self.origins):
                     self.add_own_lines(module)
                 module.edges += [self.border_line_of(own, signals) for own in self.lines.get(number, ())]
-                module.edges.sort(key=lambda line: line.place)
+                module.edges.sort(key=lambda line: line.order_key)
                 module.cuts, module.uses = self.cuts_and_uses(number)
                 if len(module.cuts) > MAX_CUTS or len(module.uses) > MAX_USES:
                     raise NoRouteError(f"the box at ({box.x}, {box.y}) needs {len(module.cuts)} wires; "
@@ -258,7 +258,7 @@ class JoinedModules:
         """Returns the boxes with the numbers of their modules, and None for a large box in place of many tiles."""
         tiles = range(len(self.origins), len(self.boxes))
         quiet = {(self.boxes[number].x, self.boxes[number].y) for number in tiles if self.is_quiet(number)}
-        width, height, side = self.plan.width, self.plan.height, QUIET_TILES * TILE
+        width, height, side = self.plan.width, self.plan.height, QUIET_BOX_SIDE * TILE
         large: dict[Cell, Cell] = {}
         for x, y in quiet:
             group = [(x + i, y + j) for i in range(0, side, TILE) for j in range(0, side, TILE)]
@@ -272,8 +272,8 @@ class JoinedModules:
                 found.append((None, Box(*corner, side, side)))
             elif corner is None and box.x < width and box.y < height:
                 found.append((number, box))
-        if len(found) > SECOND.max_modules:
-            raise LabError(f"the join takes {len(found)} modules; {SECOND.max_modules} is the most", 1)
+        if len(found) > SECOND_LIMITS.max_modules:
+            raise LabError(f"the join takes {len(found)} modules; {SECOND_LIMITS.max_modules} is the most", 1)
         return found
 
     def is_quiet(self, number: int) -> bool:

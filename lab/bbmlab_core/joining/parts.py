@@ -11,7 +11,7 @@ from ..host.terminal import LabError
 from ..physics.simulation import local_values
 from ..route.balls import Ball, block_corner, state_after_step
 from ..route.netlist import RouterNetlist
-from ..route.world import ROW_STRIDE, ROW_BITS, STEP_STRIDE, Item, cell_number, cell_of_number
+from ..route.world import ROW_STRIDE, ROW_BITS, STEP_STRIDE, Footprint, cell_number, cell_of_number
 from ..texts.certificates import Border, Certificate, Module
 from ..texts.circuits import Circuit
 from ..texts.documents import read_document
@@ -65,13 +65,13 @@ class PartText:
     certificate: Certificate
     starts: list[PartPort]
     ends: list[PartPort]
-    item: Item
+    item: Footprint
     start_fault: str = ""
     end_fault: str = ""
     counts: BlockCounts = field(default_factory=lambda: BlockCounts(Layout(0, 0, 0)))
     # The lone ways of wires that are cut at a time, and what the part takes without some of them, while it is in use.
     ways: dict[tuple[str, int], LoneWay] = field(default_factory=dict)
-    shapes: "WeakValueDictionary[frozenset[tuple[str, int]], Item]" = field(default_factory=WeakValueDictionary)
+    shapes: "WeakValueDictionary[frozenset[tuple[str, int]], Footprint]" = field(default_factory=WeakValueDictionary)
 
     @property
     def flights(self) -> list[range]:
@@ -79,7 +79,7 @@ class PartText:
         return [part for part in self.item.claim_parts if isinstance(part, range)]
 
     @property
-    def can_wait(self) -> bool:
+    def is_cheaper_later(self) -> bool:
         """Whether it takes fewer steps of balls to begin the part later than to lead its balls on."""
         return not self.start_fault and len(self.starts) < len(self.ends)
 
@@ -172,7 +172,7 @@ def ports_of(cells: dict[str, list[Cell]], time: int, what: str) -> tuple[list[P
     return ports, ""
 
 
-def part_item(mirrors: frozenset[int], flights: Sequence[range]) -> Item:
+def part_item(mirrors: frozenset[int], flights: Sequence[range]) -> Footprint:
     """Returns what a part takes whose balls claim the blocks at times of some flights."""
     ends = [(flight[0] % STEP_STRIDE, flight[-1] % STEP_STRIDE) for flight in flights]
     width = max((corner % ROW_STRIDE for own in ends for corner in own), default=0) + 2
@@ -188,7 +188,7 @@ def part_item(mirrors: frozenset[int], flights: Sequence[range]) -> Item:
         cells[number] = 0
     rows = (range(start, start + width) for start in range(0, len(cells), ROW_STRIDE))
     touched = array("i", chain.from_iterable(compress(row, cells[row.start:row.stop]) for row in rows))
-    return Item(mirrors, (touched,), tuple(flights))
+    return Footprint(mirrors, (touched,), tuple(flights))
 
 
 class PartRun:

@@ -16,21 +16,21 @@ MOST_GAP = 24 * TILE
 
 
 @dataclass(frozen=True)
-class Area:
+class Extent:
     """A part's width and height, in cells of whole tiles."""
 
     width: int
     height: int
 
-    def transposed(self) -> "Area":
+    def transposed(self) -> "Extent":
         """Returns the area with columns and rows exchanged."""
-        return Area(self.height, self.width)
+        return Extent(self.height, self.width)
 
 
 Place = tuple[int, int]
 
 
-def all_places(areas: Sequence[Area], side: int, can_turn: bool = False) -> Iterator[list[Place]]:
+def all_places(areas: Sequence[Extent], side: int, can_turn: bool = False) -> Iterator[list[Place]]:
     """Yields the places of areas in their order on a square, in eight ways for each number of rows in which they have
     room.
 
@@ -38,7 +38,7 @@ def all_places(areas: Sequence[Area], side: int, can_turn: bool = False) -> Iter
     """
     choices = (False,) if can_turn else (False, True)
     for is_column, is_mirrored, is_flipped, more in itertools.product(*(choices,) * 3, range(len(areas))):
-        found = rows_of_places([own.transposed() for own in areas] if is_column else areas, side, more)
+        found = places_in_rows([own.transposed() for own in areas] if is_column else areas, side, more)
         if found is None:
             continue
         places = [(y, x) for x, y in found] if is_column else found
@@ -46,7 +46,7 @@ def all_places(areas: Sequence[Area], side: int, can_turn: bool = False) -> Iter
                for own, (x, y) in zip(areas, places)]
 
 
-def rows_of_places(areas: Sequence[Area], side: int, more: int = 0) -> list[Place] | None:
+def places_in_rows(areas: Sequence[Extent], side: int, more: int = 0) -> list[Place] | None:
     """Returns places in as few rows as can be and some more ones, or None if they have no room."""
     count = len(filled_rows(areas, side, len(areas))) + more
     if count > len(areas):
@@ -68,9 +68,9 @@ def rows_of_places(areas: Sequence[Area], side: int, more: int = 0) -> list[Plac
     return places
 
 
-def filled_rows(areas: Sequence[Area], side: int, most: int) -> list[list[Area]]:
+def filled_rows(areas: Sequence[Extent], side: int, most: int) -> list[list[Extent]]:
     """Returns the areas in rows, each with as many as have room, at most `most`."""
-    rows: list[list[Area]] = []
+    rows: list[list[Extent]] = []
     for own in areas:
         is_full = not rows or len(rows[-1]) == most
         if not is_full and sum(other.width + LEAST_GAP for other in rows[-1]) + own.width + 2 * LEAST_GAP <= side:

@@ -9,10 +9,10 @@ from dataclasses import dataclass
 from ..route.balls import Ball
 from ..route.world import TILE
 from ..texts.layouts import Cell
-from ..texts.limits import SECOND
+from ..texts.limits import SECOND_LIMITS
 from .composing import Composition, NamedPart
-from .places import LEAST_GAP, Area, Place, all_places
-from .turning import TURNINGS, UPRIGHT, Placing, Turning
+from .places import LEAST_GAP, Extent, Place, all_places
+from .turning import ORIENTATIONS, UPRIGHT, Placing, PartOrientation
 
 # The part of the plane between the parts that may be taken by estimate, and the cells that a ball newly touches in a
 # step.
@@ -43,13 +43,13 @@ def offsets_between(first: Ball, last: Ball) -> tuple[int, int]:
 # The steps to spare of each ball between two parts: the next ones if it could not be led, or if the columns or rows of
 # its way are more than a part of the others: it has few ways to go.
 SPARES = (Spare(0.1, 60), Spare(0.2, 100), Spare(0.35, 150), Spare(0.35, 250), Spare(0.35, 350))
-SLANTED_SHARE = 0.6
+MAX_SIDE_RATIO = 0.6
 # A ball that is led deeper into its part than so many cells gets a step to spare for each further cell.
 SHALLOW_CELLS = 150
 # The place of the first spare steps in `SPARES` if a ball is led so deep.
 DEEP_SPARE_INDEX = 2
 # How often all parts are turned anew.
-TURN_ROUNDS = 2
+ORIENTATION_ROUNDS = 2
 # For each connection the place of its spare steps in `SPARES`.
 SpareIndices = list[int]
 
@@ -62,7 +62,7 @@ class PlacedPart:
     x: int = 0
     y: int = 0
     time: int = 0
-    turning: Turning = UPRIGHT
+    turning: PartOrientation = UPRIGHT
 
     @property
     def placing(self) -> Placing:
@@ -70,28 +70,28 @@ class PlacedPart:
         layout = self.part.text.layout
         return Placing(layout.width, layout.height, self.x, self.y, self.time, self.turning)
 
-    def ball(self, ball: Ball) -> Ball:
+    def placed_ball(self, ball: Ball) -> Ball:
         """Returns a ball of the part where and when it is in the join."""
-        return self.placing.ball(ball)
+        return self.placing.placed_ball(ball)
 
-    def cell(self, cell: Cell) -> Cell:
+    def placed_cell(self, cell: Cell) -> Cell:
         """Returns a cell of the part where it is in the join."""
-        return self.placing.cell(cell)
+        return self.placing.placed_cell(cell)
 
     @property
-    def area(self) -> Area:
+    def extent(self) -> Extent:
         """The width and the height in cells, in whole tiles."""
         layout = self.part.text.layout
-        return Area(-(-layout.width // TILE) * TILE, -(-layout.height // TILE) * TILE)
+        return Extent(-(-layout.width // TILE) * TILE, -(-layout.height // TILE) * TILE)
 
     def cells_too_deep(self, ball: Ball) -> int:
         """Returns how many cells deeper than `SHALLOW_CELLS` a ball is in the part, or 0."""
-        area = self.area
+        area = self.extent
         return max(0, min(ball.x - self.x, self.x + area.width - ball.x,
                           ball.y - self.y, self.y + area.height - ball.y) - SHALLOW_CELLS)
 
     @property
-    def end(self) -> int:
+    def end_time(self) -> int:
         """The last time of the part in the join."""
         return self.time + self.part.text.layout.steps
 
@@ -148,33 +148,33 @@ def make_plan(composed: Composition, side: int, spares: SpareIndices) -> JoinPla
     Balls between parts get some steps to spare. A part that feeds no other one begins as late as it can, if fewer balls
     come to it than leave it.
     """
-    areas = [PlacedPart(part).area for part in composed.parts]
-    can_turn = all(turnings_of(PlacedPart(part)) == TURNINGS for part in composed.parts)
-    found = [parts_turned_at(composed, places, spares) for places in all_places(areas, side, can_turn)]
+    areas = [PlacedPart(part).extent for part in composed.parts]
+    can_turn = all(fitting_orientations(PlacedPart(part)) == ORIENTATIONS for part in composed.parts)
+    found = [placed_parts(composed, places, spares) for places in all_places(areas, side, can_turn)]
     if not found:
         return None
     placed = min(found, key=last_time)
     end = last_time(placed)
     for own in placed:
         feeds_none = not any(connection.source == own.part.name for connection in composed.connections)
-        if feeds_none and own.part.text.can_wait:
-            own.time += (end - own.end) // 2 * 2
+        if feeds_none and own.part.text.is_cheaper_later:
+            own.time += (end - own.end_time) // 2 * 2
     return JoinPlan(side, end, placed, jobs_of(composed, {own.part.name: own for own in placed}, end), side, side)
 
 
 def last_time(placed: list[PlacedPart]) -> int:
     """Returns the time at which the last part ends."""
-    return max(own.end for own in placed)
+    return max(own.end_time for own in placed)
 
 
-def parts_turned_at(composed: Composition, places: list[Place], spares: SpareIndices) -> list[PlacedPart]:
+def placed_parts(composed: Composition, places: list[Place], spares: SpareIndices) -> list[PlacedPart]:
     """Returns the parts at some places, each turned so that the last one ends early."""
     placed = [PlacedPart(part, x, y) for part, (x, y) in zip(composed.parts, places)]
     set_times(composed, placed, spares)
     connected = {name for own in composed.connections for name in (own.source, own.target)}
-    for own in (own for _ in range(TURN_ROUNDS) for own in placed if own.part.name in connected):
-        ends = dict[Turning, tuple[int, int]]()
-        for turning in turnings_of(own):
+    for own in (own for _ in range(ORIENTATION_ROUNDS) for own in placed if own.part.name in connected):
+        ends = dict[PartOrientation, tuple[int, int]]()
+        for turning in fitting_orientations(own):
             own.turning = turning
             set_times(composed, placed, spares)
             ends[turning] = last_time(placed), sum(other.time for other in placed)
@@ -183,12 +183,12 @@ def parts_turned_at(composed: Composition, places: list[Place], spares: SpareInd
     return placed
 
 
-def turnings_of(placed: PlacedPart) -> list[Turning]:
+def fitting_orientations(placed: PlacedPart) -> list[PartOrientation]:
     """Returns the turnings with which a part takes the same place. Blocks stay blocks if its sides are even."""
-    layout, area = placed.part.text.layout, placed.area
+    layout, area = placed.part.text.layout, placed.extent
     if layout.width % 2 or layout.height % 2:
         return [UPRIGHT]
-    return [own for own in TURNINGS if area.width == area.height or not own.is_turned]
+    return [own for own in ORIENTATIONS if area.width == area.height or not own.is_turned]
 
 
 def set_times(composed: Composition, placed: list[PlacedPart], spares: SpareIndices) -> None:
@@ -207,18 +207,18 @@ def set_times(composed: Composition, placed: list[PlacedPart], spares: SpareIndi
 def steps_needed(target: PlacedPart, first: Ball, last: Ball, spare: int) -> int:
     """Returns the steps for which a ball is led from a part to another one, by the place of its spare steps."""
     ways = sorted(offsets_between(first, last))
-    own = SPARES[min(len(SPARES) - 1, spare + (ways[0] > SLANTED_SHARE * ways[1]))]
+    own = SPARES[min(len(SPARES) - 1, spare + (ways[0] > MAX_SIDE_RATIO * ways[1]))]
     return own.steps_between(first, last) + target.cells_too_deep(last)
 
 
 def end_ball(placed: PlacedPart, wire: str) -> Ball:
     """Returns the ball of an output where the join takes it over from a part."""
-    return placed.ball(placed.part.inner_ball(placed.part.text.ends, wire))
+    return placed.placed_ball(placed.part.inner_ball(placed.part.text.ends, wire))
 
 
 def start_ball(placed: PlacedPart, wire: str) -> Ball:
     """Returns the ball of an input where the join gives it to a part."""
-    return placed.ball(placed.part.inner_ball(placed.part.text.starts, wire))
+    return placed.placed_ball(placed.part.inner_ball(placed.part.text.starts, wire))
 
 
 def jobs_of(composed: Composition, placed: dict[str, PlacedPart], end: int) -> list[BallJob]:
@@ -234,21 +234,21 @@ def jobs_of(composed: Composition, placed: dict[str, PlacedPart], end: int) -> l
         text, wire = part.part.text, part.part.joined_wire
         for port in text.starts:
             if part.time > 0 and (name, port.wire) not in taken:
-                jobs.append(BallJob(wire(port.wire), None, part.ball(port.ball), part.time))
+                jobs.append(BallJob(wire(port.wire), None, part.placed_ball(port.ball), part.time))
         for port in text.ends:
-            if part.end < end and (name, port.wire) not in given:
-                jobs.append(BallJob(wire(port.wire), part.ball(port.ball), None, end))
+            if part.end_time < end and (name, port.wire) not in given:
+                jobs.append(BallJob(wire(port.wire), part.placed_ball(port.ball), None, end))
     return jobs
 
 
 def estimated_side(composed: Composition, spares: SpareIndices) -> int:
     """Returns the side of a plane on which all ways have room by estimate, at most the largest one."""
     side = LEAST_GAP
-    while side < SECOND.max_side:
+    while side < SECOND_LIMITS.max_side:
         plan = make_plan(composed, side, spares)
         if plan is not None:
-            free = side ** 2 - sum(own.area.width * own.area.height for own in plan.placed)
+            free = side ** 2 - sum(own.extent.width * own.extent.height for own in plan.placed)
             if STEP_CELLS * sum(job.steps for job in plan.jobs) <= FILL_SHARE * free:
                 break
-        side = min(SECOND.max_side, (math.ceil(side * 1.05) + 2 * TILE - 1) // (2 * TILE) * 2 * TILE)
+        side = min(SECOND_LIMITS.max_side, (math.ceil(side * 1.05) + 2 * TILE - 1) // (2 * TILE) * 2 * TILE)
     return side

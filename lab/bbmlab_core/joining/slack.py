@@ -29,7 +29,7 @@ class WayCut(NamedTuple):
     time: int
 
 
-def is_closed(cut: WayCut, closed: Iterable[WayCut]) -> bool:
+def is_near_closed(cut: WayCut, closed: Iterable[WayCut]) -> bool:
     """Whether a cut is near one from which no ball can leave."""
     return any(own[:2] == cut[:2] and abs(own.time - cut.time) <= CLOSED_STEPS for own in closed)
 
@@ -74,15 +74,15 @@ class LoneWayCuts:
         """
         run = lone_run_of(placed.part, ports, wire)
         for ball in reversed(run.cut_balls) if run else ():
-            if has_time(placed.ball(ball)) and self.cut_at_ball(index, (placed.part.name, wire), run, ball):
-                return placed.ball(ball)
+            if has_time(placed.placed_ball(ball)) and self.cut_at_ball(index, (placed.part.name, wire), run, ball):
+                return placed.placed_ball(ball)
         return None
 
     def cut_at_ball(self, index: int, port: tuple[str, str], run: LoneRun | None, ball: Ball) -> bool:
         """Cuts the lone way of a port at a ball, if a ball can leave there; returns whether that is so."""
         assert run is not None
         cut = WayCut(index, run.is_output, ball.time)
-        if is_closed(cut, self.closed):
+        if is_near_closed(cut, self.closed):
             return False
         if ball != run.cut_balls[0]:
             self.cuts[port] = run, ball

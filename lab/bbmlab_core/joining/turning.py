@@ -13,7 +13,7 @@ from ..route.world import ROW_STRIDE, STEP_STRIDE, cell_number
 from ..texts.layouts import Box, Cell
 
 
-class Turning(NamedTuple):
+class PartOrientation(NamedTuple):
     """What is done with a part: first columns and rows are exchanged, then left and right, then top and bottom."""
 
     is_turned: bool = False
@@ -21,8 +21,8 @@ class Turning(NamedTuple):
     is_flipped: bool = False
 
 
-UPRIGHT = Turning()
-TURNINGS = [Turning(*own) for own in itertools.product((False, True), repeat=3)]
+UPRIGHT = PartOrientation()
+ORIENTATIONS = [PartOrientation(*own) for own in itertools.product((False, True), repeat=3)]
 
 
 class NumberMap(NamedTuple):
@@ -64,9 +64,9 @@ class Placing(NamedTuple):
     x: int = 0
     y: int = 0
     time: int = 0
-    turning: Turning = UPRIGHT
+    turning: PartOrientation = UPRIGHT
 
-    def box(self, box: Box) -> Box:
+    def placed_box(self, box: Box) -> Box:
         """Returns a box of the part where it is."""
         x, y, columns, rows = box
         width, height = self.width, self.height
@@ -78,29 +78,29 @@ class Placing(NamedTuple):
             y = height - rows - y
         return Box(x + self.x, y + self.y, columns, rows)
 
-    def cell(self, cell: Cell) -> Cell:
+    def placed_cell(self, cell: Cell) -> Cell:
         """Returns a cell of the part where it is."""
-        own = self.box(Box(*cell, 1, 1))
+        own = self.placed_box(Box(*cell, 1, 1))
         return own.x, own.y
 
-    def ball(self, ball: Ball) -> Ball:
+    def placed_ball(self, ball: Ball) -> Ball:
         """Returns a ball of the part where and when it is."""
-        x, y = self.cell((ball.x, ball.y))
+        x, y = self.placed_cell((ball.x, ball.y))
         dx, dy = (ball.dy, ball.dx) if self.turning.is_turned else (ball.dx, ball.dy)
         return Ball(x, y, -dx if self.turning.is_mirrored else dx, -dy if self.turning.is_flipped else dy,
                     ball.time + self.time)
 
-    def cell_numbers(self) -> NumberMap:
+    def cell_number_map(self) -> NumberMap:
         """Returns what becomes of the numbers of cells."""
-        return self.square_numbers(1)
+        return self.square_number_map(1)
 
-    def block_numbers(self) -> NumberMap:
+    def block_number_map(self) -> NumberMap:
         """Returns what becomes of the numbers of blocks at times."""
-        own = self.square_numbers(2)
+        own = self.square_number_map(2)
         return own._replace(first=own.first + self.time * STEP_STRIDE)
 
-    def square_numbers(self, side: int) -> NumberMap:
+    def square_number_map(self, side: int) -> NumberMap:
         """Returns what becomes of the numbers of squares of some cells by their upper left ones."""
-        first, column, row = (cell_number(self.box(Box(*corner, side, side))[:2])
+        first, column, row = (cell_number(self.placed_box(Box(*corner, side, side))[:2])
                               for corner in ((0, 0), (1, 0), (0, 1)))
         return NumberMap(first, column - first, row - first)

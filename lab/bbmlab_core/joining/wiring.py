@@ -15,7 +15,7 @@ from ..route.balls import Ball, Leg, follow_legs, reversed_legs
 from ..route.board import FailureKind, NoRouteError
 from ..route.paths import Path, PathFinder, Trail
 from ..route.settings import Settings
-from ..route.world import STEP_STRIDE, TILE, Item, World, cell_number, cell_of_number, path_item
+from ..route.world import STEP_STRIDE, TILE, Footprint, World, cell_number, cell_of_number, path_item
 from ..texts.layouts import Box
 from .coil_ways import CoilGround, CoilSearch, OpenSearch
 from .flight_claims import FlightClaims
@@ -31,31 +31,31 @@ BOUNCE_REACH = 60
 # of the second ones. It comes back further from a goal that is deep in its part: among what is there, 11 of 12 balls
 # could not be led to multipliers of 4 bits, 247 to 664 cells deep.
 CONNECT_TRIES = 12
-BACK_STEPS = (60, 300)
+STEPS_BACK_RANGE = (60, 300)
 JOIN_STEPS = (80, 260)
 # The ways to open ground that are tried at each end if no such path is found, and the tries to join two of them.
 OPEN_WAYS = 4
 OPEN_TRIES = 3
 # The cost of a step to the other end while open ground is sought: searches go there with each of these.
-GOAL_CELLS = (4.0, 1.0, 12.0)
+GOAL_STEP_COSTS = (4.0, 1.0, 12.0)
 # The steps for which a ball is led to see that it can leave its part.
-LEAVING_STEPS = 80
+LEAVING_TEST_STEPS = 80
 # The paths that are tried for a ball before others make room, and how often that may happen for each ball.
-TRIES = 4
+PATH_TRIES = 4
 RIPS_PER_BALL = 2
 # The cost of a step inside a part, in cells, and that of a step away from its border. Outside a step touches at most
 # three new cells.
-INSIDE_CELLS = 5
-OUTWARD_CELLS = 3
+INSIDE_STEP_COST = 5
+OUTWARD_STEP_COST = 3
 # The columns and rows around an open end in which other paths make room if none crosses its way.
-NEAR_CELLS = 70
+NEAR_DISTANCE = 70
 # The steps of the straight way of a ball from which other paths are taken.
 WAY_STEPS = 76
 
 # A ball with at least so many steps to wait goes to a coil. A coil keeps so many cells off parts: balls have to leave
 # them.
-LEAST_COILED = 400
-CLEAR_CELLS = 80
+LEAST_COIL_STEPS = 400
+COIL_CLEARANCE = 80
 
 
 class TightError(NoRouteError):
@@ -70,21 +70,21 @@ class TightError(NoRouteError):
 class CoiledPath(Path):
     """A path that waits in a coil. `sealed` keeps all other balls out of the coil's `box`, without its claims there."""
 
-    sealed: Item
+    sealed: Footprint
     box: Box
 
 
-def item_of_path(path: Path) -> Item:
+def item_of_path(path: Path) -> Footprint:
     """Returns what a path takes in the world."""
     return path.sealed if isinstance(path, CoiledPath) else path.item
 
 
-def sealed_item(item: Item, box: Box) -> Item:
+def sealed_item(item: Footprint, box: Box) -> Footprint:
     """Returns what a path takes whose coil no other ball can enter: the ring of its box is closed as by mirrors."""
     flights = (part for part in item.claim_parts if isinstance(part, range))
     claims = tuple(part for part in flights
                    if not all(box.has(cell_of_number(number % STEP_STRIDE)) for number in (part[0], part[-1])))
-    return Item(item.mirrors.union(map(cell_number, box.ring())), item.touched_parts, claims)
+    return Footprint(item.mirrors.union(map(cell_number, box.ring())), item.touched_parts, claims)
 
 
 class JoinWorld(World):
@@ -96,7 +96,7 @@ class JoinWorld(World):
     def __init__(self, plan: JoinPlan) -> None:
         super().__init__(plan.side)
         self.claims = FlightClaims()
-        self.boxes = [(own.x, own.y, own.x + own.area.width, own.y + own.area.height) for own in plan.placed]
+        self.boxes = [(own.x, own.y, own.x + own.extent.width, own.y + own.extent.height) for own in plan.placed]
         # Parts are at whole tiles, and take whole tiles.
         self.box_of_tile = {(column, row): box for box in self.boxes
                             for column in range(box[0] // TILE, box[2] // TILE)
@@ -104,9 +104,9 @@ class JoinWorld(World):
 
     def add_part(self, placed: PlacedPart) -> None:
         """Adds a part where and when it is in the join."""
-        item, cells, blocks = placed.part.item, placed.placing.cell_numbers(), placed.placing.block_numbers()
-        self.add(Item(frozenset(cells.of_all(item.mirrors)), tuple(map(cells.of_part, item.touched_parts)),
-                      tuple(map(blocks.of_part, item.claim_parts))))
+        item, cells, blocks = placed.part.footprint, placed.placing.cell_number_map(), placed.placing.block_number_map()
+        self.add(Footprint(frozenset(cells.of_all(item.mirrors)), tuple(map(cells.of_part, item.touched_parts)),
+                           tuple(map(blocks.of_part, item.claim_parts))))
 
     def depth(self, x: int, y: int) -> int:
         """Returns how far a cell is from the border of the part that it is in, or 0."""
@@ -120,7 +120,7 @@ class JoinWorld(World):
         """Returns the cost of a straight flight: the cells that it newly touches, but more inside a part."""
         depth, far = self.depth(ball.x, ball.y), self.depth(ball.x + steps * ball.dx, ball.y + steps * ball.dy)
         if depth or far:
-            return INSIDE_CELLS * steps + OUTWARD_CELLS * (far - depth)
+            return INSIDE_STEP_COST * steps + OUTWARD_STEP_COST * (far - depth)
         return super().new_cell_count(ball, steps)
 
 
@@ -142,10 +142,11 @@ class JoinWiring:
         self.finder = PathFinder(self.world, self.chance, settings)
         # A method of this object would keep the world in memory when it is no longer used.
         self.finder.check_time = partial(require_time, deadline)
-        around = [Box(x - CLEAR_CELLS, y - CLEAR_CELLS, far - x + 2 * CLEAR_CELLS, low - y + 2 * CLEAR_CELLS)
+        around = [Box(x - COIL_CLEARANCE, y - COIL_CLEARANCE, far - x + 2 * COIL_CLEARANCE,
+                      low - y + 2 * COIL_CLEARANCE)
                   for x, y, far, low in self.world.boxes]
         self.ground = CoilGround(self.world, around)
-        self.stubs: dict[int, list[Item]] = {}
+        self.stubs: dict[int, list[Footprint]] = {}
         self.paths: dict[int, Path] = {}
 
     def run(self, progress: Callable[[int, int], None], can_loosen: Collection[int] = ()) -> list[Path]:
@@ -163,7 +164,7 @@ class JoinWiring:
             index = queue.pop(0)
             if tight and not jobs[index].is_between:
                 break
-            if self.lead(index) or self.lead_first(index):
+            if self.lead(index) or self.lead_before_others(index):
                 progress(len(self.paths), len(jobs))
                 continue
             if index in can_loosen and index not in taken_back:
@@ -196,7 +197,7 @@ class JoinWiring:
         assert job.start is not None and job.goal is not None
         ends = (job.start, job.goal) if is_start else (job.goal, job.start)
         search = OpenSearch(self.finder, self.ground, *ends, not is_start, self.modules.room_test(job.wire),
-                            GOAL_CELLS[0])
+                            GOAL_STEP_COSTS[0])
         return next(search.ways(), None) is None
 
     def blocked_ends(self, skipped: Collection[tuple[int, int]] = ()) -> list[tuple[int, Ball, int]]:
@@ -209,14 +210,14 @@ class JoinWiring:
         found = [(index, ball, sign) for index, job in enumerate(self.plan.jobs)
                  for ball, sign in ((job.start, 1), (job.goal, -1))
                  if ball is not None and (index, sign) not in skipped
-                 and not any(self.can_leave(ball, sign) for _ in range(TRIES))]
+                 and not any(self.can_leave(ball, sign) for _ in range(PATH_TRIES))]
         self.finder.chance = self.chance
         return found
 
     def can_leave(self, ball: Ball, sign: int) -> bool:
         """Whether a ball can fly some steps on, or some steps come before it if `sign` is -1."""
         trail = Trail(self.world, ball, is_backward=sign < 0)
-        found = self.finder.wander(trail, sign * ball.time + LEAVING_STEPS)
+        found = self.finder.wander(trail, sign * ball.time + LEAVING_TEST_STEPS)
         trail.clear_legs()
         return found
 
@@ -224,7 +225,7 @@ class JoinWiring:
 
     def reserve_ends(self, index: int) -> None:
         """Keeps the next steps at the open ends of a ball that waits free."""
-        job, own = self.plan.jobs[index], list[Item]()
+        job, own = self.plan.jobs[index], list[Footprint]()
         for ball, sign in ((job.start, 1), (job.goal, -1)):
             stub = self.stub_item(ball, sign) if ball else None
             if stub is not None:
@@ -232,12 +233,12 @@ class JoinWiring:
                 own.append(stub)
         self.stubs[index] = own
 
-    def stub_item(self, ball: Ball, sign: int) -> Item | None:
+    def stub_item(self, ball: Ball, sign: int) -> Footprint | None:
         """Returns what a way with one bounce takes behind a ball, or before it if `sign` is -1.
 
         If there is none it is a way of a few straight steps, or None.
         """
-        way = self.finder.open_way(ball, sign, BOUNCE_REACH)
+        way = self.finder.open_way_footprint(ball, sign, BOUNCE_REACH)
         if way is not None:
             return way
         for steps in STUB_STEPS:
@@ -253,7 +254,7 @@ class JoinWiring:
         for stub in self.stubs.pop(index):
             self.world.remove(stub)
         job = self.plan.jobs[index]
-        for tried in range(TRIES):
+        for tried in range(PATH_TRIES):
             path = self.find_path(job, tried)
             numbers = self.modules.modules_of(path) if path else set[int]()
             if path is not None and self.modules.has_room_for(job.wire, numbers):
@@ -266,7 +267,7 @@ class JoinWiring:
         self.reserve_ends(index)
         return False
 
-    def lead_first(self, index: int) -> bool:
+    def lead_before_others(self, index: int) -> bool:
         """Leads a ball as if no ball near it waited; returns whether a way was found. The others keep the room left."""
         ends = [ball for ball in (self.plan.jobs[index].start, self.plan.jobs[index].goal) if ball is not None]
         near = [other for other in self.stubs if other != index and self.is_beside(other, ends)]
@@ -282,13 +283,14 @@ class JoinWiring:
         """Whether a ball that waits has an open end near one of some balls."""
         job = self.plan.jobs[index]
         ends = [ball for ball in (job.start, job.goal) if ball is not None]
-        return any(abs(end.x - ball.x) < NEAR_CELLS and abs(end.y - ball.y) < NEAR_CELLS for end in ends
+        return any(abs(end.x - ball.x) < NEAR_DISTANCE and abs(end.y - ball.y) < NEAR_DISTANCE for end in ends
                    for ball in balls)
 
     def find_path(self, job: BallJob, tried: int = 0) -> Path | None:
         """Returns a path for a ball, or None. A coil is sought only at the first try."""
         self.finder.known_departures.clear()
-        coiled = self.find_coiled_path(job) if not tried and not job.is_between and job.steps >= LEAST_COILED else None
+        coiled = self.find_coiled_path(
+            job) if not tried and not job.is_between and job.steps >= LEAST_COIL_STEPS else None
         if coiled is not None:
             return coiled
         if job.goal is None:
@@ -333,7 +335,7 @@ class JoinWiring:
     def find_path_outside(self, wire: str, start: Ball, goal: Ball) -> Path | None:
         """Returns a path between two parts whose ends are led to open ground by a search, and joined there."""
         has_room = self.modules.room_test(wire)
-        for cells in GOAL_CELLS:
+        for cells in GOAL_STEP_COSTS:
             search = OpenSearch(self.finder, self.ground, goal, start, True, has_room, cells)
             for behind in islice(search.ways(), OPEN_WAYS):
                 back, last = Trail(self.world, goal, is_backward=True), self.finder.ball_before(goal, behind)
@@ -346,7 +348,8 @@ class JoinWiring:
                     return path
         return None
 
-    def legs_to_open(self, start: Ball, last: Ball, has_room: Callable[[Item], bool], cells: float) -> list[Leg] | None:
+    def legs_to_open(self, start: Ball, last: Ball, has_room: Callable[[Footprint], bool],
+                     cells: float) -> list[Leg] | None:
         """Returns legs from a ball in a part to a ball on open ground, or None."""
         search = OpenSearch(self.finder, self.ground, start, last, False, has_room, cells)
         for ahead in islice(search.ways(), OPEN_WAYS):
@@ -375,7 +378,7 @@ class JoinWiring:
         """Returns legs from a start to a goal by two trails, or None."""
         finder, chance = self.finder, self.chance
         deep = max(0, self.world.depth(goal.x, goal.y) - SHALLOW_CELLS)
-        before = goal.time - chance.randint(BACK_STEPS[0] + deep, BACK_STEPS[1] + 2 * deep)
+        before = goal.time - chance.randint(STEPS_BACK_RANGE[0] + deep, STEPS_BACK_RANGE[1] + 2 * deep)
         if before <= start.time or not finder.wander(back, -before):
             return None
         last, behind = back.ball.reversed(), back.legs()
@@ -408,7 +411,7 @@ class JoinWiring:
     def is_near(self, path: Path, job: BallJob) -> bool:
         """Whether a path has a mirror near an open end of a ball."""
         balls = [ball for ball in (job.start, job.goal) if ball is not None]
-        return any(abs(ball.x - mirror.x) < NEAR_CELLS and abs(ball.y - mirror.y) < NEAR_CELLS
+        return any(abs(ball.x - mirror.x) < NEAR_DISTANCE and abs(ball.y - mirror.y) < NEAR_DISTANCE
                    for mirror in path.mirrors() for ball in balls)
 
     def straight_way(self, ball: Ball, sign: int) -> set[int]:

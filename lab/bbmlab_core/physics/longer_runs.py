@@ -44,7 +44,7 @@ def undisturbed_steps(mirrors: set[Cell], live: dict[Cell, Table], time: int, fu
     return None
 
 
-def longer_runs(circuit: Circuit, layout: Layout) -> tuple[int | None, int | None]:
+def spare_run_steps(circuit: Circuit, layout: Layout) -> tuple[int | None, int | None]:
     """Returns by how many steps all balls can start earlier, and for how many steps they fly on after the last time;
     None is any number.
 

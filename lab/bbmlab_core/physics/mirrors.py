@@ -17,7 +17,7 @@ class FallingMirror:
     cell: Cell
 
 
-def moved_cell(part: Part, is_odd: int) -> Cell | None:
+def moving_cell(part: Part, is_odd: int) -> Cell | None:
     """Returns a cell of a rectangle that a step moves, if nothing else is live; `is_odd` is the parity of the step's
     time.
 
@@ -37,7 +37,7 @@ def moved_cell(part: Part, is_odd: int) -> Cell | None:
 
 def is_stable(part: Part) -> bool:
     """Whether a mirror by itself stays as it is under both partitions."""
-    return moved_cell(part, 0) is None and moved_cell(part, 1) is None
+    return moving_cell(part, 0) is None and moving_cell(part, 1) is None
 
 
 def falling_mirrors(layout: Layout) -> list[FallingMirror]:

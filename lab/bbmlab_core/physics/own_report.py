@@ -14,19 +14,19 @@ from ..texts.skimming import certificate_digest
 from .simulation import ModuleRun, local_values, lowest_bit
 
 
-def local_lines(circuit: Circuit, layout: Layout, certificate: Certificate) -> Iterator[str]:
+def module_fault_lines(circuit: Circuit, layout: Layout, certificate: Certificate) -> Iterator[str]:
     """Yields the lines about modules in their order: the least fault, the least keep fault and the least border fault
     of each."""
     for module in certificate.modules:
-        fault = ModuleRun(circuit, layout, certificate, module).least_fault()
+        fault = ModuleRun(circuit, layout, certificate, module).run_to_fault()
         if fault:
             yield f"local {module.number} {fault.report_words()}"
-        yield from keep_lines(circuit, module)
+        yield from keep_fault_lines(circuit, module)
         if certificate.version == 1:
-            yield from border_lines(layout, certificate, module)
+            yield from border_fault_lines(layout, certificate, module)
 
 
-def keep_lines(circuit: Circuit, module: Module) -> Iterator[str]:
+def keep_fault_lines(circuit: Circuit, module: Module) -> Iterator[str]:
     """Yields the least keep fault of a module."""
     values = local_values(circuit, module)
     before = values.full
@@ -38,7 +38,7 @@ def keep_lines(circuit: Circuit, module: Module) -> Iterator[str]:
         before = values.rows[number]
 
 
-def border_lines(layout: Layout, certificate: Certificate, module: Module) -> Iterator[str]:
+def border_fault_lines(layout: Layout, certificate: Certificate, module: Module) -> Iterator[str]:
     """Yields the least border fault of a module of version 1."""
     others = certificate.neighbours(module)
     said = {(line.time, line.cell): line.signal for line in module.halos}
@@ -56,7 +56,7 @@ def border_lines(layout: Layout, certificate: Certificate, module: Module) -> It
         yield f"border {module.number} {time} {x} {y}"
 
 
-def gate_lines(circuit: Circuit, certificate: Certificate) -> Iterator[str]:
+def gate_fault_lines(circuit: Circuit, certificate: Certificate) -> Iterator[str]:
     """Yields the lines about gates: inverse gates that no module keeps, delays, and inputs that are to meet."""
     kept = {number for module in certificate.modules for number in module.keeps}
     yield from (f"unkept {gate.number}" for gate in circuit.gates if gate.is_inverse and gate.number not in kept)
@@ -79,7 +79,7 @@ def own_report(document: Document) -> ReportOrRefusal:
         return ReportOrRefusal(refused=(document.refusal.line, document.refusal.code))
     circuit, layout, certificate = document.circuit, document.layout, document.certificate
     assert circuit and layout and certificate
-    lines = [*local_lines(circuit, layout, certificate), *gate_lines(circuit, certificate)]
+    lines = [*module_fault_lines(circuit, layout, certificate), *gate_fault_lines(circuit, certificate)]
     findings: list[ReportLine] = [parse_finding(line) for line in lines]
     verdict = "no" if any(finding.is_against for finding in findings) else "yes"
     return ReportOrRefusal(verdict, certificate_digest(document.text), len(certificate.modules), findings)

@@ -125,7 +125,7 @@ class WholeRun:
         return True
 
 
-def run_layout(layout: Layout, on: Iterable[str]) -> WholeRun:
+def layout_run(layout: Layout, on: Iterable[str]) -> WholeRun:
     """Returns a run of the layout under one choice of inputs."""
     return WholeRun(layout, {name: 1 for name in on}, 1)
 
@@ -257,7 +257,7 @@ class ModuleRun:
             if table:
                 yield 2, cell_of(key), table
 
-    def least_fault(self) -> Fault | None:
+    def run_to_fault(self) -> Fault | None:
         """Makes steps up to the first time with a fault, and returns the least one."""
         events, idle = self.event_times(), 0
         while True:

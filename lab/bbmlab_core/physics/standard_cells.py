@@ -11,7 +11,7 @@ from ..host.terminal import LabError
 from ..texts.circuits import Circuit
 from ..texts.documents import Document, read_document
 from ..texts.layouts import Cell, Layout, row_order_key
-from .longer_runs import longer_runs
+from .longer_runs import spare_run_steps
 
 PACKAGE_FOLDER = Path(__file__).resolve().parent.parent
 # The cells of a clone or of `make install`, else those of a Python package.
@@ -91,7 +91,7 @@ class StandardCell:
 
 def longer_runs_text(circuit: Circuit, layout: Layout) -> str:
     """Returns how much earlier the balls can start, and for how long they fly on, in words."""
-    before, after = longer_runs(circuit, layout)
+    before, after = spare_run_steps(circuit, layout)
     start = ("can start any number of steps" if before is None else f"can start at most {steps_word(before)}" if before
              else "cannot start")
     end = ("fly on" if after is None else f"fly on for {steps_word(after)}" if after

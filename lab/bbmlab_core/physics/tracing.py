@@ -8,12 +8,12 @@ from ..host.terminal import LabError
 from ..texts.cell_pictures import text_picture
 from ..texts.documents import Document
 from ..texts.layouts import Cell, Layout, row_order_key
-from ..texts.reports import RUN_ANSWER, ReportError
-from .simulation import ModuleRun, Table, cell_of, key_of, run_layout
+from ..texts.reports import RUN_ANSWER_PATTERN, ReportError
+from .simulation import ModuleRun, Table, cell_of, key_of, layout_run
 
 
 @dataclass(frozen=True)
-class Moment:
+class StateDifference:
     """How a state differs from the mirrors: other cells that are live, mirror cells that are dead, and what is heard
     from outside.
 
@@ -36,11 +36,11 @@ class Trace:
     box: tuple[int, int, int, int]
     first: int
     mirrors: set[Cell]
-    moments: list[Moment] = field(default_factory=list)
+    moments: list[StateDifference] = field(default_factory=list)
     left: int | None = None
     last: set[Cell] | None = None
 
-    def live(self, moment: Moment) -> set[Cell]:
+    def live(self, moment: StateDifference) -> set[Cell]:
         """Returns the live cells of a state."""
         return (self.mirrors - moment.gone) | moment.balls
 
@@ -67,12 +67,12 @@ class MirrorWatch:
             else:
                 differing.discard(key)
 
-    def moment(self) -> Moment:
+    def state_difference(self) -> StateDifference:
         """Returns the present state."""
-        return Moment({cell_of(key) for key in self.balls}, {cell_of(key) for key in self.gone})
+        return StateDifference({cell_of(key) for key in self.balls}, {cell_of(key) for key in self.gone})
 
 
-def port_names(layout: Layout) -> list[str]:
+def input_names(layout: Layout) -> list[str]:
     """Returns the names of `in` cells, each once."""
     return list(dict.fromkeys(port.name for port in layout.ins))
 
@@ -85,10 +85,10 @@ def chosen_inputs(document: Document, words: str | None) -> list[str]:
     if words is None:
         return list(document.on or [])
     names = [word for word in words.replace(",", " ").split() if word]
-    unknown = [name for name in names if name not in port_names(layout)]
+    unknown = [name for name in names if name not in input_names(layout)]
     if unknown:
         raise LabError(f"no `in` line has the name {unknown[0]}; the names are "
-                       f"{', '.join(port_names(layout)) or 'none'}", 2)
+                       f"{', '.join(input_names(layout)) or 'none'}", 2)
     return list(dict.fromkeys(names))
 
 
@@ -97,7 +97,7 @@ def trace_layout(layout: Layout, on: list[str], first: int, last: int, is_whole:
 
     Unless `is_whole`, the run ends at the last of these times.
     """
-    run = run_layout(layout, on)
+    run = layout_run(layout, on)
     trace = Trace(f"with {' '.join(on) or 'no input'} on", (0, 0, layout.width, layout.height), first,
                   layout.mirror_cells())
     watch = MirrorWatch(run.field.live, trace.mirrors)
@@ -105,7 +105,7 @@ def trace_layout(layout: Layout, on: list[str], first: int, last: int, is_whole:
         if time:
             watch.note_changes(run.field.changed)
         if first <= time <= last:
-            trace.moments.append(watch.moment())
+            trace.moments.append(watch.state_difference())
         if time == layout.steps:
             trace.last = run.field.state()
         elif (is_whole or time < last) and not run.step():
@@ -135,7 +135,7 @@ def trace_module(document: Document, number: int, assignment: int, first: int, l
         raise LabError(f"module {number} has {len(module.cuts)} cuts: assignments are 0 to "
                        f"{(1 << len(module.cuts)) - 1}", 2)
     run, box = ModuleRun(circuit, layout, certificate, module), module.box
-    values = " ".join(f"{name}={value}" for name, value in module.assignment_names(assignment).items()) or "no cuts"
+    values = " ".join(f"{name}={value}" for name, value in module.cut_values(assignment).items()) or "no cuts"
     mirrors = {cell for cell in layout.clipped(box).mirror_cells() if box.has(cell)}
     trace = Trace(f"module {number} by itself with {values}", (box.x, box.y, box.width, box.height), first, mirrors)
     for time in range(min(last, layout.steps) + 1):
@@ -143,7 +143,7 @@ def trace_module(document: Document, number: int, assignment: int, first: int, l
             state = run.field.state(assignment)
             said = run.halos.tables_at(time) if time % 2 and time < layout.steps else {}
             heard = {cell_of(key) for key, table in said.items() if table >> assignment & 1}
-            trace.moments.append(Moment(state - mirrors, mirrors - state, heard))
+            trace.moments.append(StateDifference(state - mirrors, mirrors - state, heard))
         if time < layout.steps:
             run.step()
     return trace
@@ -184,7 +184,7 @@ def compare_with_run(trace: Trace, output: str) -> str | None:
 
     Raises ReportError for no answer of `run`.
     """
-    if not RUN_ANSWER.fullmatch(output):
+    if not RUN_ANSWER_PATTERN.fullmatch(output):
         raise ReportError("this is no answer of `bbmcheck run`")
     lines = output.split("\n")
     if trace.left is not None:
@@ -208,4 +208,4 @@ def layout_lines(document: Document) -> list[str]:
     """Returns the lines of a text of the layout section alone, with the same limits."""
     lines = document.text.split("\n")
     first = next(index for index, line in enumerate(lines) if line.startswith("layout "))
-    return [*document.limits.head.splitlines(), *lines[first:lines.index("end", first) + 1]]
+    return [*document.limits.line_text.splitlines(), *lines[first:lines.index("end", first) + 1]]

@@ -20,7 +20,7 @@ MARGIN = 30
 MIDDLE_OFFSET = MARGIN + CELL_PX // 2
 NAME_SIZE = 8
 # Up to this many inputs all choices are tried, and else so many samples of them.
-MAX_INPUTS = 12
+MAX_EXHAUSTIVE_INPUTS = 12
 SAMPLE_COUNT = 256
 # Larger layouts get larger letters and wider ways, so that they can be read at the width of a page. Above `LARGE_SIDE`
 # ways stay as wide as they are at that side in a picture of one size: balls of the router keep four cells apart.
@@ -28,19 +28,19 @@ PLAIN_SIDE = 64
 MAX_WIDENING = 2.5
 LARGE_SIDE = 512
 MAX_LEGEND = 40
-MAX_MIRRORS = 2000
+MAX_SINGLE_MIRRORS = 2000
 # More names of ports would cover each other and take minutes to place.
 MAX_NAMES = 512
 # In a picture of a large layout a ball is at least this part of its side, and the name of a gate is at least this part
 # of a port's name.
-LARGE_BALL, LEAST_NAME = 1 / 300, 0.5
+LEAST_BALL_SHARE, LEAST_NAME_SHARE = 1 / 300, 0.5
 # More modules have faint borders and no numbers, which would hide the ways.
-MAX_NUMBERED = 64
+MAX_NUMBERED_MODULES = 64
 # Colours that people with any sight tell apart (Okabe and Ito) on white and on black, and dashes for print.
 COLOURS = ["#0072b2", "#d55e00", "#009e73", "#cc79a7", "#e69f00", "#56b4e9", "#8c510a", "#5e3c99"]
 DARK_COLOURS = ["#4aa8e0", "#f0803c", "#2cc79a", "#e3a1c4", "#f5b942", "#8fd0f5", "#c98f4e", "#a98be0"]
 DASHES = ["", "6 2", "2 2", "8 2 2 2", "4 4", "1 3", "10 3", "6 2 1 2 1 2"]
-SEVERAL_COLOUR, FAINT_COLOUR = 8, 9
+SEVERAL_COLOUR_NUMBER, FAINT_COLOUR_NUMBER = 8, 9
 
 STYLE = """text{font:7px sans-serif;fill:#222}.name{font-weight:bold;font-size:8px;stroke:#f7f7f4;stroke-width:2px;
 stroke-linejoin:round;paint-order:stroke}.leader{stroke:#222;stroke-width:.7}.in{fill:none;stroke:#222}
@@ -53,8 +53,8 @@ stroke-linejoin:round;paint-order:stroke}.leader{stroke:#222;stroke-width:.7}.in
 .in,.out,.waste{stroke:#eee}.mirror{fill:#7c828c}.ball{fill:#fff}
 .box{stroke:#c79bff}.number{fill:#c79bff}.back{fill:#16181c}.plane{fill:#1e2126}\
 .line{stroke:#343840}.w8{stroke:#999}}"""
-LIGHT_WAYS = "".join(f".w{index}{{stroke:{colour}}}" for index, colour in enumerate(COLOURS))
-DARK_WAYS = "".join(f".w{index}{{stroke:{colour}}}" for index, colour in enumerate(DARK_COLOURS))
+LIGHT_WAY_STYLE = "".join(f".w{index}{{stroke:{colour}}}" for index, colour in enumerate(COLOURS))
+DARK_WAY_STYLE = "".join(f".w{index}{{stroke:{colour}}}" for index, colour in enumerate(DARK_COLOURS))
 
 
 @dataclass
@@ -88,7 +88,7 @@ def cell_centre(cell: Cell) -> tuple[float, float]:
     return MARGIN + cell[0] * CELL_PX + CELL_PX / 2, MARGIN + cell[1] * CELL_PX + CELL_PX / 2
 
 
-def short(number: float) -> str:
+def rounded(number: float) -> str:
     """Writes a coordinate with as few digits as it needs."""
     return f"{number:.1f}".rstrip("0").rstrip(".")
 
@@ -99,7 +99,7 @@ def rectangle_element(kind: str, x: int, y: int, width: int, height: int) -> str
             f'height="{height * CELL_PX}"/>')
 
 
-def number_step(size: int) -> int:
+def number_spacing(size: int) -> int:
     """Returns how many cells lie between two numbers at the side."""
     return 2 if size <= 40 else 8 if size <= 128 else 64 if size <= 1024 else 256
 
@@ -109,7 +109,7 @@ def multiples(first: int, count: int, step: int) -> range:
     return range(-(-first // step) * step, first + count, step)
 
 
-def plane_parts(view: Box) -> list[str]:
+def plane_elements(view: Box) -> list[str]:
     """Returns the background with the lines of even blocks and the numbers of columns and rows."""
     parts = [rectangle_element("plane", view.x, view.y, view.width, view.height)]
     left, top = MARGIN + view.x * CELL_PX, MARGIN + view.y * CELL_PX
@@ -118,10 +118,10 @@ def plane_parts(view: Box) -> list[str]:
         lines = [f"M{MARGIN + x * CELL_PX} {top}V{bottom}" for x in multiples(view.x, view.width + 1, 2)]
         lines += [f"M{left} {MARGIN + y * CELL_PX}H{right}" for y in multiples(view.y, view.height + 1, 2)]
         parts.append(f'<path class="line" d="{"".join(lines)}"/>')
-    for x in multiples(view.x, view.width, number_step(view.width)):
-        parts.append(f'<text x="{short(cell_centre((x, 0))[0])}" y="{top - 6}" text-anchor="middle">{x}</text>')
-    for y in multiples(view.y, view.height, number_step(view.height)):
-        parts.append(f'<text x="{left - 6}" y="{short(cell_centre((0, y))[1] + 2.5)}" text-anchor="end">{y}</text>')
+    for x in multiples(view.x, view.width, number_spacing(view.width)):
+        parts.append(f'<text x="{rounded(cell_centre((x, 0))[0])}" y="{top - 6}" text-anchor="middle">{x}</text>')
+    for y in multiples(view.y, view.height, number_spacing(view.height)):
+        parts.append(f'<text x="{left - 6}" y="{rounded(cell_centre((0, y))[1] + 2.5)}" text-anchor="end">{y}</text>')
     return parts
 
 
@@ -179,16 +179,16 @@ def port_labels(layout: Layout, view: Box, scale: float) -> list[str]:
         line = leader_line(place, cell)
         if line:
             (x, y), (u, v) = line
-            lines.append(f'<path class="leader" d="M{short(x)} {short(y)}L{short(u)} {short(v)}"/>')
+            lines.append(f'<path class="leader" d="M{rounded(x)} {rounded(y)}L{rounded(u)} {rounded(v)}"/>')
         box = place.box
-        parts.append(f'<text class="name" x="{short(box.x + box.width / 2)}" y="{short(box.y + box.height * 0.84)}" '
-                     f'text-anchor="middle">{escape(mark)}</text>')
+        parts.append(f'<text class="name" x="{rounded(box.x + box.width / 2)}" '
+                     f'y="{rounded(box.y + box.height * 0.84)}" text-anchor="middle">{escape(mark)}</text>')
     return lines + parts
 
 
-def mirror_parts(mirrors: list[Part]) -> list[str]:
+def mirror_elements(mirrors: list[Part]) -> list[str]:
     """Returns mirrors: each by itself, or one path for very many."""
-    if len(mirrors) <= MAX_MIRRORS:
+    if len(mirrors) <= MAX_SINGLE_MIRRORS:
         return [rectangle_element("mirror", part.x, part.y, part.width, part.height) for part in mirrors]
     boxes = (f"M{MARGIN + part.x * CELL_PX} "
              f"{MARGIN + part.y * CELL_PX}h{part.width * CELL_PX}v{part.height * CELL_PX}h-{part.width * CELL_PX}z"
@@ -196,9 +196,9 @@ def mirror_parts(mirrors: list[Part]) -> list[str]:
     return [f'<path class="mirror" d="{"".join(boxes)}"/>']
 
 
-def layout_parts(layout: Layout) -> list[str]:
+def layout_elements(layout: Layout) -> list[str]:
     """Returns mirrors, ports and waste cells."""
-    parts = mirror_parts(layout.of_kind("mirror"))
+    parts = mirror_elements(layout.of_kind("mirror"))
     parts += [rectangle_element("out", part.x, part.y, 1, 1) for part in layout.of_kind("out")]
     parts += [f'<rect class="in" x="{MARGIN + part.x * CELL_PX + 1.5}" y="{MARGIN + part.y * CELL_PX + 1.5}" '
               f'width="{CELL_PX - 3}" height="{CELL_PX - 3}"/>'
@@ -216,7 +216,7 @@ def waste_sign(part: Part) -> str:
 
 def module_parts(modules: Sequence[Module]) -> list[str]:
     """Returns the borders of modules, with their numbers if they are few."""
-    is_numbered, parts = len(modules) <= MAX_NUMBERED, []
+    is_numbered, parts = len(modules) <= MAX_NUMBERED_MODULES, []
     for module in modules:
         box = module.box
         parts.append(rectangle_element("box" if is_numbered else "box faint", box.x, box.y, box.width, box.height))
@@ -226,7 +226,7 @@ def module_parts(modules: Sequence[Module]) -> list[str]:
     return parts
 
 
-def gate_parts(gates: list[tuple[Box, list[str]]]) -> list[str]:
+def gate_elements(gates: list[tuple[Box, list[str]]]) -> list[str]:
     """Returns the boxes of modules that use gates, with what is said of them."""
     return ['<g><title>a module that uses '
             f'{escape(", ".join(names))}</title>{rectangle_element("gate", box.x, box.y, box.width, box.height)}</g>'
@@ -240,20 +240,20 @@ def gate_names(gates: list[tuple[Box, list[str]]], scale: float) -> list[str]:
         shown = names[0] + (f" +{len(names) - 1}" if len(names) > 1 else "")
         size = min(largest, box.width * CELL_PX / (0.62 * len(shown)), box.height * CELL_PX)
         x, y = MARGIN + (box.x + box.width / 2) * CELL_PX, MARGIN + (box.y + box.height / 2) * CELL_PX + size / 3
-        if size >= LEAST_NAME * largest:
-            parts.append(f'<text class="gate-name" x="{short(x)}" y="{short(y)}" '
-                         f'style="font-size:{short(size)}px">{escape(shown)}</text>')
+        if size >= LEAST_NAME_SHARE * largest:
+            parts.append(f'<text class="gate-name" x="{rounded(x)}" y="{rounded(y)}" '
+                         f'style="font-size:{rounded(size)}px">{escape(shown)}</text>')
     return parts
 
 
-def ball_parts(layout: Layout, live: set[Cell], least: float) -> list[str]:
+def ball_elements(layout: Layout, live: set[Cell], least: float) -> list[str]:
     """Returns the live cells that are no mirror's as discs of a least size in cells, and dead cells of mirrors as
     holes."""
     mirrors = layout.mirror_cells()
     parts, radius = [], CELL_PX * max(0.33, least / 2)
     for cell in sorted(live - mirrors):
         x, y = cell_centre(cell)
-        parts.append(f'<circle class="ball" cx="{short(x)}" cy="{short(y)}" r="{radius:.1f}"/>')
+        parts.append(f'<circle class="ball" cx="{rounded(x)}" cy="{rounded(y)}" r="{radius:.1f}"/>')
     if live:
         parts += [rectangle_element("plane", *cell, 1, 1) for cell in sorted(mirrors - live)]
     return parts
@@ -263,10 +263,10 @@ def wire_style(wires: list[str]) -> dict[str, tuple[int, str]]:
     """Returns the number of a colour, and a dash, for each wire."""
     styles = {wire: (index % 8, DASHES[index // 8 % 8]) for index,
               wire in enumerate(wire for wire in wires if wire not in ("", OTHER_WIRES_LABEL))}
-    return styles | {"": (SEVERAL_COLOUR, "1 2"), OTHER_WIRES_LABEL: (FAINT_COLOUR, "")}
+    return styles | {"": (SEVERAL_COLOUR_NUMBER, "1 2"), OTHER_WIRES_LABEL: (FAINT_COLOUR_NUMBER, "")}
 
 
-def way_order(drawing: Drawing, wires: list[str]) -> list[str]:
+def ordered_wires(drawing: Drawing, wires: list[str]) -> list[str]:
     """Returns the wires that have a way: first those that are faint, then others in their order, then the constants,
     and then what is no wire's."""
     return [wire for wire in [OTHER_WIRES_LABEL, *wires, "1", ""] if wire in drawing.ways]
@@ -277,9 +277,9 @@ def label_of(drawing: Drawing, wire: str) -> str:
     return {"": "no wire", "1": "constant"}.get(wire, drawing.labels.get(wire, wire))
 
 
-def way_parts(drawing: Drawing, wires: list[str], widening: float) -> list[str]:
+def way_elements(drawing: Drawing, wires: list[str], widening: float) -> list[str]:
     """Returns the ways of balls, a path for each wire."""
-    order, parts = way_order(drawing, wires), []
+    order, parts = ordered_wires(drawing, wires), []
     styles = wire_style(order)
     for index, wire in enumerate(order):
         colour, dash = styles[wire]
@@ -290,23 +290,25 @@ def way_parts(drawing: Drawing, wires: list[str], widening: float) -> list[str]:
         path = "".join([f"M{MIDDLE_OFFSET + CELL_PX * x} {MIDDLE_OFFSET + CELL_PX * y}"
                         f"L{MIDDLE_OFFSET + CELL_PX * u} {MIDDLE_OFFSET + CELL_PX * v}"
                         for (x, y), (u, v) in joined_pieces(drawing.ways[wire])])
-        dashes = f' stroke-dasharray="{" ".join(short(int(part) * widening) for part in dash.split())}"' if dash else ""
+        lengths = " ".join(rounded(int(part) * widening) for part in dash.split())
+        dashes = f' stroke-dasharray="{lengths}"' if dash else ""
         title = escape(label_of(drawing, wire))
-        parts.append(f'<path class="way w{colour}" style="stroke-width:{short(width)}"{dashes} '
+        parts.append(f'<path class="way w{colour}" style="stroke-width:{rounded(width)}"{dashes} '
                      f'd="{path}"><title>{title}</title></path>')
         has_arrows = drawing.has_arrows and wire != OTHER_WIRES_LABEL
         heads = chevrons(drawing.ways[wire], 3 * width / CELL_PX) if has_arrows else []
         if heads:
-            path = "".join("M" + "L".join(f"{short(MARGIN + x * CELL_PX)} {short(MARGIN + y * CELL_PX)}" for x, y
+            path = "".join("M" + "L".join(f"{rounded(MARGIN + x * CELL_PX)} {rounded(MARGIN + y * CELL_PX)}"
+                                          for x, y
                                           in head)
                            for head in heads)
-            parts.append(f'<path class="way w{colour}" style="stroke-width:{short(width)}" d="{path}"/>')
+            parts.append(f'<path class="way w{colour}" style="stroke-width:{rounded(width)}" d="{path}"/>')
     return parts
 
 
 def legend(drawing: Drawing, wires: list[str], y: int, width: float) -> tuple[list[str], int]:
     """Returns the names of the wires with their colours, in lines of at most a width, and the height that they take."""
-    order = way_order(drawing, wires)
+    order = ordered_wires(drawing, wires)
     styles, parts = wire_style(order), []
     x, top = float(MARGIN), y
     for wire in order[:MAX_LEGEND]:
@@ -317,8 +319,8 @@ def legend(drawing: Drawing, wires: list[str], y: int, width: float) -> tuple[li
         if x > MARGIN and x + room > width - MARGIN:
             x, top = float(MARGIN), top + 12
         dashes = f' stroke-dasharray="{dash}"' if dash else ""
-        parts.append(f'<path class="way w{colour}"{dashes} d="M{short(x)} {top}h16"/>'
-                     f'<text x="{short(x + 20)}" y="{top + 2.5}">{escape(text)}</text>')
+        parts.append(f'<path class="way w{colour}"{dashes} d="M{rounded(x)} {top}h16"/>'
+                     f'<text x="{rounded(x + 20)}" y="{top + 2.5}">{escape(text)}</text>')
         x += room
     return parts, top - y + 12 if parts else 0
 
@@ -344,15 +346,15 @@ def has_overlap(one: Box, other: Box) -> bool:
 
 def extra_style(drawing: Drawing, scale: float) -> str:
     """Returns the style that only some pictures need: of larger letters, of gates and of faint ways."""
-    letters = (f"g.plan text{{font-size:{short(7 * scale)}px}}g.plan .name{{font-size:{short(8 * scale)}px}}"
+    letters = (f"g.plan text{{font-size:{rounded(7 * scale)}px}}g.plan .name{{font-size:{rounded(8 * scale)}px}}"
                if scale > 1 else "")
     if drawing.gates:
         letters += (".gate{fill:#7a3db8;fill-opacity:.18}.gate-name{fill:#5c2a92;text-anchor:middle;font-weight:bold;"
-                    f"stroke:#f7f7f4;stroke-width:{short(2 * scale)}px;stroke-linejoin:round;paint-order:stroke}}"
+                    f"stroke:#f7f7f4;stroke-width:{rounded(2 * scale)}px;stroke-linejoin:round;paint-order:stroke}}"
                     "@media(prefers-color-scheme:dark){.gate-name{fill:#d3b3ff;stroke:#1e2126}}")
     if OTHER_WIRES_LABEL in drawing.ways:
-        letters += (f".w{FAINT_COLOUR}{{stroke:#cfcfc9}}"
-                    f"@media(prefers-color-scheme:dark){{.w{FAINT_COLOUR}{{stroke:#3d424b}}}}")
+        letters += (f".w{FAINT_COLOUR_NUMBER}{{stroke:#cfcfc9}}"
+                    f"@media(prefers-color-scheme:dark){{.w{FAINT_COLOUR_NUMBER}{{stroke:#3d424b}}}}")
     return letters
 
 
@@ -369,26 +371,28 @@ def svg(layout: Layout, drawing: Drawing, wires: list[str]) -> str:
     width = max(width, 2 * MARGIN + 256 if drawing.ways else 0)
     keys, key_height = legend(drawing, wires, 24, width / scale)
     height = bottom + (34 + key_height) * scale
-    ball = drawing.ball or (side * LARGE_BALL if side > LARGE_SIDE else 0.0)
-    parts = [*plane_parts(view), *layout_parts(layout), *module_parts(drawing.modules), *gate_parts(drawing.gates),
-             *way_parts(drawing, wires, widening), *gate_names(drawing.gates, scale),
-             *ball_parts(layout, drawing.live, ball), *port_labels(layout, view, scale)]
+    ball = drawing.ball or (side * LEAST_BALL_SHARE if side > LARGE_SIDE else 0.0)
+    parts = [*plane_elements(view), *layout_elements(layout), *module_parts(drawing.modules),
+             *gate_elements(drawing.gates), *way_elements(drawing, wires, widening), *gate_names(drawing.gates, scale),
+             *ball_elements(layout, drawing.live, ball), *port_labels(layout, view, scale)]
     for cell, about in drawing.faults:
         x, y = cell_centre(cell)
-        parts.append(f'<circle class="fault" cx="{short(x)}" cy="{short(y)}" '
+        parts.append(f'<circle class="fault" cx="{rounded(x)}" cy="{rounded(y)}" '
                      f'r="{CELL_PX * max(0.75, ball):.1f}"><title>{escape(about)}</title></circle>')
-    style = f"{STYLE}{LIGHT_WAYS}@media(prefers-color-scheme:dark){{{DARK_WAYS}}}{extra_style(drawing, scale)}"
+    style = (f"{STYLE}{LIGHT_WAY_STYLE}@media(prefers-color-scheme:dark){{{DARK_WAY_STYLE}}}"
+             f"{extra_style(drawing, scale)}")
     count = len(labelled_cells(layout))
     words = escape(drawing.title + (f"; the names of {count} ports are left out" if count > MAX_NAMES else ""))
-    title = f'<g transform="scale({short(scale)})"><text x="{MARGIN}" y="12">{words}</text></g>'
-    below = f'<g transform="translate(0 {short(bottom)}) scale({short(scale)})">' + "\n".join(keys) + "</g>"
-    size = f"{short(width)} {short(height)}"
-    return (f'<svg xmlns="http://www.w3.org/2000/svg" viewBox="0 0 {size}" width="{short(width)}" '
-            f'height="{short(height)}" role="img">'
+    title = f'<g transform="scale({rounded(scale)})"><text x="{MARGIN}" y="12">{words}</text></g>'
+    below = f'<g transform="translate(0 {rounded(bottom)}) scale({rounded(scale)})">' + "\n".join(
+        keys) + "</g>"
+    size = f"{rounded(width)} {rounded(height)}"
+    return (f'<svg xmlns="http://www.w3.org/2000/svg" viewBox="0 0 {size}" width="{rounded(width)}" '
+            f'height="{rounded(height)}" role="img">'
             f"<title>{words}</title>\n<style>{style}</style>\n"
-            f'<rect class="back" width="{short(width)}" height="{short(height)}"/>\n'
-            f'<g class="plan" transform="translate({short(margin - view.x * CELL_PX)} '
-            f'{short(margin - view.y * CELL_PX)})">\n'
+            f'<rect class="back" width="{rounded(width)}" height="{rounded(height)}"/>\n'
+            f'<g class="plan" transform="translate({rounded(margin - view.x * CELL_PX)} '
+            f'{rounded(margin - view.y * CELL_PX)})">\n'
             + "\n".join(parts)
             + f"\n</g>\n{title}\n{below}\n</svg>\n")
 
@@ -402,7 +406,7 @@ def wire_tables(document: Document, on: list[str]) -> tuple[dict[str, Table], Ta
     assert layout is not None
     inputs = circuit.inputs if circuit else list(dict.fromkeys(part.name or "" for part in layout.of_kind("in")))
     chosen = sum(1 << index for index, name in enumerate(inputs) if name in on)
-    if len(inputs) > MAX_INPUTS:
+    if len(inputs) > MAX_EXHAUSTIVE_INPUTS:
         full = (1 << SAMPLE_COUNT) - 1
         return evaluate_samples(circuit, SAMPLE_COUNT,
                                 on).tables if circuit else sampled_tables(inputs, SAMPLE_COUNT, on), full, 0
@@ -417,7 +421,7 @@ def sampled_words(document: Document) -> str:
     layout, circuit = document.layout, document.circuit
     assert layout is not None
     count = len(circuit.inputs) if circuit else len({part.name for part in layout.of_kind("in")})
-    return f" in {SAMPLE_COUNT} sampled choices of the {count} inputs" if count > MAX_INPUTS else ""
+    return f" in {SAMPLE_COUNT} sampled choices of the {count} inputs" if count > MAX_EXHAUSTIVE_INPUTS else ""
 
 
 def ball_ways(document: Document, on: list[str] | None, until: int,

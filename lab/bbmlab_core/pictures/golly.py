@@ -10,17 +10,17 @@ import re
 from ..host.terminal import LabError
 from ..texts.documents import read_document
 from ..texts.layouts import Cell, Layout, row_order_key
-from ..texts.limits import SECOND, limits_for
+from ..texts.limits import SECOND_LIMITS, limits_for
 
 RULE = "BBM-Margolus-emulated"
 STATE_SIGNS = ".ABCD"
 MARGIN = 2
 # The most rows and columns of a file that are read, counted with those that are empty: those of the largest layout with
 # its margin.
-MAX_REACH = SECOND.max_side + 2 * MARGIN
+MAX_FILE_SIDE = SECOND_LIMITS.max_side + 2 * MARGIN
 
 
-def row_of(y: int, columns: range, live: list[int]) -> str:
+def row_signs(y: int, columns: range, live: list[int]) -> str:
     """Returns Golly's states of a row at an even time, as signs.
 
     `columns` begins at an even one; `live` are the columns of the live cells.
@@ -42,7 +42,7 @@ def golly_text(layout: Layout, live: set[Cell], on: list[str], lines: list[str])
     live_of: dict[int, list[int]] = {}
     for x, y in live:
         live_of.setdefault(y, []).append(x)
-    body = "$\n".join(packed_row(row_of(y, columns, live_of.get(y, []))) for y in rows)
+    body = "$\n".join(packed_row(row_signs(y, columns, live_of.get(y, []))) for y in rows)
     comments = ["#C bbmlab: the start of a layout; states 1 and 3 are the upper left cells of blocks, 3 and 4 are live",
                 f"#C inputs on: {' '.join(on) or 'none'}", *(f"#C layout: {line}" for line in lines)]
     return "\n".join([f"#CXRLE Pos={-MARGIN},{-MARGIN}", *comments,
@@ -78,9 +78,9 @@ def unpacked_states(body: str, corner: Cell) -> dict[Cell, int]:
         number = int(count[:10] or 1)
         if sign == "!":
             break
-        if (y if sign == "$" else x) + number - corner[sign == "$"] > MAX_REACH:
-            raise LabError(f"the pattern takes more than {MAX_REACH} rows or columns; a layout takes {SECOND.max_side} "
-                           "at most")
+        if (y if sign == "$" else x) + number - corner[sign == "$"] > MAX_FILE_SIDE:
+            raise LabError(f"the pattern takes more than {MAX_FILE_SIDE} rows or columns; a layout takes "
+                           f"{SECOND_LIMITS.max_side} at most")
         if sign == "$":
             x, y = corner[0], y + number
             continue
@@ -124,7 +124,8 @@ def layout_from_golly(text: str) -> str:
     width = max((x for x, _ in live), default=0) - left + 3
     height = max((y for _, y in live), default=0) - top + 3
     width, height = width + width % 2, height + height % 2
-    if max(width, height) > SECOND.max_side:
-        raise LabError(f"the pattern takes {width} by {height} cells with its margin; {SECOND.max_side} is the most")
+    if max(width, height) > SECOND_LIMITS.max_side:
+        raise LabError(f"the pattern takes {width} by {height} cells with its margin; {SECOND_LIMITS.max_side} is the "
+                       "most")
     balls = [f"ball {x - left} {y - top}" for x, y in sorted(live, key=row_order_key)]
-    return limits_for(max(width, height)).head + "\n".join([f"layout {width} {height} 0", *balls, "end"]) + "\n"
+    return limits_for(max(width, height)).line_text + "\n".join([f"layout {width} {height} 0", *balls, "end"]) + "\n"

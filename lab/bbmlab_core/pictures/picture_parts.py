@@ -12,7 +12,7 @@ from .ways import Piece
 OTHER_WIRES_LABEL = "other wires"
 # A piece with an arrow is at least so many times as long as the arrow, which is at this part of its length: of two ways
 # on one line that go against each other each shows its own.
-LEAST_ARROWS, ARROW_PLACE = 4, 0.6
+LEAST_ARROW_LENGTHS, ARROW_PLACE = 4, 0.6
 
 Point = tuple[float, float]
 
@@ -53,7 +53,7 @@ def chevrons(pieces: Iterable[Piece], size: float) -> list[list[Point]]:
     """Returns arrows of a size in cells, as three points each, on the pieces that are long enough."""
     found = []
     for (x, y), (u, v) in pieces:
-        if max(abs(u - x), abs(v - y)) < LEAST_ARROWS * size:
+        if max(abs(u - x), abs(v - y)) < LEAST_ARROW_LENGTHS * size:
             continue
         dx, dy = (u > x) - (u < x), (v > y) - (v < y)
         tip = x + 0.5 + ARROW_PLACE * (u - x), y + 0.5 + ARROW_PLACE * (v - y)

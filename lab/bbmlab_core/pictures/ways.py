@@ -57,7 +57,7 @@ class WayRun:
         self.open: dict[int, OpenPiece] = {}
         self.ended: list[tuple[int, int, Table, int]] = []
 
-    def fly(self, count: int) -> bool:
+    def run_to(self, count: int) -> bool:
         """Makes steps up to a number of them, and returns whether everything stays in the rectangle."""
         until, is_inside, flights = self.time + count, True, self.flights
         while self.time < until and is_inside:
@@ -110,7 +110,7 @@ class WayRun:
             a, d = get(corner, 0), get(corner + DIAGONAL_STRIDE, 0)
             b, c = get(corner + 1, 0), get(corner + ROW_STRIDE, 0)
             if (b or c) and (a or d or b and c) or a and d:
-                self.turn_block(corner, (a, b, c, d), moving, left)
+                self.apply_block_rule(corner, (a, b, c, d), moving, left)
             elif b:
                 self.move_lone_cell(corner + 1, corner + ROW_STRIDE, RISING, left)
                 moving.append(corner + ROW_STRIDE)
@@ -134,8 +134,8 @@ class WayRun:
             self.steady.discard(start)
         self.note_move(start, end, direction, table, self.time)
 
-    def turn_block(self, corner: int, before: tuple[Table, Table, Table, Table], moving: list[int],
-                   left: list[int]) -> None:
+    def apply_block_rule(self, corner: int, before: tuple[Table, Table, Table, Table], moving: list[int],
+                         left: list[int]) -> None:
         """Applies the block rule to a block with more than one live cell."""
         keys, live, steady = (corner, corner + 1, corner + ROW_STRIDE, corner + DIAGONAL_STRIDE), self.live, self.steady
         a, b, c, d = before
@@ -215,7 +215,7 @@ def all_pieces(layout: Layout, tables: dict[str, Table], full: Table, until: int
     """Returns the pieces of the ways of balls up to a time, as they fly, by the assignments under which a ball takes
     them."""
     run = WayRun(layout, tables, full)
-    run.fly(until)
+    run.run_to(until)
     found: dict[Table, list[Piece]] = {}
     for start, end, table, _ in run.pieces():
         found.setdefault(table, []).append((cell_of(start), cell_of(end)))

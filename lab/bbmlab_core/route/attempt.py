@@ -26,7 +26,7 @@ class OutOfTimeError(NoRouteError):
     """The time was over before the attempt ended."""
 
 
-def no_progress(placed: int, total: int) -> None:
+def ignore_progress(placed: int, total: int) -> None:
     """Ignores the progress of an attempt."""
 
 
@@ -57,7 +57,7 @@ class Attempt:
         if time.monotonic() > self.deadline:
             raise OutOfTimeError(f"the time was over while {self.doing}", FailureKind.TIME)
 
-    def run(self, progress: Callable[[int, int], None] = no_progress) -> Design:
+    def run(self, progress: Callable[[int, int], None] = ignore_progress) -> Design:
         """Places all gates and leads all balls to the end; raises NoRouteError."""
         total = len(self.todo)
         while True:
@@ -212,7 +212,7 @@ class Attempt:
         board, end = self.board, self.end_time()
         steps = sum(end - (waiting.ball.time if waiting.ball else 0) for waiting in board.waiting.values())
         taken = sum(row.bit_count() for row in board.world.blocked) + self.settings.step_cells * steps
-        while taken > self.settings.end_fill * board.size * board.height and board.grow(self.settings.growth_part,
+        while taken > self.settings.end_fill * board.width * board.height and board.grow(self.settings.growth_part,
                                                                               self.most_size):
             pass
 
@@ -233,10 +233,10 @@ class Attempt:
             self.check_time()
             root = queue.pop(0)
             before[root] = board.stop_waiting(root)
-            path = self.add_last_path(root, before[root].ball, end)
+            path = self.add_end_path(root, before[root].ball, end)
             if path is None and ways[root] < self.settings.end_ways:
                 ways[root] += 1
-                path = self.add_path_through(root, before[root].ball, end)
+                path = self.add_path_making_way(root, before[root].ball, end)
             if path is not None:
                 board.ends.append(path)
                 continue
@@ -306,7 +306,7 @@ class Attempt:
         """Returns the key by which balls are led to the end: those that wait since long come first."""
         return waiting.ball is None, waiting.ball.time if waiting.ball else 0
 
-    def add_last_path(self, root: str, ball: Ball | None, end: int) -> Path | None:
+    def add_end_path(self, root: str, ball: Ball | None, end: int) -> Path | None:
         """Adds a path from a waiting ball, or from any place, to the last time, and returns it.
 
         It encloses no other ball.
@@ -327,16 +327,16 @@ class Attempt:
             self.placer.note_stuck()
         return None
 
-    def add_path_through(self, root: str, ball: Ball | None, end: int) -> Path | None:
+    def add_path_making_way(self, root: str, ball: Ball | None, end: int) -> Path | None:
         """Adds a path from a waiting ball to the last time for which paths to gates make way, and returns it."""
         if ball is None or self.placer.enclosed:
             return None
-        return self.way_maker.lead_through(ball, lambda: self.add_last_path(root, ball, end))
+        return self.way_maker.lead_through(ball, lambda: self.add_end_path(root, ball, end))
 
     def random_start(self) -> Ball:
         """Returns a ball at time 0 at a random place."""
         chance, board = self.chance, self.board
-        x, y = chance.randrange(4, board.size // 2 - 4), chance.randrange(4, board.height // 2 - 4)
+        x, y = chance.randrange(4, board.width // 2 - 4), chance.randrange(4, board.height // 2 - 4)
         return Ball(2 * x, 2 * y, 1, 1, 0)
 
     def design(self) -> Design:
@@ -344,5 +344,5 @@ class Attempt:
         board = self.board
         end = max([path.end.time for path in board.ends], default=self.end_time())
         paths = [path for step in board.steps for path in [*step.paths, *step.parked]] + board.ends
-        return forward_design(Design(self.netlist.circuit, self.netlist, board.size, board.height, end,
+        return forward_design(Design(self.netlist.circuit, self.netlist, board.width, board.height, end,
                                      [step.gate for step in board.steps], paths))

@@ -19,7 +19,7 @@ from .world import ROW_STRIDE, World
 MIRROR_OFFSETS = {(turn, dx, dy): bounce(Ball(0, 0, dx, dy, 0), turn)[1].cells() for turn in Turn for dx in (1, -1)
            for dy in (1, -1)}
 # The most paths that are yielded for one last bounce.
-MAX_FOUND_LEGS = 3
+MAX_PATHS_PER_BEND = 3
 
 
 class Bend(NamedTuple):
@@ -39,7 +39,7 @@ class MiddleLegs(NamedTuple):
     back: int
 
 
-def middle_of(first: Bend, last: Bend, most: int) -> MiddleLegs | None:
+def legs_between(first: Bend, last: Bend, most: int) -> MiddleLegs | None:
     """Returns the legs between two bounces if they fit place and time, and those that take up time have at most `most`
     steps."""
     ball, goal, is_flat = first.ball, last.ball, first.turn is Turn.FLAT
@@ -130,11 +130,11 @@ class BitJoiner:
         for last in islice(self.last_bends(goal), count):
             for first in firsts:
                 if (first.ball.dx, first.ball.dy) == (-last.ball.dx, -last.ball.dy):
-                    yield from islice(self.legs_with_bends(start, first, last), MAX_FOUND_LEGS)
+                    yield from islice(self.legs_with_bends(start, first, last), MAX_PATHS_PER_BEND)
 
     def legs_with_bends(self, start: Ball, first: Bend, last: Bend) -> Iterator[list[Leg]]:
         """Yields legs with given turns and a given last bounce. `first` is the earliest first bounce."""
-        world, middle = self.world, middle_of(first, last, self.settings.longest_detour)
+        world, middle = self.world, legs_between(first, last, self.settings.longest_detour)
         if middle is None:
             return
         second = first.ball.flown(middle.out)
@@ -156,8 +156,8 @@ class BitJoiner:
         taken |= others >> shift if shift >= 0 else others << -shift
         for steps in unset_bit_steps(taken, start.x, start.dx, low, high):
             more = steps - first.steps
-            if self.is_open(ball_beside(first.ball, start, more),
-                            middle.out) and self.is_inside(ball_beside(second, start, more)):
+            if self.is_open(moved_ball(first.ball, start, more),
+                            middle.out) and self.is_inside(moved_ball(second, start, more)):
                 yield [Leg(steps, first.turn), Leg(middle.out, first.turn), Leg(middle.along - more, first.turn.other),
                        Leg(middle.back, last.turn), Leg(last.steps, None)]
 
@@ -170,6 +170,6 @@ class BitJoiner:
         return self.world.is_inside(ball.x, ball.y)
 
 
-def ball_beside(ball: Ball, start: Ball, steps: int) -> Ball:
+def moved_ball(ball: Ball, start: Ball, steps: int) -> Ball:
     """Returns a ball that is moved along the direction of a start."""
     return ball._replace(x=ball.x + steps * start.dx, y=ball.y + steps * start.dy)

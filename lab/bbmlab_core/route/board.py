@@ -12,7 +12,7 @@ from .cells import GateCell
 from .netlist import RouterNetlist
 from .paths import Path
 from .settings import Settings
-from .world import ROW_STRIDE, TILE, Item, World, cell_item, path_item
+from .world import ROW_STRIDE, TILE, Footprint, World, cell_item, path_item
 
 
 class FailureKind(Enum):
@@ -53,7 +53,7 @@ class PlacedGate:
     y: int
     time: int
     box: TileBox
-    item: Item
+    item: Footprint
 
     def output_ball(self, name: str) -> Ball:
         """Returns the ball of an output."""
@@ -72,7 +72,7 @@ class WaitingBall:
     """
 
     ball: Ball | None = None
-    item: Item | None = None
+    item: Footprint | None = None
 
 
 @dataclass(eq=False)
@@ -122,7 +122,7 @@ class Board:
         self.owners: dict[int, PlacedGate] = {}
 
     @property
-    def size(self) -> int:
+    def width(self) -> int:
         """The width of the plane."""
         return self.world.size
 
@@ -134,8 +134,8 @@ class Board:
     def grow(self, part: int, most: int) -> bool:
         """Adds the given part of the side at the right and below, in whole pairs of tiles; returns whether that is at
         most `most` cells."""
-        cells = max(2 * TILE, self.size // part // (2 * TILE) * 2 * TILE)
-        if self.size + cells > most:
+        cells = max(2 * TILE, self.width // part // (2 * TILE) * 2 * TILE)
+        if self.width + cells > most:
             return False
         self.world.grow(cells)
         return True
@@ -181,7 +181,7 @@ class Board:
 
     # --- waiting balls ------------------------------------------------------------------------------------------------
 
-    def waiting_ball(self, ball: Ball) -> WaitingBall | None:
+    def new_waiting_ball(self, ball: Ball) -> WaitingBall | None:
         """Returns a ball that waits, or None if its next steps leave the layout or meet something."""
         for steps in self.settings.reserved_steps:
             far = ball.flown(steps)
@@ -203,7 +203,7 @@ class Board:
         was possible."""
         waiting: WaitingBall | None = before
         if before.ball is not None and (before.item is None or not self.world.can_add(before.item)):
-            waiting = self.waiting_ball(before.ball)
+            waiting = self.new_waiting_ball(before.ball)
         if waiting is None:
             return False
         self.add_waiting(root, waiting)
@@ -230,7 +230,7 @@ class Board:
         self.world.remove(path.item)
         self.count_wire_needs(self.wires_of(path.wire), path.item.tiles, -1)
 
-    def gate_at(self, x: int, y: int, time: int, cell: GateCell, number: int) -> PlacedGate:
+    def placed_gate(self, x: int, y: int, time: int, cell: GateCell, number: int) -> PlacedGate:
         """Returns a gate's cell at a place and a time, without adding it."""
         return PlacedGate(number, cell, x, y, time, box_of(cell, x, y), cell_item(cell, x, y, time))
 

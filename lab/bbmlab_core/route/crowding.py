@@ -14,7 +14,7 @@ from .world import TILE, World
 # Colours from empty to full tiles: class k is up to k / 7 of the cells.
 COLOURS = ("#ffffff", "#e5f0f8", "#c3dcee", "#92c0e0", "#5a9fcf", "#2f7ab5", "#175a93", "#08306b")
 # A picture has at most so many pixels a side, beside its margin and its lines of text.
-PIXELS = 1024
+MAX_SIDE_PIXELS = 1024
 MARGIN, LINE_PX = 12, 18
 # A line of a width in pixels, whatever the scale.
 STEADY_STROKE = 'vector-effect="non-scaling-stroke"'
@@ -50,7 +50,7 @@ class Crowding:
         return 2 * sum(sum(row) for row in self.taken) / (self.side * self.height)
 
 
-def tile_counts(world: World) -> Iterator[bytes]:
+def half_taken_counts(world: World) -> Iterator[bytes]:
     """Yields, for each row of tiles, half of how many cells of each tile are taken: a tile has up to 256, and a byte
     holds 128."""
     tiles = world.size // TILE
@@ -65,7 +65,7 @@ def tile_counts(world: World) -> Iterator[bytes]:
 def crowding_of(board: Board) -> Crowding:
     """Returns how crowded a board is."""
     gates = tuple(PlacedBox(step.gate.number, step.gate.box) for step in board.steps)
-    return Crowding(board.world.size, tuple(tile_counts(board.world)), gates)
+    return Crowding(board.world.size, tuple(half_taken_counts(board.world)), gates)
 
 
 def tile_class(half: int) -> int:
@@ -83,7 +83,7 @@ def class_runs(row: bytes) -> Iterator[tuple[int, int, int]]:
             first = column
 
 
-def tile_paths(crowding: Crowding) -> Iterator[str]:
+def class_path_elements(crowding: Crowding) -> Iterator[str]:
     """Yields one path for each class but the empty one, in tiles."""
     moves: list[list[str]] = [[] for _ in COLOURS]
     for line, row in enumerate(crowding.taken):
@@ -104,7 +104,7 @@ def gate_frames(crowding: Crowding, circuit: Circuit) -> Iterator[str]:
                f"<title>{name}</title></rect>")
 
 
-def legend_parts(top: int) -> Iterator[str]:
+def legend_elements(top: int) -> Iterator[str]:
     """Yields the colours with what they mean."""
     for kind, colour in enumerate(COLOURS):
         yield f'<rect x="{MARGIN + 24 * kind}" y="{top}" width="24" height="12" fill="{colour}" stroke="#888"/>'
@@ -115,7 +115,7 @@ def legend_parts(top: int) -> Iterator[str]:
 def crowding_picture(crowding: Crowding, circuit: Circuit, title: str) -> str:
     """Returns the map as a picture (SVG), with a title of one or more lines."""
     tiles, rows = max(1, crowding.side // TILE), max(1, len(crowding.taken))
-    scale = max(1, PIXELS // max(tiles, rows))
+    scale = max(1, MAX_SIDE_PIXELS // max(tiles, rows))
     size, bottom, lines = scale * tiles, scale * rows, title.split("\n")
     top = 2 * MARGIN + LINE_PX * len(lines)
     width, height = max(size, 560) + 2 * MARGIN, top + bottom + 3 * MARGIN
@@ -124,8 +124,8 @@ def crowding_picture(crowding: Crowding, circuit: Circuit, title: str) -> str:
                'font-family="sans-serif" font-size="13">', f'<rect width="{width}" height="{height}" fill="#fff"/>']
     drawn += [f'<text x="{MARGIN}" y="{MARGIN + LINE_PX * (at + 1) - 6}">{escape(line)}</text>' for at,
               line in enumerate(lines)]
-    drawn += [f'<g transform="translate({MARGIN} {top}) scale({scale})">', *tile_paths(crowding),
+    drawn += [f'<g transform="translate({MARGIN} {top}) scale({scale})">', *class_path_elements(crowding),
                 '<g fill="transparent" stroke="#d1495b" stroke-width="2">', *gate_frames(crowding, circuit), "</g>",
                 f'<rect width="{tiles}" height="{rows}" fill="none" stroke="#444" stroke-width="2" {STEADY_STROKE}/>',
-              "</g>", *legend_parts(top + bottom + MARGIN), "</svg>"]
+              "</g>", *legend_elements(top + bottom + MARGIN), "</svg>"]
     return "\n".join(drawn) + "\n"

@@ -21,7 +21,7 @@ class MeasuredCircuits:
     seconds: int
 
 
-MEASURED = (MeasuredCircuits(12, 30, 30, 2), MeasuredCircuits(42, 17, 17, 9), MeasuredCircuits(106, 5, 5, 36))
+MEASURED_CIRCUITS = (MeasuredCircuits(12, 30, 30, 2), MeasuredCircuits(42, 17, 17, 9), MeasuredCircuits(106, 5, 5, 36))
 
 
 @dataclass(frozen=True)
@@ -35,17 +35,16 @@ class Estimate:
 
     def words(self) -> str:
         """Returns the estimate as sentences."""
-        size = (f"{plural(self.gates, 'gate')} in {plural(self.levels, 'level')}, {plural(self.ends, 'ball')} at "
-                f"the end: first side {self.side}.")
-        like = next((row for row in MEASURED if self.gates <= row.gates), None)
+        size = (f"{counted_noun(self.gates, 'gate')} in {counted_noun(self.levels, 'level')}, "
+                f"{counted_noun(self.ends, 'ball')} at the end: first side {self.side}.")
+        like = next((row for row in MEASURED_CIRCUITS if self.gates <= row.gates), None)
         if like is None:
-            return f"{size} No circuit of more than {MEASURED[-1].gates} gates was measured."
-        return (f"{size} When measured, {like.found} of {plural(like.tried, 'circuit')} of up to {like.gates} gates "
-                "got a route. The median took "
-                f"{plural(like.seconds, 'processor second')}.")
+            return f"{size} No circuit of more than {MEASURED_CIRCUITS[-1].gates} gates was measured."
+        return (f"{size} When measured, {like.found} of {counted_noun(like.tried, 'circuit')} of up to {like.gates} "
+                f"gates got a route. The median took {counted_noun(like.seconds, 'processor second')}.")
 
 
-def plural(count: int, noun: str) -> str:
+def counted_noun(count: int, noun: str) -> str:
     """Returns a number with its noun."""
     return f"{count} {noun}{'' if count == 1 else 's'}"
 

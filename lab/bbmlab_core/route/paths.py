@@ -12,7 +12,7 @@ from typing import Callable, Iterator, NamedTuple, Sequence
 from .balls import BOUNCE_STEPS, Ball, Leg, Mirror, Turn, bounce, bounce_before, follow_legs
 from .bit_rows import Bend, BitJoiner
 from .settings import Settings
-from .world import MARGIN_CELLS, Item, World, path_item
+from .world import MARGIN_CELLS, Footprint, World, path_item
 
 # A leg leads on for at least this many steps, if the path goes on so long.
 LEAST_LEG = 12
@@ -23,7 +23,7 @@ SPARE_STEPS = 30
 OPEN_LEG_STEPS = 24
 OPEN_FREE_STEPS = 40
 OPEN_STRAIGHT_STEPS = 4
-NO_ITEM = Item(frozenset())
+NO_ITEM = Footprint(frozenset())
 # A path without a return has at most this many steps to spare.
 MAX_STAIR_SPARE = 24
 
@@ -36,7 +36,7 @@ class Path:
     start: Ball
     end: Ball
     legs: tuple[Leg, ...]
-    item: Item
+    item: Footprint
 
     def mirrors(self) -> list[Mirror]:
         """Returns the mirrors, in the order of time."""
@@ -48,15 +48,15 @@ def joined_path(parts: list[Path]) -> Path:
     legs = list(parts[0].legs)
     for part in parts[1:]:
         legs[-1:] = [Leg(legs[-1].steps + part.legs[0].steps, part.legs[0].turn), *part.legs[1:]]
-    return Path(parts[0].wire, parts[0].start, parts[-1].end, tuple(legs), Item(frozenset()))
+    return Path(parts[0].wire, parts[0].start, parts[-1].end, tuple(legs), Footprint(frozenset()))
 
 
-def combined_item(item: Item, way: Item) -> Item:
+def combined_item(item: Footprint, way: Footprint) -> Footprint:
     """Returns what a path takes with the straight way at its open end."""
     if way is NO_ITEM:
         return item
     touched = (*item.touched_parts, *way.touched_parts)
-    return Item(item.mirrors | way.mirrors, touched, (*item.claim_parts, *way.claim_parts))
+    return Footprint(item.mirrors | way.mirrors, touched, (*item.claim_parts, *way.claim_parts))
 
 
 class WanderOption(NamedTuple):
@@ -89,7 +89,7 @@ class Trail:
         self.world, self.is_backward = world, is_backward
         self.ball = ball.reversed() if is_backward else ball
         self.begun = BOUNCE_STEPS if is_backward else 0
-        self.steps: list[tuple[int, Turn | None, Ball, int, Item]] = []
+        self.steps: list[tuple[int, Turn | None, Ball, int, Footprint]] = []
 
     def after_bounce(self, ball: Ball, turn: Turn) -> tuple[Ball, Mirror]:
         """Returns the ball after a bounce, and its mirror."""
@@ -165,9 +165,9 @@ class PathFinder:
         item = path_item(ball, legs) if found and stays else None
         if item is not None:
             most = self.settings.open_steps
-            way = self.open_way(last, 1, most)
+            way = self.open_way_footprint(last, 1, most)
             # A ball that begins anywhere has an open start too.
-            start = self.open_way(ball, -1, most) if ball.time == 0 else NO_ITEM
+            start = self.open_way_footprint(ball, -1, most) if ball.time == 0 else NO_ITEM
             if way is not None and start is not None:
                 item = combined_item(combined_item(item, way), start)
                 self.world.add(way)
@@ -183,10 +183,10 @@ class PathFinder:
         legs, first = trail.legs() if trail.steps else [], trail.ball.reversed()
         trail.clear_legs()
         path = self.path_of_legs(wire, first, goal, legs) if found else None
-        way = self.open_way(first, -1, self.settings.open_steps, path.item) if path else None
+        way = self.open_way_footprint(first, -1, self.settings.open_steps, path.item) if path else None
         return Path(wire, first, goal, path.legs, combined_item(path.item, way)) if path and way else None
 
-    def open_way(self, ball: Ball, sign: int, most: int, own: Item | None = None) -> Item | None:
+    def open_way_footprint(self, ball: Ball, sign: int, most: int, own: Footprint | None = None) -> Footprint | None:
         """Returns what a way on with one bounce takes behind the end of a path, or before its start if `sign` is -1.
 
         The bounce comes within `most` steps. Its mirror is not put there: it is room for a join. Returns None if

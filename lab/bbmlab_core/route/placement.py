@@ -16,14 +16,14 @@ from .board import Board, Placement, WaitingBall, box_of, tiles_in
 from .cells import GATE_PORTS, GateCell
 from .paths import Path, PathFinder
 from .settings import Settings
-from .world import AROUND_CELLS, MARGIN_CELLS, ROW_STRIDE, TILE, Item, path_item
+from .world import HALF_SQUARE_SIDE, MARGIN_CELLS, ROW_STRIDE, TILE, Footprint, path_item
 
 # Largest side of a box in tiles: boxes have at most 64 by 64 cells.
-MOST_TILES = 4
+MOST_SIDE_TILES = 4
 # A waiting ball is looked at again if something new is nearer than this many columns and rows.
-NEAR_CELLS = 100
+NEAR_DISTANCE = 100
 # The cells of the square in which `World.taken_count_around` counts.
-FULL_SQUARE_CELLS = (2 * AROUND_CELLS) ** 2
+FULL_SQUARE_CELLS = (2 * HALF_SQUARE_SIDE) ** 2
 # The most steps to spare for the last input of a gate, however often inputs could not be led.
 MOST_SPARE = 130
 EVEN_BITS = sum(1 << index for index in range(0, ROW_STRIDE, 2))
@@ -175,7 +175,7 @@ class Placer:
                       half: int) -> tuple[int, int, int]:
         """Returns a place near the waiting balls for a cell of twice `half` cells, and how far around it the cell may
         be."""
-        chance, size, height = self.chance, self.board.size, self.board.height
+        chance, size, height = self.chance, self.board.width, self.board.height
         balls = [inlet.ball for inlet in inlets if inlet.ball] or ([partner] if partner else [])
         if not balls:
             # A cell may be as wide as the layout: it finds no room then.
@@ -197,7 +197,7 @@ class Placer:
         If `is_crowded`, only the layout must have room.
         """
         left, top, right, bottom = cell.bounds
-        first, last = max(columns[0], MARGIN_CELLS - left), min(columns[1], self.board.size - MARGIN_CELLS - 1 - right)
+        first, last = max(columns[0], MARGIN_CELLS - left), min(columns[1], self.board.width - MARGIN_CELLS - 1 - right)
         if row + top < MARGIN_CELLS or row + bottom > self.board.height - MARGIN_CELLS - 1 or first > last:
             return None
         blocked, taken = self.board.world.blocked, 0
@@ -217,8 +217,8 @@ class Placer:
         """Whether the box of a cell is small enough, inside the layout, and no other gate's; if `is_wide`, with a tile
         around it."""
         column, row, columns, rows = box_of(cell, x, y)
-        if (columns > MOST_TILES or rows > MOST_TILES or column < 0 or row < 0
-            or column + columns > self.board.size // TILE or row + rows > self.board.height // TILE):
+        if (columns > MOST_SIDE_TILES or rows > MOST_SIDE_TILES or column < 0 or row < 0
+            or column + columns > self.board.width // TILE or row + rows > self.board.height // TILE):
             return False
         owners, margin = self.board.owners, 1 if is_wide else 0
         around = (column - margin, row - margin, columns + 2 * margin, rows + 2 * margin)
@@ -260,7 +260,7 @@ class Placer:
         """Returns the step that places a gate at a spot, or None if something is in the way. The board stays as it is.
         """
         board, world = self.board, self.board.world
-        placed, self.enclosed = board.gate_at(spot.x, spot.y, spot.time, spot.cell, gate.number), ""
+        placed, self.enclosed = board.placed_gate(spot.x, spot.y, spot.time, spot.cell, gate.number), ""
         if not world.can_add(placed.item):
             self.reasons["in the way"] += 1
             return None
@@ -274,7 +274,7 @@ class Placer:
         for path in step.paths:
             board.remove_path(path)
         for own in step.outs.values():
-            world.remove(item_of(own))
+            world.remove(reserved_footprint(own))
         for root, waiting in step.before.items():
             board.add_waiting(root, waiting)
         step.before = {}
@@ -286,15 +286,15 @@ class Placer:
         for port, wire in zip(GATE_PORTS[gate.kind][1], gate.outs):
             if self.board.netlist.is_zero(wire):
                 continue
-            waiting = self.board.waiting_ball(step.gate.output_ball(port))
+            waiting = self.board.new_waiting_ball(step.gate.output_ball(port))
             if waiting is None:
                 self.reasons["ways out"] += 1
                 return False
-            self.board.world.add(item_of(waiting))
+            self.board.world.add(reserved_footprint(waiting))
             step.outs[wire] = waiting
         return True
 
-    def way_in_item(self, ball: Ball) -> Item | None:
+    def way_in_item(self, ball: Ball) -> Footprint | None:
         """Returns what the last steps of a straight way into a port take, or None if they meet something."""
         before = ball.flown(-6)
         if before.time < 0 or not self.board.world.is_inside(before.x, before.y):
@@ -358,7 +358,7 @@ class Placer:
         """Whether each ball that waits near new mirrors can still turn, but for those that could not turn before."""
         waiting = self.board.waiting
         near = [root for root, own in waiting.items() if own.ball and root not in self.stuck and any(
-            abs(own.ball.x - x) < NEAR_CELLS and abs(own.ball.y - y) < NEAR_CELLS for x, y in places)]
+            abs(own.ball.x - x) < NEAR_DISTANCE and abs(own.ball.y - y) < NEAR_DISTANCE for x, y in places)]
         self.enclosed = next((root for root in near if not self.can_turn(waiting[root])), "")
         return not self.enclosed
 
@@ -393,7 +393,7 @@ class Placer:
         if path is None or not board.has_room_for(wire, path.item.tiles):
             return None
         board.add_path(path)
-        waiting = board.waiting_ball(path.end)
+        waiting = board.new_waiting_ball(path.end)
         is_good = waiting is not None and self.can_others_turn([(mirror.x, mirror.y) for mirror in path.mirrors()])
         if waiting is not None and is_good:
             board.add_waiting(wire, waiting)
@@ -415,7 +415,7 @@ class Placer:
 
     def can_turn(self, waiting: WaitingBall) -> bool:
         """Whether a waiting ball has enough places ahead at which it can turn."""
-        world, ball, reserved = self.board.world, ball_of(waiting), item_of(waiting)
+        world, ball, reserved = self.board.world, ball_of(waiting), reserved_footprint(waiting)
         room, least = world.free_steps(ball, 70), self.settings.escapes
         found = self.turn_count(ball, range(self.settings.reserved_steps[0] + 3, room + 1, 3), least)
         if found < least:
@@ -447,7 +447,7 @@ def ball_of(waiting: WaitingBall) -> Ball:
     return waiting.ball
 
 
-def item_of(waiting: WaitingBall) -> Item:
+def reserved_footprint(waiting: WaitingBall) -> Footprint:
     """Returns what is reserved for a waiting ball; raises ValueError if nothing is."""
     if waiting.item is None:
         raise ValueError("nothing is reserved for the ball")

@@ -12,11 +12,11 @@ from .balls import Ball, Leg, Turn, bounce
 from .board import Board, WaitingBall
 from .paths import Path
 from .placement import Inlet, Placer, Spot
-from .world import ROW_STRIDE, Item, cell_item, cell_number, cell_of_number, path_item
+from .world import ROW_STRIDE, Footprint, cell_item, cell_number, cell_of_number, path_item
 
 # The steps ahead of a ball in which it should find places to turn, and the distance of the places that are looked at.
 STEPS_AHEAD = 70
-PLACE_STEPS = 4
+STEPS_BETWEEN_PLACES = 4
 # The owner of what is not taken out, and the owners of a cell that nothing is on.
 FIXED = -1
 NO_OWNERS: frozenset[int] = frozenset()
@@ -49,7 +49,7 @@ class WayMaker:
                   and own.ball]
         is_crowded = placer.reasons["no room"] > placer.reasons["tries"]
         for ball in blamed:
-            found = self.paths_at(self.turning_places(ball))
+            found = self.paths_at(self.turning_footprint(ball))
             for count in self.settings.rips:
                 yield found[:count], None
         if is_crowded:
@@ -59,7 +59,7 @@ class WayMaker:
         """Returns the paths to gates."""
         return [path for step in self.board.steps for path in step.paths]
 
-    def paths_at(self, place: Item) -> list[Path]:
+    def paths_at(self, place: Footprint) -> list[Path]:
         """Returns the paths that an item would meet in space, those that it meets most first."""
         found, touched = [], place.touched
         for index, path in enumerate(self.paths_to_gates()):
@@ -70,13 +70,14 @@ class WayMaker:
                 found.append((-meets, index, path))
         return [path for _, _, path in sorted(found, key=lambda own: own[:2])]
 
-    def turning_places(self, ball: Ball) -> Item:
+    def turning_footprint(self, ball: Ball) -> Footprint:
         """Returns what a waiting ball's way ahead takes, with mirrors at many places of it."""
         room = min(STEPS_AHEAD, self.board.world.steps_to_margin(ball))
-        mirrors = [bounce(ball.flown(steps), turn)[1] for steps in range(2, max(3, room), PLACE_STEPS) for turn in Turn]
+        mirrors = [bounce(ball.flown(steps), turn)[1] for steps in range(2, max(3, room), STEPS_BETWEEN_PLACES)
+                   for turn in Turn]
         way = path_item(ball, [Leg(max(0, room), None)])
         cells = {cell_number(cell) for mirror in mirrors for cell in mirror.cells()}
-        return Item(frozenset(cells), way.touched_parts if way else ())
+        return Footprint(frozenset(cells), way.touched_parts if way else ())
 
     def crowded_spots(self, gate: Gate, inlets: list[Inlet]) -> Iterator[tuple[list[Path], list[Spot]]]:
         """Yields spots for a gate at which only paths are in the way, with these paths: the fewest first."""
@@ -92,7 +93,7 @@ class WayMaker:
         for _, _, spot, met_paths in sorted(found, key=lambda own: own[:2])[:self.settings.crowded_choices]:
             yield met_paths, [replace(spot, time=spot.time + 2 * more) for more in range(0, 24, 2)]
 
-    def fixed_items(self) -> list[Item]:
+    def fixed_items(self) -> list[Footprint]:
         """Returns what is not taken out for a gate: gates, parked paths, and what is reserved for waiting balls."""
         steps = self.board.steps
         fixed = [own.gate.item for own in steps] + [path.item for own in steps for path in own.parked]
@@ -121,7 +122,7 @@ class WayMaker:
 
         `lead` leads and adds the path. If that or the leading again fails, the board is as before.
         """
-        found = self.paths_at(self.turning_places(ball))
+        found = self.paths_at(self.turning_footprint(ball))
         for count in self.settings.rips if found else ():
             paths = found[:count]
             for path in paths:
@@ -187,7 +188,7 @@ class WayMaker:
 class NearbyPaths:
     """Which paths have cells near some items, and which cells near them are fixed."""
 
-    def __init__(self, items: list[Item], paths: list[Path], fixed: list[Item]) -> None:
+    def __init__(self, items: list[Footprint], paths: list[Path], fixed: list[Footprint]) -> None:
         cells = [cell_of_number(number) for item in items for number in (*item.mirrors, *chain(*item.touched_parts))]
         columns, rows = [x for x, _ in cells] or [0], [y for _, y in cells] or [0]
         self.left, self.right, self.top, self.bottom = min(columns), max(columns), min(rows), max(rows)
@@ -207,7 +208,7 @@ class NearbyPaths:
             if first <= cell < last and self.left <= cell & ROW_STRIDE - 1 <= self.right:
                 owners.setdefault(cell, set()).add(owner)
 
-    def paths_met_by(self, item: Item) -> set[int] | None:
+    def paths_met_by(self, item: Footprint) -> set[int] | None:
         """Returns the paths that an item meets in space, at whatever times; None if it meets something fixed."""
         met: set[int] = set()
         for cell in item.mirrors:

@@ -17,7 +17,7 @@ from typing import Callable, Iterator
 
 from ..host.signals import Stopped
 from ..texts.circuits import Circuit
-from ..texts.limits import SECOND, limits_for, with_limits_line
+from ..texts.limits import SECOND_LIMITS, limits_for, with_limits_line
 from .attempt import Attempt, OutOfTimeError
 from .board import FailureKind, NoRouteError, Placement
 from .certificate import Certifier, bundle_text, circuit_section
@@ -26,7 +26,7 @@ from .design import Design, cropped_design
 from .estimate import Estimate, estimate_of
 from .netlist import RouterNetlist
 from .partial import (EFFORT_SHARE, INTERRUPT_SECONDS, LEAST_SECONDS, PartialRoute, hurried_design, partial_design,
-                      partial_text)
+                      circuit_section_text)
 from .settings import Settings
 from .world import TILE
 
@@ -41,8 +41,8 @@ CELLS_PER_STEP = 2.6
 # If more balls than this end beyond those that begin, attempts also run backward in time, and first if the circuit
 # takes few steps by estimate: two levels of 48 gates got 640 cells a side and 257 steps backward, and 704 and 370
 # forward.
-MOST_GROWTH = 20
-SHALLOW_STEPS = 200
+MOST_EXTRA_ENDS = 20
+MAX_SHALLOW_STEPS = 200
 # The attempts of `--compact` after a layout, by the part of its area that the plane has at most. The first one that
 # succeeds gives the next layout.
 COMPACT_SHARES = (*(0.8,) * 3, *(0.9,) * 6)
@@ -68,7 +68,7 @@ class SearchOptions:
     @property
     def most_side(self) -> int:
         """The side up to which a plane may grow: not at all if a side is given."""
-        return self.side or SECOND.max_side
+        return self.side or SECOND_LIMITS.max_side
 
 
 @dataclass(frozen=True)
@@ -123,7 +123,7 @@ def estimated_side(netlist: RouterNetlist) -> int:
     balls = max(len(netlist.free_roots()), len(netlist.circuit.outputs) + len(netlist.circuit.spills))
     area += balls * (steps + 16) * CELLS_PER_STEP
     side = LEAST_SIDE
-    while side < SECOND.max_side and side * side * FILL_SHARE < area:
+    while side < SECOND_LIMITS.max_side and side * side * FILL_SHARE < area:
         side += 2 * TILE
     return side
 
@@ -136,9 +136,9 @@ def netlists_of(circuit: Circuit, options: SearchOptions) -> list[RouterNetlist]
     alone, and only they have late inputs.
     """
     forward, backward = RouterNetlist(circuit, late=options.late), RouterNetlist(circuit, is_backward=True)
-    if options.late or len(backward.free_roots()) - len(forward.free_roots()) <= MOST_GROWTH:
+    if options.late or len(backward.free_roots()) - len(forward.free_roots()) <= MOST_EXTRA_ENDS:
         return [forward]
-    is_shallow = max(forward.tails.values(), default=0) <= SHALLOW_STEPS
+    is_shallow = max(forward.tails.values(), default=0) <= MAX_SHALLOW_STEPS
     return [backward, forward] if is_shallow and not options.keeps_partial else [forward, backward]
 
 
@@ -172,7 +172,7 @@ def plans_of(netlists: list[RouterNetlist], options: SearchOptions, settings: Se
             netlist, seed = netlists[index % len(netlists)], attempt_seed(options, index)
             yield AttemptPlan(netlist, side, options.most_side, seed, settings)
             index += 1
-        side = side if options.side else min(SECOND.max_side, side + max(2 * TILE, side // 4 // TILE * TILE))
+        side = side if options.side else min(SECOND_LIMITS.max_side, side + max(2 * TILE, side // 4 // TILE * TILE))
 
 
 def smaller_plane(width: int, height: int, part: float) -> tuple[int, int]:
@@ -194,7 +194,7 @@ def compact_settings(settings: Settings) -> Settings:
     succeeded on 192 by 192 cells, and none of 3 without.
     """
     return replace(settings, failures=3, place_tries=400, lane_cells=0, reserved_steps=(8,),
-                   least_parking=SECOND.max_steps)
+                   least_parking=SECOND_LIMITS.max_steps)
 
 
 def compact_plans(netlist: RouterNetlist, options: SearchOptions, settings: Settings, routed: RoutedBundle,
@@ -278,13 +278,13 @@ class Search:
             self.outcome.attempts = index + 1
             attempt = plan.attempt(self.deadline)
             try:
-                design = attempt.run(lambda placed, total: self.progress(index + 1, attempt.board.size, placed, total))
+                design = attempt.run(lambda placed, total: self.progress(index + 1, attempt.board.width, placed, total))
                 self.outcome.routed = routed_bundle(self.circuit_text, design, not self.options.side)
                 return index
             except NoRouteError as error:
                 self.note_failure(error, attempt.most_placed)
             finally:
-                self.note_partial(attempt.most_placed, attempt.best_steps, attempt.board.size)
+                self.note_partial(attempt.most_placed, attempt.best_steps, attempt.board.width)
                 if self.options.has_map:
                     self.note_crowding(attempt.most_placed, crowding_of(attempt.board))
         return None
@@ -338,21 +338,21 @@ def run_attempt(connection: Connection, task: AttemptTask) -> None:
     def tell(placed: int, total: int) -> None:
         """Sends that gates were placed."""
         is_best = task.keeps_partial and placed == attempt.most_placed
-        connection.send(("placed", placed, attempt.board.size, attempt.best_steps if is_best else None))
+        connection.send(("placed", placed, attempt.board.width, attempt.best_steps if is_best else None))
 
     def tell_crowding() -> None:
         """Sends how crowded the plane is, if that is asked for."""
         if task.has_map:
-            connection.send(("crowded", attempt.most_placed, attempt.board.size, crowding_of(attempt.board)))
+            connection.send(("crowded", attempt.most_placed, attempt.board.width, crowding_of(attempt.board)))
 
     try:
         design = attempt.run(tell)
         tell_crowding()
-        connection.send(("routed", attempt.most_placed, attempt.board.size,
+        connection.send(("routed", attempt.most_placed, attempt.board.width,
                          routed_bundle(task.circuit_text, design, task.is_cropped)))
     except NoRouteError as error:
         tell_crowding()
-        connection.send(("failed", attempt.most_placed, attempt.board.size, error))
+        connection.send(("failed", attempt.most_placed, attempt.board.width, error))
     finally:
         connection.close()
 
@@ -455,6 +455,6 @@ def partial_bundle(circuit: Circuit, outcome: SearchOutcome, options: SearchOpti
     if found is None:
         return None
     try:
-        return routed_bundle(partial_text(found.circuit), found).text, len(found.gates)
+        return routed_bundle(circuit_section_text(found.circuit), found).text, len(found.gates)
     except NoRouteError:
         return None

@@ -31,7 +31,7 @@ RIM_CELLS = 2
 TILE = 16
 TILE_BITS = 4
 # The square of `taken_count_around` has sides of twice this many cells.
-AROUND_CELLS = 32
+HALF_SQUARE_SIDE = 32
 BITS = [1 << index for index in range(ROW_STRIDE)]
 # The steps of a bounce in which the lead and the tail claim the blocks that they would claim if they flew on, and the
 # steps before the next flight in which they claim blocks as if it began earlier. These are all blocks of the bounce.
@@ -70,7 +70,7 @@ NumberParts = tuple[Iterable[int], ...]
 
 
 @dataclass(frozen=True)
-class Item:
+class Footprint:
     """What a path or a gate's cell takes: numbers of mirror cells, and in parts those of touched cells and of blocks at
     times."""
 
@@ -88,13 +88,13 @@ class Item:
         """The blocks at times."""
         return set().union(*self.claim_parts)
 
-    def moved(self, x: int, y: int, time: int) -> "Item":
+    def moved(self, x: int, y: int, time: int) -> "Footprint":
         """Returns what the item takes elsewhere and later."""
         base = y * ROW_STRIDE + x
         start = time * STEP_STRIDE + base
         touched = array("q", (base + number for number in chain(*self.touched_parts)))
         claims = array("q", (start + number for number in chain(*self.claim_parts)))
-        return Item(frozenset(base + number for number in self.mirrors), (touched,), (claims,))
+        return Footprint(frozenset(base + number for number in self.mirrors), (touched,), (claims,))
 
     @cached_property
     def tiles(self) -> frozenset[int]:
@@ -159,7 +159,7 @@ def add_touched(ball: Ball, steps: int, touched: list[Iterable[int]]) -> None:
                 for other in ((1, ROW_STRIDE) if dx == dy else (0, ROW_STRIDE + 1))]
 
 
-def path_item(ball: Ball, legs: Iterable[Leg], begun: int = 0) -> Item | None:
+def path_item(ball: Ball, legs: Iterable[Leg], begun: int = 0) -> Footprint | None:
     """Returns what a path takes, or None if the ball would come to one of its own mirrors at another time than it
     should.
 
@@ -185,17 +185,18 @@ def path_item(ball: Ball, legs: Iterable[Leg], begun: int = 0) -> Item | None:
     else:
         # The legs end at a bounce.
         add_claims(ball.flown(begun), 0, early, False, claims)
-    item = Item(frozenset(mirrors), tuple(touched), tuple(claims))
+    item = Footprint(frozenset(mirrors), tuple(touched), tuple(claims))
     return item if all(item.mirrors.isdisjoint(part) for part in touched) else None
 
 
-def cell_item(cell: GateCell, x: int, y: int, time: int) -> Item:
+def cell_item(cell: GateCell, x: int, y: int, time: int) -> Footprint:
     """Returns what a gate's cell takes at a place and a time."""
     mirrors, touched, claims = cell_shape(cell)
     base = y * ROW_STRIDE + x
     start = time * STEP_STRIDE + base
-    return Item(frozenset(base + number for number in mirrors), (array("q", [base + number for number in touched]),),
-                (array("q", [start + number for number in claims]),))
+    return Footprint(frozenset(base + number for number in mirrors),
+                     (array("q", [base + number for number in touched]),),
+                     (array("q", [start + number for number in claims]),))
 
 
 # The numbers of mirrors, touched cells and blocks at times of each cell of the library, which lives as long as the
@@ -256,12 +257,12 @@ class World:
         self.height += cells
         self.counts.extend(array("H", [0]) * (ROW_STRIDE * cells))
 
-    def add(self, item: Item) -> None:
+    def add(self, item: Footprint) -> None:
         """Adds an item."""
         self.claims.update(*item.claim_parts)
         self.mirrors |= item.mirrors
         for number in item.mirrors:
-            self._flip(number, self.mirror_falling, self.mirror_rising)
+            self._flip_diagonals(number, self.mirror_falling, self.mirror_rising)
         counts, bits, rows, falling, rising = self.counts, BITS, self.blocked, self.blocked_falling, self.blocked_rising
         for number in chain(item.mirrors, *item.touched_parts):
             counts[number] += 1
@@ -272,12 +273,12 @@ class World:
                 falling[y - x + ROW_STRIDE] |= bit
                 rising[y + x] |= bit
 
-    def remove(self, item: Item) -> None:
+    def remove(self, item: Footprint) -> None:
         """Removes an item."""
         self.claims.difference_update(*item.claim_parts)
         self.mirrors -= item.mirrors
         for number in item.mirrors:
-            self._flip(number, self.mirror_falling, self.mirror_rising)
+            self._flip_diagonals(number, self.mirror_falling, self.mirror_rising)
         counts, bits, rows, falling, rising = self.counts, BITS, self.blocked, self.blocked_falling, self.blocked_rising
         for number in chain(item.mirrors, *item.touched_parts):
             counts[number] -= 1
@@ -288,13 +289,13 @@ class World:
                 falling[y - x + ROW_STRIDE] ^= bit
                 rising[y + x] ^= bit
 
-    def _flip(self, number: int, falling: list[int], rising: list[int]) -> None:
+    def _flip_diagonals(self, number: int, falling: list[int], rising: list[int]) -> None:
         """Adds a cell to the diagonals, or takes it away."""
         x, y = number & ROW_STRIDE - 1, number >> ROW_BITS
         falling[y - x + ROW_STRIDE] ^= 1 << x
         rising[y + x] ^= 1 << x
 
-    def can_add(self, item: Item) -> bool:
+    def can_add(self, item: Footprint) -> bool:
         """Whether an item may be added: it meets nothing that is there, neither in space nor in time."""
         counts, mirrors, claims = self.counts, self.mirrors, self.claims
         return (not any(counts[number] for number in item.mirrors)
@@ -358,8 +359,8 @@ class World:
 
     def taken_count_around(self, x: int, y: int) -> int:
         """Returns how many cells are taken in a square around a cell."""
-        low, high = max(0, y - AROUND_CELLS), min(self.height, y + AROUND_CELLS)
-        left = max(0, x - AROUND_CELLS)
-        mask = (1 << 2 * AROUND_CELLS) - 1
-        outside = (2 * AROUND_CELLS - (high - low)) * 2 * AROUND_CELLS
+        low, high = max(0, y - HALF_SQUARE_SIDE), min(self.height, y + HALF_SQUARE_SIDE)
+        left = max(0, x - HALF_SQUARE_SIDE)
+        mask = (1 << 2 * HALF_SQUARE_SIDE) - 1
+        outside = (2 * HALF_SQUARE_SIDE - (high - low)) * 2 * HALF_SQUARE_SIDE
         return outside + sum((row >> left & mask).bit_count() for row in self.blocked[low:high])

@@ -13,7 +13,7 @@ from ..texts import json_form
 from ..texts.documents import read_document
 from ..texts.refusals import explain_refusal
 from ..texts.skimming import design_text
-from ..texts.spelling import source_line, spelled_text
+from ..texts.spelling import source_line_number, spelling_of
 from .folder import ChangedError, Folder, FolderError, bytes_of, digest_of, text_of
 from .guard import Denied
 from .jobs import Jobs
@@ -22,9 +22,9 @@ from .routes import RouteSearches
 # The folders of the examples, in a clone and in an installation.
 EXAMPLE_FOLDERS = [PACKAGE_FOLDER.parent.parent / "examples",
                    PACKAGE_FOLDER.parent.parent.parent / "share" / "doc" / "bbmcheck" / "examples"]
-EMPTY_TEXT = "circuit\nend\nlayout 48 48 40\nend\n"
+BLANK_BUNDLE_TEXT = "circuit\nend\nlayout 48 48 40\nend\n"
 Answer = dict[str, Any]
-NO_PROGRAM: Answer = {"error": "The program was not found: name it with --program PATH or set BBMCHECK."}
+NO_PROGRAM_ANSWER: Answer = {"error": "The program was not found: name it with --program PATH or set BBMCHECK."}
 
 
 def text_member(body: Answer, name: str) -> str:
@@ -36,7 +36,7 @@ def text_member(body: Answer, name: str) -> str:
 
 
 @lru_cache(maxsize=None)
-def cells() -> list[Answer]:
+def cell_catalogue() -> list[Answer]:
     """Returns the standard cells with their layouts, circuits and ports."""
     found = []
     for name in standard_cells.cell_names():
@@ -101,7 +101,7 @@ class Answers:
         name = text_member(body, "name")
         data = self.folder.read(name)
         if data is None:
-            return {"name": name, "text": EMPTY_TEXT, "digest": None}
+            return {"name": name, "text": BLANK_BUNDLE_TEXT, "digest": None}
         return {"name": name, "text": text_of(data), "digest": digest_of(data)}
 
     def save(self, body: Answer) -> Answer:
@@ -121,29 +121,29 @@ class Answers:
     def refusal(self, body: Answer) -> Answer:
         """Returns where the lab's reader refuses the circuit and the layout, or null."""
         source = bytes_of(text_member(body, "text")).decode("latin-1")
-        text = spelled_text(source).text
+        text = spelling_of(source).text
         document = read_document(design_text(text) or text, "design")
         if document.refusal is None:
             return {"refusal": None}
         told = explain_refusal(document, document.refusal)
-        return {"refusal": {"line": source_line(source, text, document.refusal.line), "code": document.refusal.code,
-                            "words": told.what, "rule": told.rule,
+        return {"refusal": {"line": source_line_number(source, text, document.refusal.line),
+                            "code": document.refusal.code, "words": told.what, "rule": told.rule,
                             "hints": told.hints}}
 
     def spelling(self, body: Answer) -> Answer:
         """Returns a text in the one spelling that the program reads, and how many comments that leaves out."""
-        made = spelled_text(bytes_of(text_member(body, "text")).decode("latin-1"))
+        made = spelling_of(bytes_of(text_member(body, "text")).decode("latin-1"))
         return {"text": text_of(made.text.encode("latin-1")), "comments": made.comments}
 
     def cells(self, _body: Answer) -> Answer:
         """Returns the standard cells."""
-        return {"cells": cells()}
+        return {"cells": cell_catalogue()}
 
     def template(self, body: Answer) -> Answer:
         """Returns the text of an example, of a standard cell or of an empty layout."""
         name = text_member(body, "name")
         if name == "empty":
-            return {"text": EMPTY_TEXT}
+            return {"text": BLANK_BUNDLE_TEXT}
         if name.startswith("example "):
             path = examples().get(name.removeprefix("example "))
             if path is None:
@@ -165,20 +165,20 @@ class Answers:
         if not isinstance(seconds, (int, float)) or not isinstance(seed, int) or bool in (type(seconds), type(seed)):
             raise Denied(400, "the request has no numbers `seconds` and `seed`")
         text, tab = text_member(body, "text"), text_member(body, "tab")
-        return self.routes.begin(tab, text, seconds, seed, ports) if self.routes else NO_PROGRAM
+        return self.routes.begin(tab, text, seconds, seed, ports) if self.routes else NO_PROGRAM_ANSWER
 
     def routed(self, body: Answer) -> Answer:
         """Returns what became of the search of a tab."""
-        return self.routes.state(text_member(body, "tab")) if self.routes else NO_PROGRAM
+        return self.routes.state(text_member(body, "tab")) if self.routes else NO_PROGRAM_ANSWER
 
     def unroute(self, body: Answer) -> Answer:
         """Ends the search of a tab."""
-        return self.routes.cancel(text_member(body, "tab")) if self.routes else NO_PROGRAM
+        return self.routes.cancel(text_member(body, "tab")) if self.routes else NO_PROGRAM_ANSWER
 
     def job(self, body: Answer) -> Answer:
         """Runs a job that may take a while."""
         if self.jobs is None:
-            return NO_PROGRAM
+            return NO_PROGRAM_ANSWER
         body = {"stage": "", "earlier": "", **body}
         for name in ("text", "tab",
                      *{"verdict": ("stage", "earlier"), "explain": ("bundle", "report"),

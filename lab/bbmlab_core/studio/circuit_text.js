@@ -25,7 +25,7 @@ const withoutMark = (text) => (text.startsWith("\ufeff") ? text.slice(1) : text)
  * Returns the words of each line of a text that has any, and the limits by the first of them, which is left out if it
  * is a line of limits.
  */
-function textLines(text) {
+function wordLines(text) {
   const lines = withoutMark(text).split("\n").map(wordsOf).filter((words) => words.length);
   const own = limits.limitsOf(lines[0] || []);
   return { lines: own.line ? lines.slice(1) : lines, limits: own };
@@ -66,7 +66,7 @@ function addLine(circuit, known, words) {
  * boolean}}
  */
 function readCircuit(text) {
-  const circuit = { inputs: [], gates: [], outputs: [], spills: [] }, known = new Set(), { lines } = textLines(text);
+  const circuit = { inputs: [], gates: [], outputs: [], spills: [] }, known = new Set(), { lines } = wordLines(text);
   const isWhole = lines.length > 0 && lines[0][0] === "circuit"
     && lines.map((words) => addLine(circuit, known, words)).every(Boolean);
   return { ...circuit, names: known, isWhole };
@@ -118,4 +118,4 @@ function joinCircuit(rows, count, lines, names) {
   rows.splice(0, count, ...head);
 }
 
-export { readCircuit, freshNames, joinCircuit, wordsOf, withoutMark, circuitLines, textLines };
+export { readCircuit, freshNames, joinCircuit, wordsOf, withoutMark, circuitLines, wordLines };

@@ -29,17 +29,17 @@ from ..texts.certificates import Certificate
 from ..texts.circuits import Circuit, Gate
 from ..texts.documents import Document, read_document
 from ..texts.layouts import Cell, Layout
-from ..texts.limits import SECOND, limits_for, with_limits_line
+from ..texts.limits import SECOND_LIMITS, limits_for, with_limits_line
 from ..texts.skimming import design_text
-from ..texts.spelling import spelled_text
+from ..texts.spelling import spelling_of
 from .machines import EndBall, MachineRun
 from .verdicts import Judge
 
 # The columns and rows around the layout that may be used, and the steps to spare of the ball, by the attempts.
-ADDED_CELLS = (0, 32, 64, 128, 256, 512)
+MARGINS_BY_ATTEMPT = (0, 32, 64, 128, 256, 512)
 SPARE_STEPS = (60, 150, 250)
 # The further steps for each cell between the two ports: the ball flies round what is in the way.
-DETOUR = 0.35
+DETOUR_STEPS_PER_CELL = 0.35
 # The seconds in which the program and the lab's search for a certificate must end.
 CHECK_SECONDS = 20.0
 
@@ -70,7 +70,7 @@ class ConnectionWiring(JoinWiring):
         # All balls are of one layout, so none has to leave it.
         self.world.boxes, self.world.box_of_tile = [], {}
 
-    def closed_end(self) -> str:
+    def closed_end_words(self) -> str:
         """Says which open end no ball can leave even if no other ball is led, or returns nothing."""
         for index, ball, sign in self.blocked_ends():
             where = "behind it" if sign > 0 else "before it"
@@ -103,8 +103,8 @@ class PortConnection:
                 raise LabError(f"{what[:1].upper()}{what[1:]} has {count or 'no'} {'balls' if count > 1 else 'ball'}: "
                                "just one can be connected.")
         self.out, self.goal = outs[0], goals[0]
-        self.late = self.run.machine_of_number(next(number for number, port in enumerate(self.run.starts)
-                                                    if port.wire == given))
+        self.late = self.run.machine_of_ball(next(number for number, port in enumerate(self.run.starts)
+                                                  if port.wire == given))
         if self.run.machine_of_end_ball(self.out.ball) == self.late:
             raise LabError(f"The times do not fit: the ball of {given} meets balls that {output} comes from, so it "
                            f"cannot start after {output} has come out.")
@@ -114,25 +114,27 @@ class PortConnection:
         ball, goal = self.out.ball, self.goal
         far = max(abs(ball.x - goal.x), abs(ball.y - goal.y))
         straight = [goal_time for goal_time in (ball.time + far,) if ball.flown(far) == goal.moved(0, 0, goal_time)]
-        return straight + [(ball.time + int((1 + DETOUR) * far) + slack + 1) // 2 * 2 for slack in SPARE_STEPS]
+        return straight + [(ball.time + int((1 + DETOUR_STEPS_PER_CELL) * far) + slack + 1) // 2 * 2
+                           for slack in SPARE_STEPS]
 
-    def plan(self, delay: int, room: int) -> JoinPlan:
+    def join_plan(self, delay: int, room: int) -> JoinPlan:
         """Returns which balls are led on the layout with some columns and rows around it."""
         layout, run, end = self.layout, self.run, self.layout.steps + delay
         side = max(layout.width, layout.height) + 2 * room
-        if side > SECOND.max_side or end > SECOND.max_steps:
+        if side > SECOND_LIMITS.max_side or end > SECOND_LIMITS.max_steps:
             raise LabError(f"The layout would take {side} columns or rows and {end} steps, which is not allowed.")
         late = {self.late}
-        soon = {run.machine_of_number(number) for number in range(len(run.starts))} - late
+        soon = {run.machine_of_ball(number) for number in range(len(run.starts))} - late
         placed = []
         for numbers, own_time in ((soon, 0), (late, delay)):
             text = PartText(self.circuit, Layout(layout.width, layout.height, layout.steps), Certificate(), [], [],
-                            run.machines_item(numbers, own_time == 0))
+                            run.machines_footprint(numbers, own_time == 0))
             placed.append(PlacedPart(NamedPart("", text), room, room, own_time))
-        jobs = [BallJob(self.output, placed[0].ball(self.out.ball), placed[1].ball(self.goal), delay)]
-        jobs += [BallJob(port.wire, None, placed[1].ball(port.ball), delay) for number, port in enumerate(run.starts)
-                 if run.machine_of_number(number) == self.late and port.ball != self.goal]
-        jobs += [BallJob(end_ball.name or "", placed[0].ball(end_ball.ball), None, end)
+        jobs = [BallJob(self.output, placed[0].placed_ball(self.out.ball), placed[1].placed_ball(self.goal), delay)]
+        jobs += [BallJob(port.wire, None, placed[1].placed_ball(port.ball), delay) for number,
+                 port in enumerate(run.starts)
+                 if run.machine_of_ball(number) == self.late and port.ball != self.goal]
+        jobs += [BallJob(end_ball.name or "", placed[0].placed_ball(end_ball.ball), None, end)
                  for end_ball in self.moved_ends()]
         return JoinPlan(side, end, placed, jobs, side, side)
 
@@ -221,7 +223,7 @@ class ConnectedText:
     def ports(self) -> Iterator[tuple[str, str | None, Cell]]:
         """Yields the kind, the name and the cell of each port."""
         own, run = self.connection, self.connection.run
-        led = {cell for number, port in enumerate(run.starts) if run.machine_of_number(number) == own.late
+        led = {cell for number, port in enumerate(run.starts) if run.machine_of_ball(number) == own.late
                for cell in port.ball.cells()}
         ended = {cell for end in (*own.moved_ends(), own.out) for cell in end.ball.cells()}
         for part in own.layout.parts:
@@ -242,11 +244,11 @@ class ConnectedText:
 def lead_all(connection: PortConnection, deadline: float, seed: int) -> ConnectedText:
     """Leads all balls, on ever larger planes. Raises LabError if that was not done in time."""
     why = ""
-    for room in ADDED_CELLS:
+    for room in MARGINS_BY_ATTEMPT:
         for delay in connection.possible_delays():
-            plan = connection.plan(delay, room)
+            plan = connection.join_plan(delay, room)
             wiring = ConnectionWiring(plan, seed, deadline)
-            why = wiring.closed_end()
+            why = wiring.closed_end_words()
             if why:
                 break
             try:
@@ -260,7 +262,7 @@ def lead_all(connection: PortConnection, deadline: float, seed: int) -> Connecte
 
 def connect_ports(text: str, ports: tuple[str, str], deadline: float, seed: int) -> ConnectedText:
     """Returns the connection of an output and an input of a text."""
-    head = design_text(spelled_text(text).text)
+    head = design_text(spelling_of(text).text)
     document = read_document(head, "design")
     if document.refusal or not document.circuit or not document.layout:
         raise LabError("The circuit and the layout cannot be read: fix this first.")

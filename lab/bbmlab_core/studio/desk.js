@@ -97,7 +97,7 @@ class Desk {
   }
 
   /** Sets whether the waveform is shown. Its signals are recorded only then. */
-  setWave(isShown) {
+  setWaveformShown(isShown) {
     this.hasWave = isShown;
     this.refresh();
   }
@@ -142,11 +142,11 @@ class Desk {
   /**
    * Returns the ends of the balls as parts, when the worker is done, or null if not all choices of the inputs were run.
    */
-  async endParts() {
+  async ballEndParts() {
     if (!this.isExact || !this.circuit) return null;
     while (this.isExact && this.surveyOrder !== this.order)
         await new Promise((resolve) => { setTimeout(resolve, 10); });
-    return this.circuit && this.isExact ? surveys.endParts(this.survey, this.circuit.outputs, this.layout) : null;
+    return this.circuit && this.isExact ? surveys.ballEndParts(this.survey, this.circuit.outputs, this.layout) : null;
   }
 }
 

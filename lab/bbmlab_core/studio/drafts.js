@@ -46,7 +46,7 @@ async function findDrafts(folder, name) {
     if (!key.startsWith(PREFIX)) continue;
     try {
       const [place, file, tab] = JSON.parse(key.slice(PREFIX.length)), draft = JSON.parse(localStorage.getItem(key));
-      const isOther = tab !== server.tab && held.includes(server.lockOf(tab));
+      const isOther = tab !== server.tab && held.includes(server.lockName(tab));
       if (place === folder && file === name && !isOther
           && typeof draft.text === "string") drafts.push({ ...draft, tab });
     } catch { /* Somebody else's entry. */ }

@@ -4,10 +4,10 @@
  */
 import { plural } from "../view/stage.js";
 import * as geometry from "./geometry.js";
-import { cellParts, refusalOf } from "./model.js";
+import { standardCellParts, refusalOf } from "./model.js";
 
-const CELL_KINDS = ["ball", "in", "out", "waste"];
-const CLICK_MIRROR = [4, 2];
+const CELL_PART_KINDS = ["ball", "in", "out", "waste"];
+const CLICK_MIRROR_SIZE = [4, 2];
 
 /** Returns the box of cells between two cells. */
 const boxBetween = ([x, y], [u, v]) => [Math.min(x, u), Math.min(y, v), Math.abs(x - u) + 1, Math.abs(y - v) + 1];
@@ -63,7 +63,7 @@ class Tools {
   /**
    * Keeps the selection on its parts after a change, since their lines may have moved. Another file begins without one.
    */
-  followLines() {
+  keepSelection() {
     const { model } = this, lines = model.movedLines(model === this.followed ? this.selection : []);
     this.followed = model;
     this.select(model.partsOfLines(lines).map(({ line }) => line));
@@ -88,7 +88,7 @@ class Tools {
 
   /** Returns the parts that a tool would put at a cell, or null. */
   partsFor(cell) {
-    if (!CELL_KINDS.includes(this.name)) return null;
+    if (!CELL_PART_KINDS.includes(this.name)) return null;
     const isLate = this.name === "out" || this.name === "waste";
     const name = this.name === "in" || this.name === "out" ? this.wire : null;
     const cells = this.isPair ? geometry.pairCells(cell, isLate ? this.steps : 0) : [cell];
@@ -98,7 +98,7 @@ class Tools {
   /** Returns the mirror for a box that was dragged: the nearest one that stays. A click makes one of 4 by 2 cells. */
   mirrorFor(start, end) {
     const { width, height } = this.desk.layout, isClick = start[0] === end[0] && start[1] === end[1];
-    const wanted = isClick ? [...start, ...CLICK_MIRROR] : boxBetween(start, end);
+    const wanted = isClick ? [...start, ...CLICK_MIRROR_SIZE] : boxBetween(start, end);
     const box = geometry.snapMirror(wanted, width, height);
     return { wanted, parts: box ? [{ kind: "mirror", name: null, box, line: -1 }] : [] };
   }
@@ -121,8 +121,8 @@ class Tools {
       return;
     }
     if (this.name === "mirror") this.showMirror(cell, cell);
-    else if (this.name === "cell" && this.cell) this.showCell(cell);
-    else if (this.name === "paste") this.show(this.pasteGhost(cell));
+    else if (this.name === "cell" && this.cell) this.showStandardCell(cell);
+    else if (this.name === "paste") this.show(this.copiedGhost(cell));
     else if (this.name === "connect") this.showConnection(cell);
     else {
       const parts = this.partsFor(cell);
@@ -158,10 +158,10 @@ class Tools {
   }
 
   /** Shows the standard cell at a place, with its ports and their times. */
-  showCell(cell) {
+  showStandardCell(cell) {
     const { layout, ports, name } = this.cell, [x, y] = this.cornerFor(cell, this.cell);
     const steps = Math.max(layout.steps, this.steps);
-    const parts = cellParts(layout, x, y, this.hasWires ? (wire) => wire : null, steps);
+    const parts = standardCellParts(layout, x, y, this.hasWires ? (wire) => wire : null, steps);
     const isFit = layout.width <= this.desk.layout.width && layout.height <= this.desk.layout.height;
     const reason = isFit ? this.model.whyNot(parts)
       : `The cell ${name} takes ${layout.width} by ${layout.height} cells. Press to make the layout larger.`;
@@ -203,7 +203,7 @@ class Tools {
   }
 
   /** Returns the ghost of the copied parts with their frame near a cell. */
-  pasteGhost([x, y]) {
+  copiedGhost([x, y]) {
     if (this.clipboard.length === 0) return null;
     const [left, top] = geometry.evenFrame(this.clipboard.map(({ box }) => box));
     const [dx, dy] = [x - x % 2 - left, y - y % 2 - top];
@@ -244,13 +244,13 @@ class Tools {
     this.pressed = null;
     if (mode === "mirror") this.tryCommand(() => this.model.add(this.mirrorFor(start, end).parts, "mirror"));
     else if (mode === "move") this.endMove(move);
-    else if (mode === "frame") this.endFrame(boxBetween(start, end), isMore);
+    else if (mode === "frame") this.selectInFrame(boxBetween(start, end), isMore);
     else if (mode === "cell") this.placeCell(end);
     else if (mode === "paste") this.placeCopies(end);
     else if (mode === "connect") {
       this.connectAt(end);
       return;
-    } else if (CELL_KINDS.includes(mode)) this.tryCommand(() => this.model.addCells(this.partsFor(end)));
+    } else if (CELL_PART_KINDS.includes(mode)) this.tryCommand(() => this.model.addCellParts(this.partsFor(end)));
     this.sketch.ghost = null;
     this.sketch.frame2 = null;
     this.sketch.requestOver();
@@ -270,12 +270,12 @@ class Tools {
       if (!isLarger || !this.tryCommand(() => this.model.resize(...size, steps))) return;
     }
     this.tryCommand(
-      () => this.model.insertCell({ layout, circuit }, ...this.cornerFor(cell, this.cell), this.hasWires));
+      () => this.model.insertStandardCell({ layout, circuit }, ...this.cornerFor(cell, this.cell), this.hasWires));
   }
 
   /** Puts the copied parts at a place, and selects them. */
   placeCopies(cell) {
-    const ghost = this.pasteGhost(cell);
+    const ghost = this.copiedGhost(cell);
     if (!ghost) return;
     let lines = [];
     if (!this.tryCommand(() => { lines = this.model.add(ghost.parts, "paste"); })) return;
@@ -324,7 +324,7 @@ class Tools {
   endMove(move) { if (move && (move[0] || move[1])) this.nudge(...move); }
 
   /** Selects the parts that lie in a frame. */
-  endFrame([x, y, w, h], isMore) {
+  selectInFrame([x, y, w, h], isMore) {
     const inside = this.model.parts.filter(({ box: [u, v, wide, high] }) =>
       u >= x && v >= y && u + wide <= x + w && v + high <= y + h);
     this.select([...(isMore ? this.selection : []), ...inside.map(({ line }) => line)]);
@@ -340,7 +340,7 @@ class Tools {
   }
 
   /** Moves the selection one place on in a direction: by the least move that keeps its behaviour. */
-  nudgeOne(dx, dy) {
+  nudgeOnePlace(dx, dy) {
     const parts = this.model.partsOfLines(this.selection);
     const far = parts.length === 1 && parts[0].kind !== "mirror" ? 1 : 2;
     this.nudge(dx * far, dy * far);
@@ -380,7 +380,7 @@ class Tools {
 
   /** Puts outputs and waste where the balls end, in the place of those that are there. */
   async placeEnds() {
-    const parts = await this.desk.endParts();
+    const parts = await this.desk.ballEndParts();
     if (!parts) {
       this.say("This needs ways under all inputs, at most five inputs, and a circuit that can be read.", true);
       return;

@@ -10,7 +10,7 @@ from pathlib import Path
 from ..host.replacing import ChangedFileError, replace_file
 
 # A name of a file of the folder: no path, no hidden file, no control character.
-FILE_NAME = re.compile(r"[^./\\\x00-\x1f\x7f][^/\\\x00-\x1f\x7f]{0,200}\.txt\Z")
+FILE_NAME_PATTERN = re.compile(r"[^./\\\x00-\x1f\x7f][^/\\\x00-\x1f\x7f]{0,200}\.txt\Z")
 # A page takes some 30 bytes of memory for each byte of a text, whose lines it keeps for undo, and sends the whole text
 # after each edit. Texts may be eight times as long by their limits (docs/FORMATS.md).
 MAX_FILE_BYTES = 32 << 20
@@ -57,7 +57,7 @@ class Folder:
     def names(self) -> list[str]:
         """Returns the `.txt` files of the folder that can be opened, and the opened file if it exists."""
         try:
-            found = {entry.name for entry in os.scandir(self.place) if FILE_NAME.match(entry.name)
+            found = {entry.name for entry in os.scandir(self.place) if FILE_NAME_PATTERN.match(entry.name)
                      and entry.is_file(follow_symlinks=False)}
         except OSError as error:
             raise FolderError(f"{self.place}: {error.strerror or error}") from error
@@ -65,7 +65,7 @@ class Folder:
 
     def path_of(self, name: str) -> Path:
         """Returns the path of a file of the folder. Raises FolderError if the name is not one of them, or is a link."""
-        if name != self.name and not FILE_NAME.match(name):
+        if name != self.name and not FILE_NAME_PATTERN.match(name):
             raise FolderError("a name of a file ends with .txt and contains no folder")
         path = self.place / name
         try:

@@ -48,17 +48,17 @@ function mirrorKeys(mirrors) {
 }
 
 /** Whether a block of a partition has one live cell, or two on a diagonal. */
-function isMovedBlock(keys, x, y) {
+function isMovingBlock(keys, x, y) {
   const [a, b, c, d] = [[0, 0], [1, 0], [0, 1], [1, 1]].map(([dx, dy]) => keys.has(keyOf(x + dx, y + dy)));
   const count = a + b + c + d;
   return count === 1 || count === 2 && a === d;
 }
 
 /** Returns a corner cell of a mirror that a step moves, with all mirrors of the layout, or null. */
-function movedCorner([x, y, w, h], keys) {
+function movingCorner([x, y, w, h], keys) {
   for (const odd of [0, 1]) {
     for (const [u, v] of [[x, y], [x + w - 1, y], [x, y + h - 1], [x + w - 1, y + h - 1]]) {
-      if (isMovedBlock(keys, u - (u + odd) % 2, v - (v + odd) % 2)) return [u, v];
+      if (isMovingBlock(keys, u - (u + odd) % 2, v - (v + odd) % 2)) return [u, v];
     }
   }
   return null;
@@ -70,7 +70,7 @@ function movedCorner([x, y, w, h], keys) {
 function fallingMirrors(mirrors) {
   if (mirrors.every(isStable)) return [];
   const keys = mirrorKeys(mirrors);
-  return mirrors.filter((box) => !isStable(box)).map((box) => ({ box, cell: movedCorner(box, keys) }))
+  return mirrors.filter((box) => !isStable(box)).map((box) => ({ box, cell: movingCorner(box, keys) }))
     .filter(({ cell }) => cell !== null);
 }
 

@@ -41,7 +41,7 @@ class Guard:
         """The address that lets one browser in. Browsers send no request with what is behind `#`."""
         return f"http://{self.host}/#{self.token}"
 
-    def key_for(self, token: str) -> str:
+    def exchange_token(self, token: str) -> str:
         """Returns the key for the token, which then no longer counts: another one is next.
 
         Raises Denied for any other word.

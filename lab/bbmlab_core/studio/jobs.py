@@ -78,7 +78,7 @@ class JobWorker:
                     f"{signal.Signals(-status).name if -status in set(signal.Signals) else f'signal {-status}'}")
         return f"the lab's process ended with status {status}, and standard error of `bbmlab studio` may say why"
 
-    def release(self) -> None:
+    def close_pipes(self) -> None:
         """Closes the pipes.
 
         Only the thread that waits for an answer may do so: another one could be given the number of a closed pipe.
@@ -141,7 +141,7 @@ class Jobs:
         was_replaced = worker.is_ended or self.newest[tab] != ticket
         ended = "" if was_replaced or worker.is_late else worker.how_ended()
         worker.end()
-        worker.release()
+        worker.close_pipes()
         if was_replaced:
             return {"replaced": True}
         return {"error": f"There is no answer: the time limit of {self.seconds:g} seconds was reached."
@@ -155,4 +155,4 @@ class Jobs:
         if worker:
             worker.end()
             if is_idle:
-                worker.release()
+                worker.close_pipes()

@@ -13,7 +13,7 @@ from ..joining.lone_ways import whole_balls_of
 from ..joining.parts import part_item, start_ports
 from ..pictures.drawing import wire_tables
 from ..route.balls import Ball, block_corner, start_state, state_after_step
-from ..route.world import ROW_STRIDE, STEP_STRIDE, Item, cell_number
+from ..route.world import ROW_STRIDE, STEP_STRIDE, Footprint, cell_number
 from ..texts.documents import Document
 from ..texts.layouts import Cell
 
@@ -48,7 +48,7 @@ class MachineRun:
         self.run()
         self.ends = self.end_balls()
 
-    def machine_of_number(self, number: int) -> int:
+    def machine_of_ball(self, number: int) -> int:
         """Returns the machine of a ball."""
         while self.root[number] != number:
             self.root[number] = number = self.root[self.root[number]]
@@ -61,10 +61,10 @@ class MachineRun:
         for time in range(self.layout.steps):
             blocks: dict[Cell, int] = {}
             for cell in live:
-                corner, own = block_corner(cell, time), self.machine_of_number(self.machine[cell])
+                corner, own = block_corner(cell, time), self.machine_of_ball(self.machine[cell])
                 other = blocks.setdefault(corner, own)
                 if other != own:
-                    self.root[own] = self.machine_of_number(other)
+                    self.root[own] = self.machine_of_ball(other)
             following = state_after_step(self.mirrors, live, self.full, set(blocks))
             moves += len(live)
             if following is None or not all(map(self.layout.has, following)):
@@ -93,11 +93,11 @@ class MachineRun:
 
     def machine_of_end_ball(self, ball: Ball) -> int:
         """Returns the machine of a ball at the last time."""
-        return self.machine_of_number(self.machine[ball.cells()[0]])
+        return self.machine_of_ball(self.machine[ball.cells()[0]])
 
-    def machines_item(self, numbers: set[int], is_for_mirrors: bool) -> Item:
+    def machines_footprint(self, numbers: set[int], is_for_mirrors: bool) -> Footprint:
         """Returns what some machines take. Mirrors, which are nobody's, are in one of the items."""
-        claims = {claim for number, own in enumerate(self.claims) if self.machine_of_number(number) in numbers
+        claims = {claim for number, own in enumerate(self.claims) if self.machine_of_ball(number) in numbers
                   for claim in own}
         machines_item = part_item(frozenset(map(cell_number, self.mirrors)), list(flights_in(claims)))
         return machines_item if is_for_mirrors else replace(machines_item, mirrors=frozenset())

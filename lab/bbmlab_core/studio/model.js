@@ -12,7 +12,7 @@ const { wordsOf, withoutMark } = circuitText;
 const KINDS = ["mirror", "ball", "in", "out", "waste"];
 const NUMBER_COUNTS = { mirror: 4, ball: 2, in: 2, out: 2, waste: 2 };
 const NAME = /^[a-z][a-z0-9_]{0,31}$/, NUMBER = /^(0|[1-9][0-9]{0,8})$/;
-const LINE = /^(\ufeff?[ \t]*)([^#]*?)([ \t\r]*(?:#.*)?)$/s;
+const LINE_PATTERN = /^(\ufeff?[ \t]*)([^#]*?)([ \t\r]*(?:#.*)?)$/s;
 
 /** A command that cannot be done. The message is for the user. */
 class ModelRefusal extends Error {}
@@ -32,21 +32,21 @@ function refusalOf(command) {
 const firstWord = (line) => wordsOf(line)[0] ?? "";
 
 // The parts of the lines that were read, since an edit changes few of many lines.
-const knownParts = new Map(), MAX_KNOWN = 200000;
+const partsByText = new Map(), MAX_KNOWN = 200000;
 
 /** Returns the part that a line names, or null. A line that was read before is not read again. */
-function partAt(text, line) {
-  let part = knownParts.get(text);
+function partOfLine(text, line) {
+  let part = partsByText.get(text);
   if (part === undefined) {
-    if (knownParts.size >= MAX_KNOWN) knownParts.clear();
-    part = partOf(text);
-    knownParts.set(text, part);
+    if (partsByText.size >= MAX_KNOWN) partsByText.clear();
+    part = parsePart(text);
+    partsByText.set(text, part);
   }
   return part && { ...part, line };
 }
 
 /** Returns the part that a line names, without its place, or null. */
-function partOf(text) {
+function parsePart(text) {
   const words = wordsOf(text), kind = words[0], hasName = kind === "in" || kind === "out";
   if (!KINDS.includes(kind) || words.length !== 1 + NUMBER_COUNTS[kind] + Number(hasName)) return null;
   const numbers = words.slice(hasName ? 2 : 1);
@@ -56,14 +56,14 @@ function partOf(text) {
 }
 
 /** Returns the line of a part. */
-function lineOf({ kind, name, box }) {
+function lineText({ kind, name, box }) {
   return [kind, ...(name === null || name === undefined ? [] : [name]),
     ...(kind === "mirror" ? box : box.slice(0, 2))].join(" ");
 }
 
 /** Returns a line with other words; its indentation and comment stay. */
 function withOtherWords(text, words) {
-  const [, before, , after] = LINE.exec(text);
+  const [, before, , after] = LINE_PATTERN.exec(text);
   return before + words + after;
 }
 
@@ -167,7 +167,7 @@ class Model {
     this.parts = [];
     this.filed = null;
     for (let line = start + 1; start >= 0 && line < this.end; line += 1) {
-      const part = partAt(this.lines[line], line);
+      const part = partOfLine(this.lines[line], line);
       if (part) this.parts.push(part);
     }
     this.header = this.readHeader();
@@ -360,11 +360,11 @@ class Model {
    * Adds balls, ports or waste cells. An input that the circuit does not have becomes one, and so does an output whose
    * wire is not used.
    */
-  addCells(parts) {
+  addCellParts(parts) {
     this.require(parts);
     const { kind, name } = parts[0], { names, inputs, outputs, spills, gates, isWhole } = this.circuit, lines = [];
     const used = new Set([...outputs, ...spills, ...gates.flatMap(({ ins }) => ins)]);
-    const isRead = isWhole || circuitText.textLines(this.headText).lines.length === 0;
+    const isRead = isWhole || circuitText.wordLines(this.headText).lines.length === 0;
     if (isRead && kind === "in" && !names.has(name)) lines.push(`input ${name}`);
     if (isRead && kind === "out" && names.has(name) && !used.has(name)) lines.push(`output ${name}`);
     if (isRead && kind === "in" && names.has(name)
@@ -392,7 +392,7 @@ class Model {
   insertRows(rows, parts) {
     const end = wordsOf(this.lines[this.start]).length && this.lines[this.start].endsWith("\r") ? "\r" : "", added = [];
     for (const kind of [...KINDS].reverse()) {
-      const fresh = parts.filter((part) => part.kind === kind).map((part) => ({ text: lineOf(part) + end }));
+      const fresh = parts.filter((part) => part.kind === kind).map((part) => ({ text: lineText(part) + end }));
       const before = this.parts.filter((part) => KINDS.indexOf(part.kind) <= KINDS.indexOf(kind))
         .map(({ line }) => line);
       rows.splice(Math.max(this.start, ...before) + 1, 0, ...fresh);
@@ -417,7 +417,7 @@ class Model {
   replace(parts, label = "change") {
     this.require(parts, parts.map(({ line }) => line));
     return this.edit(label, (rows) => parts.map((part) => {
-      rows[part.line].text = withOtherWords(rows[part.line].text, lineOf(part));
+      rows[part.line].text = withOtherWords(rows[part.line].text, lineText(part));
       return rows[part.line];
     }));
   }
@@ -457,7 +457,7 @@ class Model {
     if (fresh.length) this.require(fresh, flying.map(({ line }) => line));
     this.edit("size", (rows) => {
       rows[this.start].text = withOtherWords(rows[this.start].text, `layout ${width} ${height} ${steps}`);
-      for (const part of fresh) rows[part.line].text = withOtherWords(rows[part.line].text, lineOf(part));
+      for (const part of fresh) rows[part.line].text = withOtherWords(rows[part.line].text, lineText(part));
       return [];
     });
   }
@@ -478,7 +478,7 @@ class Model {
       rows[this.start].text = withOtherWords(rows[this.start].text, `layout ${wide} ${high} ${steps}`);
       for (const part of geometry.shiftedParts(this.parts, left, above))
           rows[part.line].text = withOtherWords(rows[part.line].text,
-          lineOf(part));
+          lineText(part));
       if (most > this.limits.maxSide) {
         rows[0].text = withoutMark(rows[0].text);
         rows.unshift({ text: limits.SECOND.line });
@@ -507,17 +507,17 @@ class Model {
    * are added: their wires get other names if theirs are taken. Otherwise mirrors and constant balls are added alone.
    * @param {{layout: Layout, circuit: string[]}} cell @param {number} x @param {number} y @param {boolean} hasWires
    */
-  insertCell({ layout, circuit }, x, y, hasWires) {
+  insertStandardCell({ layout, circuit }, x, y, hasWires) {
     if (x % 2 || y % 2) throw new ModelRefusal("A cell is moved by even numbers of columns and rows.");
     const names = circuitText.freshNames(circuit, this.circuit.names);
     const steps = Math.max(layout.steps, this.header ? this.header.steps : 0);
-    const parts = cellParts(layout, x, y, hasWires ? (name) => names.get(name) : null, steps);
+    const parts = standardCellParts(layout, x, y, hasWires ? (name) => names.get(name) : null, steps);
     const flying = hasWires && steps > this.header.steps
       ? this.parts.filter(({ kind }) => kind === "out" || kind === "waste") : [];
     const fresh = geometry.flownParts(flying, this.header.steps, steps - this.header.steps);
     this.require([...parts, ...fresh], flying.map(({ line }) => line));
     return this.edit("cell", (rows) => {
-      for (const part of fresh) rows[part.line].text = withOtherWords(rows[part.line].text, lineOf(part));
+      for (const part of fresh) rows[part.line].text = withOtherWords(rows[part.line].text, lineText(part));
       if (hasWires) rows[this.start].text = withOtherWords(rows[this.start].text,
           `layout ${this.header.width} ${this.header.height} ${steps}`);
       const added = this.insertRows(rows, parts);
@@ -531,7 +531,7 @@ class Model {
  * Returns the parts of a standard cell at a place; `nameOf` gives wires new names, and is null without wires. Outputs
  * fly on to `steps`.
  */
-function cellParts(layout, x, y, nameOf, steps) {
+function standardCellParts(layout, x, y, nameOf, steps) {
   const one = (kind, name, cell) => ({ kind, name, box: [cell[0], cell[1], 1, 1], line: -1 });
   const firm = [...layout.mirrors.map((box) => ({ kind: "mirror", name: null, box, line: -1 })),
     ...layout.balls.map((cell) => one("ball", null, cell))];
@@ -543,4 +543,4 @@ function cellParts(layout, x, y, nameOf, steps) {
   return geometry.shiftedParts([...firm, ...ins, ...flown], x, y);
 }
 
-export { Model, ModelRefusal, cellParts, refusalOf };
+export { Model, ModelRefusal, standardCellParts, refusalOf };

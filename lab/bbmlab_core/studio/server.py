@@ -118,7 +118,7 @@ class Handler(BaseHTTPRequestHandler):
 
     def enter(self, token: str) -> dict[str, str]:
         """Lets a browser in."""
-        key = self.server.guard.key_for(token)
+        key = self.server.guard.exchange_token(token)
         self.server.on_entry()
         return {"key": key}
 

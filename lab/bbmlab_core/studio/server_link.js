@@ -6,7 +6,7 @@
 const TAB = "bbmlab tab", KEY = "bbmlab key";
 // How long a page that is loaded again waits until the one before has let go of the tab's number, in milliseconds.
 const TAB_DELAY = 500;
-const lockOf = (tab) => `${TAB} ${tab}`;
+const lockName = (tab) => `${TAB} ${tab}`;
 
 /**
  * Holds the lock of a tab's number until the page is closed. Resolves to whether no other page holds it, as far as the
@@ -14,7 +14,7 @@ const lockOf = (tab) => `${TAB} ${tab}`;
  */
 function holdTab(tab, options = {}) {
   return new Promise((resolve) => {
-    navigator.locks.request(lockOf(tab), options, () => {
+    navigator.locks.request(lockName(tab), options, () => {
       resolve(true);
       return new Promise(() => {});
     }).catch(() => resolve(false));
@@ -75,6 +75,6 @@ async function request(name, body = {}) {
 }
 
 // `tab` is known when the first answer is there. `draftWords` says what becomes of the text without a server.
-const server = { request, tab: null, lockOf, draftWords: () => "" };
+const server = { request, tab: null, lockName, draftWords: () => "" };
 
 export { server };

@@ -35,7 +35,7 @@ class SidePanels {
       element(id).addEventListener("input", () => { this.typed = id; });
       element(id).addEventListener("change", () => this.resize());
     }
-    element("enlarge").addEventListener("click", () => this.chooseRoom());
+    element("enlarge").addEventListener("click", () => this.chooseMargins());
     const pane = element("circuit");
     pane.addEventListener("input",
       () => desk.model.setHead(pane.value === "" ? "" : pane.value.replace(/\n$/, ""), "typing"));
@@ -72,7 +72,7 @@ class SidePanels {
   }
 
   /** Asks how many columns and rows are added at each side, and adds them. */
-  async chooseRoom() {
+  async chooseMargins() {
     const fields = ["left", "above", "right", "below"].map(
       (side) =>
       Object.assign(newElement("input"), { type: "number", min: 0, max: 4096, step: 2, value: 16, ariaLabel: side }));
@@ -96,7 +96,7 @@ class SidePanels {
     const [width, height, steps] = NUMBERS.map((id) => Number(element(id).value)), { layout, model } = this.desk;
     const isFollowed = element("follow").checked;
     this.typed = null;
-    if (isFollowed && steps !== layout.steps && this.followRun(width, height, steps)) {
+    if (isFollowed && steps !== layout.steps && this.resizeWithEnds(width, height, steps)) {
       this.say("");
       return;
     }
@@ -109,7 +109,7 @@ class SidePanels {
    * Sets size and steps, and puts the outputs and waste cells where the balls end then, as one command. Returns whether
    * it was done: only if they are where the balls end now. Else they are not drawn yet, and fly straight on.
    */
-  followRun(width, height, steps) {
+  resizeWithEnds(width, height, steps) {
     const { desk: { model } } = this, isEnd = ({ kind }) => kind === "out" || kind === "waste";
     const ends = model.parts.filter(isEnd);
     const now = model.layout && ends.length ? surveys.endsOf(model.layout, model.circuit, MAX_FOLLOW_MILLISECONDS)

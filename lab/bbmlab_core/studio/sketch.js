@@ -10,12 +10,12 @@ import * as surveys from "./survey.js";
 
 const { RULER } = painting;
 // A way in a survey has five numbers: x, y, x, y and a colour.
-const WIRE_INKS = 8, NUMBERS_PER_WAY = 5, PORT_FONT = "600 12px system-ui, sans-serif";
+const WIRE_INK_COUNT = 8, NUMBERS_PER_WAY = 5, PORT_FONT = "600 12px system-ui, sans-serif";
 
 /** Returns the colours of wires as the page is shown now. */
 function wireInks() {
   const style = getComputedStyle(document.documentElement);
-  return [...Array(WIRE_INKS).keys()].map((index) => style.getPropertyValue(`--wire-${index}`).trim());
+  return [...Array(WIRE_INK_COUNT).keys()].map((index) => style.getPropertyValue(`--wire-${index}`).trim());
 }
 
 class Sketch extends Stage {
@@ -59,7 +59,7 @@ class Sketch extends Stage {
   /** Returns the colour of a wire by its number in the survey's order. */
   inkOf(colour, inks, place) {
     if (colour === surveys.CONSTANT_COLOUR) return place.inks.soft;
-    return colour === surveys.OTHER_COLOUR ? place.inks.border : inks[(colour - 1) % WIRE_INKS];
+    return colour === surveys.OTHER_COLOUR ? place.inks.border : inks[(colour - 1) % WIRE_INK_COUNT];
   }
 
   /** Draws at the next frame. The layout with its ways is drawn again too. */

@@ -20,17 +20,17 @@ const TOOLS = { select: ["select", "v", "Press a part, or drag a frame. Drag the
   erase: ["erase", "e", "Press or drag over parts."], cell: ["cell", "c", "Press to put a standard cell."],
   connect: ["connect", "j", "Press an output and then an input: mirrors lead the ball there."],
     hand: ["hand", "h", "Drag to move the picture."] };
-const KEYS =
+const KEYS_TEXT =
   "Letters choose tools. On the picture: arrows move the cursor, Enter uses the tool (twice for a mirror or a frame), "
   + "Alt with arrows moves the selection, Delete removes it, r rotates it, x and y reflect it, Escape ends. "
   + "Shift with arrows moves the picture, + − 0 zoom, space plays, comma and period step. "
   + "Ctrl-Z and Ctrl-Y undo and redo, Ctrl-C, Ctrl-X and Ctrl-V copy, cut and paste, Ctrl-S saves.";
 const PAN_STEP = 40;
-const canvasParts = { whole: element("whole"), wave: element("wave"), waveBox: element("wave-box"),
+const canvasElements = { whole: element("whole"), wave: element("wave"), waveBox: element("wave-box"),
   waveRest: element("wave-rest"), waveCursor: element("wave-cursor") };
 const desk = new Desk("circuit\nend\nlayout 48 48 40\nend\n",
   new Worker("studio/survey_worker.js", { type: "module" }));
-const sketch = new Sketch(desk, canvasParts), minimap = new Minimap(sketch, element("map"));
+const sketch = new Sketch(desk, canvasElements), minimap = new Minimap(sketch, element("map"));
 const tools = new Tools(desk, sketch, say);
 const panels = new SidePanels(desk, sketch, say);
 const verdicts = new VerdictPanel(desk, sketch);
@@ -56,7 +56,7 @@ function showTool() {
   element("selection-part").hidden = tools.name !== "select" && tools.name !== "paste";
   ends.hidden = tools.name !== "out" && tools.name !== "waste";
   element("tool-words").textContent = tools.name === "paste" ? "Press where the copy goes." : TOOLS[tools.name][2];
-  canvasParts.whole.dataset.tool = tools.name;
+  canvasElements.whole.dataset.tool = tools.name;
   if (isPort) suggestWire();
   if (tools.name === "out" || tools.name === "waste") desk.player.goTo(desk.layout.steps);
   else if (["mirror", "ball", "in", "cell"].includes(tools.name) && desk.player.run.time !== 0) desk.player.seek(0);
@@ -94,7 +94,7 @@ function showTime() {
   Object.assign(element("slider"), { max: steps, value: target });
   element("slider").setAttribute("aria-valuetext", `time ${run.time} of ${steps}`);
   element("time").textContent = `${run.time} of ${steps}`;
-  sketch.moveCursor();
+  sketch.moveWaveCursor();
   sketch.requestPaint();
 }
 
@@ -103,7 +103,7 @@ const showCell = () => sketch.showWords(element("cell"), sketch.cursor || sketch
 /** Shows the desk after a change. */
 function showChange() {
   sketch.takeLayout();
-  tools.followLines();
+  tools.keepSelection();
   if (tools.name === "in" || tools.name === "out") suggestWire();
   element("hint").hidden = desk.model.parts.length > 0 || !desk.model.header;
   const why = desk.fallen.length ? geometry.fallReason(desk.fallen[0].box) : null;
@@ -143,7 +143,7 @@ const actions = {
 const CONTROL = { z: actions.undo, y: actions.redo, Z: actions.redo, c: () => tools.copy(), x: actions.cut,
   v: actions.paste, s: () => files.save() };
 const ARROWS = { ArrowLeft: [-1, 0], ArrowRight: [1, 0], ArrowUp: [0, -1], ArrowDown: [0, 1] };
-const PLAIN = { Delete: () => tools.remove(), Backspace: () => tools.remove(), r: () => tools.turn("rotate"),
+const PLAIN_KEYS = { Delete: () => tools.remove(), Backspace: () => tools.remove(), r: () => tools.turn("rotate"),
   x: () => tools.turn("flip-x"), y: () => tools.turn("flip-y"),
   Escape: () => {
     tools.cancel();
@@ -153,12 +153,12 @@ const PLAIN = { Delete: () => tools.remove(), Backspace: () => tools.remove(), r
   }, Enter: () => pressCursor(), " ": actions.play, ",": () => actions.step(-1),
   ".": () => actions.step(1), Home: actions.first, End: actions.last, "+": () => sketch.zoom(1.25),
     "=": () => sketch.zoom(1.25), "-": () => sketch.zoom(0.8), 0: () => sketch.fit() };
-for (const [name, [, key]] of Object.entries(TOOLS)) PLAIN[key] = () => choose(name);
+for (const [name, [, key]] of Object.entries(TOOLS)) PLAIN_KEYS[key] = () => choose(name);
 
 /** Moves the keyboard's cursor, the selection or the picture. */
 function onArrow(event, [dx, dy]) {
   if (event.altKey) {
-    tools.nudgeOne(dx, dy);
+    tools.nudgeOnePlace(dx, dy);
     return;
   }
   if (event.shiftKey) {
@@ -200,13 +200,13 @@ function onKey(event) {
     if (!Object.hasOwn(CONTROL, key) || isField && !(target.id === "circuit" || isNumber ? "szyZ" : "s").includes(key))
         return;
     // Words that are marked, as in the report, are for the browser to copy.
-    if (key === "c" && target !== canvasParts.whole && !getSelection().isCollapsed) return;
+    if (key === "c" && target !== canvasElements.whole && !getSelection().isCollapsed) return;
     // A number that is typed and not taken yet is the first thing to undo.
     if (!(isNumber && "zyZ".includes(key) && panels.cancelTyping(target.id))) CONTROL[key]();
   } else if (isField) return;
-  else if (ARROWS[key] && target === canvasParts.whole) onArrow(event, ARROWS[key]);
-  else if (Object.hasOwn(PLAIN, key) && !(target.tagName === "BUTTON" && " Enter".includes(key))
-    && !(key === "Enter" && target !== canvasParts.whole)) PLAIN[key]();
+  else if (ARROWS[key] && target === canvasElements.whole) onArrow(event, ARROWS[key]);
+  else if (Object.hasOwn(PLAIN_KEYS, key) && !(target.tagName === "BUTTON" && " Enter".includes(key))
+    && !(key === "Enter" && target !== canvasElements.whole)) PLAIN_KEYS[key]();
   else return;
   event.preventDefault();
 }
@@ -284,7 +284,7 @@ function listenToButtons() {
     element("gates").open = true;
     element("circuit").focus();
   });
-  element("keys").textContent = KEYS;
+  element("keys").textContent = KEYS_TEXT;
 }
 
 const ends = button("put outputs and waste where the balls end", () => tools.placeEnds());
@@ -304,8 +304,8 @@ function listenToChanges() {
     [[`make the layout ${size.join(" by ")}`, () => true], ["cancel", () => null]]);
   tools.onConnect = (output, input) => router.connect(output, input);
   verdicts.onInputs = () => panels.showInputs();
-  element("wave-part").addEventListener("toggle", () => desk.setWave(element("wave-part").open));
-  const { wave } = canvasParts;
+  element("wave-part").addEventListener("toggle", () => desk.setWaveformShown(element("wave-part").open));
+  const { wave } = canvasElements;
   const seek = (event) => { if (event.buttons & 1) desk.player.seek(sketch.timeAt(event.offsetX)); };
   for (const name of ["pointerdown", "pointermove"]) wave.addEventListener(name, seek);
   sketch.listen(() => panels.showLegend());
@@ -326,11 +326,11 @@ async function begin() {
   if (!start.program.path) showNotice(`There are no verdicts: the program was not found (${start.program.why}).`);
   files.takeFile(start);
   sketch.fit();
-  await takeCells();
+  await loadStandardCells();
 }
 
 /** Asks the server for the standard cells. */
-async function takeCells() {
+async function loadStandardCells() {
   const { cells = [] } = await server.request("cells"), list = element("cell-name");
   list.replaceChildren(...cells.map(({ name }) => Object.assign(newElement("option", name), { value: name })));
   const take = () => { tools.cell = cells.find(({ name }) => name === list.value) || null; };
@@ -340,7 +340,7 @@ async function takeCells() {
 
 listenToButtons();
 element("choices-of-tool").append(ends);
-listenToPointers(canvasParts.whole);
+listenToPointers(canvasElements.whole);
 listenToChanges();
 choose("mirror");
 begin();

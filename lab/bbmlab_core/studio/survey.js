@@ -151,7 +151,7 @@ class Survey {
       const block = grid.blockOf(now[index], odd);
       if (passes[block] === pass) continue;
       passes[block] = pass;
-      this.turnBlock(block);
+      this.applyBlockRule(block);
     }
     if (this.time === 0) {
       this.next.set(this.first, this.nextCount);
@@ -168,7 +168,7 @@ class Survey {
    * Applies the block rule to a block in all choices at once: one ball crosses the block; two on a diagonal go to the
    * other diagonal; everything else stays (Margolus 1984, block rule).
    */
-  turnBlock(a) {
+  applyBlockRule(a) {
     const { live, next } = this, b = a + 1, c = a + this.grid.row, d = c + 1, la = live[a], lb = live[b], lc = live[c];
     const ld = live[d], any = la | lb | lc | ld;
     if (any === 0) return;
@@ -404,7 +404,7 @@ function ballsOf(cells, time) {
  * Returns output and waste cells for all cells that balls reach at the end of a survey of all choices: an output where
  * the cell is live if and only if its wire is true, and else waste.
  */
-function endParts({ live, isMirror, tables }, outputs, { width, height, steps }) {
+function ballEndParts({ live, isMirror, tables }, outputs, { width, height, steps }) {
   const grid = new Grid({ width, height }), wires = new Map(), cells = new Map(), parts = [];
   for (const name of outputs) {
     const table = tables.get(name) || 0;
@@ -434,9 +434,9 @@ function endsOf(layout, circuit, milliseconds) {
   if (!circuit.isWhole || circuit.inputs.length > 5) return null;
   const run = new Survey(layout, circuit, allChoices(circuit.inputs)), until = performance.now() + milliseconds;
   while (!run.isEnded && performance.now() < until) run.advance(4);
-  return run.isEnded && run.leftAt === null ? endParts(run, circuit.outputs, layout) : null;
+  return run.isEnded && run.leftAt === null ? ballEndParts(run, circuit.outputs, layout) : null;
 }
 
 export {
-  Survey, TruthTableRun, endsOf, allChoices, sampledChoices, endParts, CONSTANT_COLOUR, OTHER_COLOUR, LANE_COUNT,
+  Survey, TruthTableRun, endsOf, allChoices, sampledChoices, ballEndParts, CONSTANT_COLOUR, OTHER_COLOUR, LANE_COUNT,
 };

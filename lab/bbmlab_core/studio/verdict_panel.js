@@ -6,7 +6,7 @@ import { server } from "./server_link.js";
 
 const VERDICT_DELAY = 200, MAX_RINGS = 40, RETRY_DELAY = 2000;
 const TITLES = { yes: "yes", no: "no", refused: "refused", none: "no certificate found", unknown: "no answer" };
-const BY_WORDS = { own: "with the certificate of the text", earlier: "with the last certificate that got a yes",
+const ORIGIN_WORDS = { own: "with the certificate of the text", earlier: "with the last certificate that got a yes",
   plain: "with a certificate of one module",
   certify: "with a certificate that the lab made" };
 
@@ -155,7 +155,7 @@ class VerdictPanel {
     const { program, verdict } = this;
     if (!program || !program.path) return "";
     const release = program.is_release ? " of the release" : "";
-    const by = BY_WORDS[verdict.by] && verdict.verdict !== "refused" ? `, ${BY_WORDS[verdict.by]}` : "";
+    const by = ORIGIN_WORDS[verdict.by] && verdict.verdict !== "refused" ? `, ${ORIGIN_WORDS[verdict.by]}` : "";
     const more = verdict.is_last ? "" : "; looking for another one…";
     return `says ${program.version || program.path}${release}${by}${more}`;
   }

@@ -6,7 +6,7 @@ Only the program gives a verdict. The lab makes the certificates, the words and 
 from dataclasses import dataclass, field
 from typing import Any, Sequence
 
-from ..certify.certifier import CertificatePlan, certified_text
+from ..certify.certifier import CertificateOptions, certified_text
 from ..explain.diagnosis import Diagnosis, Tristate
 from ..explain.explaining import explain_report, tried_in_vain_words
 from ..explain.fixing import Fix, Fixer, outcome_words
@@ -21,10 +21,10 @@ from ..texts.layouts import Cell, Layout
 from ..texts.refusals import explain_code, explain_refusal
 from ..texts.reports import ReportLine, ReportOrRefusal, ReportError, parse_report
 from ..texts.skimming import cuts_of, design_text
-from ..texts.spelling import source_line, spelled_text
+from ..texts.spelling import source_line_number, spelling_of
 
 # The most lines of a report for which fixes are looked for one by one, and the most lines that are sent to the page.
-MAX_FIXED_LINES, MAX_LINES = 6, 200
+MAX_FIXED_LINES, MAX_SENT_LINES = 6, 200
 NO_OTHER_FOUND = {"own": "The certificate of the text was checked. The lab found no other one:",
             "earlier": "The last certificate that got a yes was checked. The lab found no other one:"}
 
@@ -62,7 +62,7 @@ class Judge:
 
     def __init__(self, text: str, program: Executable, seconds: float, earlier: str = "") -> None:
         self.source, self.program, self.seconds, self.earlier = text, program, seconds, earlier
-        self.text = spelled_text(text).text
+        self.text = spelling_of(text).text
         self.head = design_text(self.text)
         self.until = processor_seconds() + seconds
         self.inputs: Sequence[str] = ()
@@ -78,7 +78,7 @@ class Judge:
         `other` is `made` after a no: no certificate is made if the program's runs show that none gets a yes.
         """
         try:
-            wrong = self.wrong_end(read_document(self.head, "design")) if stage == "other" else None
+            wrong = self.wrong_end_words(read_document(self.head, "design")) if stage == "other" else None
             if wrong:
                 return Verdict("none", [wrong])
             is_first_wanted = stage not in ("made", "other")
@@ -115,7 +115,7 @@ class Judge:
         found.is_last = False
         return found
 
-    def wrong_end(self, design: Document) -> str | None:
+    def wrong_end_words(self, design: Document) -> str | None:
         """Says why no certificate gets a yes, if the program's run with all inputs on, or with none, does not end as
         the circuit and the layout ask."""
         circuit, layout = design.circuit, design.layout
@@ -151,7 +151,7 @@ class Judge:
         """Returns the verdict with a certificate that `certify` makes: first without runs of its modules, which the
         program repeats."""
         try:
-            plan = CertificatePlan(until=self.until, is_tried=False)
+            plan = CertificateOptions(until=self.until, is_tried=False)
             quick = self.bundle_verdict(certified_text(design, None, plan), "certify")
             if quick.verdict == "yes":
                 return quick
@@ -159,7 +159,7 @@ class Judge:
             if outcome.is_right is Tristate.NO:
                 quick.words.append(outcome.why_no_yes)
                 return quick
-            return self.bundle_verdict(certified_text(design, None, CertificatePlan(until=self.until)), "certify")
+            return self.bundle_verdict(certified_text(design, None, CertificateOptions(until=self.until)), "certify")
         except LabError as error:
             reason = str(error)
             return Verdict("none", [f"{reason[:1].upper()}{reason[1:]}."], "certify")
@@ -174,7 +174,7 @@ class Judge:
             return self.refusal_verdict(bundle, report.refused, answer.output)
         if (answer.status, report.verdict) not in ((0, "yes"), (1, "no")):
             raise ReportError(f"the program ended with status {answer.status} and wrote `verdict {report.verdict}`")
-        found, cuts = report.faults[:MAX_LINES], cuts_of(bundle) if report.faults else []
+        found, cuts = report.faults[:MAX_SENT_LINES], cuts_of(bundle) if report.faults else []
         faults = [fault_json(cuts, self.inputs, finding) for finding in found]
         count = len(report.faults)
         words = [] if report.verdict == "yes" else [
@@ -187,8 +187,8 @@ class Judge:
         document = read_document(bundle, "check")
         same = document.refusal is not None and (document.refusal.line, document.refusal.code) == refused
         told = explain_refusal(document, document.refusal) if same and document.refusal else explain_code(line, code)
-        return Verdict("refused", told.what, "own", bundle, output, line=source_line(self.source, self.text, line),
-                       code=code, rule=told.rule,
+        return Verdict("refused", told.what, "own", bundle, output,
+                       line=source_line_number(self.source, self.text, line), code=code, rule=told.rule,
                        hints=told.hints)
 
 
@@ -239,13 +239,13 @@ def explained_answer(text: str, bundle: str, output: str, program: Executable, s
     `text` is the page's, `bundle` is what the program read.
     """
     trial = TrialRunner(program, Budget(200, seconds))
-    has_own = design_text(spelled_text(text).text) != spelled_text(text).text
+    has_own = design_text(spelling_of(text).text) != spelling_of(text).text
     report = parse_report(output)
     document = read_document(bundle, "check")
     made = explain_report(document, report, "", None)
     fixer = Fixer(bundle if has_own or not report.refused else design_text(bundle), report, trial)
     entries: list[dict[str, Any]] = [{"line": entry.report_line, "what": entry.what, "fix": None}
-                                     for entry in made.entries if entry.is_against][:MAX_LINES]
+                                     for entry in made.entries if entry.is_against][:MAX_SENT_LINES]
     whole = fixer.find_fix()
     forms = {entry["line"]: entry for entry in entries}
     # Without a certificate of its own a text has no lines that fixes of single lines could change.
@@ -272,7 +272,7 @@ def fix_json(fix: Fix | None, report: ReportOrRefusal, has_own: bool) -> dict[st
 
 def fixes_of_design(text: str, program: Executable, seconds: float) -> dict[str, Any]:
     """Returns fixes of a text for which no certificate was found."""
-    trial, head = TrialRunner(program, Budget(200, seconds)), design_text(spelled_text(text).text)
+    trial, head = TrialRunner(program, Budget(200, seconds)), design_text(spelling_of(text).text)
     report = trial.report(head)
     fixer = Fixer(head, report, trial) if report else None
     whole = fixer.find_fix() if fixer else None

@@ -27,7 +27,7 @@ from ..pictures import drawing, golly
 from ..texts.documents import Document, read_document
 from ..texts.layouts import Layout
 from ..texts.reports import ReportError
-from ..texts.spelling import spelled_text
+from ..texts.spelling import spelling_of
 from ..view import viewing
 from .folder import FolderError, bytes_of
 from .verdicts import Judge, explained_answer, fixes_of_design
@@ -38,14 +38,14 @@ FIX_SECONDS = 8.0
 EXPORT_FORMS = ("svg", "golly", "page")
 
 
-def lab_text(text: str) -> str:
+def text_of_bytes(text: str) -> str:
     """Returns a text of the page as the lab has it: one character for each byte."""
     return bytes_of(text).decode("latin-1")
 
 
 def verdict(job: dict[str, Any], asked: Executable, seconds: float) -> dict[str, Any]:
     """Returns the verdict on a text."""
-    judge = Judge(lab_text(job["text"]), asked, seconds, lab_text(job.get("earlier", "")))
+    judge = Judge(text_of_bytes(job["text"]), asked, seconds, text_of_bytes(job.get("earlier", "")))
     return asdict(judge.verdict(job.get("stage", "")))
 
 
@@ -54,13 +54,13 @@ def explain(job: dict[str, Any], asked: Executable, seconds: float) -> dict[str,
     """
     limit = min(FIX_SECONDS, seconds)
     if not job["report"]:
-        return fixes_of_design(lab_text(job["text"]), asked, limit)
-    return explained_answer(lab_text(job["text"]), job["bundle"], job["report"], asked, limit)
+        return fixes_of_design(text_of_bytes(job["text"]), asked, limit)
+    return explained_answer(text_of_bytes(job["text"]), job["bundle"], job["report"], asked, limit)
 
 
 def export(job: dict[str, Any], asked: Executable, seconds: float) -> dict[str, Any]:
     """Returns a text in another form: `svg`, `golly` or `page`."""
-    document = read_document(spelled_text(lab_text(job["bundle"] or job["text"])).text)
+    document = read_document(spelling_of(text_of_bytes(job["bundle"] or job["text"])).text)
     if document.refusal or document.layout is None:
         raise LabError("The text is refused, so it cannot be exported.")
     form, name = job["form"], str(job["name"])
@@ -110,8 +110,8 @@ def answer(line: str, asked: Executable, seconds: float) -> dict[str, Any]:
 
 def kill_program(_number: int, _frame: FrameType | None) -> None:
     """Kills the program that runs, and ends soon."""
-    if program.SHARED_PROGRAMS:
-        program.SHARED_PROGRAMS.kill_all()
+    if program.SHARED_RUNNING_PROGRAMS:
+        program.SHARED_RUNNING_PROGRAMS.kill_all()
     signal.signal(signal.SIGALRM, lambda *_: os._exit(143))
     signal.setitimer(signal.ITIMER_REAL, 0.1)
 
@@ -125,7 +125,7 @@ def main() -> int:
     limit = memory if most == resource.RLIM_INFINITY else min(memory, most)
     resource.setrlimit(resource.RLIMIT_AS, (limit, limit))
     resource.setrlimit(resource.RLIMIT_CORE, (0, 0))
-    program.SHARED_PROGRAMS = program.RunningPrograms()
+    program.SHARED_RUNNING_PROGRAMS = program.RunningPrograms()
     signal.signal(signal.SIGTERM, kill_program)
     signal.signal(signal.SIGHUP, kill_program)
     signal.signal(signal.SIGINT, signal.SIG_IGN)

@@ -14,7 +14,7 @@ MAX_BOX_SIDE = 64
 MAX_CUTS = 12
 MAX_USES = 64
 MAX_BORDER_LINES = 65_536
-PORT_TILE = 16
+PORT_TILE_SIDE = 16
 KIND_ORDER = ["cut", "use", "keep", "edge", "halo", "stop"]
 LATER_KINDS = later_kinds(KIND_ORDER)
 
@@ -33,7 +33,7 @@ class Border(NamedTuple):
         return self.x, self.y
 
     @property
-    def place(self) -> tuple[int, int, int]:
+    def order_key(self) -> tuple[int, int, int]:
         """The key by which lines of a kind rise."""
         return -1 if self.time is None else self.time, self.y, self.x
 
@@ -52,7 +52,7 @@ class Stop(NamedTuple):
         return self.x, self.y
 
     @property
-    def place(self) -> tuple[int, int, int]:
+    def order_key(self) -> tuple[int, int, int]:
         """The key by which stops rise."""
         return self.time, self.y, self.x
 
@@ -126,7 +126,7 @@ class Module:
         """Returns the line of a kind that speaks of the cell at an odd time."""
         return next((line for line in self.border_lines(kind) if line.cell == cell and line.time in (None, time)), None)
 
-    def numbered(self, kind: str) -> Iterator[tuple[int, Any]]:
+    def numbered_lines(self, kind: str) -> Iterator[tuple[int, Any]]:
         """Yields the lines of a kind, each after its place in the text from which the module was read."""
         lists = (self.cuts, self.uses, self.keeps, self.edges, self.halos, self.stops)
         rank = KIND_ORDER.index(kind)
@@ -134,9 +134,9 @@ class Module:
 
     def line_number(self, kind: str, line: Border | Stop | int) -> int:
         """Returns where a line of a kind is in that text. A gate stands for its line."""
-        return next(number for number, other in self.numbered(kind) if other == line)
+        return next(number for number, other in self.numbered_lines(kind) if other == line)
 
-    def assignment_names(self, assignment: int) -> dict[str, int]:
+    def cut_values(self, assignment: int) -> dict[str, int]:
         """Returns the value of each cut under an assignment."""
         return {name: assignment >> index & 1 for index, name in enumerate(self.cuts)}
 
@@ -200,7 +200,7 @@ class Certificate:
         owners = Owners(max((box.x + box.width for box in boxes), default=0),
                         max((box.y + box.height for box in boxes), default=0))
         for number, box in enumerate(boxes):
-            owners.take_blocks(box, number)
+            owners.give_blocks(box, number)
         return owners
 
     def owner(self, cell: Cell) -> Module | None:
@@ -215,7 +215,7 @@ class Certificate:
     def stops_of(self, wire: str) -> list[tuple[Module, Stop]]:
         """Returns the stops of a wire with their modules, in order of time."""
         found = [(module, stop) for module in self.modules for stop in module.stops if stop.name == wire]
-        return sorted(found, key=lambda pair: pair[1].place)
+        return sorted(found, key=lambda pair: pair[1].order_key)
 
     def halo_lines(self, module: Module) -> Sequence[Border]:
         """Returns what the module hears: its halo lines, in version 2 the edge lines beside it."""
@@ -243,7 +243,7 @@ class CertificateReader(SectionReader):
         self.ports: dict[Cell, list[Part]] = {}
         for port in layout.parts:
             if port.kind in ("in", "out"):
-                self.ports.setdefault((port.x // PORT_TILE, port.y // PORT_TILE), []).append(port)
+                self.ports.setdefault((port.x // PORT_TILE_SIDE, port.y // PORT_TILE_SIDE), []).append(port)
 
     def section(self) -> Certificate:
         """Returns the certificate, of a text that is refused what came before."""
@@ -253,7 +253,7 @@ class CertificateReader(SectionReader):
         """Returns the forms, in version 2 without `halo`."""
         return self.forms_of_version_2 if self.version == 2 else self.forms
 
-    def module_for(self, kind: str) -> ModuleDraft:
+    def current_draft(self, kind: str) -> ModuleDraft:
         """Returns the module that is open. Refuses a line before the first one, and a kind after a later kind."""
         if self.draft is None:
             self.lines.refuse(6, "before_first_module", kind=kind)
@@ -286,7 +286,7 @@ class CertificateReader(SectionReader):
     def take_box(self, box: Box) -> None:
         """Opens a module, whose box lies over no earlier one."""
         number = len(self.modules)
-        if not self.owners.take_blocks(box, number):
+        if not self.owners.give_blocks(box, number):
             cell, owner = self.owners.first_owned_block(box)
             other = self.modules[owner]
             self.lines.refuse(8, "box_overlap", box=box, other=owner, other_box=other.box, at=other.line, cell=cell)
@@ -295,7 +295,7 @@ class CertificateReader(SectionReader):
 
     def read_cut(self, name: str) -> None:
         """Reads a line `cut`."""
-        module = self.module_for("cut")
+        module = self.current_draft("cut")
         if len(module.cuts) == MAX_CUTS:
             self.lines.refuse(2, "cut_count", module=module.number, name=name)
         self.require_wire(name)
@@ -311,7 +311,7 @@ class CertificateReader(SectionReader):
 
     def read_use(self, number: int) -> None:
         """Reads a line `use`."""
-        module = self.module_for("use")
+        module = self.current_draft("use")
         self.require_rising_gate("use", module.uses, number)
         if len(module.uses) == MAX_USES:
             self.lines.refuse(2, "use_count", module=module.number)
@@ -330,7 +330,7 @@ class CertificateReader(SectionReader):
 
     def read_keep(self, number: int) -> None:
         """Reads a line `keep`."""
-        module = self.module_for("keep")
+        module = self.current_draft("keep")
         self.require_rising_gate("keep", module.keeps, number)
         if number >= len(self.circuit.gates):
             self.lines.refuse(3, "gate_unknown", number=number, count=len(self.circuit.gates))
@@ -356,7 +356,7 @@ class CertificateReader(SectionReader):
 
     def require_rising_line(self, kind: str, lines: Sequence[Border | Stop], line: Border | Stop) -> None:
         """Refuses an edge, halo or stop line that does not rise, or that would pass the limit of their number."""
-        if lines and line.place <= lines[-1].place:
+        if lines and line.order_key <= lines[-1].order_key:
             self.lines.refuse(6, "border_not_rising", kind=kind, new=line, last=lines[-1], at=self.kind_lines[kind])
         module = self.draft
         assert module is not None
@@ -365,7 +365,7 @@ class CertificateReader(SectionReader):
 
     def read_border(self, time: int | None, x: int, y: int, signal: str, kind: str) -> None:
         """Reads an `edge` or `halo` line."""
-        module, line = self.module_for(kind), Border(time, x, y, signal)
+        module, line = self.current_draft(kind), Border(time, x, y, signal)
         lines = module.edges if kind == "edge" else module.halos
         self.require_rising_line(kind, lines, line)
         self.require_border_place(kind, line, module)
@@ -400,7 +400,7 @@ class CertificateReader(SectionReader):
 
     def read_stop(self, time: int, name: str, x: int, y: int) -> None:
         """Reads a line `stop`."""
-        module, stop = self.module_for("stop"), Stop(time, name, x, y)
+        module, stop = self.current_draft("stop"), Stop(time, name, x, y)
         self.require_rising_line("stop", module.stops, stop)
         late, outside = time > self.layout.steps, not module.box.has((x, y))
         if late or outside:
@@ -410,8 +410,8 @@ class CertificateReader(SectionReader):
 
     def ports_in(self, box: Box) -> Iterator[Part]:
         """Yields the `in` and `out` cells of a box."""
-        for row in range(box.y // PORT_TILE, (box.y + box.height - 1) // PORT_TILE + 1):
-            for column in range(box.x // PORT_TILE, (box.x + box.width - 1) // PORT_TILE + 1):
+        for row in range(box.y // PORT_TILE_SIDE, (box.y + box.height - 1) // PORT_TILE_SIDE + 1):
+            for column in range(box.x // PORT_TILE_SIDE, (box.x + box.width - 1) // PORT_TILE_SIDE + 1):
                 yield from (port for port in self.ports.get((column, row), ()) if box.has(port.cell))
 
     def close_module(self) -> None:
@@ -445,7 +445,7 @@ class CertificateReader(SectionReader):
         for module in certificate.modules:
             local = local_wires(self.circuit, module)
             for other in certificate.neighbours(module):
-                missing += [(module.number, line, other.number, at) for at, line in other.numbered("edge")
+                missing += [(module.number, line, other.number, at) for at, line in other.numbered_lines("edge")
                             if line.signal != "1" and line.signal not in local and module.box.has_in_halo(line.cell)]
         if missing:
             self.lines.refuse(11, "heard_not_local", missing=missing)

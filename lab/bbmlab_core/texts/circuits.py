@@ -40,7 +40,7 @@ class Gate:
         return " ".join((self.kind, *parameter, *self.ins, "->", *self.outs))
 
 
-def gate_of(kind: str, values: Sequence[Any], number: int = 0, line: int = 0) -> Gate:
+def gate_from_values(kind: str, values: Sequence[Any], number: int = 0, line: int = 0) -> Gate:
     """Returns the gate of a line, by the values of the placeholders of its form."""
     parameter, names = (values[0], values[1:]) if kind in KINDS_WITH_PARAMETER else (None, values)
     count = GATE_SIZES[kind][0]
@@ -71,7 +71,7 @@ class Circuit:
         found = match_line(line, CircuitReader.forms)
         if found is None or found[0] not in GATE_SIZES:
             raise ValueError(f"{line!r} is no line of a gate")
-        return replace(self, gates=(*self.gates, gate_of(*found)))
+        return replace(self, gates=(*self.gates, gate_from_values(*found)))
 
     def output(self, *names: str) -> "Circuit":
         """Returns the circuit with more outputs."""
@@ -272,7 +272,7 @@ class CircuitReader(SectionReader):
     def read_gate(self, *values: Any, kind: str) -> None:
         """Reads a gate line of any kind."""
         self.require_kind_order("gate", LATER_KINDS)
-        gate = gate_of(kind, values, len(self.gates), self.lines.taken)
+        gate = gate_from_values(kind, values, len(self.gates), self.lines.taken)
         if kind == "delay" and not 1 <= (gate.parameter or 0) <= MAX_DELAY:
             self.lines.refuse(2, "delay_limit", number=gate.parameter)
         self.require_room(gate.outs)

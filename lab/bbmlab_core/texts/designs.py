@@ -8,7 +8,7 @@ from .layouts import Layout
 from .refusals import refusal_words
 from .reports import ReportLine, ReportOrRefusal, ReportError, parse_report
 from .skimming import certificate_digest, certificate_start
-from .spelling import source_line, spelled_text
+from .spelling import source_line_number, spelling_of
 
 
 def read_freely_written(name: str, text: str, command: str | None = None) -> Document:
@@ -20,11 +20,11 @@ def read_freely_written(name: str, text: str, command: str | None = None) -> Doc
     document = read_document(text, command)
     if document.refusal is None:
         return document
-    made = spelled_text(text).text
+    made = spelling_of(text).text
     free = read_document(made, command) if made != text else document
     if free.refusal is None:
         return free
-    line = source_line(text, made, free.refusal.line)
+    line = source_line_number(text, made, free.refusal.line)
     if line is None or free is document:
         raise LabError(f"{name}: {refusal_words(document)}", 1)
     raise LabError(f"{name}: {refusal_words(free, line)}", 1)

@@ -16,7 +16,7 @@ from .lines import Lines, Refusal, RefusedTextError
 BUNDLE_COMMANDS = ("check", "modules", "migrate")
 HEADERS = ("circuit", "layout", "assign", "certificate")
 # A line whose first word is a header, with any blanks around its words.
-HEADER_LINE = re.compile(rf"^[^\S\n]*({'|'.join(HEADERS)})(?= |[^\S\n]*$)", re.MULTILINE)
+HEADER_LINE_PATTERN = re.compile(rf"^[^\S\n]*({'|'.join(HEADERS)})(?= |[^\S\n]*$)", re.MULTILINE)
 
 
 @dataclass
@@ -52,7 +52,7 @@ def command_for(text: str) -> str:
 
     `design` is the lab's own: a circuit and a layout without a certificate.
     """
-    found = HEADER_LINE.findall(text)
+    found = HEADER_LINE_PATTERN.findall(text)
     if "assign" in found:
         return "value" if "circuit" in found and "layout" not in found else "run"
     if "certificate" not in found and found[:2] == ["circuit", "layout"]:

@@ -10,7 +10,7 @@ from .circuits import Circuit
 from .documents import Document, pause_garbage_collection
 from .gates import GATE_SIZES
 from .layouts import Layout
-from .limits import FIRST, SECOND
+from .limits import FIRST_LIMITS, SECOND_LIMITS
 from .lines import NAME_PATTERN
 from .refusals import refusal_words
 from .reports import ReportOrRefusal
@@ -53,7 +53,7 @@ def document_json(document: Document, report: ReportOrRefusal | None) -> str:
     if document.refusal:
         raise LabError(f"the text is refused: {refusal_words(document)}", 1)
     parts: dict[str, Any] = {"format": FORMAT}
-    if document.limits is not FIRST:
+    if document.limits is not FIRST_LIMITS:
         parts["limits"] = document.limits.number
     if document.circuit:
         parts["circuit"] = circuit_json(document.circuit)
@@ -129,7 +129,7 @@ class Member:
             raise self.error_for("a list" if count is None else f"a list of {count} values")
         return [Member(value, f"{self.path}[{index}]") for index, value in enumerate(self.value)]
 
-    def number(self) -> str:
+    def number_text(self) -> str:
         """Returns a number as a text writes it."""
         if type(self.value) is not int or not 0 <= self.value < 10 ** 9:
             raise self.error_for("a whole number from 0 to 999999999")
@@ -145,13 +145,13 @@ class Member:
         """Returns a name of a wire, or `1`."""
         return "1" if self.value == "1" else self.name()
 
-    def time(self) -> str:
+    def time_text(self) -> str:
         """Returns a time, with `*` for null."""
-        return "*" if self.value is None else self.number()
+        return "*" if self.value is None else self.number_text()
 
-    def numbers(self, count: int) -> str:
+    def numbers_text(self, count: int) -> str:
         """Returns so many numbers with spaces between them."""
-        return " ".join(item.number() for item in self.list_items(count))
+        return " ".join(item.number_text() for item in self.list_items(count))
 
 
 def gate_text(gate: Member) -> str:
@@ -160,14 +160,14 @@ def gate_text(gate: Member) -> str:
     if not isinstance(word, str) or word not in GATE_SIZES:
         raise gate["gate"].error_for("the word of a gate")
     ins, outs = GATE_SIZES[word]
-    number = [parameter.number()] if word in ("source", "delay") else []
+    number = [parameter.number_text()] if word in ("source", "delay") else []
     if not number and parameter.value is not None:
         raise parameter.error_for("null")
     return " ".join([word, *number, *(item.name() for item in gate["ins"].list_items(ins)), "->",
                      *(item.name() for item in gate["outs"].list_items(outs))])
 
 
-def circuit_text(circuit: Member) -> list[str]:
+def circuit_lines(circuit: Member) -> list[str]:
     """Returns the lines of a circuit."""
     return ["circuit", *(f"input {item.name()}" for item in circuit["inputs"].list_items()),
             *(gate_text(gate) for gate in circuit["gates"].list_items()),
@@ -175,35 +175,37 @@ def circuit_text(circuit: Member) -> list[str]:
             *(f"spill {item.name()}" for item in circuit["spills"].list_items()), "end"]
 
 
-def layout_text(layout: Member) -> list[str]:
+def layout_lines(layout: Member) -> list[str]:
     """Returns the lines of a layout."""
     def ports(word: str) -> list[str]:
         """Returns the lines of ports."""
-        return [f"{word} {port['name'].name()} {port['cell'].numbers(2)}" for port in layout[f"{word}s"].list_items()]
+        return [f"{word} {port['name'].name()} {port['cell'].numbers_text(2)}"
+                for port in layout[f"{word}s"].list_items()]
 
-    return [f"layout {layout['width'].number()} {layout['height'].number()} {layout['steps'].number()}",
-            *(f"mirror {box.numbers(4)}" for box in layout["mirrors"].list_items()),
-            *(f"ball {cell.numbers(2)}" for cell in layout["balls"].list_items()),
-            *ports("in"), *ports("out"), *(f"waste {cell.numbers(2)}" for cell in layout["wastes"].list_items()), "end"]
+    return [f"layout {layout['width'].number_text()} {layout['height'].number_text()} {layout['steps'].number_text()}",
+            *(f"mirror {box.numbers_text(4)}" for box in layout["mirrors"].list_items()),
+            *(f"ball {cell.numbers_text(2)}" for cell in layout["balls"].list_items()),
+            *ports("in"), *ports("out"), *(f"waste {cell.numbers_text(2)}" for cell in layout["wastes"].list_items()),
+            "end"]
 
 
 def border_text(word: str, line: Member) -> str:
     """Returns an `edge` or `halo` line."""
     time, x, y, signal = line.list_items(4)
-    return f"{word} {time.time()} {x.number()} {y.number()} {signal.signal()}"
+    return f"{word} {time.time_text()} {x.number_text()} {y.number_text()} {signal.signal()}"
 
 
 def stop_text(line: Member) -> str:
     """Returns a `stop` line."""
     time, name, x, y = line.list_items(4)
-    return f"stop {time.number()} {name.name()} {x.number()} {y.number()}"
+    return f"stop {time.number_text()} {name.name()} {x.number_text()} {y.number_text()}"
 
 
-def module_text(module: Member) -> list[str]:
+def module_lines(module: Member) -> list[str]:
     """Returns the lines of a module."""
-    kinds: list[tuple[str, Callable[[Member], str]]] = [("cut", Member.name), ("use", Member.number),
-                                                        ("keep", Member.number)]
-    lines = [f"module {module['box'].numbers(4)}"]
+    kinds: list[tuple[str, Callable[[Member], str]]] = [("cut", Member.name), ("use", Member.number_text),
+                                                        ("keep", Member.number_text)]
+    lines = [f"module {module['box'].numbers_text(4)}"]
     for word, value in kinds:
         lines += [f"{word} {value(item)}" for item in module[f"{word}s"].list_items()]
     for word in ("edge", "halo"):
@@ -222,17 +224,17 @@ def text_from_json(text: str) -> str:
     lines: list[str] = []
     if document.has("limits"):
         limits = document["limits"]
-        if type(limits.value) is not int or limits.value not in (FIRST.number, SECOND.number):
-            raise limits.error_for(f"{FIRST.number} or {SECOND.number}")
-        lines += SECOND.head.splitlines() if limits.value == SECOND.number else []
+        if type(limits.value) is not int or limits.value not in (FIRST_LIMITS.number, SECOND_LIMITS.number):
+            raise limits.error_for(f"{FIRST_LIMITS.number} or {SECOND_LIMITS.number}")
+        lines += SECOND_LIMITS.line_text.splitlines() if limits.value == SECOND_LIMITS.number else []
     if document.has("circuit"):
-        lines += circuit_text(document["circuit"])
+        lines += circuit_lines(document["circuit"])
     if document.has("layout"):
-        lines += layout_text(document["layout"])
+        lines += layout_lines(document["layout"])
     if document.has("assign"):
         lines += ["assign", *(f"on {item.name()}" for item in document["assign"]["on"].list_items()), "end"]
     if document.has("certificate"):
         certificate = document["certificate"]
-        lines.append(f"certificate {certificate['version'].number()}")
-        lines += [line for module in certificate["modules"].list_items() for line in module_text(module)] + ["end"]
+        lines.append(f"certificate {certificate['version'].number_text()}")
+        lines += [line for module in certificate["modules"].list_items() for line in module_lines(module)] + ["end"]
     return "\n".join(lines) + "\n"

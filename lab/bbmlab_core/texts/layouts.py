@@ -10,8 +10,8 @@ from .lines import Lines, SectionReader, forms_of, later_kinds, section_text
 KIND_ORDER = ["mirror", "ball", "in", "out", "waste"]
 LATER_KINDS = later_kinds(KIND_ORDER)
 # The kinds besides mirrors whose cells are taken at the start, and those whose cells are taken at the end.
-EARLY_KINDS = ("ball", "in")
-LATE_KINDS = ("out", "waste")
+START_PART_KINDS = ("ball", "in")
+END_PART_KINDS = ("out", "waste")
 # The side of the tiles by which the parts near a place are found.
 TILE_SIDE = 64
 
@@ -281,10 +281,10 @@ class LayoutReader(SectionReader):
         self.require_port(kind, name)
         if box.x + box.width > self.width or box.y + box.height > self.height:
             self.lines.refuse(7, "cell_outside", kind=kind, box=box, size=(self.width, self.height))
-        if kind not in LATE_KINDS:
-            self.take_cells(kind, box, self.starts, EARLY_KINDS)
-        if kind not in EARLY_KINDS:
-            self.take_cells(kind, box, self.ends, LATE_KINDS)
+        if kind not in END_PART_KINDS:
+            self.take_cells(kind, box, self.starts, START_PART_KINDS)
+        if kind not in START_PART_KINDS:
+            self.take_cells(kind, box, self.ends, END_PART_KINDS)
 
     def require_port(self, kind: str, name: str | None) -> None:
         """Refuses an `in` that is no input and an `out` that is no output of the circuit."""

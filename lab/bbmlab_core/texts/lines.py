@@ -5,12 +5,12 @@ from dataclasses import dataclass, field
 from functools import cache, partial
 from typing import Any, Callable, Iterable, NoReturn
 
-from .limits import FIRST, limits_of
+from .limits import FIRST_LIMITS, limits_of
 
-NUMBER_WORD = "(?:0|[1-9][0-9]{0,8})"
-NAME_WORD = "[a-z][a-z0-9_]{0,31}"
-NUMBER_PATTERN = re.compile(rf"{NUMBER_WORD}\Z")
-NAME_PATTERN = re.compile(rf"{NAME_WORD}\Z")
+NUMBER_PATTERN_TEXT = "(?:0|[1-9][0-9]{0,8})"
+NAME_PATTERN_TEXT = "[a-z][a-z0-9_]{0,31}"
+NUMBER_PATTERN = re.compile(rf"{NUMBER_PATTERN_TEXT}\Z")
+NAME_PATTERN = re.compile(rf"{NAME_PATTERN_TEXT}\Z")
 
 # What each placeholder of a form takes.
 NUMBER_PLACEHOLDERS = {"X", "Y", "W", "H", "STEPS", "N", "T", "GATE", "VERSION"}
@@ -72,10 +72,10 @@ def value_pattern(place: str) -> str:
     """Returns the regular expression of the words that may be in the place of a placeholder, as a group; other words
     stand for themselves."""
     if place in NUMBER_PLACEHOLDERS:
-        return f"({NUMBER_WORD})"
+        return f"({NUMBER_PATTERN_TEXT})"
     if place in NAME_PLACEHOLDERS:
-        return f"({NAME_WORD})"
-    other = {"BIT": "([01])", "SIGNAL": f"(1|{NAME_WORD})", "TIME": rf"(\*|{NUMBER_WORD})"}
+        return f"({NAME_PATTERN_TEXT})"
+    other = {"BIT": "([01])", "SIGNAL": f"(1|{NAME_PATTERN_TEXT})", "TIME": rf"(\*|{NUMBER_PATTERN_TEXT})"}
     return other.get(place) or re.escape(place)
 
 
@@ -114,7 +114,7 @@ class Lines:
     def __init__(self, text: str) -> None:
         self.parts = text.split("\n")
         self.limits = limits_of(text)
-        self.taken = 0 if self.limits is FIRST else 1
+        self.taken = 0 if self.limits is FIRST_LIMITS else 1
 
     def refuse(self, code: int, cause: str, **facts: Any) -> NoReturn:
         """Refuses the line that was taken last."""

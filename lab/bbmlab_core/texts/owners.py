@@ -32,7 +32,7 @@ class Owners:
                      if self.numbers[place] != NOBODY)
         return self.cell_of(place), self.numbers[place]
 
-    def take_blocks(self, box: Box, number: int) -> bool:
+    def give_blocks(self, box: Box, number: int) -> bool:
         """Gives the blocks of a box to a module; returns whether nobody owned one of them, without which nothing
         changes."""
         numbers, columns, count = self.numbers, box.width // 2, box.height // 2

@@ -44,7 +44,7 @@ class ExplainedRefusal:
 Facts = dict[str, Any]
 
 
-def name_list(names: Sequence[str], most: int = 8) -> str:
+def names_words(names: Sequence[str], most: int = 8) -> str:
     """Returns names in backticks with commas, at most `most` of them."""
     shown = ", ".join(f"`{name}`" for name in names[:most])
     return shown + (f" and {len(names) - most} more" if len(names) > most else "")
@@ -193,7 +193,7 @@ SENTENCES = {
 DERIVED_FACTS: dict[str, Callable[[Facts], str]] = {
     "near": lambda facts: similar_names_hint(facts["name"], facts["known"]),
     "earlier": lambda facts: earlier_line_words(facts),
-    "listed": lambda facts: name_list(facts["names"]), "box_words": lambda facts: box_words(facts["box"]),
+    "listed": lambda facts: names_words(facts["names"]), "box_words": lambda facts: box_words(facts["box"]),
     "other_box_words": lambda facts: box_words(facts["other_box"]),
     "rest_words": lambda facts: f"`{facts['rest'][:60]}`" if facts["rest"] else "an empty line",
     "header": lambda facts: {"layout": "layout W H STEPS", "certificate": "certificate 2"}.get(facts["section"],
@@ -206,7 +206,7 @@ DERIVED_FACTS: dict[str, Callable[[Facts], str]] = {
                                     if facts["inverse"] else "The circuit has no inverse gate."),
     "why_not_on": lambda facts: ("no `in` line of the layout has that name" if facts["command"] == "run"
                                  else "the circuit has no such input"),
-    "names_to_turn_on": lambda facts: (f"The names are {name_list(facts['known'])}." if facts["known"]
+    "names_to_turn_on": lambda facts: (f"The names are {names_words(facts['known'])}." if facts["known"]
                                        else "There is none: remove the `on` line."),
     "corners": lambda facts: corner_words(*facts["box"]),
     "last_cell": lambda facts: f"({facts['size'][0] - 1}, {facts['size'][1] - 1})",
@@ -214,7 +214,7 @@ DERIVED_FACTS: dict[str, Callable[[Facts], str]] = {
                                  else f"a `{facts['other']}`"),
     "odd_sides": lambda facts: " and ".join(f"{name} {value}" for name, value in zip("xy", facts["box"]) if value % 2),
     "is_or_are": lambda facts: "are" if len(facts["names"]) > 1 else "is",
-    "local_words": lambda facts: (f"Local there: {name_list(facts['local'])}." if facts["local"]
+    "local_words": lambda facts: (f"Local there: {names_words(facts['local'])}." if facts["local"]
                                   else "No wire is local there."),
     "same_or_lower": lambda facts: ("the same number as" if facts["number"] == facts["last"]
                                     else "a lower number than"),
@@ -223,10 +223,11 @@ DERIVED_FACTS: dict[str, Callable[[Facts], str]] = {
     "side": lambda facts: "input" if facts["kind"] == "in" else "output",
     "near_port": lambda facts: (f" It is a wire, and no {facts['side']}." if facts["is_wire"]
                                 else similar_names_hint(facts["name"], facts["known"])),
-    "names_of_side": lambda facts: (f"Name one of the {facts['side']}s: {name_list(facts['known'])}." if facts["known"]
+    "names_of_side": lambda facts: (f"Name one of the {facts['side']}s: {names_words(facts['known'])}."
+                                    if facts["known"]
                                     else f"The circuit has no {facts['side']}."),
-    "make_local": lambda facts: make_local_words(facts["name"], facts["gate"]),
-    "wires_of_gate": lambda facts: name_list(facts["gate"].ins),
+    "make_local": lambda facts: local_wire_words(facts["name"], facts["gate"]),
+    "wires_of_gate": lambda facts: names_words(facts["gate"].ins),
 }
 
 
@@ -265,13 +266,13 @@ def explain_text_ended(facts: Facts) -> ExplainedRefusal:
 def explain_border_not_rising(facts: Facts) -> ExplainedRefusal:
     """Explains an `edge`, `halo` or `stop` line that is out of order."""
     kind, new, last = facts["kind"], facts["new"], facts["last"]
-    if new.place == last.place:
+    if new.order_key == last.order_key:
         what, hint = "names the same time and cell as", "Keep one of the two lines."
-    elif new.place[0] == -1:
+    elif new.order_key[0] == -1:
         what, hint = ("has `*`, and lines with `*` come first; it is out of order with",
                       "Move it up. `bbmlab fmt` sorts.")
     else:
-        part = next(name for name, a, b in zip(("time", "y", "x"), new.place, last.place) if a != b)
+        part = next(name for name, a, b in zip(("time", "y", "x"), new.order_key, last.order_key) if a != b)
         what, hint = f"has a smaller {part} than", "Sort by time, then y, then x. `bbmlab fmt` does."
     return ExplainedRefusal([f"`{line_words(kind, new)}` {what} the line before it in the list, "
                              f"`{line_words(kind, last)}` (line {facts['at']})."], [hint], lines=[facts["at"]])
@@ -297,7 +298,7 @@ def explain_port_without_cell(facts: Facts) -> ExplainedRefusal:
         names = facts[side]
         if names:
             what.append(f"The layout has no `{kind}` cell for {side[:-1] if len(names) == 1 else side}"
-                        f" {name_list(names)} of the circuit.")
+                        f" {names_words(names)} of the circuit.")
             hints.append(f"Add a line `{kind} {names[0]} X Y`.")
     return ExplainedRefusal(what, hints, names=facts["inputs"] + facts["outputs"])
 
@@ -307,20 +308,20 @@ def explain_port_not_local(facts: Facts) -> ExplainedRefusal:
     what = [f"Module {facts['module']} (line {facts['at']}) has the cell of `{port.kind} {port.name} {port.x} "
             f"{port.y}` (line {port.line}) "
             f"in its box, and does not know the wire `{port.name}`." for port in facts["ports"][:8]]
-    hints = [make_local_words(port.name, facts["makers"][port.name]) for port in facts["ports"][:8]]
+    hints = [local_wire_words(port.name, facts["makers"][port.name]) for port in facts["ports"][:8]]
     names = list(dict.fromkeys(port.name for port in facts["ports"]))
     return ExplainedRefusal(what, list(dict.fromkeys(hints)), names=names,
                             lines=[facts["at"]] + [port.line for port in facts["ports"]])
 
 
-def make_local_words(name: str, gate: Any) -> str:
+def local_wire_words(name: str, gate: Any) -> str:
     """Returns how a module comes to know a wire."""
     if gate is None:
         return f"Add `cut {name}` to the module."
     if not gate.ins:
         return f"Add `use {gate.number}` to the module: that source makes `{name}`."
-    return (f"Add `use {gate.number}` to the module: that {gate.kind} makes `{name}` from {name_list(gate.ins)}, which "
-            "the module then knows too. "
+    return (f"Add `use {gate.number}` to the module: that {gate.kind} makes `{name}` from {names_words(gate.ins)}, "
+            "which the module then knows too. "
             f"Or add `cut {name}` if the module lies away from that gate.")
 
 

@@ -12,7 +12,7 @@ LINE_FORMS = {
     "meet": r"meet (?P<gate>\d+) (?P<found>\d+|differ)",
 }
 # What the program's `run` prints.
-RUN_ANSWER = re.compile(r"cells [0-9]{1,9}\n([0-9]{1,9} [0-9]{1,9}\n)*|left [0-9]{1,9}\n")
+RUN_ANSWER_PATTERN = re.compile(r"cells [0-9]{1,9}\n([0-9]{1,9} [0-9]{1,9}\n)*|left [0-9]{1,9}\n")
 LINE_PATTERNS = {word: re.compile(form + r"\Z") for word, form in LINE_FORMS.items()}
 
 

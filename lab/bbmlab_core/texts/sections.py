@@ -6,7 +6,7 @@ from .certificates import Certificate
 from .circuits import Circuit
 from .documents import Document
 from .layouts import Layout
-from .limits import FIRST, SECOND, limits_for
+from .limits import FIRST_LIMITS, SECOND_LIMITS, limits_for
 from .lines import section_text
 
 
@@ -21,11 +21,11 @@ class Bundle:
     layout: Layout | None = None
     certificate: Certificate | None = None
     on: tuple[str, ...] | None = None
-    limits: int = FIRST.number
+    limits: int = FIRST_LIMITS.number
 
     def __str__(self) -> str:
         """Writes the text."""
-        front = SECOND.head if self.limits == SECOND.number else ""
+        front = SECOND_LIMITS.line_text if self.limits == SECOND_LIMITS.number else ""
         assign = None if self.on is None else section_text(["assign", *(f"on {name}" for name in self.on)])
         return front + "".join(str(section) for section in (self.circuit, self.layout, assign, self.certificate)
                                if section is not None)
@@ -37,7 +37,7 @@ def text_of_section(section: Circuit | Layout) -> str:
         limits = limits_for(max(section.width, section.height), section.steps)
     else:
         limits = limits_for(gates=len(section.gates), wires=len(section.wires))
-    return limits.head + str(section)
+    return limits.line_text + str(section)
 
 
 def bundle_of(document: Document) -> Bundle:

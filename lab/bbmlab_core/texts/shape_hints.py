@@ -13,8 +13,8 @@ from .lines import LineForm, NAME_PATTERN, NUMBER_PATTERN, SectionReader, word_v
 
 Hint = tuple[str, str]
 SECTION_READERS: tuple[type[SectionReader], ...] = (CircuitReader, LayoutReader, AssignReader, CertificateReader)
-SECTION_OF = {reader.name: [word for word in reader.forms if word not in (reader.name, "end")]
-              for reader in SECTION_READERS}
+SECTION_KEYWORDS = {reader.name: [word for word in reader.forms if word not in (reader.name, "end")]
+                    for reader in SECTION_READERS}
 FMT_FIXES_THIS = "`bbmlab fmt` fixes this."
 # How gates of ordinary logic are made. The standard cells named here have circuits of their own.
 LOGIC_GATE_HINTS = {
@@ -150,7 +150,7 @@ def keyword_hint(word: str, section: str, begun: bool, forms: dict[str, LineForm
     logic = logic_hint(word.lower()) if section == "circuit" else None
     if logic:
         return logic
-    other = next((name for name, words in SECTION_OF.items() if word in words or word == name), None)
+    other = next((name for name, words in SECTION_KEYWORDS.items() if word in words or word == name), None)
     if other and other != section:
         if word == other:
             return (f"`{word}` begins another section, and the {section} section "

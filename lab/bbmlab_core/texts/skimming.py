@@ -9,16 +9,16 @@ from typing import Iterator
 from .certificates import MAX_CUTS
 from .layouts import Box
 
-HEADER = "certificate "
+CERTIFICATE_HEADER = "certificate "
 # The numbers of a line `use` or `module`.
-MODULE_OR_USE = re.compile(r"\n(?:use (\d{1,9})|module ((?:\d{1,9} ){3}\d{1,9}))(?=\n)")
+MODULE_OR_USE_PATTERN = re.compile(r"\n(?:use (\d{1,9})|module ((?:\d{1,9} ){3}\d{1,9}))(?=\n)")
 
 
 def certificate_start(text: str) -> int:
     """Returns where the certificate section of a text begins, or the length of a text without one."""
-    if text.startswith(HEADER):
+    if text.startswith(CERTIFICATE_HEADER):
         return 0
-    return text.find(f"\n{HEADER}") + 1 or len(text)
+    return text.find(f"\n{CERTIFICATE_HEADER}") + 1 or len(text)
 
 
 def design_text(text: str) -> str:
@@ -32,7 +32,7 @@ def certificate_digest(text: str) -> str:
     SHA-256 from its header to its `end`, with the line feed.
     """
     lines = text.split("\n")
-    headers = [index for index, line in enumerate(lines) if line.startswith(HEADER)]
+    headers = [index for index, line in enumerate(lines) if line.startswith(CERTIFICATE_HEADER)]
     if not headers or "end" not in lines[headers[-1]:]:
         return ""
     end = lines.index("end", headers[-1])
@@ -50,7 +50,7 @@ def cuts_of(bundle: str) -> list[list[str]]:
 def boxes_and_uses(text: str) -> Iterator[tuple[Box, list[int]]]:
     """Yields the box of each module of a text, and the gates that it uses."""
     box, uses = None, list[int]()
-    for line in MODULE_OR_USE.finditer(text, certificate_start(text)):
+    for line in MODULE_OR_USE_PATTERN.finditer(text, certificate_start(text)):
         if line[1]:
             uses.append(int(line[1]))
             continue

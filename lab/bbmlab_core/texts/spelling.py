@@ -10,11 +10,11 @@ from .gates import GATE_SIZES
 from .layouts import KIND_ORDER as LAYOUT_ORDER
 from .limits import LIMITS_LINE
 
-LAST_RANK = 10 ** 9
+LAST_NUMBER = 10 ** 9
 SECTION_ORDERS = {"circuit": CIRCUIT_ORDER, "layout": LAYOUT_ORDER}
 MODULE_RANKS = {kind: rank for rank, kind in enumerate(MODULE_ORDER)}
 # A line that is in its one spelling already, apart from its place.
-SPELLED_LINE = re.compile(r"[a-z*1-9][a-z0-9_*]*(?: (?:->|0|[a-z*1-9][a-z0-9_*]*))*")
+SPELLED_LINE_PATTERN = re.compile(r"[a-z*1-9][a-z0-9_*]*(?: (?:->|0|[a-z*1-9][a-z0-9_*]*))*")
 
 
 @dataclass
@@ -47,7 +47,7 @@ def lines_without_comments(text: str, spelling: Spelling) -> Iterator[str]:
     """Yields the lines that contain a word, with single spaces, and without comments, byte order mark and leading
     zeros."""
     start = byte_order_mark_length(text)
-    is_spelled, size = SPELLED_LINE.fullmatch, len(text)
+    is_spelled, size = SPELLED_LINE_PATTERN.fullmatch, len(text)
     while start < size:
         end = text.find("\n", start)
         line = text[start:end] if end >= 0 else text[start:]
@@ -64,7 +64,7 @@ def lines_without_comments(text: str, spelling: Spelling) -> Iterator[str]:
 def number_at(words: list[str], index: int) -> int:
     """Returns the number at a place of a line; lines of another form come last."""
     word = words[index] if index < len(words) else ""
-    return int(word) if word.isdecimal() and len(word) <= 9 else LAST_RANK
+    return int(word) if word.isdecimal() and len(word) <= 9 else LAST_NUMBER
 
 
 def module_line_key(line: str) -> int:
@@ -139,7 +139,7 @@ def sorted_section(lines: list[str], spelling: Spelling) -> list[str]:
     return [lines[0], *after, *tail]
 
 
-def source_line(source: str, text: str, line: int) -> int | None:
+def source_line_number(source: str, text: str, line: int) -> int | None:
     """Returns the line of a freely written text that became a line of its one spelling, or None if the lines were
     sorted."""
     if source == text:
@@ -151,7 +151,7 @@ def source_line(source: str, text: str, line: int) -> int | None:
     return kept[line - 1][0] if line <= len(kept) else len(lines)
 
 
-def spelled_text(text: str) -> Spelling:
+def spelling_of(text: str) -> Spelling:
     """Returns a text in its one spelling. What it can't change into a good line stays, for the program to refuse."""
     spelling = Spelling()
     parts: list[str] = []

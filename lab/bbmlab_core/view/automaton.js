@@ -98,7 +98,7 @@ let blockPasses = new Int32Array(0), pass = 0;
  * Applies the block rule to the block at `a`. One ball crosses the block; two on a diagonal go to the other diagonal;
  * everything else stays (Margolus 1984, block rule).
  */
-function turnBlock(bytes, row, a, changed) {
+function applyBlockRule(bytes, row, a, changed) {
   const b = a + 1, c = a + row, d = c + 1, one = bytes[a] + bytes[d], other = bytes[b] + bytes[c], both = one + other;
   if (both !== 1 && (both !== 2 || one === 1)) return;
   if (both === 2 || one === 1) {
@@ -120,7 +120,7 @@ function turnBlock(bytes, row, a, changed) {
  * @param {number} odd
  * @returns {number[]}
  */
-function turnBlocks(live, lists, odd) {
+function applyBlockRules(live, lists, odd) {
   const changed = [], { bytes, grid } = live, { row } = grid;
   if (blockPasses.length < bytes.length) blockPasses = new Int32Array(bytes.length);
   pass = pass === 0x7fffffff ? (blockPasses.fill(0), 1) : pass + 1;
@@ -129,7 +129,7 @@ function turnBlocks(live, lists, odd) {
       const block = grid.blockOf(cells[index], odd);
       if (blockPasses[block] === pass) continue;
       blockPasses[block] = pass;
-      turnBlock(bytes, row, block, changed);
+      applyBlockRule(bytes, row, block, changed);
     }
   }
   return changed;
@@ -154,24 +154,24 @@ function startKeys(layout, isOn, grid) {
 
 // The cells of the mirrors of layouts, and those that cannot stay as they are by themselves. Runs of one layout share
 // them, and do not change them.
-const mirrorSets = new WeakMap();
+const mirrorCellsByLayout = new WeakMap();
 
 /**
  * Returns the cells of a layout's mirrors, and the cells of the blocks in which mirrors alone change.
  * @returns {{cells: Cells, restless: number[]}}
  */
 function mirrorsOf(layout) {
-  if (!mirrorSets.has(layout)) {
+  if (!mirrorCellsByLayout.has(layout)) {
     const grid = new Grid(layout), keys = startKeys({ mirrors: layout.mirrors, balls: [], ins: [] }, () => false, grid);
     const cells = new Cells(keys, grid);
     const copy = cells.copy(), restless = [0, 1].flatMap((odd) => {
-      const found = turnBlocks(copy, [keys], odd);
+      const found = applyBlockRules(copy, [keys], odd);
       for (const key of found) copy.bytes[key] ^= 1;
       return found;
     });
-    mirrorSets.set(layout, { cells, restless });
+    mirrorCellsByLayout.set(layout, { cells, restless });
   }
-  return mirrorSets.get(layout);
+  return mirrorCellsByLayout.get(layout);
 }
 
 /** Returns the cells that differ in two sets of one grid. */
@@ -189,7 +189,7 @@ function differingCells(one, other) {
 const MAX_PENDING = 100000;
 
 /** Returns how many steps lie between two snapshots. */
-const snapshotStep = (steps) => Math.max(64, Math.ceil(steps / 64));
+const snapshotSpacing = (steps) => Math.max(64, Math.ceil(steps / 64));
 
 /** A run of a whole layout. The rule undoes itself on each block, so steps go back as well as forward. */
 class WholeRun {
@@ -221,10 +221,10 @@ class WholeRun {
     for (const key of keys) this.live.add(key);
     this.time = 0;
     this.direction = 1;
-    this.every = snapshotStep(layout.steps);
+    this.every = snapshotSpacing(layout.steps);
     // Snapshots are the cells that differ from the mirrors.
     this.snapshots = new Map([[0, Int32Array.from(new Set(keys.filter((key) => !cells.has(key))))]]);
-    this.noteDifferent(this.snapshots.get(0));
+    this.setDifferentCells(this.snapshots.get(0));
     this.leftAt = null;
     // The moves of some steps, which `lastMoves` notes.
     this.moves = new Map();
@@ -240,7 +240,7 @@ class WholeRun {
    * Takes the cells that differ from the mirrors now, without the steps before: balls, and cells of mirrors that fell
    * apart, are among them.
    */
-  noteDifferent(keys) {
+  setDifferentCells(keys) {
     const first = [...keys, ...this.restless];
     this.recent = [first, first];
     this.differ = new Set(keys);
@@ -271,7 +271,7 @@ class WholeRun {
   takeStep(odd, direction) {
     if (this.direction !== direction) this.recent = [this.recent[1], this.recent[0]];
     this.direction = direction;
-    const changed = turnBlocks(this.live, this.recent, odd);
+    const changed = applyBlockRules(this.live, this.recent, odd);
     this.recent = [this.recent[1], changed];
     if (this.pending === null) return;
     this.pending.push(changed);
@@ -316,7 +316,7 @@ class WholeRun {
     for (const key of now) if (!then.has(key)) this.live.bytes[key] ^= 1;
     for (const key of then) if (!now.has(key)) this.live.bytes[key] ^= 1;
     this.time = near;
-    this.noteDifferent(then);
+    this.setDifferentCells(then);
   }
 
   /** Goes to a time, or to the last time before a ball leaves the rectangle. */
@@ -398,7 +398,7 @@ const GATE_ROWS = {
  * @param {Iterable<number>} numbers
  * @param {Map<string, boolean>} values
  */
-function addGates(circuit, numbers, values) {
+function addGateValues(circuit, numbers, values) {
   for (const number of numbers) {
     const gate = circuit.gates[number];
     const row = gate.gate === "source" ? [gate.parameter === 1]
@@ -414,7 +414,7 @@ function addGates(circuit, numbers, values) {
  * @type {(circuit: Circuit, on: Set<string>) => Map<string, boolean>}
  */
 const circuitValues = (circuit, on) =>
-  addGates(circuit, circuit.gates.keys(), new Map(circuit.inputs.map((name) => [name, on.has(name)])));
+  addGateValues(circuit, circuit.gates.keys(), new Map(circuit.inputs.map((name) => [name, on.has(name)])));
 
 /**
  * Returns the lines that a module hears: its halo lines, in version 2 the edge lines of others for the cells around its
@@ -451,10 +451,10 @@ class ModuleRun {
     this.number = number;
     this.assignment = assignment;
     this.grid = new Grid(data.layout);
-    this.values = addGates(data.circuit, module.uses,
+    this.values = addGateValues(data.circuit, module.uses,
       new Map(module.cuts.map((name, index) => [name, Boolean(assignment >> index & 1)])));
     this.values.set("1", true);
-    this.every = snapshotStep(data.layout.steps);
+    this.every = snapshotSpacing(data.layout.steps);
     this.always = [];
     this.timed = new Map();
     for (const line of heardLines(data, number)) if (this.values.get(line[3])) this.fileHeardLine(line);
@@ -488,7 +488,7 @@ class ModuleRun {
     const heard = this.heardNow();
     for (const key of heard) this.live.add(key);
     const lists = this.recent === null ? [this.live.keys()] : [...this.recent, heard];
-    const changed = turnBlocks(this.live, lists, this.time % 2);
+    const changed = applyBlockRules(this.live, lists, this.time % 2);
     for (const key of [...heard, ...changed]) {
       if (this.isInside(key)) continue;
       this.live.delete(key);

@@ -55,7 +55,7 @@ function writeAddressSoon() {
 }
 
 /** Shows the state that the address says, and the first state for what it does not say. */
-function readAddress() {
+function applyAddress() {
   const { time, on, zoom, fault, trails = true } = address.read(location.hash, limits);
   const names = new Set(on || player.first);
   setTrails(trails);
@@ -204,7 +204,7 @@ function showEntry(number) {
 }
 
 /** Goes to the next (1) or previous (-1) line of the report that is against the design. */
-function nextFault(direction) {
+function goToNextFault(direction) {
   const faults = entries.flatMap((entry, number) => (entry.is_against ? [number] : []));
   if (faults.length === 0) return;
   const at = faults.indexOf(pageState.entry);
@@ -261,15 +261,15 @@ function saveFile(file, kind) {
   setTimeout(() => URL.revokeObjectURL(found.href), 10000);
 }
 
-const MOVES = { ArrowLeft: [-PAN_STEP, 0], ArrowRight: [PAN_STEP, 0], ArrowUp: [0, -PAN_STEP],
+const PAN_KEYS = { ArrowLeft: [-PAN_STEP, 0], ArrowRight: [PAN_STEP, 0], ArrowUp: [0, -PAN_STEP],
   ArrowDown: [0, PAN_STEP] };
 const ACTIONS = {
   " ": () => player.play(player.direction ? 0 : 1), b: () => togglePlay(-1), ArrowRight: () => makeStep(1),
     ArrowLeft: () => makeStep(-1),
   Home: () => player.seek(0), End: () => player.seek(layout.steps), 0: () => stage.fit(), "+": () => stage.zoom(1.25),
     "=": () => stage.zoom(1.25),
-  "-": () => stage.zoom(0.8), n: () => nextFault(1), p: () => nextFault(-1), t: () => setTrails(!stage.hasTrails),
-  w: () => { if (stage.wires.list.length) setWays(!stage.hasWays); },
+  "-": () => stage.zoom(0.8), n: () => goToNextFault(1), p: () => goToNextFault(-1),
+  t: () => setTrails(!stage.hasTrails), w: () => { if (stage.wires.list.length) setWays(!stage.hasWays); },
 };
 
 /** Whether the element that has the focus uses a key itself. */
@@ -282,7 +282,7 @@ function isKeyUsed(target, key) {
 /** Does what a key asks. */
 function onKey(event) {
   if (event.ctrlKey || event.metaKey || event.altKey || isKeyUsed(event.target, event.key)) return;
-  if (event.shiftKey && MOVES[event.key]) stage.pan(...MOVES[event.key]);
+  if (event.shiftKey && PAN_KEYS[event.key]) stage.pan(...PAN_KEYS[event.key]);
   else if (Object.hasOwn(ACTIONS, event.key)) ACTIONS[event.key]();
   else return;
   event.preventDefault();
@@ -334,7 +334,7 @@ function listenToButtons() {
     next: ACTIONS.ArrowRight, first: ACTIONS.Home,
     last: ACTIONS.End, fit: () => stage.fit(), in: () => stage.zoom(1.25), out: () => stage.zoom(0.8),
       "close-own": closeModuleRun,
-    "previous-fault": () => nextFault(-1), "next-fault": () => nextFault(1),
+    "previous-fault": () => goToNextFault(-1), "next-fault": () => goToNextFault(1),
       png: () => stage.png((file) => saveFile(file, "png")),
     svg: () => saveFile(new Blob([stage.svgText(`${document.title}, time ${player.run.time}`)],
       { type: "image/svg+xml" }), "svg") };
@@ -369,7 +369,7 @@ function listenToChanges() {
   player.listen("time", () => {
     showTime();
     panels.showLines(player, stage.module);
-    stage.moveCursor();
+    stage.moveWaveCursor();
     stage.requestPaint();
     speakSoon();
     writeAddressSoon();
@@ -397,7 +397,7 @@ function listenToChanges() {
   stage.onPaint = showCell;
   stage.onPainted = () => minimap.paint();
   stage.listen();
-  addEventListener("hashchange", readAddress);
+  addEventListener("hashchange", applyAddress);
   document.addEventListener("keydown", onKey);
 }
 
@@ -415,4 +415,4 @@ if (panels.showVerdict(data.explanation, player.modules.length > 0))
       showEntry(number);
       if (innerWidth <= 800) element("whole").scrollIntoView({ block: "nearest" });
     }, goToCell);
-readAddress();
+applyAddress();

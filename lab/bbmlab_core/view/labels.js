@@ -6,7 +6,7 @@
  * @typedef {{box: Rect, away: number}} NamePlace
  */
 
-const COVERING_COST = 100, MAX_AWAY = 6, BUCKET = 64;
+const COVERING_COST = 100, MAX_LINES_AWAY = 6, BUCKET = 64;
 
 /** Returns the area that two rectangles share. @type {(one: Rect, other: Rect) => number} */
 function sharedArea(one, other) {
@@ -51,7 +51,7 @@ class Obstacles {
  */
 function* placesOf({ cell, width, height, isAbove }) {
   const x = cell.x + cell.width / 2, y = cell.y + cell.height / 2, first = isAbove ? -1 : 1, half = width / 2;
-  for (let away = 0; away <= MAX_AWAY; away += 1) {
+  for (let away = 0; away <= MAX_LINES_AWAY; away += 1) {
     const lift = first * (cell.height / 2 + height / 2 + 1 + away * height);
     const shift = cell.width / 2 + half + 2 + away * height;
     const offsets = [[0, lift], [0, -lift], [shift, 0], [-shift, 0], [half, lift], [-half, lift], [half, -lift],

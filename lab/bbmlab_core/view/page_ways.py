@@ -13,7 +13,7 @@ from ..texts.documents import Document
 # A run with more moves has no ways on the page, which would be too large.
 MAX_MOVES = 3_000_000
 # After so many steps the moves are counted.
-CHUNK_MOVES = 256
+STEPS_BETWEEN_COUNTS = 256
 # In place of the table of assignments that are no wire's.
 NO_WIRE = -1
 
@@ -32,7 +32,7 @@ def timed_run(document: Document, tables: dict[str, Table], full: Table) -> WayR
     layout = document.layout
     assert layout
     run = WayRun(layout, tables, full)
-    while run.time < layout.steps and run.fly(min(CHUNK_MOVES, layout.steps - run.time)):
+    while run.time < layout.steps and run.run_to(min(STEPS_BETWEEN_COUNTS, layout.steps - run.time)):
         if run.move_count > MAX_MOVES:
             return None
     return run

@@ -7,22 +7,22 @@
  */
 import { placeNames } from "./labels.js";
 import { isMany, paintSquares } from "./squares.js";
-import { Buckets, squaresOf, visitModules, visitPorts, widestModule } from "./tiles.js";
+import { Buckets, squaresOf, visitModules, visitPorts, maxShortSide } from "./tiles.js";
 
 const INKS = ["ink", "soft", "paper", "plane", "grid", "border", "mirror", "ball", "box", "good", "bad", "edge", "halo",
   "stop", "wave"];
-const MARKS = { edge: "E", halo: "H", stop: "S" };
-const RULER = { wide: 32, high: 18 }, WIRE_INKS = 8;
+const LINE_LETTERS = { edge: "E", halo: "H", stop: "S" };
+const RULER = { wide: 32, high: 18 }, WIRE_INK_COUNT = 8;
 // Below this scale tiles show what is still. Where modules are more than a few, borders that are closer, or more, hide
 // what is in them.
 const TILE_SCALE = 4, CLOSE_BORDERS = 20, FEW_MODULES = 64, MANY_BORDERS = 3000;
 // Below this scale no lines of modules are drawn.
 const LINES_SCALE = 4;
 // A mirror so many cells from all ports does not matter for the places of their names.
-const NEAR_PORT = 48;
+const PORT_MARGIN = 48;
 // How many lines of text a name may be away from its cell, and the scales from which a few and many ports have names:
 // 2,520 names take 200 ms to place at scale 6, and 15 ms at scale 10.
-const MAX_AWAY = 2, NAMED_SCALE = 6, MANY_PORTS = 400, MANY_SCALE = 10;
+const MAX_LINES_AWAY = 2, NAMED_SCALE = 6, MANY_PORTS = 400, MANY_SCALE = 10;
 
 // Whether the page is dark, and the colours that were read then: to read them takes a millisecond of a frame.
 const dark = globalThis.matchMedia?.("(prefers-color-scheme: dark)"), read = { isDark: null, inks: {} };
@@ -39,7 +39,7 @@ function inksNow() {
 /** Returns the colours of wires as the page is shown now, and that of what is no wire's. */
 function wireInks() {
   const style = getComputedStyle(document.documentElement);
-  return [...Array(WIRE_INKS).keys(), "none"].map((index) => style.getPropertyValue(`--wire-${index}`).trim());
+  return [...Array(WIRE_INK_COUNT).keys(), "none"].map((index) => style.getPropertyValue(`--wire-${index}`).trim());
 }
 
 /** Clears a canvas with its real number of pixels. @returns {Place} */
@@ -156,7 +156,7 @@ function paintMirrors(place, found, least) {
  * Draws what differs from the mirrors, by the numbers of cells: a dot for each ball, and holes where cells of mirrors
  * are dead.
  */
-function paintDifferences(place, different, mirrors) {
+function paintBallsAndHoles(place, different, mirrors) {
   const { pen, scale } = place, balls = [], { grid } = mirrors;
   pen.fillStyle = place.inks.plane;
   for (const key of different) {
@@ -234,14 +234,14 @@ function paintLabel(place, text, x, y, ink, align, [top, high] = [y - 10, 13]) {
 }
 
 // The ports of layouts with their names, and the states of outputs, which are made once.
-const namedPorts = new WeakMap(), outStates = new WeakMap();
+const portNamesByLayout = new WeakMap(), outStates = new WeakMap();
 
 /** Returns the names of a layout's ports with their cells. A layout that was changed has to be another object. */
 function portNames(layout) {
-  if (!namedPorts.has(layout)) namedPorts.set(layout,
+  if (!portNamesByLayout.has(layout)) portNamesByLayout.set(layout,
     [...layout.ins.map(({ name, cell }) => ({ name: `→${name}`, cell, isIn: true })),
     ...layout.outs.map(({ name, cell }) => ({ name: `${name}→`, cell, isIn: false }))]);
-  return namedPorts.get(layout);
+  return portNamesByLayout.get(layout);
 }
 
 /** Returns for each output whether it is as it should be; undefined if that is not known. */
@@ -256,24 +256,24 @@ function outputStates(outs, good) {
 let placed = { layout: null, scale: 0, squares: new Map() };
 
 // The mirrors of layouts that matter for the names of ports, which are looked for once.
-const nearMirrors = new WeakMap();
+const nearMirrorsByLayout = new WeakMap();
 
 /** Returns the mirrors of a layout that are near a port. */
 function mirrorsNearPorts(layout) {
   if (layout.mirrors.length <= MANY_PORTS) return layout.mirrors;
-  if (!nearMirrors.has(layout)) {
+  if (!nearMirrorsByLayout.has(layout)) {
     const filed = new Buckets(), near = new Set();
     for (const box of layout.mirrors) filed.addBox(...box);
     for (const { cell: [x, y] } of [...layout.ins, ...layout.outs]) {
-      filed.visit([x - NEAR_PORT, y - NEAR_PORT, x + NEAR_PORT, y + NEAR_PORT], (number) => {
+      filed.visit([x - PORT_MARGIN, y - PORT_MARGIN, x + PORT_MARGIN, y + PORT_MARGIN], (number) => {
         const [u, v, w, h] = layout.mirrors[number];
-        if (u <= x + NEAR_PORT && u + w >= x - NEAR_PORT && v <= y + NEAR_PORT
-            && v + h >= y - NEAR_PORT) near.add(layout.mirrors[number]);
+        if (u <= x + PORT_MARGIN && u + w >= x - PORT_MARGIN && v <= y + PORT_MARGIN
+            && v + h >= y - PORT_MARGIN) near.add(layout.mirrors[number]);
       });
     }
-    nearMirrors.set(layout, [...near]);
+    nearMirrorsByLayout.set(layout, [...near]);
   }
-  return nearMirrors.get(layout);
+  return nearMirrorsByLayout.get(layout);
 }
 
 /**
@@ -300,9 +300,9 @@ function placesOf(place, layout, size, { found, others, isNear }) {
 
 /** Returns the ports that are named in a square, the other ports near it, and what is near it. */
 function portsIn(ports, [x0, y0, x1, y1]) {
-  const found = [], others = [], isNear = (x, y, w, h) => x <= x1 + NEAR_PORT && y <= y1 + NEAR_PORT
-    && x + w >= x0 - NEAR_PORT && y + h >= y0 - NEAR_PORT;
-  visitPorts(ports, [x0 - NEAR_PORT, y0 - NEAR_PORT, x1 + NEAR_PORT, y1 + NEAR_PORT], (number, [x, y]) => {
+  const found = [], others = [], isNear = (x, y, w, h) => x <= x1 + PORT_MARGIN && y <= y1 + PORT_MARGIN
+    && x + w >= x0 - PORT_MARGIN && y + h >= y0 - PORT_MARGIN;
+  visitPorts(ports, [x0 - PORT_MARGIN, y0 - PORT_MARGIN, x1 + PORT_MARGIN, y1 + PORT_MARGIN], (number, [x, y]) => {
     if (x >= x0 && y >= y0 && x <= x1 && y <= y1) found.push(ports[number]);
     else if (isNear(x, y, 1, 1)) others.push(ports[number]);
   });
@@ -377,7 +377,7 @@ function paintPortNames(place, layout, good) {
   const top = py(place, 0);
   pen.font = `600 ${size}px system-ui, sans-serif`;
   const shown = placedNames(place, layout, size)
-    .filter(({ port: { cell }, at }) => isSeen(place, ...cell) && at.away <= MAX_AWAY)
+    .filter(({ port: { cell }, at }) => isSeen(place, ...cell) && at.away <= MAX_LINES_AWAY)
     .map(({ port, at }) => ({ ...port, at,
       ...outputLook(inks, port.isIn || !good ? undefined : good.get(String(port.cell))) }));
   for (const { at, cell, ink } of shown) paintLeader(place, at, cell, ink);
@@ -404,8 +404,8 @@ function paintWastes(place, found, ink = place.inks.soft) {
 }
 
 /** Returns the numbers of the modules whose borders can be seen. */
-function seenModules(place, found) {
-  if (found.length > FEW_MODULES && widestModule(found) * place.scale < CLOSE_BORDERS) return [];
+function seenModuleNumbers(place, found) {
+  if (found.length > FEW_MODULES && maxShortSide(found) * place.scale < CLOSE_BORDERS) return [];
   const [x0, y0, x1, y1] = [place.left, place.top, place.left + place.wide / place.scale,
     place.top + place.high / place.scale], numbers = [];
   const least = found.length > FEW_MODULES ? CLOSE_BORDERS / place.scale : 0;
@@ -420,7 +420,7 @@ function seenModules(place, found) {
  * out.
  */
 function paintModules(place, found, chosen) {
-  const { pen, inks, scale } = place, shown = seenModules(place, found);
+  const { pen, inks, scale } = place, shown = seenModuleNumbers(place, found);
   pen.font = "600 11px system-ui, sans-serif";
   pen.strokeStyle = inks.box;
   pen.lineWidth = scale < 2 ? 0.5 : 1;
@@ -441,7 +441,7 @@ function paintModules(place, found, chosen) {
 }
 
 /** Draws the cells of lines of the certificate, with a letter for the kind and the wire where there is room. */
-function paintLines(place, found) {
+function paintCertificateLines(place, found) {
   const { pen, inks, scale } = place, offsets = { edge: 2, halo: 4, stop: 6 };
   if (scale < LINES_SCALE) return;
   pen.font = "600 10px ui-monospace, monospace";
@@ -451,7 +451,7 @@ function paintLines(place, found) {
       kind === "stop" ? 2.5 : 1.5);
     const bottom = py(place, y) + (kind === "edge" ? 11 : scale - 4);
     if (scale >= 22 && kind !== "halo") paintLabel(
-      place, `${MARKS[kind]} ${signal}`, px(place, x) + 2, bottom, inks[kind], "left");
+      place, `${LINE_LETTERS[kind]} ${signal}`, px(place, x) + 2, bottom, inks[kind], "left");
   }
 }
 
@@ -546,11 +546,11 @@ function paintScene(place, shown) {
   if (hasTiles) still(place);
   else if (ways) ways(place, seenRange(place, layout));
   paintTrails(place, trail, live.grid);
-  if (hasTiles) paintDifferences(place, different(), mirrors);
+  if (hasTiles) paintBallsAndHoles(place, different(), mirrors);
   else paintCells(place, live, mirrors);
   if (over) over(place);
   paintModules(place, boxes, chosen);
-  paintLines(place, said);
+  paintCertificateLines(place, said);
   if (fault) paintRing(place, fault);
   if (mark) paintRing(place, mark, place.inks.box);
   paintPorts(place, layout, good);
@@ -558,7 +558,7 @@ function paintScene(place, shown) {
 }
 
 export {
-  clearCanvas, inksNow, paintScene, paintOutline, paintGrid, paintCells, paintPorts, paintModules, paintLines,
-  paintRing, markDifferences, paintRulers, rulerStep, paintTrails, paintMirrors, wireInks, seenRange, RULER,
-  LINES_SCALE,
+  clearCanvas, inksNow, paintScene, paintOutline, paintGrid, paintCells, paintPorts, paintModules,
+  paintCertificateLines, paintRing, markDifferences, paintRulers, rulerStep, paintTrails, paintMirrors, wireInks,
+  seenRange, RULER, LINES_SCALE,
 };

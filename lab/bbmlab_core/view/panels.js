@@ -24,7 +24,7 @@ function actionLink(text, action) {
  */
 function appendWords(parent, text, { lines, cell }) {
   text.split("`").forEach((part, index) => {
-    if (index % 2 === 0) appendCells(parent, part, cell);
+    if (index % 2 === 0) appendCellLinks(parent, part, cell);
     else if (lines.has(part)) {
       const found = actionLink("", lines.get(part));
       found.append(newElement("code", part));
@@ -35,7 +35,7 @@ function appendWords(parent, text, { lines, cell }) {
 }
 
 /** Appends a text in which each cell, "(99, 82)", is a link. */
-function appendCells(parent, text, action) {
+function appendCellLinks(parent, text, action) {
   text.split(/(\(\d{1,4}, \d{1,4}\))/).forEach((part, index) => {
     const [x, y] = (part.match(/\d+/g) || []).map(Number);
     parent.append(index % 2 ? actionLink(part, () => action(x, y)) : part);
@@ -89,7 +89,7 @@ function showResults(player, cell) {
     const label = newElement("span",
       `${result.isGood ? "✓" : "✗"} ${result.name}=${result.wanted === undefined ? "?" : Number(result.wanted)}`);
     label.className = result.isGood ? "good" : "bad";
-    if (!result.isGood) appendCells(label, ` (${faultWords(player, result)})`, cell);
+    if (!result.isGood) appendCellLinks(label, ` (${faultWords(player, result)})`, cell);
     return label;
   });
 }

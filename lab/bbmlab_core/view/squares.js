@@ -13,7 +13,7 @@ let board = null;
 const isMany = (pen, count) => pen.canvas !== undefined && count > MANY_SQUARES;
 
 /** Returns the image for a canvas of a size. */
-function boardOf({ width, height }) {
+function imageForCanvas({ width, height }) {
   if (board?.canvas.width === width && board.canvas.height === height) return board;
   const canvas = Object.assign(document.createElement("canvas"), { width, height });
   const pen = canvas.getContext("2d"), image = pen.createImageData(width, height);
@@ -42,7 +42,7 @@ function addSquare({ bytes, canvas: { width, height } }, x, y, side) {
  * right of and below the corners of their cells, and whether they begin at whole pixels
  */
 function paintSquares({ pen, scale, left, top }, cells, ink, { side, shift = 0, isWhole = false }) {
-  const found = boardOf(pen.canvas), ratio = pen.getTransform().a, unit = scale * ratio, off = shift * ratio;
+  const found = imageForCanvas(pen.canvas), ratio = pen.getTransform().a, unit = scale * ratio, off = shift * ratio;
   found.pen.fillStyle = ink;
   // A pen returns its colour as #rrggbb. In a word of an image red is the lowest byte, and there is no opacity yet.
   const value = Number.parseInt(found.pen.fillStyle.slice(1), 16);

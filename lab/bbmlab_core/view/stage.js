@@ -388,11 +388,11 @@ class Stage {
     const place = painting.clearCanvas(wave, 1, 0, 0);
     this.axis = waveform.paintRows(place,
       { probes, recorder, steps: layout.steps, values, scrolled: waveBox.scrollTop });
-    this.moveCursor();
+    this.moveWaveCursor();
   }
 
   /** Puts the line of the waveform at the present time. */
-  moveCursor() {
+  moveWaveCursor() {
     if (this.axis) this.parts.waveCursor.style.left =
         `${this.axis.left + (this.player.run.time + 0.5) * this.axis.unit}px`;
   }

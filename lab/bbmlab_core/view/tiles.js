@@ -89,7 +89,7 @@ const visitModules = (modules, range, action) =>
   fileModules(modules).filed.visit(range, (number) => action(number, modules[number].box));
 
 /** Returns the longest of the short sides of modules. */
-const widestModule = (modules) => fileModules(modules).widest;
+const maxShortSide = (modules) => fileModules(modules).widest;
 
 /** Calls an action with the number and the cell of each port near a range of cells. */
 function visitPorts(ports, range, action) {
@@ -244,4 +244,4 @@ class Tiles {
   }
 }
 
-export { Tiles, Buckets, changedPlaces, visitModules, visitPorts, widestModule, squaresOf };
+export { Tiles, Buckets, changedPlaces, visitModules, visitPorts, maxShortSide, squaresOf };

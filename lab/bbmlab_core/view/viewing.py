@@ -17,9 +17,9 @@ from .page_ways import page_ways
 TEMPLATE_FOLDER = Path(__file__).resolve().parent
 # The module of the page that imports the others.
 ENTRY_MODULE = "controls"
-IMPORT = re.compile(r'^import (?:\* as (\w+)|(\{[^}]*\})) from "\./(\w+)\.js";\n', re.MULTILINE)
-EXPORT = re.compile(r"^export (\{[^}]*\});$", re.MULTILINE)
-RENAMED_EXPORT = re.compile(r"(\w+) as (\w+)")
+IMPORT_PATTERN = re.compile(r'^import (?:\* as (\w+)|(\{[^}]*\})) from "\./(\w+)\.js";\n', re.MULTILINE)
+EXPORT_PATTERN = re.compile(r"^export (\{[^}]*\});$", re.MULTILINE)
+RENAMED_EXPORT_PATTERN = re.compile(r"(\w+) as (\w+)")
 
 
 def page_data(document: Document, explanation: ExplainedAnswer | None) -> str:
@@ -38,7 +38,7 @@ def template_text(name: str) -> str:
 def with_imported_modules(name: str, found: dict[str, str]) -> dict[str, str]:
     """Adds a module's text to those found, after the modules that it imports, and returns them by their names."""
     text = template_text(f"{name}.js")
-    for line in IMPORT.finditer(text):
+    for line in IMPORT_PATTERN.finditer(text):
         if line[3] not in found:
             with_imported_modules(line[3], found)
     found[name] = text
@@ -47,14 +47,14 @@ def with_imported_modules(name: str, found: dict[str, str]) -> dict[str, str]:
 
 def import_declaration(line: re.Match[str]) -> str:
     """Returns an import as a declaration that reads `bbmlab`."""
-    names = line[1] or RENAMED_EXPORT.sub(r"\1: \2", line[2])
+    names = line[1] or RENAMED_EXPORT_PATTERN.sub(r"\1: \2", line[2])
     return f"const {names} = bbmlab.{line[3]};\n"
 
 
 def module_expression(text: str) -> str:
     """Returns a module's text as an expression whose value is what the module exports."""
-    body = EXPORT.sub(lambda names: "return " + RENAMED_EXPORT.sub(r"\2: \1", names[1]) + ";",
-                      IMPORT.sub(import_declaration, text))
+    body = EXPORT_PATTERN.sub(lambda names: "return " + RENAMED_EXPORT_PATTERN.sub(r"\2: \1", names[1]) + ";",
+                              IMPORT_PATTERN.sub(import_declaration, text))
     return f"(() => {{\n{body}}})()"
 
 
@@ -65,7 +65,7 @@ def joined_script(name: str) -> str:
         f"bbmlab.{own} = {module_expression(text)};\n" for own, text in needed)
 
 
-def source_word(text: str) -> str:
+def policy_hash(text: str) -> str:
     """Returns the word of a Content-Security-Policy that allows just this text of a script or style."""
     return f"'sha256-{base64.b64encode(hashlib.sha256(text.encode()).digest()).decode()}'"
 
@@ -76,7 +76,7 @@ def page_text(document: Document, explanation: ExplainedAnswer | None, title: st
     before, after = template_text("page.html").split("DATA")
     style, script = template_text("page.css"), f"\n{joined_script(ENTRY_MODULE)}"
     # The page takes its own style and script, and nothing else from anywhere.
-    policy = (f"default-src 'none'; style-src {source_word(style)}; script-src {source_word(script)}; "
+    policy = (f"default-src 'none'; style-src {policy_hash(style)}; script-src {policy_hash(script)}; "
               "base-uri 'none'; form-action 'none'")
     for mark, text in (("POLICY", policy), ("STYLE", style), ("TITLE", escape(escape_controls(title)))):
         before = before.replace(mark, text)

@@ -143,7 +143,7 @@ def stats(text: Bundle | Circuit) -> dict[str, int]:
     """
     document = document_of(text_of_section(text) if isinstance(text, Circuit) else str(text),
                            "circuit" if isinstance(text, Circuit) else None)
-    return {name.strip(): int(value) for name, value in truth.text_figures(document) if value.isdecimal()}
+    return {name.strip(): int(value) for name, value in truth.section_figures(document) if value.isdecimal()}
 
 
 def equivalent(one: Circuit, other: Circuit, *, common: bool = False) -> Comparison:

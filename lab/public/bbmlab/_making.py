@@ -8,12 +8,12 @@ from __future__ import annotations
 from dataclasses import replace
 from typing import Callable, Iterable
 
-from bbmlab_core.certify.certifier import CertificatePlan, certified_text, legal_grid_boxes
+from bbmlab_core.certify.certifier import CertificateOptions, certified_text, legal_grid_boxes
 from bbmlab_core.circuits.netlists import NetlistError, map_netlist, netlist_format
 from bbmlab_core.circuits.row_check import first_gate_without_row
 from bbmlab_core.host.terminal import LabError
 from bbmlab_core.route.certificate import circuit_section
-from bbmlab_core.route.command import require_all_keeps, require_side
+from bbmlab_core.route.command import require_all_keeps, require_legal_side
 from bbmlab_core.route.search import Search, SearchOptions
 from bbmlab_core.route.settings import Settings
 from bbmlab_core.texts.certificates import Stop
@@ -22,7 +22,7 @@ from bbmlab_core.texts.documents import read_document
 from bbmlab_core.texts.layouts import Box
 from bbmlab_core.texts.limits import text_without_limits_line
 from bbmlab_core.texts.sections import Bundle, text_of_section
-from bbmlab_core.texts.spelling import spelled_text
+from bbmlab_core.texts.spelling import spelling_of
 
 from ._errors import NotFoundError, RefusedError
 from ._reading import document_of, read
@@ -40,7 +40,8 @@ def known_stops(bundle: Bundle) -> list[Stop]:
     """Returns the stops of a bundle's certificate, if the bundle is not refused."""
     if bundle.certificate is None or read_document(str(bundle), "check").refusal:
         return []
-    return sorted((stop for module in bundle.certificate.modules for stop in module.stops), key=lambda stop: stop.place)
+    return sorted((stop for module in bundle.certificate.modules for stop in module.stops),
+                  key=lambda stop: stop.order_key)
 
 
 def certify(bundle: Bundle, *, grid: tuple[int, int] | None = None,
@@ -61,7 +62,7 @@ def certify(bundle: Bundle, *, grid: tuple[int, int] | None = None,
     try:
         if grid is not None:
             chosen = legal_grid_boxes(document.layout, *grid)
-        text = certified_text(document, chosen, CertificatePlan(version, cuts, known_stops(bundle)))
+        text = certified_text(document, chosen, CertificateOptions(version, cuts, known_stops(bundle)))
     except LabError as error:
         raise api_error(error) from error
     try:
@@ -80,7 +81,7 @@ def circuit_text(circuit: Circuit | str) -> str:
     if isinstance(circuit, Circuit):
         return str(circuit)
     if netlist_format(circuit) is None:
-        return circuit_section(spelled_text(circuit).text)
+        return circuit_section(spelling_of(circuit).text)
     try:
         return map_netlist(circuit).text
     except NetlistError as error:
@@ -108,7 +109,7 @@ def route(circuit: Circuit | str, *, seed: int = 1, size: int | None = None, eff
     text = text_without_limits_line(given)
     assert model is not None
     try:
-        require_side(size)
+        require_legal_side(size)
         why = first_gate_without_row(model)
         if why:
             raise NotFoundError(why)

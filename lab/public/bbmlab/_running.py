@@ -4,7 +4,7 @@ from __future__ import annotations
 
 from typing import Iterable, Iterator, NamedTuple
 
-from bbmlab_core.physics.simulation import ModuleRun, WholeRun, run_layout
+from bbmlab_core.physics.simulation import ModuleRun, WholeRun, layout_run
 from bbmlab_core.texts.layouts import Cell, Layout
 from bbmlab_core.texts.sections import Bundle, text_of_section
 
@@ -33,7 +33,7 @@ def simulate(layout: Layout, inputs: Iterable[str] = (), steps: int | None = Non
         raise ValueError(f"no `in` cell has the name {unknown[0]}")
     if last < 0:
         raise ValueError(f"{last} steps are fewer than 0")
-    return whole_states(run_layout(model, on), last)
+    return whole_states(layout_run(model, on), last)
 
 
 def whole_states(run: WholeRun, last: int) -> Iterator[State]:

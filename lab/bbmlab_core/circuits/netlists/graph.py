@@ -9,7 +9,7 @@ from enum import Enum
 from typing import Callable
 
 from ...texts.gates import input_tables
-from ...texts.limits import SECOND
+from ...texts.limits import SECOND_LIMITS
 from .model import Cell, CellNode, LogicNetlist, NetlistError, TableNode
 
 MAX_GRAPH_NODES = 200_000
@@ -57,7 +57,7 @@ class Graph:
         if node not in self.numbers:
             if len(self.nodes) >= MAX_GRAPH_NODES:
                 raise NetlistError(f"The logic has more than {MAX_GRAPH_NODES} nodes. A circuit has at most "
-                                   f"{SECOND.max_gates} gates.")
+                                   f"{SECOND_LIMITS.max_gates} gates.")
             self.numbers[node] = len(self.nodes)
             self.nodes.append(node)
         return 2 * self.numbers[node]
@@ -111,7 +111,7 @@ class Graph:
     def _join_literal(self, left: Literal, right: Literal) -> Literal | None:
         """Returns the literal of the join whose inverse "left and right" is, if the inverses of both exclude each
         other."""
-        first, second = self.conjuncts(left ^ 1), self.conjuncts(right ^ 1)
+        first, second = self.implied_literals(left ^ 1), self.implied_literals(right ^ 1)
         common = sorted(literal for literal in first if literal ^ 1 in second)
         if not common or not (self.and_factors(left ^ 1) and self.and_factors(right ^ 1)):
             return None
@@ -129,7 +129,7 @@ class Graph:
             select, high, low = select ^ 1, low, high
         return self.literal(Kind.JOIN, select, high, low)
 
-    def conjuncts(self, literal: Literal) -> set[Literal]:
+    def implied_literals(self, literal: Literal) -> set[Literal]:
         """Returns literals that are true if `literal` is, among them those of XOR nodes over pairs of them."""
         found, level = {literal}, [literal]
         for _ in range(CONJUNCT_DEPTH):
@@ -203,7 +203,7 @@ def table_literal(graph: Graph, table: int, literals: list[Literal]) -> Literal:
         if cofactors[0] ^ cofactors[1] == low_half:
             return graph.xor(literals[index], table_literal(graph, cofactors[0], rest))
     symmetric = symmetric_literal(graph, table, literals)
-    return split_literal(graph, halves, literals) if symmetric is None else symmetric
+    return choice_literal(graph, halves, literals) if symmetric is None else symmetric
 
 
 def symmetric_literal(graph: Graph, table: int, literals: list[Literal]) -> Literal | None:
@@ -222,8 +222,8 @@ def symmetric_literal(graph: Graph, table: int, literals: list[Literal]) -> Lite
     return None
 
 
-def split_literal(graph: Graph, halves: list[tuple[tuple[int, int], list[Literal]]],
-                  literals: list[Literal]) -> Literal:
+def choice_literal(graph: Graph, halves: list[tuple[tuple[int, int], list[Literal]]],
+                   literals: list[Literal]) -> Literal:
     """Returns the literal of a table as a choice by the input that leaves the fewest inputs to its two halves."""
     def weight(index: int) -> int:
         """Returns on how many inputs the two halves depend."""

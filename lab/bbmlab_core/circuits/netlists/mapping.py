@@ -187,7 +187,7 @@ class Mapper:
         found = literal if self.pool_of(literal) else literal ^ 1
         return found, self.pool[found].pop()
 
-    def give_wire(self, literal: Literal | None, wire: Wire) -> None:
+    def release_wire(self, literal: Literal | None, wire: Wire) -> None:
         """Adds a wire to the pool of a literal, or to the garbage if no node has its value."""
         if literal is None:
             self.wiring.garbage.append(wire)
@@ -244,7 +244,7 @@ class Mapper:
         product, rest = (high, low) if found == control else (low, high)
         self.pool_of(found).append(again)
         self.pool_of(2 * number).append(product)
-        self.give_wire(second, rest)
+        self.release_wire(second, rest)
 
     def map_and_by_interact(self, number: int, left: Literal, right: Literal) -> None:
         """Maps "left and right" by an interaction, which makes it twice."""
@@ -252,8 +252,8 @@ class Mapper:
         both, right_alone, left_alone, again = self.add_gate("interact", None,
                                                              [self.take_wire(left), self.take_wire(right)], 4)
         self.pool_of(2 * number).extend((both, again))
-        self.give_wire(second, right_alone)
-        self.give_wire(third, left_alone)
+        self.release_wire(second, right_alone)
+        self.release_wire(third, left_alone)
 
     def map_or_by_switch(self, number: int, control: Literal, other: Literal) -> None:
         """Maps the inverse of an AND node, "control or other", by a switch and a join."""
@@ -268,7 +268,7 @@ class Mapper:
         again, result = self.add_gate("unswitch", None, [again, *parts], 2, number)
         self.pool_of(found).append(again)
         self.pool_of(2 * number + 1).append(result)
-        self.give_wire(product, rest)
+        self.release_wire(product, rest)
 
     # ---- XOR
 
@@ -300,8 +300,8 @@ class Mapper:
             self.duplicate_wire(left)
         wire, other = self.pool[left].pop(), self.take_wire(right)
         both, right_alone, left_alone, again = self.add_gate("interact", None, [wire, other], 4)
-        self.give_wire(product, both)
-        self.give_wire(product, again)
+        self.release_wire(product, both)
+        self.release_wire(product, again)
         found, select = self.borrow_wire(left)
         parts = [left_alone, right_alone] if found == left else [right_alone, left_alone]
         select, result = self.add_gate("unswitch", None, [select, *parts], 2, number)
@@ -317,8 +317,8 @@ class Mapper:
         select, result = self.add_gate("unswitch", None, [select, left_alone, right_alone], 2, number)
         self.pool_of(found).append(select)
         self.pool_of(2 * number ^ (found & 1)).append(result)
-        self.give_wire(product, both)
-        self.give_wire(second, neither)
+        self.release_wire(product, both)
+        self.release_wire(second, neither)
 
     def map_xor_by_fredkin(self, number: int, left: Literal, right: Literal) -> None:
         """Maps a XOR node by a Fredkin gate over a wire and its inverse."""
@@ -359,7 +359,7 @@ class Mapper:
         product, rest = (two, one) if found == high else (one, two)
         self.pool_of(found).append(control)
         self.pool_of(2 * number + 1).append(product)
-        self.give_wire(second, rest)
+        self.release_wire(second, rest)
 
 
 MAP_METHODS: dict[str, Callable[..., None]] = {

@@ -4,11 +4,11 @@ from dataclasses import dataclass, field
 from enum import Enum
 
 from ...host.terminal import LabError
-from ...texts.limits import SECOND
+from ...texts.limits import SECOND_LIMITS
 
 # A circuit section takes 16,384 gates, and a gate makes at most three nodes of logic. More nets cannot be mapped.
 MAX_NODES = 65_536
-MAX_PORTS = SECOND.max_wires
+MAX_PORTS = SECOND_LIMITS.max_wires
 
 
 class NetlistError(LabError):
@@ -125,8 +125,8 @@ class LogicNetlist:
         if node.output in self.nodes:
             raise NetlistError(f"The net `{node.output}` has two drivers.")
         if len(self.nodes) >= MAX_NODES:
-            raise NetlistError(f"The netlist has more than {MAX_NODES} nodes. A circuit has at most {SECOND.max_gates} "
-                               "gates.")
+            raise NetlistError(f"The netlist has more than {MAX_NODES} nodes. A circuit has at most "
+                               f"{SECOND_LIMITS.max_gates} gates.")
         self.nodes[node.output] = node
 
     def sorted_nodes(self) -> list[Node]:

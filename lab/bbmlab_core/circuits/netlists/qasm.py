@@ -79,7 +79,7 @@ class QasmReader:
         elif (measure := MEASURE.match(words)) is not None:
             self.note_measurement(number, measure[1] or measure[4], measure[2] or measure[3])
         elif keyword == "reset":
-            self.reset(number, words[5:].strip())
+            self.read_reset(number, words[5:].strip())
         elif (call := CALL.match(words)) is not None and "{" not in words:
             self.add_broadcast_calls(number, call)
         else:
@@ -124,7 +124,7 @@ class QasmReader:
             raise NetlistError(f"Line {number}: {len(lines)} qubits and {len(names)} bits.")
         self.measured.update(zip(lines, names))
 
-    def reset(self, number: int, words: str) -> None:
+    def read_reset(self, number: int, words: str) -> None:
         """Makes lines constants 0, before any gate acts on them."""
         for line in [line for lines in self.operands(number, words, self.registers) for line in lines]:
             if line in self.touched:

@@ -3,7 +3,7 @@
 
 import random
 
-from ...texts.limits import SECOND
+from ...texts.limits import SECOND_LIMITS
 from ..cones import keeping_cone
 from .circuit_text import NamedCircuit, named_circuit
 from .graph import Graph
@@ -13,14 +13,15 @@ from .model import NetlistError
 FIRST_TRIES = 20
 MAX_TRIES = 1000
 # Tries times nodes and outputs: some seconds.
-TRY_BUDGET = 40_000
+MAX_NODE_TRIES = 40_000
 # One interaction gate makes three products, and no gate makes more.
-MAX_NEEDED_NODES = 3 * SECOND.max_gates
+MAX_NEEDED_NODES = 3 * SECOND_LIMITS.max_gates
 
 
-def require_room(gate_count: int, wire_count: int) -> None:
+def require_section_limits(gate_count: int, wire_count: int) -> None:
     """Raises NetlistError if a circuit section cannot have so many gates or wires."""
-    for count, most, what in ((gate_count, SECOND.max_gates, "gates"), (wire_count, SECOND.max_wires, "wires")):
+    for count, most, what in ((gate_count, SECOND_LIMITS.max_gates, "gates"),
+                              (wire_count, SECOND_LIMITS.max_wires, "wires")):
         if count > most:
             raise NetlistError(f"The circuit would need {count} {what}. A circuit has at most {most}.")
 
@@ -30,7 +31,7 @@ def cheapest_wiring(graph: Graph, separate: frozenset[int], size: int) -> Mapped
 
     The same graph gets the same wiring each time.
     """
-    chooser, tries = random.Random(1), max(2, min(MAX_TRIES, TRY_BUDGET // max(1, size)))
+    chooser, tries = random.Random(1), max(2, min(MAX_TRIES, MAX_NODE_TRIES // max(1, size)))
 
     def tried(preferences: Preferences) -> tuple[float, Preferences, MappedGates]:
         """Returns the cost, the preferences and the wiring of a try."""
@@ -52,14 +53,13 @@ def map_graph(graph: Graph) -> NamedCircuit:
     """Maps a graph. Raises NetlistError if the circuit does not fit the limits of a circuit section."""
     needed = graph.needed_nodes()
     if len(needed) > MAX_NEEDED_NODES:
-        raise NetlistError(f"The netlist needs {len(needed)} nodes of logic, and so more than {SECOND.max_gates} "
-                           "gates. "
-                           f"A circuit has at most {SECOND.max_gates}.")
+        raise NetlistError(f"The netlist needs {len(needed)} nodes of logic, and so more than "
+                           f"{SECOND_LIMITS.max_gates} gates. A circuit has at most {SECOND_LIMITS.max_gates}.")
     separate: frozenset[int] = frozenset()
     while True:
         wiring = cheapest_wiring(graph, separate, len(needed) + len(graph.outputs))
         found = named_circuit(graph, wiring)
-        require_room(len(found.circuit.gates), len(found.circuit.wires))
+        require_section_limits(len(found.circuit.gates), len(found.circuit.wires))
         # The nodes whose inverse gate has no cone that shows that it always has a row.
         failed = frozenset(gate.node for number, gate in enumerate(wiring.gates)
                            if gate.word == "unswitch" and gate.node is not None

@@ -13,9 +13,9 @@ STORING_CELL_TYPES = ("$_DFF", "$_SDFF", "$_ALDFF", "$_DLATCH", "$_SR", "$_FF_",
                       "$mem", "$ff", "$aldff")
 # A flip-flop by its clock, with or without an enable or a reset at the edge of the clock: whether the enable comes
 # before the reset, and the polarities of clock, reset and enable, with the value of the reset.
-FLIP_FLOP = re.compile(
+FLIP_FLOP_TYPE = re.compile(
     r"\$_(?:FF_|DFF_(?P<c1>[NP])_|DFFE_(?P<c2>[NP])(?P<e2>[NP])_|SDFF_(?P<c3>[NP])(?P<r3>[NP])(?P<v3>[01])_"
-                       r"|SDFF(?P<first>C?)E_(?P<c4>[NP])(?P<r4>[NP])(?P<v4>[01])(?P<e4>[NP])_)\Z")
+                            r"|SDFF(?P<first>C?)E_(?P<c4>[NP])(?P<r4>[NP])(?P<v4>[01])(?P<e4>[NP])_)\Z")
 ASYNCHRONOUS_CELL_TYPE = re.compile(r"\$_DFFE?_[NP][NP][01][NP]?_\Z|\$_ALDFF|\$_DFFSR|\$al?dff")
 FLATTENING_ADVICE = "Make a flat netlist of simple cells with `synth -flatten; abc -g AND,XOR,MUX` in yosys."
 
@@ -101,7 +101,7 @@ class ModuleReader:
                 self.netlist.add_node(CellNode(self.port_nets(cell, name, "Y", 1)[0], simple, inputs))
             elif kind == "$lut":
                 self.read_lut(name, cell)
-            elif (found := FLIP_FLOP.match(kind)) is not None:
+            elif (found := FLIP_FLOP_TYPE.match(kind)) is not None:
                 self.read_flip_flop(name, cell,
                                     {key[0]: sign for key, sign in found.groupdict().items() if sign is not None})
             elif ASYNCHRONOUS_CELL_TYPE.match(kind):
