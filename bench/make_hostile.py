@@ -581,8 +581,7 @@ def many_long_runs(scale):
 KINDS = [run_names, run_alike_names, run_ports, run_mirrors, run_balls, one_line, spaces, value_wide, value_alike,
          borders, most_lines,
          neighbours, near_edges, most_edges, stars, cuts_and_uses, one_wire_each, alike_lines, most_stops, alike_stops,
-         same_port, most_memory, alike_places,
-         many_modules, long_runs, square_runs, flat_runs,
+         same_port, most_memory, alike_places, many_modules, long_runs, square_runs, flat_runs,
          long_runs_with_lines, never_defined, once_defined, longest_runs, many_long_runs]
 
 

@@ -144,8 +144,7 @@ class Picture(Page):
                         "true})")
         self.click("#reverse")
         self.wait(lambda: self.script("return window.times.length") >= 2, "it plays")
-        self.assertEqual(self.script("return window.times.slice(0, 2)"), ["8 of 8", "7 of 8"],
-                         "it begins at the end")
+        self.assertEqual(self.script("return window.times.slice(0, 2)"), ["8 of 8", "7 of 8"], "it begins at the end")
         self.keys(" ")
         self.wait(lambda: "reverse" in self.text("reverse"), "space stops")
         self.assertNotEqual(self.text("time"), "0 of 8", "it stopped at the start, and not by the key")
@@ -257,8 +256,7 @@ class Report(Page):
         self.assertGreaterEqual(self.script("return document.activeElement.getBoundingClientRect().top"), 0)
         self.keys(Keys.ENTER)
         self.keys(Keys.TAB)
-        self.assertTrue(
-            self.script("return document.getElementById('report-box').contains(document.activeElement)"))
+        self.assertTrue(self.script("return document.getElementById('report-box').contains(document.activeElement)"))
 
     def test_speaks_when_it_stops(self) -> None:
         """While it plays no live region changes; when it has stopped one says the time and the outputs, once."""

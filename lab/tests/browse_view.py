@@ -92,8 +92,7 @@ return new Set(new Uint32Array(pen.getImageData(40, 30, width - 50, height - 40)
 
 def zoom_of(page: Page) -> list[float] | None:
     """Returns the scale and the middle that the address says, or None."""
-    found = [part for part in page.script("return location.hash").lstrip("#").split("&")
-             if part.startswith("z=")]
+    found = [part for part in page.script("return location.hash").lstrip("#").split("&") if part.startswith("z=")]
     return [float(number) for number in found[0][2:].split(",")] if found else None
 
 

@@ -107,8 +107,7 @@ def moved(lines: Lines, index: int, place: int, step: tuple[int, int]) -> Lines 
 
 
 FAMILIES: dict[str, Mutation] = {"drop": drop, "rename": rename, "late": late, "swap": swap, "waste": waste,
-                                 "phantom": phantom,
-                                 "mirror parity": mirror_parity, "moved port": moved_port}
+                                 "phantom": phantom, "mirror parity": mirror_parity, "moved port": moved_port}
 
 
 def mutants(family: str, texts: dict[str, str], count: int, seed: int,

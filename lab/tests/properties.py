@@ -30,8 +30,7 @@ NAMES = st.from_regex(r"[a-z][a-z0-9_]{0,5}", fullmatch=True) | st.from_regex(r"
     ["circuit", "end", "input", "layout", "certificate", "cut", "x"])
 # Texts of examples/ that are damaged: each kind of section and of line.
 SEEDS = ["one_wire", "not_gate", "wrong_edge", "wrong_border", "four_modules", "there_and_back", "not_kept",
-         "timed_modules", "head_on",
-         "collision_values", "half_adder", "outside_values", "leaves"]
+         "timed_modules", "head_on", "collision_values", "half_adder", "outside_values", "leaves"]
 WORDS = ["0", "1", "-1", "00", "7", "8", "513", "65537", "999999999", "9999999999", "*", "->", "", " ", "end", "p",
          "zz", "P", "a.b", "\u00e9", "\t", "#",
          "\x1b[31m", "\x00", "circuit", "layout 8 8 3", "certificate 2", "assign", "module 0 0 8 8"]

@@ -23,11 +23,9 @@ LEAST_LINES = 30
 MAX_BYTES = 50_000
 # The fields of records and the arguments of calls are on the page too.
 RECORDS = ["Border", "Box", "Bundle", "Certificate", "Circuit", "Comparison", "Explanation", "Gate", "Layout", "Module",
-           "Netlist", "Port", "Report",
-           "Row", "State", "Stop"]
+           "Netlist", "Port", "Report", "Row", "State", "Stop"]
 CALLS = ["certify", "check", "clean", "equivalent", "explain", "inverse", "local_run", "read", "read_netlist", "route",
-         "simplify", "simulate", "stats",
-         "table", "to_conservative"]
+         "simplify", "simulate", "stats", "table", "to_conservative"]
 
 
 def fields_of(record: type) -> list[str]:

@@ -33,8 +33,7 @@ class Circuits(unittest.TestCase):
     def test_refused(self) -> None:
         """Wrong texts and arguments are errors of the API."""
         for call in (lambda: bbmlab.read_netlist("circuit\nend\n"), lambda: bbmlab.read_netlist("", form="verilog"),
-                     lambda: bbmlab.read_netlist("x", form="pla"),
-                     lambda: bbmlab.to_conservative(HALF_ADDER, cycles=1),
+                     lambda: bbmlab.read_netlist("x", form="pla"), lambda: bbmlab.to_conservative(HALF_ADDER, cycles=1),
                      lambda: bbmlab.to_conservative(HALF_ADDER, state="none"),
                      lambda: bbmlab.to_conservative(".model m\n.latch a a\n.outputs a\n.end\n"),
                      lambda: bbmlab.table(bbmlab.Circuit().input(*(f"i{at}"

@@ -51,8 +51,7 @@ class Cluster(support.InRoom):
     def worker(self, program: str, **environment: str) -> "subprocess.Popen[bytes]":
         """Starts a worker with a program."""
         return self.start("distributed.cli.dask_worker", "--no-nanny", "--nthreads", "1", "--no-dashboard", "--host",
-                          "127.0.0.1", "--local-directory",
-                          str(self.room), BBMCHECK=program, **environment)
+                          "127.0.0.1", "--local-directory", str(self.room), BBMCHECK=program, **environment)
 
     def end_all(self) -> None:
         """Kills all that was started."""

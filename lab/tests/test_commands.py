@@ -19,8 +19,7 @@ class Documents(support.InRoom):
         page = (support.TOP / "docs" / "LAB.md").read_text(encoding="utf-8")
         self.assertLessEqual(sum(bool(re.search(r"\w", piece)) for piece in page.split()), 1770)
         for name in ("check", "verify", "summary", "explain", "trace", "draw", "view", "studio", "certify", "circuit",
-                     "table", "stats", "equal", "route", "join", "cells", "fmt", "json", "golly",
-                     "from-golly"):
+                     "table", "stats", "equal", "route", "join", "cells", "fmt", "json", "golly", "from-golly"):
             self.assertRegex(page, rf"`(lab/|)(bbmlab |){name}\b")
 
     def test_lists_are_whole(self) -> None:

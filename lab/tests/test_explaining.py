@@ -164,8 +164,7 @@ class Explained(unittest.TestCase):
         """They are no values of a circuit."""
         text = support.text_of("four_modules")
         for command, output, words in (("modules", "module 0 0 0 4 4\nmodule 1 4 0 4 4\n", "2 modules"),
-                                       ("modules", "module 0 0 0 8 8\n", "one module"),
-                                       ("migrate", text, "version 2")):
+                                       ("modules", "module 0 0 0 8 8\n", "one module"), ("migrate", text, "version 2")):
             told = explain_answer(text, command, output, "four_modules.txt")
             with self.subTest(command):
                 self.assertEqual((told.command, told.verdict), (command, "read"))

@@ -117,8 +117,7 @@ class Gates(support.InRoom):
         for head, line in (("input a\nnot a -> b\n", "not a -> c\n"), (".model m\n.inputs a\n", ".names a b\n"),
                            ("{", "{"), ("OPENQASM 3;\n", "x q;\n"),
                            ("aig 9 9 9 9 9\n", "\x01"), (".numvars 1\n.variables a\n", "t1 a\n"),
-                           (".i 1\n.o 1\n", "1 1\n"), (" ", " "),
-                           ("/*", "*"), ("//\n", "//\n")):
+                           (".i 1\n.o 1\n", "1 1\n"), (" ", " "), ("/*", "*"), ("//\n", "//\n")):
             path.write_text(head + line * (50_000_000 // len(line)))
             done = self.assert_ends(1, "circuit", str(path), seconds=200, memory=1_500_000_000, stdout="")
             self.assertRegex(done.stderr, r"\Abbmlab: [^\n]+\n\Z")

@@ -159,8 +159,7 @@ class Joining(unittest.TestCase):
 
     def test_lone_ways(self) -> None:
         """A connected input meets the other balls late, and a connected output leaves early: the join takes fewer steps
-        than with whole parts.
-        """
+        than with whole parts."""
         made = self.made()
         ways = {(part.name, wire): way for part in made.parts for wire, way in part.ways.items()}
         self.assertEqual(set(ways), {("a", "sum"), ("b", "a")})

@@ -34,8 +34,7 @@ class Line(NamedTuple):
 @dataclass
 class Joint:
     """Two cells, the output of the first that is the input of the second, and a ball of the first that a mirror turns
-    some steps later.
-    """
+    some steps later."""
 
     first: str
     output: str
@@ -68,8 +67,7 @@ def lines_of(layout: Layout) -> list[Line]:
 
 def turned(port: CellPort, steps: int, last: int) -> tuple[Line, list[Cell]]:
     """Returns an upright mirror that turns a ball some steps after it left, by the table of docs/PHYSICS.md, and its
-    cells at the last time.
-    """
+    cells at the last time."""
     (x, y), time = (port.lead[0] + steps * port.dx, port.lead[1] + steps * port.dy), port.time + steps
     mirror = Line("mirror", None, (x + 1 if port.dx > 0 else x - 2, y - 2 if port.dy > 0 else y - 1), 2, 4)
     dx, dy, left = -port.dx, port.dy, last - time
@@ -88,8 +86,7 @@ def gate_lines(circuit: Circuit, renamed: Callable[[str], str]) -> list[str]:
 
 def joined_circuit(joint: Joint) -> str:
     """Returns the circuit: the gates of the first cell, then those of the second, whose other wires get the prefix
-    `v_`.
-    """
+    `v_`."""
     first, second = (layout_and_circuit(read_cell(name).document)[1] for name in (joint.first, joint.second))
 
     def own(wire: str) -> str:
@@ -154,8 +151,7 @@ def layout_text(lines: list[Line], steps: int) -> str:
 
 def waves(name: str, distance: int) -> str:
     """Returns a circuit and a layout that let two waves of inputs through a cell: the second starts some steps further
-    back.
-    """
+    back."""
     layout, circuit = layout_and_circuit(read_cell(name).document)
     lines: list[Line] = []
     for kind, wire, cell, width, height in lines_of(layout):
@@ -214,8 +210,7 @@ class Joining(unittest.TestCase):
 
     def test_a_parallel_ball(self) -> None:
         """A ball that flies parallel to the joined one disturbs the second cell, however far it is, and an upright
-        mirror helps.
-        """
+        mirror helps."""
         for joint in JOINTS:
             if joint.aside is None:
                 continue

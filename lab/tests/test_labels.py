@@ -15,8 +15,7 @@ SVG = "{http://www.w3.org/2000/svg}"
 # Less than the width of any bold letter, as a part of the size, so that names that meet here meet in any font.
 LEAST_WIDTH = 0.5
 BUNDLES = ["examples/full_adder.txt", "examples/fredkin_gate.txt", "examples/machine_full_adder.txt",
-           "examples/timed_modules.txt",
-           "lab/cells/crossing.txt", "lab/cells/half_adder.txt"]
+           "examples/timed_modules.txt", "lab/cells/crossing.txt", "lab/cells/half_adder.txt"]
 
 
 def number(part: ET.Element, name: str) -> float:

@@ -260,8 +260,7 @@ class Runs(support.InRoom):
     """Runs of large layouts, and what a program that knows the line says."""
 
     TEXT = LINE + layout(4096, 4096, 40, "mirror 4081 4080 2 2", "mirror 1031 1030 2 2", "ball 4064 4064",
-                         "ball 1020 1020", "ball 4091 4000",
-                         "ball 45 4089", "ball 2044 1023")
+                         "ball 1020 1020", "ball 4091 4000", "ball 45 4089", "ball 2044 1023")
 
     def test_cells_do_not_depend_on_their_place(self) -> None:
         """Balls far from the corner fly as those near it do: a ball at an even cell goes right and down (Margolus 1984,

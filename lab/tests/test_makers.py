@@ -201,8 +201,7 @@ class Json(unittest.TestCase):
     def test_report_is_in_it(self) -> None:
         """The report is in the document with its verdict and its lines."""
         report = parse_report("bbmcheck 1\ncertificate " + "0" * 64 + "\nmodules 1\nverdict no\nlocal 0 end 3 2 2 2\n")
-        text = json_form.document_json(support.read_document(support.text_of("wrong_border")),
-                                       report)
+        text = json_form.document_json(support.read_document(support.text_of("wrong_border")), report)
         self.assertIn('"verdict": "no"', text)
         self.assertIn('"assignment": 2', text)
 

@@ -371,8 +371,7 @@ class Sentences(unittest.TestCase):
     def test_formats_are_told_apart(self) -> None:
         """BLIF, JSON and a circuit section are told apart by their first words."""
         for text, form in ((MODEL, NetlistFormat.BLIF), ("# by hand\n\n.inputs a\n", NetlistFormat.BLIF),
-                           (" {}", NetlistFormat.YOSYS_JSON),
-                           ("circuit\n", None), ("", None)):
+                           (" {}", NetlistFormat.YOSYS_JSON), ("circuit\n", None), ("", None)):
             with self.subTest(text):
                 self.assertIs(netlist_format(text), form)
 

@@ -130,8 +130,7 @@ class Refusals(unittest.TestCase):
         """What is wrong with the bytes of a line is said."""
         base = "circuit\ninput p\noutput p\nend\n"
         for text, words in [("\xef\xbb\xbf" + base, "byte order mark"), (base.replace("\n", "\r\n"), "CR LF"),
-                            (base.replace("t p", "t\tp", 1), "tab"),
-                            (base.replace("t p", "t p # x", 1), "comment"),
+                            (base.replace("t p", "t\tp", 1), "tab"), (base.replace("t p", "t p # x", 1), "comment"),
                             (base.replace("t p", "t  p", 1), "Two spaces"), ("\n" + base, "empty"),
                             (base.replace("input p", "input P", 1), "capital"),
                             (base.replace("input p", "inptu p", 1), "`input` is near"),

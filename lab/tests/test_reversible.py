@@ -53,8 +53,7 @@ def real_text(chance: random.Random, lines: int, gates: list[Gate]) -> tuple[str
         garbage[-1] = "-"
     names = [f"x{line}" for line in range(lines)]
     head = ["# a comment", ".version 2.0", f".numvars {lines}", f".variables {' '.join(names)}",
-            f".constants {''.join(constants)}",
-            f".garbage {''.join(garbage)}", ".begin"]
+            f".constants {''.join(constants)}", f".garbage {''.join(garbage)}", ".begin"]
     rows = []
     for controls, targets in gates:
         words = [f"{'' if value else '-'}x{line}" for line, value in controls] + [f"x{line}" for line in targets]

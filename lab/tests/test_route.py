@@ -261,8 +261,7 @@ class Hostile(Routing):
         texts = [circuit_text("a", "", "a"), circuit_text("", "source 1 -> a\nsource 0 -> b", "ab"),
                  circuit_text("", "source 0 -> a", "", "a"),
                  circuit_text("ab", "switch a b -> x y z", "", "xyz"), circuit_text("ab", "", "", "ab"),
-                 "circuit\nend\n",
-                 circuit_text("a", "source 0 -> b\nsource 1 -> c\nfredkin a b c -> x y z", "xyz"),
+                 "circuit\nend\n", circuit_text("a", "source 0 -> b\nsource 1 -> c\nfredkin a b c -> x y z", "xyz"),
                  circuit_text("a", "source 0 -> b\ndelay 9 b -> c\nswitch a c -> x y z", "xyz"),
                  circuit_text("", "source 0 -> a\ndelay 500 a -> b", "b"),
                  circuit_text("a", "source 0 -> b\ndelay 200 b -> c\ndelay 5 a -> d\nswitch d c -> x y z", "xyz")]

@@ -189,7 +189,8 @@ class Commands(unittest.TestCase):
     def test_line_of_limits_stays_first(self) -> None:
         """A text of the line and a layout gets its circuit between the two."""
         made = node(["commands", "limits 2\nlayout 1024 12 0\nend\n",
-                     [["addCellParts", [part("in", 900, 4, name="p")]], ["addCellParts", [part("out", 900, 4, name="p")]]]])[0]
+                     [["addCellParts", [part("in", 900, 4, name="p")]],
+                      ["addCellParts", [part("out", 900, 4, name="p")]]]])[0]
         self.assertEqual(made, "limits 2\ncircuit\ninput p\noutput p\nend\nlayout 1024 12 0\nin p 900 4\nout p 900 "
                          "4\nend\n")
         self.assertIsNone(support.read_document(made, "design").refusal)
@@ -259,7 +260,7 @@ class Commands(unittest.TestCase):
             self.assertTrue(all(output["wanted"] == output["found"] for row in rows for output in row["outputs"]),
                             cell["name"])
         twice = node(["commands", "circuit\nend\nlayout 96 48 0\nend\n",
-                      [["insertStandardCell", cells("not")[0], 0, 0, True], ["insertStandardCell", cells("not")[0], 50, 0, True]]])[0]
+                      [["insertStandardCell", cells("not")[0], x, 0, True] for x in (0, 50)]])[0]
         self.assertIn("switch a_2 k_2 -> d_2 y_2 z_2", twice)
         self.assertEqual(len(node(["truth", twice])[0]), 4)
 

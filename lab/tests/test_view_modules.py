@@ -35,8 +35,7 @@ def many_outputs(count: int, wrong: list[int]) -> Document:
     """Returns a circuit and a layout of one step with wires that go from inputs to outputs, of which some have their
     output beside the ball."""
     lines = ["limits 2", "circuit", *(f"input w{index}" for index in range(count)),
-             *(f"output w{index}" for index in range(count)), "end",
-             f"layout {4 * count + 4} 8 1"]
+             *(f"output w{index}" for index in range(count)), "end", f"layout {4 * count + 4} 8 1"]
     lines += [f"in w{index} {4 * index + 2} 2" for index in range(count)]
     lines += [f"out w{index} {4 * index + 3} {4 if index in wrong else 3}" for index in range(count)]
     return support.read_document("\n".join([*lines, "end"]) + "\n")
@@ -48,8 +47,7 @@ class Address(unittest.TestCase):
     def test_what_is_written_is_read(self) -> None:
         """Each part comes back, and all of them together."""
         states = [{}, {"time": 7}, {"on": []}, {"on": ["p"]}, {"zoom": [2.5, 10, -3.25]}, {"fault": 2},
-                  {"trails": False},
-                  {"time": 30, "on": ["p", "q"], "zoom": [80, 0, 512], "fault": 1, "trails": False}]
+                  {"trails": False}, {"time": 30, "on": ["p", "q"], "zoom": [80, 0, 512], "fault": 1, "trails": False}]
         written = node([["write", state] for state in states])
         self.assertEqual(node([["read", f"#{text}", LIMITS] for text in written]), states)
 

@@ -211,8 +211,7 @@ class Large(support.InRoom):
                  *(f"switch {name} {'o' if number == 0 else f'z{number - 1}'} -> c{number} y{number} z{number}"
                    for number, name in enumerate(names)),
                  *(f"output c{number}" for number in range(wires)), *(f"spill y{number}" for number in range(wires)),
-                 f"spill z{wires - 1}", "end",
-                 "layout 1024 1024 40"]
+                 f"spill z{wires - 1}", "end", "layout 1024 1024 40"]
         lines += [f"in {name} 100 {100 + 8 * number}" for number, name in enumerate(names)]
         lines += [f"out c{number} 140 {140 + 8 * number}" for number in range(wires)]
         return "\n".join([*lines, "end", "certificate 2", "module 0 0 16 16", "use 0", "module 16 0 32 32", "cut w0",
@@ -331,8 +330,7 @@ class Chosen(support.Case):
     def test_unknown_wire(self) -> None:
         """A name that is no wire's is said, and so are options that need --ways."""
         for words, told in ((["--ways", "--wires", "nobody"], "there is no wire `nobody`"),
-                            (["--ways", "--cone", "none"], "there is no wire `none`"),
-                            (["--arrows"], "need --ways")):
+                            (["--ways", "--cone", "none"], "there is no wire `none`"), (["--arrows"], "need --ways")):
             self.assert_ends(4, "draw", support.example("full_adder"), *words, err=told)
 
     def test_arrows(self) -> None:

@@ -193,8 +193,7 @@ def run(text):
 
 LONE = {b"input": 0, b"output": 2, b"spill": 3}
 GATES = {b"source": (0, 1), b"fredkin": (3, 3), b"cswap": (3, 3), b"interact": (2, 4), b"switch": (2, 3),
-         b"delay": (1, 1),
-         b"unswitch": (3, 2), b"uninteract": (4, 2)}
+         b"delay": (1, 1), b"unswitch": (3, 2), b"uninteract": (4, 2)}
 INVERSE = (b"unswitch", b"uninteract")
 # the outputs of a gate at its inputs; an inverse gate has the rows of the other one, read backwards, and else None
 ROWS = {

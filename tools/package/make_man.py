@@ -76,8 +76,7 @@ def rows(text, heading):
 def help_in(text):
     (example,), = rows(text, "Example")
     return Help(text.splitlines()[0], after(text, "Usage"), rows(text, "Commands"), rows(text, "Options"),
-                after(text, "Reads"),
-                after(text, "Writes"), rows(text, "Exit statuses"), example)
+                after(text, "Reads"), after(text, "Writes"), rows(text, "Exit statuses"), example)
 
 
 def roff(text):
@@ -225,8 +224,7 @@ def main():
     # `help` is the library's own command, and has no page.
     pages = {name: help_in(said(given.program, name, "--help")) for name, _ in top.commands if name != "help"}
     made = {MAN: man_page(said(given.program, "--version"), top, pages), BASH: bash_completions(top, pages),
-            ZSH: zsh_completions(top, pages),
-            FISH: fish_completions(top, pages)}
+            ZSH: zsh_completions(top, pages), FISH: fish_completions(top, pages)}
     differ = 0
     for path, lines in made.items():
         text = "".join(line + "\n" for line in lines)

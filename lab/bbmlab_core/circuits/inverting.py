@@ -11,8 +11,7 @@ from .row_check import first_gate_without_row
 MAX_EXHAUSTIVE_INPUTS = 16
 SAMPLE_COUNT = 4096
 INVERSES = {"fredkin": "fredkin", "cswap": "cswap", "delay": "delay", "switch": "unswitch", "unswitch": "switch",
-            "interact": "uninteract",
-            "uninteract": "interact"}
+            "interact": "uninteract", "uninteract": "interact"}
 
 
 def values_of(circuit: Circuit) -> Valuation:

@@ -84,8 +84,7 @@ def real_text(circuit: Circuit) -> str:
     network = LineNetwork(circuit)
     lines, constants, ends = network.lines, network.constants, network.ends
     head = ["# A circuit of conservative logic: f3 is a Fredkin gate, and t2 and t3 are Toffoli gates.", ".version 2.0",
-            f".numvars {len(lines)}",
-            " ".join([".variables", *lines]),
+            f".numvars {len(lines)}", " ".join([".variables", *lines]),
             " ".join([".inputs", *(str(constants.get(line, line)) for line in lines)]),
             " ".join([".outputs", *(ends.get(line, "g") for line in lines)]),
             ".constants " + "".join(str(constants.get(line, "-")) for line in lines),

@@ -76,8 +76,7 @@ def circuit_figures(circuit: Circuit) -> list[tuple[str, str]]:
             ("constants", str(kinds["source"])),
             ("garbage", str(len(circuit.spills))), ("gates", str(len(circuit.gates) - kinds["source"])),
             *((f"  {word}", str(kinds[word])) for word in sorted(kinds) if word != "source"),
-            ("depth", str(depth(circuit))),
-            ("width", str(peak_wire_count(circuit)))]
+            ("depth", str(depth(circuit))), ("width", str(peak_wire_count(circuit)))]
 
 
 def section_figures(document: Document) -> list[tuple[str, str]]:

@@ -22,8 +22,7 @@ def picture_of(design: tuple[Document, Layout], names: str | None, time: int | N
     on = tracing.chosen_inputs(document, names)
     under = f" with {' '.join(on) or 'no input'} on"
     picture = drawing.Drawing(modules=list(document.certificate.modules) if document.certificate and not is_large
-                              else [], view=visible_box(look, layout),
-                              ball=look.ball, has_arrows=look.has_arrows)
+                              else [], view=visible_box(look, layout), ball=look.ball, has_arrows=look.has_arrows)
     if is_large and document.circuit:
         picture.gates = gate_boxes(document.text, document.circuit)
     if time is None:

@@ -190,8 +190,7 @@ class BorderCheck:
         return next(([time] for time in times if actual.get(time, 0) != own.get(time, 0)), [])
 
     def expected_signals(self, cell: Cell, actual: dict[int, Table], modules: list[Module],
-                         lines: list[tuple[Module, Border]],
-                         rank: int) -> dict[int | None, str] | None:
+                         lines: list[tuple[Module, Border]], rank: int) -> dict[int | None, str] | None:
         """Returns the signals that a cell should have by time, or None if no wire has its values.
 
         Where no line tells it, the wire is the one with this rank among those that have the values, or the last of

@@ -128,8 +128,7 @@ def explain_local(diagnosis: Diagnosis, finding: ReportLine) -> ExplainedLine:
     entry.facts = {"module": module.number, "module_line": module.line, "kind": finding.values["kind"], "time": time,
                    "cell": list(cell),
                    "assignment": values, "found": found, "wanted": want, "occurs": occurrence.occurs.json,
-                   "inputs": occurrence.inputs,
-                   "text": wanted.text, "box": list(module.box)}
+                   "inputs": occurrence.inputs, "text": wanted.text, "box": list(module.box)}
     if diagnosis.detailed is not None and finding.text not in diagnosis.detailed:
         return entry
     live, heard = diagnosis.module_state(module, assignment, time)
@@ -247,8 +246,7 @@ def explain_keep(diagnosis: Diagnosis, finding: ReportLine) -> ExplainedLine:
         "and it has no row for these values.",
         occurrence_words(diagnosis, occurrence, assignment_words(values))], line=keeps)
     entry.facts = {"module": module.number, "gate": gate.number, "assignment": values, "fed": ins,
-                   "occurs": occurrence.occurs.json,
-                   "inputs": occurrence.inputs}
+                   "occurs": occurrence.occurs.json, "inputs": occurrence.inputs}
     if occurrence.occurs is Tristate.YES:
         entry.cause = "circuit"
         entry.what.append(f"So the circuit is wrong: it feeds gate {gate.number} these values. `bbmcheck value` "

@@ -93,8 +93,7 @@ def receipt_of(text: bytes, result: Result, program: ProgramIdentity, seconds: f
     """Returns the receipt of a result that is a verdict or a refusal."""
     date = time.strftime("%Y-%m-%dT%H:%M:%SZ", time.gmtime())
     return Receipt(result.file, len(text), sha256(text), section_digests(text), result.output, result.result,
-                   EXIT_STATUS_OF[result.result], program,
-                   1, seconds, date, result)
+                   EXIT_STATUS_OF[result.result], program, 1, seconds, date, result)
 
 
 def member(document: Any, name: str, kind: Any) -> Any:

@@ -84,8 +84,7 @@ def program_candidates(given: str | None) -> list[str]:
         return [os.environ["BBMCHECK"]]
     # The last is next to the command, or next to a link to it, as pipx makes.
     own = [PACKAGE_FOLDER.parent.parent / "bbmcheck", PACKAGE_FOLDER.parent.parent.parent / "bin" / "bbmcheck",
-           Path(sys.prefix) / "bin" / "bbmcheck",
-           Path(sys.argv[0]).absolute().parent / "bbmcheck"]
+           Path(sys.prefix) / "bin" / "bbmcheck", Path(sys.argv[0]).absolute().parent / "bbmcheck"]
     return [*(str(place) for place in own if place.is_file()), "bbmcheck"]
 
 

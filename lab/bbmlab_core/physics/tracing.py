@@ -157,8 +157,7 @@ def sorted_cells(cells: set[Cell]) -> list[list[int]]:
 def as_json(trace: Trace, mirrors: set[Cell]) -> str:
     """Writes a trace as one JSON document."""
     document: dict[str, Any] = {"format": "bbmlab trace 1", "title": trace.title, "box": list(trace.box),
-                                "left": trace.left,
-                                "mirrors": sorted_cells(mirrors)}
+                                "left": trace.left, "mirrors": sorted_cells(mirrors)}
     states = (json.dumps({"time": time, "live": sorted_cells(trace.live(moment)), "heard": sorted_cells(moment.heard)})
               for time, moment in enumerate(trace.moments, trace.first))
     return f'{json.dumps(document)[:-1]}, "states": [{", ".join(states)}]}}\n'

@@ -80,8 +80,7 @@ def animation(layout: Layout, runs: list[list[str]], title: str) -> str:
     own = layout.steps + 1 + REST_STEPS
     width, height = CELL_PX * layout.width, CELL_PX * layout.height
     lines = [f'<svg xmlns="http://www.w3.org/2000/svg" viewBox="0 0 {width} {height + 32}" width="{width}" '
-             f'height="{height + 32}">',
-             f"<title>{title}</title>"]
+             f'height="{height + 32}">', f"<title>{title}</title>"]
     for part in layout.of_kind("mirror"):
         box = (f'x="{CELL_PX * part.x}" y="{CELL_PX * part.y}" '
                f'width="{CELL_PX * part.width}" height="{CELL_PX * part.height}"')

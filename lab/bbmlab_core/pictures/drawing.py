@@ -384,8 +384,7 @@ def svg(layout: Layout, drawing: Drawing, wires: list[str]) -> str:
     count = len(labelled_cells(layout))
     words = escape(drawing.title + (f"; the names of {count} ports are left out" if count > MAX_NAMES else ""))
     title = f'<g transform="scale({rounded(scale)})"><text x="{MARGIN}" y="12">{words}</text></g>'
-    below = f'<g transform="translate(0 {rounded(bottom)}) scale({rounded(scale)})">' + "\n".join(
-        keys) + "</g>"
+    below = f'<g transform="translate(0 {rounded(bottom)}) scale({rounded(scale)})">' + "\n".join(keys) + "</g>"
     size = f"{rounded(width)} {rounded(height)}"
     return (f'<svg xmlns="http://www.w3.org/2000/svg" viewBox="0 0 {size}" width="{rounded(width)}" '
             f'height="{rounded(height)}" role="img">'
@@ -400,7 +399,7 @@ def svg(layout: Layout, drawing: Drawing, wires: list[str]) -> str:
 def wire_tables(document: Document, on: list[str]) -> tuple[dict[str, Table], Table, int]:
     """Returns the tables of the wires, that of all columns, and the column in which just the names of `on` are true.
 
-    The columns are all assignments of the inputs, or samples if there are more inputs than `MAX_INPUTS`.
+    The columns are all assignments of the inputs, or samples if there are more inputs than `MAX_EXHAUSTIVE_INPUTS`.
     """
     layout, circuit = document.layout, document.circuit
     assert layout is not None

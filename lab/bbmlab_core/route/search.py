@@ -232,8 +232,7 @@ def uncropped_bundle(circuit_text: str, design: Design) -> RoutedBundle:
     side = max(design.width, design.height)
     return RoutedBundle(with_limits_line(text, limits_for(side, design.end, len(certifier.modules), gates, wires)),
                         with_limits_line(layout, limits_for(side, design.end, 0, gates, wires)), design.width,
-                        design.height,
-                        design.end, len(certifier.mirrors), len(certifier.modules), certifier.most_cuts,
+                        design.height, design.end, len(certifier.mirrors), len(certifier.modules), certifier.most_cuts,
                         len(design.gates))
 
 

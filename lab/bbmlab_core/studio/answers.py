@@ -127,8 +127,7 @@ class Answers:
             return {"refusal": None}
         told = explain_refusal(document, document.refusal)
         return {"refusal": {"line": source_line_number(source, text, document.refusal.line),
-                            "code": document.refusal.code, "words": told.what, "rule": told.rule,
-                            "hints": told.hints}}
+                            "code": document.refusal.code, "words": told.what, "rule": told.rule, "hints": told.hints}}
 
     def spelling(self, body: Answer) -> Answer:
         """Returns a text in the one spelling that the program reads, and how many comments that leaves out."""

@@ -32,8 +32,7 @@ class JobWorker:
                  program.sha256, str(seconds), str(memory)]
         path = os.pathsep.join([str(PACKAGE_PARENT), *filter(None, [os.environ.get("PYTHONPATH")])])
         self.process = subprocess.Popen(words, stdin=subprocess.PIPE, stdout=subprocess.PIPE, start_new_session=True,
-                                        pass_fds=[program.descriptor],
-                                        env={**os.environ, "PYTHONPATH": path})
+                                        pass_fds=[program.descriptor], env={**os.environ, "PYTHONPATH": path})
         self.is_ended = False
         # Whether the time for an answer was over.
         self.is_late = False

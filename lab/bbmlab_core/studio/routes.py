@@ -70,8 +70,7 @@ class RouteSearches:
     def begin(self, tab: str, text: str, seconds: float, seed: int,
               ports: tuple[str, str] | None = None) -> dict[str, Any]:
         """Begins a search for the circuit of a text, or for a way from an output to an input of the text. Raises
-        LabError if another one runs, or a number is not allowed.
-        """
+        LabError if another one runs, or a number is not allowed."""
         if not 1 <= seconds <= MAX_SECONDS or not 0 <= seed < MAX_SEED:
             raise LabError(f"A search takes 1 to {MAX_SECONDS} seconds, and its seed is from 0 to {MAX_SEED - 1}.")
         if ports:

@@ -45,8 +45,7 @@ def known_stops(bundle: Bundle) -> list[Stop]:
 
 
 def certify(bundle: Bundle, *, grid: tuple[int, int] | None = None,
-            boxes: Iterable[tuple[int, int, int, int]] | None = None,
-            cuts: str = "auto", version: int = 2) -> Bundle:
+            boxes: Iterable[tuple[int, int, int, int]] | None = None, cuts: str = "auto", version: int = 2) -> Bundle:
     """Returns a circuit and a layout with a certificate that the lab makes. The program has not checked it.
 
     Raises RefusedError if circuit or layout are refused, ValueError for wrong arguments, and NotFoundError if no
@@ -89,8 +88,7 @@ def circuit_text(circuit: Circuit | str) -> str:
 
 
 def route(circuit: Circuit | str, *, seed: int = 1, size: int | None = None, effort: float = 60.0, jobs: int = 1,
-          compact: bool = False,
-          progress: Callable[[int, int, int, int], object] | None = None,
+          compact: bool = False, progress: Callable[[int, int, int, int], object] | None = None,
           cancel: Callable[[], bool] | None = None) -> Bundle:
     """Returns a circuit with a layout and a certificate, placed and routed by the lab. The program has not checked it.
 

@@ -30,8 +30,7 @@ from .unrolling import unrolled_netlist
 from .yosys_json import read_yosys_json
 
 __all__ = ["MappedNetlist", "NetlistError", "NetlistFormat", "ReadingOptions", "circuit_from_netlist", "map_netlist",
-           "map_parsed_netlist", "netlist_format",
-           "read_netlist"]
+           "map_parsed_netlist", "netlist_format", "read_netlist"]
 
 MAX_NETLIST_BYTES = 16_777_216
 # The most outputs of a netlist whose tables are tried.

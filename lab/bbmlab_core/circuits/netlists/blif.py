@@ -10,8 +10,7 @@ from .model import MAX_PORTS, Latch, LogicNetlist, NetlistError, TableNode
 SKIPPED_KEYWORDS = {".attr", ".param", ".cname", ".area", ".delay", ".wire_load_slope", ".wire", ".input_arrival",
                     ".default_input_arrival",
                     ".output_required", ".default_output_required", ".input_drive", ".default_input_drive",
-                    ".output_load", ".default_output_load",
-                    ".max_input_load", ".default_max_input_load", ".clock"}
+                    ".output_load", ".default_output_load", ".max_input_load", ".default_max_input_load", ".clock"}
 # The types of latches that change at an edge of their clock, and those that do not.
 LATCH_EDGES = {"re": "rising edge", "fe": "falling edge"}
 LATCH_LEVELS = {"ah": "while its control is 1", "al": "while its control is 0", "as": "without a clock"}

@@ -19,8 +19,7 @@ class NamedCircuit:
     def cost(self) -> float:
         """Returns the cost of the gates and the garbage."""
         counts = Counter(gate.kind for gate in self.circuit.gates)
-        return (sum(cost * counts[kind] for kind, cost in GATE_COSTS.items())
-                + GARBAGE_COST * len(self.circuit.spills))
+        return (sum(cost * counts[kind] for kind, cost in GATE_COSTS.items()) + GARBAGE_COST * len(self.circuit.spills))
 
 
 def named_circuit(graph: Graph, wiring: MappedGates) -> NamedCircuit:

@@ -12,8 +12,7 @@ from .reversible import Control, LineBuilder, LineNetlist, require_distinct
 COMMENT = re.compile(r"//[^\n]*|/\*.*?\*/", re.DOTALL)
 # The gates that are known: how many controls each has, and how many targets.
 KNOWN_GATES = {"x": (0, 1), "cx": (1, 1), "CX": (1, 1), "cnot": (1, 1), "ccx": (2, 1), "toffoli": (2, 1), "c3x": (3, 1),
-               "c4x": (4, 1),
-               "swap": (0, 2), "cswap": (1, 2), "fredkin": (1, 2), "id": (0, 1)}
+               "c4x": (4, 1), "swap": (0, 2), "cswap": (1, 2), "fredkin": (1, 2), "id": (0, 1)}
 REGISTER = re.compile(r"(?:(qreg|creg)\s+(\w+)\s*\[\s*(\d+)\s*\]|(qubit|bit)\s*(?:\[\s*(\d+)\s*\])?\s*(\w+))\Z")
 MEASURE = re.compile(r"(?:measure\s+(.+?)\s*->\s*(.+)|(.+?)\s*=\s*measure\s+(.+))\Z", re.DOTALL)
 CALL = re.compile(r"((?:(?:neg)?ctrl(?:\s*\(\s*\d+\s*\))?\s*@\s*)*)(\w+)\s*(\([^)]*\))?\s+(.+)\Z", re.DOTALL)

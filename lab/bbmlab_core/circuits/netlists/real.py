@@ -9,8 +9,7 @@ from .reversible import Control, LineBuilder, LineNetlist, require_distinct
 GATE_WORD = re.compile(r"(t|f)([1-9][0-9]*)\Z")
 WORD = re.compile(r'"([^"]*)"|(\S+)')
 QUANTUM_GATES = {"v": "a square root of NOT", "v+": "a square root of NOT", "h": "a Hadamard gate", "q": "a rotation",
-                 "rx": "a rotation",
-                 "ry": "a rotation", "rz": "a rotation"}
+                 "rx": "a rotation", "ry": "a rotation", "rz": "a rotation"}
 SKIPPED_KEYWORDS = {".version", ".inputbus", ".outputbus", ".state", ".specification"}
 
 
