@@ -386,13 +386,12 @@ class Joining(unittest.TestCase):
             room = world.free_flight(first.ball, coil_ways.LONGEST)
             with mock.patch.object(search, "places", lambda *words, most=room: range(most + 1)):
                 found = list(search.options_behind(first, room))
-            on = coil_ways.LEAST_ON
             self.assertEqual([(option.steps, option.turn) for option in found], [
                 (steps, turn) for steps in range(room + 1) for turn in Turn
-                for after, mirror in [bounce(first.ball.flown(steps), turn)]
-                if world.can_hold(mirror) and world.free_flight(after.flown(BOUNCE_STEPS), on) == on])
-            search.queue = found
+                if world.can_hold(bounce(first.ball.flown(steps), turn)[1])])
+            search.queue, on = found, coil_ways.LEAST_ON
             for bend in iter(search.next_bend, None):
+                self.assertEqual(world.free_flight(bend.ball.flown(BOUNCE_STEPS), on), on)
                 item, left, right, top, bottom = bend.spans[-1]
                 for x, y in map(number_cell, item.mirrors | item.touched):
                     self.assertTrue(left <= x <= right and top <= y <= bottom, bend)
