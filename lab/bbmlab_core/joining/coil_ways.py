@@ -37,9 +37,11 @@ LEAST_AHEAD = 12
 FARTHEST = 140
 # A ball can fly at least so many steps on behind a bounce.
 LEAST_ON = 9
-# The side of the free squares that are open ground, and the steps to spare with which a ball comes there.
+# The side of the free squares that are open ground, the steps to spare with which a ball comes there, and the bounces
+# that are tried at most. In `multiplier_6` ways came after at most 1,148 bounces; other searches found none in 2,000.
 OPEN_SIDE = 48
 OPEN_SPARE = 110
+OPEN_BOUNCES = 1200
 # The first bit of each tile of a row, and the digits 0 and 1 for these numbers.
 FIRST_BITS = sum(1 << column for column in range(0, ROW, TILE))
 DIGITS = bytes.maketrans(b"\0\1", b"01")
@@ -255,7 +257,7 @@ class CoilSearch:
         self.taken = BitJoiner(self.world, finder.chance, finder.settings).taken
         self.seen = set[tuple[int, int, int, int]]()
         self.queue = list[CoilOption]()
-        self.tried, self.count = 0, 0
+        self.tried, self.count, self.most_bounces = 0, 0, MOST_BOUNCES
 
     def run(self) -> Iterator[tuple[Coil, list[Leg]]]:
         """Yields coils with the legs up to the end, those of a cheap way first."""
@@ -268,7 +270,7 @@ class CoilSearch:
     def bends(self) -> Iterator[tuple[CoilBounce, int]]:
         """Yields the bounces that the search comes to, and how far the ball can fly on straight."""
         bend: CoilBounce | None = self.first if any(self.squares.rows) else None
-        while bend is not None and self.tried < MOST_BOUNCES:
+        while bend is not None and self.tried < self.most_bounces:
             self.seen.add(place_of(bend.ball))
             self.tried += 1
             room = self.room(bend)
@@ -372,6 +374,7 @@ class OpenSearch(CoilSearch):
                  has_room: Callable[[Item], bool], goal_cells: float) -> None:
         self.goal, self.goal_cells = goal.reversed() if is_backward else goal, goal_cells
         super().__init__(finder, ground, ball, self.goal.time, is_backward, has_room, OPEN_SIDE)
+        self.most_bounces = OPEN_BOUNCES
 
     def ways(self) -> Iterator[list[Leg]]:
         """Yields the legs of ways, in their order of time. They end or begin with a straight flight."""
