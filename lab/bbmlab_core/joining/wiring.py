@@ -9,11 +9,11 @@ import time
 from dataclasses import dataclass
 from functools import partial
 from itertools import chain, islice
-from typing import Callable, Collection
+from typing import Callable, Collection, Iterator
 
 from ..route.balls import Ball, Leg, follow, reversed_legs
 from ..route.board import Bound, NoRouteError
-from ..route.paths import Path, PathFinder, Trail
+from ..route.paths import Path, PathFinder, Trail, is_in_reach
 from ..route.settings import Settings
 from ..route.world import STEP, TILE, Item, World, cell_number, number_cell, path_item
 from ..texts.layouts import Box
@@ -21,7 +21,7 @@ from .coil_ways import CoilGround, CoilSearch, OpenSearch
 from .flight_claims import FlightClaims
 from .modules import JoinedModules
 from .parts import ALWAYS
-from .planning import SHALLOW, Job, JoinPlan, PlacedPart
+from .planning import SHALLOW, SPARES, Job, JoinPlan, PlacedPart
 
 # The steps at the open ends of balls that wait which are kept free, the first that fit.
 STUB_STEPS = (20, 14, 10, 6, 3)
@@ -298,7 +298,9 @@ class JoinWiring:
         is_deep = max(self.world.depth(ball.x, ball.y) for ball in (job.start, job.goal)) > SHALLOW
         path = self.connected_outside(job.wire, job.start, job.goal) if is_deep and not tried else None
         path = path or self.connected(job.wire, job.start, job.goal)
-        return path or (self.connected_outside(job.wire, job.start, job.goal) if not is_deep and not tried else None)
+        # With little time to spare such searches took 5 to 17 seconds, and found nothing: more time is cheaper.
+        is_sought = not is_deep and not tried and is_in_reach(job.start, job.goal, SPARES[-1].steps)
+        return path or (self.connected_outside(job.wire, job.start, job.goal) if is_sought else None)
 
     def coiled(self, job: Job) -> Path | None:
         """Returns a path to a coil in which a ball waits, or None. Without a start the ball comes from a coil."""
@@ -332,18 +334,30 @@ class JoinWiring:
     def connected_outside(self, wire: str, start: Ball, goal: Ball) -> Path | None:
         """Returns a path between two parts whose ends are led to open ground by a search, and joined there."""
         has_room = self.modules.room_for(wire)
-        for cells in GOAL_CELLS:
-            search = OpenSearch(self.finder, self.ground, goal, start, True, has_room, cells)
-            for behind in islice(search.ways(), OPEN_WAYS):
-                back, last = Trail(self.world, goal, is_backward=True), self.finder.before(goal, behind)
-                turns = [leg.turn for leg in reversed(behind[:-1])]
-                is_free = all(back.push(leg.steps, turn) for leg, turn in zip(reversed(behind), [*turns, None]))
-                legs = self.legs_to_open(start, last, has_room, cells) if is_free else None
-                back.clear()
-                path = self.finder.complete(wire, start, goal, linked(legs, behind)) if legs else None
-                if path is not None and self.modules.has_room_for(wire, self.modules.modules_of(path)):
-                    return path
+        for cells, behind in self.ways_from_open(start, goal, has_room):
+            back, last = Trail(self.world, goal, is_backward=True), self.finder.before(goal, behind)
+            turns = [leg.turn for leg in reversed(behind[:-1])]
+            is_free = all(back.push(leg.steps, turn) for leg, turn in zip(reversed(behind), [*turns, None]))
+            legs = self.legs_to_open(start, last, has_room, cells) if is_free else None
+            back.clear()
+            path = self.finder.complete(wire, start, goal, linked(legs, behind)) if legs else None
+            if path is not None and self.modules.has_room_for(wire, self.modules.modules_of(path)):
+                return path
         return None
+
+    def ways_from_open(self, start: Ball, goal: Ball,
+                       has_room: Callable[[Item], bool]) -> Iterator[tuple[float, list[Leg]]]:
+        """Yields legs from open ground to a ball in a part: the first ones by each cost of a step, then the second.
+
+        If the first one with a cost does not lead on to the start, the others with this cost seldom do.
+        """
+        ways = dict[float, Iterator[list[Leg]]]()
+        for cells in OPEN_WAYS * GOAL_CELLS:
+            if cells not in ways:
+                ways[cells] = OpenSearch(self.finder, self.ground, goal, start, True, has_room, cells).ways()
+            behind = next(ways[cells], None)
+            if behind is not None:
+                yield cells, behind
 
     def legs_to_open(self, start: Ball, last: Ball, has_room: Callable[[Item], bool], cells: float) -> list[Leg] | None:
         """Returns legs from a ball in a part to a ball on open ground, or None."""
