@@ -314,6 +314,35 @@ class Joining(unittest.TestCase):
             self.assertGreaterEqual(min(steps), wiring.STEPS_BACK_RANGE[0] + deep)
             self.assertLessEqual(max(steps), wiring.STEPS_BACK_RANGE[1] + 2 * deep)
 
+    def test_searches_outside(self) -> None:
+        """A ball that random bounces do not lead is led by a search if it has time to spare, and a deep one before
+        them."""
+        search = command.JoinSearch(self.made(), command.JoinOptions(1, None, 60), ProgressLine(60))
+        _, _, own = search.prepared()
+        ball, least = Ball(400, 400, 1, 1, 1000), 100 + planning.SPARES[-1].steps
+        for depth, steps, tried, order in ((0, least, 0, "RO"), (0, least - 1, 0, "R"), (0, least, 1, "R"),
+                                           (planning.SHALLOW_CELLS + 1, least - 1, 0, "OR"),
+                                           (planning.SHALLOW_CELLS + 1, least, 1, "R")):
+            goal, found = Ball(500, 500, 1, 1, 1000 + steps), list[str]()
+            with mock.patch.object(own.world, "depth", lambda *words, own=depth: own), mock.patch.object(
+                    own, "connected", lambda *words, found=found: found.append("R")), mock.patch.object(
+                    own, "connected_outside", lambda *words, found=found: found.append("O")):
+                self.assertIsNone(own.found(planning.BallJob("w", ball, goal, goal.time), tried))
+            self.assertEqual("".join(found), order, (depth, steps, tried))
+
+    def test_ways_from_open_ground(self) -> None:
+        """The first ways by each cost come before the second ones, and a search without more ways is left out."""
+        search = command.JoinSearch(self.made(), command.JoinOptions(1, None, 60), ProgressLine(60))
+        _, _, own = search.prepared()
+        job = own.plan.jobs[0]
+        assert job.start and job.goal
+        counts = dict(zip(wiring.GOAL_STEP_COSTS, (1, 9, 2)))
+        with mock.patch.object(coil_ways.OpenSearch, "ways", lambda self: iter(range(counts[self.goal_cells]))):
+            found = list(own.ways_from_open(job.start, job.goal, lambda _: True))
+        first, second, third = wiring.GOAL_STEP_COSTS
+        self.assertEqual(found, [(first, 0), (second, 0), (third, 0), (second, 1), (third, 1),
+                                 *((second, number) for number in range(2, wiring.OPEN_WAYS))])
+
     def test_more_time_for_one_ball(self) -> None:
         """A ball between two parts that cannot be led in its time gets more, and no other one does."""
         search = command.JoinSearch(self.made(), command.JoinOptions(1, None, 60), ProgressLine(60))
@@ -389,13 +418,12 @@ class Joining(unittest.TestCase):
             room = world.free_steps(first.ball, coil_ways.LONGEST_LEG)
             with mock.patch.object(search, "bounce_steps", lambda *words, most=room: range(most + 1)):
                 found = list(search.options_behind(first, room))
-            on = coil_ways.LEAST_STEPS_ON
             self.assertEqual([(option.steps, option.turn) for option in found], [
                 (steps, turn) for steps in range(room + 1) for turn in Turn
-                for after, mirror in [bounce(first.ball.flown(steps), turn)]
-                if world.can_hold(mirror) and world.free_steps(after.flown(BOUNCE_STEPS), on) == on])
-            search.queue = found
+                if world.can_hold(bounce(first.ball.flown(steps), turn)[1])])
+            search.queue, on = found, coil_ways.LEAST_STEPS_ON
             for bend in iter(search.next_bounce, None):
+                self.assertEqual(world.free_steps(bend.ball.flown(BOUNCE_STEPS), on), on)
                 item, left, right, top, bottom = bend.spans[-1]
                 for x, y in map(cell_of_number, item.mirrors | item.touched):
                     self.assertTrue(left <= x <= right and top <= y <= bottom, bend)

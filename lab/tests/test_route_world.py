@@ -7,7 +7,8 @@ import support  # noqa: F401
 from bbmlab_core.route.balls import (BOUNCE_STEPS, Ball, BallRun, Leg, Turn, follow_legs, mirror_cells, path_run,
                                      run_exactly, start_state)
 from bbmlab_core.route.cells import cell_library
-from bbmlab_core.route.world import STEP_STRIDE, Footprint, World, cell_item, cell_number, path_item
+from bbmlab_core.route.world import (LEAST_RANGE, ROW_STRIDE, STEP_STRIDE, Footprint, World, cell_item, cell_number,
+                                     path_item)
 from bbmlab_core.texts.layouts import Cell
 
 # The steps of the runs that are compared.
@@ -142,6 +143,22 @@ class Claims(unittest.TestCase):
                          or any(plane.mirror_falling)
                          or any(plane.mirror_rising) or any(plane.blocked_falling) or any(plane.blocked_rising))
         self.assertGreater(plane.free_steps(ball, 400), 60)
+
+    def test_flights_are_counted_at_once(self) -> None:
+        """Flights leave in a world what their cells leave one by one, also when some are removed."""
+        chance, plane, plain = random.Random(7), World(300), World(300)
+        items = [piece.item for piece in (random_path(chance) for _ in range(60)) if piece]
+        flights = [part for item in items for part in item.touched_parts if isinstance(part, range)]
+        self.assertEqual({part.step for part in flights if len(part) >= LEAST_RANGE},
+                         {ROW_STRIDE + 1, ROW_STRIDE - 1, -ROW_STRIDE - 1, 1 - ROW_STRIDE})
+        for change in (World.add, World.remove):
+            for item in items:
+                change(plane, item)
+                change(plain, Footprint(item.mirrors, tuple(map(list, item.touched_parts)), item.claim_parts))
+            self.assertEqual(plane.counts, plain.counts)
+            for rows in ("blocked", "blocked_falling", "blocked_rising"):
+                self.assertEqual(getattr(plane, rows), getattr(plain, rows), rows)
+            del items[::2]
 
     def test_free_flight_ends_before_mirrors(self) -> None:
         """A straight flight as long as `free_steps` says fits, and one step more meets a mirror or the margin."""

@@ -37,9 +37,11 @@ LEAST_STEPS_AHEAD = 12
 FARTHEST_TILES = 140
 # A ball can fly at least so many steps on behind a bounce.
 LEAST_STEPS_ON = 9
-# The side of the free squares that are open ground, and the steps to spare with which a ball comes there.
+# The side of the free squares that are open ground, the steps to spare with which a ball comes there, and the bounces
+# that are tried at most. In `multiplier_6` ways came after at most 1,148 bounces; other searches found none in 2,000.
 OPEN_SQUARE_SIDE = 48
 OPEN_SPARE_STEPS = 110
+OPEN_BOUNCES = 1200
 # The first bit of each tile of a row, and the digits 0 and 1 for these numbers.
 TILE_FIRST_BITS = sum(1 << column for column in range(0, ROW_STRIDE, TILE))
 DIGIT_TABLE = bytes.maketrans(b"\0\1", b"01")
@@ -256,7 +258,7 @@ class CoilSearch:
         self.taken = BitJoiner(self.world, finder.chance, finder.settings).taken_columns
         self.seen = set[tuple[int, int, int, int]]()
         self.queue = list[CoilOption]()
-        self.tried, self.count = 0, 0
+        self.tried, self.count, self.most_bounces = 0, 0, MOST_BOUNCES
 
     def run(self) -> Iterator[tuple[Coil, list[Leg]]]:
         """Yields coils with the legs up to the end, those of a cheap way first."""
@@ -269,7 +271,7 @@ class CoilSearch:
     def reached_bounces(self) -> Iterator[tuple[CoilBounce, int]]:
         """Yields the bounces that the search comes to, and how far the ball can fly on straight."""
         bend: CoilBounce | None = self.first if any(self.squares.rows) else None
-        while bend is not None and self.tried < MOST_BOUNCES:
+        while bend is not None and self.tried < self.most_bounces:
             self.seen.add(place_key(bend.ball))
             self.tried += 1
             room = self.straight_steps(bend)
@@ -283,7 +285,9 @@ class CoilSearch:
         while self.queue:
             _, _, cost, before, steps, turn = heapq.heappop(self.queue)
             ball = bounce(before.ball.flown(steps), turn)[0]
-            if place_key(ball) not in self.seen:
+            is_new = place_key(ball) not in self.seen
+            # One of some 80 bounces comes so far: a search took 1.5 times as long when all of them were looked at.
+            if is_new and self.world.free_steps(ball.flown(BOUNCE_STEPS), LEAST_STEPS_ON) >= LEAST_STEPS_ON:
                 bend = self.with_leg_item(CoilBounce(ball, cost, before, Leg(steps, turn), before.spans))
                 if bend is not None:
                     return bend
@@ -305,7 +309,7 @@ class CoilSearch:
         return sorted(steps for steps in found if steps <= latest)
 
     def options_behind(self, bend: CoilBounce, room: int) -> Iterator[CoilOption]:
-        """Yields the bounces that a ball can come to without another one."""
+        """Yields the bounces that a ball can come to without another one. Behind them something may be in the way."""
         x, y, dx, dy, _ = bend.ball
         # The columns from the first one to the last one in which a mirror has no room, as bits.
         low = x if dx > 0 else x - room
@@ -319,12 +323,10 @@ class CoilSearch:
                 if taken >> column - low & 1 or (i // SEARCH_GRID_CELLS, j // SEARCH_GRID_CELLS, across,
                                                  along) in self.seen:
                     continue
-                on = Ball(i + BOUNCE_STEPS * across, j + BOUNCE_STEPS * along, across, along, 0)
-                if self.world.free_steps(on, LEAST_STEPS_ON) >= LEAST_STEPS_ON:
-                    if cost is None:
-                        cost = bend.cost + self.world.new_cell_count(bend.ball, steps) + BOUNCE_COST
-                    self.count += 1
-                    yield CoilOption(cost + self.cost_left(i, j), self.count, cost, bend, steps, turn)
+                if cost is None:
+                    cost = bend.cost + self.world.new_cell_count(bend.ball, steps) + BOUNCE_COST
+                self.count += 1
+                yield CoilOption(cost + self.cost_left(i, j), self.count, cost, bend, steps, turn)
 
     def cost_left(self, x: int, y: int) -> float:
         """Returns the cost of the way that is left from a cell, about."""
@@ -334,10 +336,10 @@ class CoilSearch:
         """Returns a bounce with what the leg before it takes, or None if the leg meets something."""
         assert bend.before is not None
         item = self.leg_item(bend.before, bend.leg)
-        if item is None or not self.has_room(item):
+        if item is None:
             return None
         span = span_of(item, bend.before.ball, bend.ball)
-        if any(span.is_met_by(own) for own in bend.spans) or not self.world.can_add(item):
+        if any(span.is_met_by(own) for own in bend.spans) or not self.world.can_add(item) or not self.has_room(item):
             return None
         return bend._replace(spans=(*bend.spans, span))
 
@@ -374,6 +376,7 @@ class OpenSearch(CoilSearch):
                  has_room: Callable[[Footprint], bool], goal_cells: float) -> None:
         self.goal, self.goal_cells = goal.reversed() if is_backward else goal, goal_cells
         super().__init__(finder, ground, ball, self.goal.time, is_backward, has_room, OPEN_SQUARE_SIDE)
+        self.most_bounces = OPEN_BOUNCES
 
     def ways(self) -> Iterator[list[Leg]]:
         """Yields the legs of ways, in their order of time. They end or begin with a straight flight."""

@@ -9,11 +9,11 @@ import time
 from dataclasses import dataclass
 from functools import partial
 from itertools import chain, islice
-from typing import Callable, Collection
+from typing import Callable, Collection, Iterator
 
 from ..route.balls import Ball, Leg, follow_legs, reversed_legs
 from ..route.board import FailureKind, NoRouteError
-from ..route.paths import Path, PathFinder, Trail
+from ..route.paths import Path, PathFinder, Trail, is_in_reach
 from ..route.settings import Settings
 from ..route.world import STEP_STRIDE, TILE, Footprint, World, cell_number, cell_of_number, path_item
 from ..texts.layouts import Box
@@ -21,7 +21,7 @@ from .coil_ways import CoilGround, CoilSearch, OpenSearch
 from .flight_claims import FlightClaims
 from .modules import JoinedModules
 from .parts import ALWAYS_SIGNAL
-from .planning import SHALLOW_CELLS, BallJob, JoinPlan, PlacedPart
+from .planning import SHALLOW_CELLS, SPARES, BallJob, JoinPlan, PlacedPart
 
 # The steps at the open ends of balls that wait which are kept free, the first that fit.
 STUB_STEPS = (20, 14, 10, 6, 3)
@@ -301,7 +301,9 @@ class JoinWiring:
         is_deep = max(self.world.depth(ball.x, ball.y) for ball in (job.start, job.goal)) > SHALLOW_CELLS
         path = self.find_path_outside(job.wire, job.start, job.goal) if is_deep and not tried else None
         path = path or self.find_connecting_path(job.wire, job.start, job.goal)
-        return path or (self.find_path_outside(job.wire, job.start, job.goal) if not is_deep and not tried else None)
+        # With little time to spare such searches took 5 to 17 seconds, and found nothing: more time is cheaper.
+        is_sought = not is_deep and not tried and is_in_reach(job.start, job.goal, SPARES[-1].steps)
+        return path or (self.find_path_outside(job.wire, job.start, job.goal) if is_sought else None)
 
     def find_coiled_path(self, job: BallJob) -> Path | None:
         """Returns a path to a coil in which a ball waits, or None. Without a start the ball comes from a coil."""
@@ -335,18 +337,30 @@ class JoinWiring:
     def find_path_outside(self, wire: str, start: Ball, goal: Ball) -> Path | None:
         """Returns a path between two parts whose ends are led to open ground by a search, and joined there."""
         has_room = self.modules.room_test(wire)
-        for cells in GOAL_STEP_COSTS:
-            search = OpenSearch(self.finder, self.ground, goal, start, True, has_room, cells)
-            for behind in islice(search.ways(), OPEN_WAYS):
-                back, last = Trail(self.world, goal, is_backward=True), self.finder.ball_before(goal, behind)
-                turns = [leg.turn for leg in reversed(behind[:-1])]
-                is_free = all(back.push_leg(leg.steps, turn) for leg, turn in zip(reversed(behind), [*turns, None]))
-                legs = self.legs_to_open(start, last, has_room, cells) if is_free else None
-                back.clear_legs()
-                path = self.finder.path_of_legs(wire, start, goal, linked_legs(legs, behind)) if legs else None
-                if path is not None and self.modules.has_room_for(wire, self.modules.modules_of(path)):
-                    return path
+        for cells, behind in self.ways_from_open(start, goal, has_room):
+            back, last = Trail(self.world, goal, is_backward=True), self.finder.ball_before(goal, behind)
+            turns = [leg.turn for leg in reversed(behind[:-1])]
+            is_free = all(back.push_leg(leg.steps, turn) for leg, turn in zip(reversed(behind), [*turns, None]))
+            legs = self.legs_to_open(start, last, has_room, cells) if is_free else None
+            back.clear_legs()
+            path = self.finder.path_of_legs(wire, start, goal, linked_legs(legs, behind)) if legs else None
+            if path is not None and self.modules.has_room_for(wire, self.modules.modules_of(path)):
+                return path
         return None
+
+    def ways_from_open(self, start: Ball, goal: Ball,
+                       has_room: Callable[[Footprint], bool]) -> Iterator[tuple[float, list[Leg]]]:
+        """Yields legs from open ground to a ball in a part: the first ones by each cost of a step, then the second.
+
+        If the first one with a cost does not lead on to the start, the others with this cost seldom do.
+        """
+        ways = dict[float, Iterator[list[Leg]]]()
+        for cells in OPEN_WAYS * GOAL_STEP_COSTS:
+            if cells not in ways:
+                ways[cells] = OpenSearch(self.finder, self.ground, goal, start, True, has_room, cells).ways()
+            behind = next(ways[cells], None)
+            if behind is not None:
+                yield cells, behind
 
     def legs_to_open(self, start: Ball, last: Ball, has_room: Callable[[Footprint], bool],
                      cells: float) -> list[Leg] | None:

@@ -9,6 +9,9 @@ Cells and blocks are numbers here, so that sets of them are quick. A straight fl
 items keep the ranges: a ball that flies 1000 steps touches 3000 cells.
 """
 
+import itertools
+import operator
+import sys
 from array import array
 from dataclasses import dataclass
 from functools import cache, cached_property
@@ -30,6 +33,9 @@ RIM_CELLS = 2
 # A certificate's boxes are squares of this side, or rectangles of such squares.
 TILE = 16
 TILE_BITS = 4
+# Flights of at least so many cells are counted at once. The digits 0 and 1 for these numbers.
+LEAST_RANGE = 8
+DIGITS = bytes.maketrans(b"\0\1", b"01")
 # The square of `taken_count_around` has sides of twice this many cells.
 HALF_SQUARE_SIDE = 32
 BITS = [1 << index for index in range(ROW_STRIDE)]
@@ -46,6 +52,12 @@ def cell_number(cell: Cell) -> int:
 def cell_of_number(number: int) -> Cell:
     """Returns the cell of a number."""
     return number % ROW_STRIDE, number // ROW_STRIDE
+
+
+@cache
+def ones(length: int) -> int:
+    """Returns a number in which each of so many words of 16 bits is 1."""
+    return int.from_bytes(array("H", [1] * length).tobytes(), sys.byteorder)
 
 
 def tiles_of(cells: Iterable[int]) -> set[int]:
@@ -263,15 +275,8 @@ class World:
         self.mirrors |= item.mirrors
         for number in item.mirrors:
             self._flip_diagonals(number, self.mirror_falling, self.mirror_rising)
-        counts, bits, rows, falling, rising = self.counts, BITS, self.blocked, self.blocked_falling, self.blocked_rising
-        for number in chain(item.mirrors, *item.touched_parts):
-            counts[number] += 1
-            if counts[number] == 1:
-                x, y = number & ROW_STRIDE - 1, number >> ROW_BITS
-                bit = bits[x]
-                rows[y] |= bit
-                falling[y - x + ROW_STRIDE] |= bit
-                rising[y + x] |= bit
+        for part in (item.mirrors, *item.touched_parts):
+            self._count(part, 1)
 
     def remove(self, item: Footprint) -> None:
         """Removes an item."""
@@ -279,15 +284,45 @@ class World:
         self.mirrors -= item.mirrors
         for number in item.mirrors:
             self._flip_diagonals(number, self.mirror_falling, self.mirror_rising)
+        for part in (item.mirrors, *item.touched_parts):
+            self._count(part, -1)
+
+    def _count(self, part: Iterable[int], change: int) -> None:
+        """Counts one part more at its cells, or one less if the change is -1.
+
+        A cell's bits change if no other part is there. Those of a flight on its own diagonal change at once.
+        """
         counts, bits, rows, falling, rising = self.counts, BITS, self.blocked, self.blocked_falling, self.blocked_rising
-        for number in chain(item.mirrors, *item.touched_parts):
-            counts[number] -= 1
-            if counts[number] == 0:
-                x, y = number & ROW_STRIDE - 1, number >> ROW_BITS
-                bit = bits[x]
-                rows[y] ^= bit
-                falling[y - x + ROW_STRIDE] ^= bit
-                rising[y + x] ^= bit
+        if not isinstance(part, range) or len(part) < LEAST_RANGE or part.stop < 0:
+            for number in part:
+                counts[number] += change
+                if counts[number] == (change > 0):
+                    x, y = number & ROW_STRIDE - 1, number >> ROW_BITS
+                    bit = bits[x]
+                    rows[y] ^= bit
+                    falling[y - x + ROW_STRIDE] ^= bit
+                    rising[y + x] ^= bit
+            return
+        (x, y), length, own = cell_of_number(part.start), len(part), slice(part.start, part.stop, part.step)
+        dx, dy = 1 if part.step % ROW_STRIDE == 1 else -1, 1 if part.step > 0 else -1
+        before = counts[own]
+        total = int.from_bytes(before.tobytes(), sys.byteorder) + change * ones(length)
+        after = array("H", total.to_bytes(2 * length, sys.byteorder))
+        counts[own] = after
+        is_changed = bytes(map(operator.not_, before if change > 0 else after))
+        digits = is_changed.translate(DIGITS)
+        mask = int(digits[::-1], 2) << x if dx > 0 else int(digits, 2) << x - length + 1
+        if dx == dy:
+            falling[y - x + ROW_STRIDE] ^= mask
+            lines, line = rising, y + x
+        else:
+            rising[y + x] ^= mask
+            lines, line = falling, y - x + ROW_STRIDE
+        columns, across = range(x, x + length * dx, dx), range(line, line + 2 * length * dy, 2 * dy)
+        for column, row, other in itertools.compress(zip(columns, range(y, y + length * dy, dy), across), is_changed):
+            bit = bits[column]
+            rows[row] ^= bit
+            lines[other] ^= bit
 
     def _flip_diagonals(self, number: int, falling: list[int], rising: list[int]) -> None:
         """Adds a cell to the diagonals, or takes it away."""
