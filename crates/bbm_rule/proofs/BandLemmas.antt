@@ -1,12 +1,9 @@
 -- Pairs of rows that stay, while others are turned
-use Rattle.bbm_rule.proofs.Imports.{AreSameBits, AreSameCells, AreUnmarkedRowPairsStable, HasNoSetBit}
-use Rattle.bbm_rule.proofs.Imports.{HasWordAt, IsNumberUnmarked, List, MarksOneNumber, SetsCellAtPlace, SetsWordAt}
-use Rattle.bbm_rule.proofs.Imports.{TurnsRowPart, inl}
-use Rattle.bbm_rule.proofs.Imports.{inr, ◌⊎◌}
-use Rattle.bbm_rule.proofs.Imports.{TurnsRows, arith, bit, bit_or, cell_at, common_steps, false, get_or, length}
-use Rattle.bbm_rule.proofs.Imports.{length-set, mul-le-mul_right, nat_eq, nat_tests, not, paired_place, set, suc, sym}
-use Rattle.bbm_rule.proofs.Imports.{zero, ℕ}
-use Rattle.bbm_rule.proofs.Imports.{◌%◌, ◌*◌, ◌+◌, ◌-◌, ◌/◌, ◌<◌, ◌∙◌, ◌≡◌, ◌≢◌, ◌≤◌}
+use Rattle.bbm_rule.proofs.Imports.{AreSameBits, AreSameCells, AreUnmarkedRowPairsStable, HasNoSetBit, HasWordAt}
+use Rattle.bbm_rule.proofs.Imports.{IsNumberUnmarked, List, MarksOneNumber, SetsCellAtPlace, SetsWordAt, TurnsRowPart}
+use Rattle.bbm_rule.proofs.Imports.{TurnsRows, arith, bit, bit_or, cell_at, common_steps, false, get_or, inl, inr}
+use Rattle.bbm_rule.proofs.Imports.{length, length-set, mul-le-mul_right, nat_eq, nat_tests, not, paired_place, set}
+use Rattle.bbm_rule.proofs.Imports.{suc, sym, zero, ℕ, ◌%◌, ◌*◌, ◌+◌, ◌-◌, ◌/◌, ◌<◌, ◌∙◌, ◌≡◌, ◌≢◌, ◌≤◌, ◌⊎◌}
 use Rattle.lemmas.proofs.Common.{or_parts}
 use Rattle.bbm_rule.proofs.BitLemmas.{by_lt_or_le, by_eq_or_not, bit-or, bit-zero}
 use Rattle.bbm_rule.proofs.BlockRuns.{mate_lt, rows_join, word_is_window, word_set}

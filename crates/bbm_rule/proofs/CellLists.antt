@@ -5,9 +5,8 @@ use Rattle.bbm_rule.proofs.Imports.{◌||◌, ◌∙◌, ◌∷◌, ◌≡◌, �
 use Rattle.bbm_rule.specs.CellLists.{cell, row_cells}
 use Rattle.bbm_rule.specs.declared.block.Cell.{Cell}
 use Rattle.lemmas.proofs.Common.{append-nil, append_assoc, ap₂, cond, filter, filter-append}
-use Rattle.lemmas.proofs.Common.{filter_of_map_range_with_len_more, flat_map, flat_map-append}
-use Rattle.lemmas.proofs.Common.{list_any, list_any-append, map-id, map-range_with_len_more, or-true}
-use Rattle.lemmas.proofs.Common.{range_with_len, to_z, ◌++◌}
+use Rattle.lemmas.proofs.Common.{filter_of_map_range_with_len_more, flat_map, flat_map-append, list_any}
+use Rattle.lemmas.proofs.Common.{list_any-append, map-id, map-range_with_len_more, or-true, range_with_len, to_z, ◌++◌}
 use Rattle.lemmas.specs.Bounds.{max_side}
 
 pub row_more : (x n y j : ℕ) → x + n ≡ j → row_cells x (n + 1) y ≡ row_cells x n y ++ cell j y ∷ []

@@ -1,8 +1,6 @@
 -- Vectors of four words, and the words of four slices.
 use Rattle.bbm_rule.proofs.Imports.{List, TurnsCornerWordsBetween, arith, bit_and, bit_or, bit_xor, common_steps}
-use Rattle.bbm_rule.proofs.Imports.{get_or}
-use Rattle.bbm_rule.proofs.Imports.{length}
-use Rattle.bbm_rule.proofs.Imports.{refl, ℕ, ◌+◌, ◌-◌, ◌<◌, ◌≡◌, ◌≤◌}
+use Rattle.bbm_rule.proofs.Imports.{get_or, length, refl, ℕ, ◌+◌, ◌-◌, ◌<◌, ◌≡◌, ◌≤◌}
 use Rattle.lemmas.proofs.Common.{get_or-chunk, get_or-put_chunk_above, get_or-put_chunk_at, get_or-put_chunk_below}
 use Rattle.lemmas.proofs.Common.{get_or-zip2, length-zip2}
 use Rattle.std.specs.Simd.Lanes.{zip2, chunk, put_chunk}

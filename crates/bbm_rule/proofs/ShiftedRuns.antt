@@ -1,11 +1,9 @@
 -- Runs of blocks that begin at the second cell of each word
 use Rattle.bbm_rule.proofs.Imports.{AreFlipBitsForTurn, AreSameCells, HasNoSetBit, HasWordAt, IsWordPairTurned, List}
-use Rattle.bbm_rule.proofs.Imports.{SetsWordAt}
-use Rattle.bbm_rule.proofs.Imports.{TurnsRowPart, ap, arith, bit, bit_or, bit_xor, cell_at, common_steps, false}
-use Rattle.bbm_rule.proofs.Imports.{flip_carried_bits, get_or, get_or-set_other, get_or-set_same, length, length-set}
-use Rattle.bbm_rule.proofs.Imports.{or-false, paired_place, refl, set, sym, true, turned, ℕ, ◌%◌, ◌*◌, ◌+◌, ◌-◌, ◌/◌}
-use Rattle.bbm_rule.proofs.Imports.{◌<◌, ◌^◌}
-use Rattle.bbm_rule.proofs.Imports.{◌||◌, ◌∙◌, ◌≡◌, ◌≢◌, ◌≤◌}
+use Rattle.bbm_rule.proofs.Imports.{SetsWordAt, TurnsRowPart, ap, arith, bit, bit_or, bit_xor, cell_at, common_steps}
+use Rattle.bbm_rule.proofs.Imports.{false, flip_carried_bits, get_or, get_or-set_other, get_or-set_same, length}
+use Rattle.bbm_rule.proofs.Imports.{length-set, or-false, paired_place, refl, set, sym, true, turned, ℕ, ◌%◌, ◌*◌, ◌+◌}
+use Rattle.bbm_rule.proofs.Imports.{◌-◌, ◌/◌, ◌<◌, ◌^◌, ◌||◌, ◌∙◌, ◌≡◌, ◌≢◌, ◌≤◌}
 use Rattle.lemmas.proofs.Common.{set-set, set_comm, xor_assoc, xor_comm}
 use Rattle.bbm_rule.specs.Rows.{flip}
 use Rattle.bbm_rule.proofs.BitLemmas.{by_lt_or_le, by_eq_or_not, xor, xor_false, bit-or, bit-xor, bit-shr, bit-zero}

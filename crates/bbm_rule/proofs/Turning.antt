@@ -1,9 +1,7 @@
 -- The bitwise formula of a turn.
 use Rattle.bbm_rule.proofs.Imports.{AreFlipBitsForTurn, Bool, HasNoSetBit, List, [], and-false, arith, bit, bit_and}
-use Rattle.bbm_rule.proofs.Imports.{bit_or}
-use Rattle.bbm_rule.proofs.Imports.{bit_xor, common_steps, eqb-true, false, get_or, nat_eq, refl, true, turned}
-use Rattle.bbm_rule.proofs.Imports.{turned_block_number}
-use Rattle.bbm_rule.proofs.Imports.{ℕ, ◌&&◌, ◌<◌, ◌||◌, ◌∷◌, ◌≡◌}
+use Rattle.bbm_rule.proofs.Imports.{bit_or, bit_xor, common_steps, eqb-true, false, get_or, nat_eq, refl, true, turned}
+use Rattle.bbm_rule.proofs.Imports.{turned_block_number, ℕ, ◌&&◌, ◌<◌, ◌||◌, ◌∷◌, ◌≡◌}
 use Rattle.lemmas.proofs.Common.{and-true}
 use Rattle.bbm_rule.specs.Words.{AreCornerWordsTurned}
 use Rattle.bbm_rule.proofs.BitLemmas.{holds_below, below_from_test, xor, bit-and, bit-or, bit-xor}

@@ -1,10 +1,7 @@
 -- Candidates for a least border fault
 use Rattle.border_match.proofs.Imports.{BorderFault, Greater, HasCandidateAtMost, IsLeastCandidate, IsUpdatedCandidate}
-use Rattle.border_match.proofs.Imports.{None}
-use Rattle.border_match.proofs.Imports.{Option}
-use Rattle.border_match.proofs.Imports.{Ordering, Some, arith, border_fault_cmp, common_steps, false, tied_itself, ◌≡◌}
-use Rattle.border_match.proofs.Imports.{◌≢◌}
-use Rattle.border_match.proofs.Imports.{◌⊎◌}
+use Rattle.border_match.proofs.Imports.{None, Option, Ordering, Some, arith, border_fault_cmp, common_steps, false}
+use Rattle.border_match.proofs.Imports.{tied_itself, ◌≡◌, ◌≢◌, ◌⊎◌}
 use Rattle.lemmas.proofs.Common.{is_gt, upto}
 use Rattle.border_match.proofs.FaultOrder.{border_total}
 

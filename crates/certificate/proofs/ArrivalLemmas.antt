@@ -3,20 +3,17 @@ use Rattle.certificate.proofs.Imports.{All, All-append, All-cons, All-head, All-
 use Rattle.certificate.proofs.Imports.{List, None, Option, Some, StopLine, TimeLine, [], all_stops, and_parts, ap}
 use Rattle.certificate.proofs.Imports.{arith, common_steps, delay_line, earlier, eqb-true, fold, if◌then◌else◌}
 use Rattle.certificate.proofs.Imports.{last_times, later, length, lines_of_numbered_gates, list_all, max, meet_line}
-use Rattle.certificate.proofs.Imports.{min}
-use Rattle.certificate.proofs.Imports.{nat_le, nat_tests, option_to_list, refl, same_Some, slice_get}
-use Rattle.certificate.proofs.Imports.{stop_times_of_wire, subst, suc, sym, true, zero, ℕ, ◌+◌, ◌-◌, ◌<◌, ◌==◌, ◌∙◌}
-use Rattle.certificate.proofs.Imports.{◌∷◌, ◌≡◌, ◌≤◌, ◌++◌}
+use Rattle.certificate.proofs.Imports.{min, nat_le, nat_tests, option_to_list, refl, same_Some, slice_get}
+use Rattle.certificate.proofs.Imports.{stop_times_of_wire, subst, suc, sym, true, zero, ℕ, ◌++◌, ◌+◌, ◌-◌, ◌<◌, ◌==◌}
+use Rattle.certificate.proofs.Imports.{◌∙◌, ◌∷◌, ◌≡◌, ◌≤◌}
 use Rattle.lemmas.proofs.Common.{All-contains, Contains-append_left, Contains-append_right, list_all-append, eq_test}
 use Rattle.circuit.specs.declared.circuit_line.GateKind.{GateKind}
 use Rattle.circuit.specs.declared.circuit_line.GateKind.TheVariants.{Delay}
-use Rattle.certificate.specs.Arrivals.{IsFirstStopTime, IsLastStopTime, LastStopsMeetAt, TakesStepsFromLastToFirstStop}
-use Rattle.certificate.specs.Arrivals.{IsTimeLineTrue}
-use Rattle.certificate.specs.Arrivals.{IsDelayGapTrue, IsMeetingTimeTrue}
+use Rattle.certificate.specs.Arrivals.{IsDelayGapTrue, IsFirstStopTime, IsLastStopTime, IsMeetingTimeTrue}
+use Rattle.certificate.specs.Arrivals.{IsTimeLineTrue, LastStopsMeetAt, TakesStepsFromLastToFirstStop}
 use Rattle.certificate.specs.Laws.{ObeyedLinesAreOnTime, TimeLinesAreTrue}
-use Rattle.certificate.specs.Times.{common_time, delay_line_of_kind, first_seen_time, gap_between, is_timing_obeyed}
-use Rattle.certificate.specs.Times.{last_seen_time}
-use Rattle.certificate.specs.Times.{meet_line_of_times, first_wire_time}
+use Rattle.certificate.specs.Times.{common_time, delay_line_of_kind, first_seen_time, first_wire_time, gap_between}
+use Rattle.certificate.specs.Times.{is_timing_obeyed, last_seen_time, meet_line_of_times}
 use Rattle.certificate.specs.declared.times.StopGap.{StopGap}
 use Rattle.certificate.specs.declared.times.StopGap.TheVariants.{Steps, Missing, Before}
 use Rattle.certificate.proofs.SeenLaws.{first_is_least, last_is_greatest}

@@ -1,10 +1,9 @@
 -- Lists of what cells carry and must be, that grow row by row.
 use Rattle.certificate.proofs.Imports.{AddsStartsAndDemands, All, Box2, Cell, Circuit, Demand, IsDemandWireBelow}
-use Rattle.certificate.proofs.Imports.{IsSignalWireBelow, List, LocalNet, Pattern, Signal, [], ap, arith}
-use Rattle.certificate.proofs.Imports.{circuit_wire, common_steps, end_demand, flat_map, in_box, map, map-append, pos}
-use Rattle.certificate.proofs.Imports.{range_with_len, refl, renumber_demand, renumber_signal, replicate, row_cells}
-use Rattle.certificate.proofs.Imports.{start_signal, suc, sym, to_z, true, w32, wires, zero, ℕ, ◌++◌, ◌+◌, ◌-◌, ◌<◌}
-use Rattle.certificate.proofs.Imports.{◌∙◌, ◌∷◌, ◌≡◌, ◌≤◌}
+use Rattle.certificate.proofs.Imports.{IsSignalWireBelow, List, LocalNet, Pattern, Signal, [], ap, arith, circuit_wire}
+use Rattle.certificate.proofs.Imports.{common_steps, end_demand, flat_map, in_box, map, map-append, pos, range_with_len}
+use Rattle.certificate.proofs.Imports.{refl, renumber_demand, renumber_signal, replicate, row_cells, start_signal, suc}
+use Rattle.certificate.proofs.Imports.{sym, to_z, true, w32, wires, zero, ℕ, ◌++◌, ◌+◌, ◌-◌, ◌<◌, ◌∙◌, ◌∷◌, ◌≡◌, ◌≤◌}
 use Rattle.lemmas.proofs.Common.{get_or-replicate, length-replicate}
 use Rattle.bbm_rule.specs.CellLists.{cell}
 use Rattle.certificate.specs.declared.layout_tables.CellLists.{CellLists}

@@ -1,24 +1,20 @@
 -- The modules of version 2 as modules of version 1
 use Rattle.certificate.proofs.Imports.{All, AreDistinct, AreLinesInOrder, AreModules, Bool, BorderLine, Box2, Cell}
 use Rattle.certificate.proofs.Imports.{CertificateLine, Each, Equal, Halo, HasLocalPortWires, IfSome, In, IsModule}
-use Rattle.certificate.proofs.Imports.{IsTrue}
-use Rattle.certificate.proofs.Imports.{Less, List, ModuleLines, Option, Ordering, Pairs, Rises, Setting, Some}
-use Rattle.certificate.proofs.Imports.{StarsExcludeLaterTimes, Stop, StopLine, Tile, [], all_in, any_at, ap, ap₂, areas}
-use Rattle.certificate.proofs.Imports.{arith, border_line_cmp, cases_Bool, cell_of, common_steps, cond-false, cond-true}
-use Rattle.certificate.proofs.Imports.{cut_wires, cuts, each_in, edge_in, edge_lines_beside, edges, false, filter}
-use Rattle.certificate.proofs.Imports.{filter_in, flat_map, gates, halo_in, halos, in_box, in_each, in_filter, in_flat}
-use Rattle.certificate.proofs.Imports.{in_halo, in_ordered, inl, inr, is_halo_line, is_haloless_version, is_local}
-use Rattle.certificate.proofs.Imports.{is_lt}
-use Rattle.certificate.proofs.Imports.{is_nonlocal_signal, keeps, known, has_nonlocal_edge_wire_beside, length}
-use Rattle.certificate.proofs.Imports.{append-nil}
-use Rattle.certificate.proofs.Imports.{length-map, line_cmp, list_all, list_any, local_wires, map, mapped_at}
-use Rattle.certificate.proofs.Imports.{mapped_from, may_precede, modules_by_version, nat_lt, option_to_list}
-use Rattle.certificate.proofs.Imports.{ordered_rises, pairs_filter, placed, precedes_halo_lines, rank_of, refl}
-use Rattle.certificate.proofs.Imports.{slice_get}
-use Rattle.certificate.proofs.Imports.{some_is, sort_number_of, sorted_border_lines, stop_in, stops, subst, suc, sym}
-use Rattle.certificate.proofs.Imports.{true, true≢false, whole, wire_of, with_halo_lines, without_halo_lines, zero, ℕ}
-use Rattle.certificate.proofs.Imports.{ℤ, ◌&&◌}
-use Rattle.certificate.proofs.Imports.{◌++◌, ◌<◌, ◌||◌, ◌∙◌, ◌∷◌, ◌≡◌, ◌≢◌, ◌≤◌, get_or, slice_get-get_or}
+use Rattle.certificate.proofs.Imports.{IsTrue, Less, List, ModuleLines, Option, Ordering, Pairs, Rises, Setting, Some}
+use Rattle.certificate.proofs.Imports.{StarsExcludeLaterTimes, Stop, StopLine, Tile, [], all_in, any_at, ap, append-nil}
+use Rattle.certificate.proofs.Imports.{ap₂, areas, arith, border_line_cmp, cases_Bool, cell_of, common_steps}
+use Rattle.certificate.proofs.Imports.{cond-false, cond-true, cut_wires, cuts, each_in, edge_in, edge_lines_beside}
+use Rattle.certificate.proofs.Imports.{edges, false, filter, filter_in, flat_map, gates, get_or, halo_in, halos}
+use Rattle.certificate.proofs.Imports.{has_nonlocal_edge_wire_beside, in_box, in_each, in_filter, in_flat, in_halo}
+use Rattle.certificate.proofs.Imports.{in_ordered, inl, inr, is_halo_line, is_haloless_version, is_local, is_lt}
+use Rattle.certificate.proofs.Imports.{is_nonlocal_signal, keeps, known, length, length-map, line_cmp, list_all}
+use Rattle.certificate.proofs.Imports.{list_any, local_wires, map, mapped_at, mapped_from, may_precede}
+use Rattle.certificate.proofs.Imports.{modules_by_version, nat_lt, option_to_list, ordered_rises, pairs_filter, placed}
+use Rattle.certificate.proofs.Imports.{precedes_halo_lines, rank_of, refl, slice_get, slice_get-get_or, some_is}
+use Rattle.certificate.proofs.Imports.{sort_number_of, sorted_border_lines, stop_in, stops, subst, suc, sym, true}
+use Rattle.certificate.proofs.Imports.{true≢false, whole, wire_of, with_halo_lines, without_halo_lines, zero, ℕ, ℤ}
+use Rattle.certificate.proofs.Imports.{◌&&◌, ◌++◌, ◌<◌, ◌||◌, ◌∙◌, ◌∷◌, ◌≡◌, ◌≢◌, ◌≤◌}
 use Rattle.std.proofs.lemmas.Simd.{map-map}
 use Rattle.bbm_rule.proofs.CellOrder.{cell_exact}
 use Rattle.certificate_lines.specs.Modules.{IsAllowedEdge, IsAllowedHalo, IsAllowedStop}

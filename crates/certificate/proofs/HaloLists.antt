@@ -1,14 +1,12 @@
 -- Lists of the places of edge lines, as places are added
 use Rattle.certificate.proofs.Imports.{AddsEdgePlacesInHalo, AreOwnersAndListsReady, Bool, Box2, Cell, EdgePlace}
-use Rattle.certificate.proofs.Imports.{IsEvenBox}
-use Rattle.certificate.proofs.Imports.{IsInnerCell, List}
-use Rattle.certificate.proofs.Imports.{Some, StoredBorder, StoredModule, [], and_from, and_parts, ap, append-nil}
-use Rattle.certificate.proofs.Imports.{append_assoc, arith, cases_Bool, common_steps, cond-false, cond-true}
-use Rattle.certificate.proofs.Imports.{edge_lines_at, edge_lines_at_place, eqb-true, false, filter, flat_map-append}
-use Rattle.certificate.proofs.Imports.{get_or, option_to_list, take, take_more, ◌+◌, if◌then◌else◌, in_box, in_halo}
-use Rattle.certificate.proofs.Imports.{in_span, length, line_cell, list_at_or_empty, map, not, pos, rectangle, refl}
-use Rattle.certificate.proofs.Imports.{slice_get, some_is, suc, sym, true, true_from_not, zero, ℕ, ℤ, ◌&&◌, ◌++◌, ◌+ℤ◌}
-use Rattle.certificate.proofs.Imports.{◌<◌, ◌||◌, ◌∙◌, ◌∷◌, ◌≡◌}
+use Rattle.certificate.proofs.Imports.{IsEvenBox, IsInnerCell, List, Some, StoredBorder, StoredModule, [], and_from}
+use Rattle.certificate.proofs.Imports.{and_parts, ap, append-nil, append_assoc, arith, cases_Bool, common_steps}
+use Rattle.certificate.proofs.Imports.{cond-false, cond-true, edge_lines_at, edge_lines_at_place, eqb-true, false}
+use Rattle.certificate.proofs.Imports.{filter, flat_map-append, get_or, if◌then◌else◌, in_box, in_halo, in_span, length}
+use Rattle.certificate.proofs.Imports.{line_cell, list_at_or_empty, map, not, option_to_list, pos, rectangle, refl}
+use Rattle.certificate.proofs.Imports.{slice_get, some_is, suc, sym, take, take_more, true, true_from_not, zero, ℕ, ℤ}
+use Rattle.certificate.proofs.Imports.{◌&&◌, ◌++◌, ◌+ℤ◌, ◌+◌, ◌<◌, ◌||◌, ◌∙◌, ◌∷◌, ◌≡◌}
 use Rattle.lemmas.proofs.Common.{◌-ℤ◌, slice_set, eqb-false, filter-append}
 use Rattle.bbm_rule.specs.Plane.{partner}
 use Rattle.bbm_rule.proofs.Spans.{partner_near}

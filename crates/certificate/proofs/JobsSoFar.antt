@@ -1,19 +1,15 @@
 -- The halo lines of modules of version 2, and the jobs of the modules before a module
-use Rattle.certificate.proofs.Imports.{AreModules, Box2, Circuit, Cut, Edge, EdgePlace, Halo, HasLocalPortWires}
-use Rattle.certificate.proofs.Imports.{HaveEdgePlacesFromModule, IsJobOf, IsModule, JobView, Keep, List, ModuleLines}
-use Rattle.certificate.proofs.Imports.{Pattern}
-use Rattle.certificate.proofs.Imports.{Setting, Some, Stop, StoredBorder, StoredModule, Use, [], ap, append-nil}
-use Rattle.certificate.proofs.Imports.{append_assoc, arith, body_lines_with, border_line, common_steps, edge_lines_at}
-use Rattle.certificate.proofs.Imports.{edge_lines_beside, false, filter, get_or, has_nonlocal_edge_wire_beside, inl}
-use Rattle.certificate.proofs.Imports.{inr}
+use Rattle.certificate.proofs.Imports.{All, AreGoodModules, AreModules, Box2, Circuit, CircuitLine, Cut, Edge}
+use Rattle.certificate.proofs.Imports.{EdgePlace, Halo, HasCircuitWire, HasCircuitWires, HasLocalPortWires}
+use Rattle.certificate.proofs.Imports.{HaveEdgePlacesFromModule, IsGoodModule, IsJobOf, IsModule, JobView, Keep, List}
+use Rattle.certificate.proofs.Imports.{ModuleLines, Pattern, Setting, Some, Stop, StoredBorder, StoredModule, Use, []}
+use Rattle.certificate.proofs.Imports.{all_module_lines, ap, append-nil, append_assoc, arith, body_lines_with}
+use Rattle.certificate.proofs.Imports.{border_line, circuit_of, common_steps, edge_lines_at, edge_lines_beside, false}
+use Rattle.certificate.proofs.Imports.{filter, get_or, get_or_from_slice_get, has_nonlocal_edge_wire_beside, inl, inr}
 use Rattle.certificate.proofs.Imports.{length, length-map, list_at_or_empty, map, mapped_at, mapped_from, module_lines}
-use Rattle.certificate.proofs.Imports.{module_lines_with, precedes_halo_lines, refl, slice_get, slice_get_within}
-use Rattle.certificate.proofs.Imports.{some_is}
-use Rattle.certificate.proofs.Imports.{sorted_border_lines, stop_line, subst, sym, wire_name, with_halo_lines, ℕ, ◌++◌}
-use Rattle.certificate.proofs.Imports.{◌+◌}
-use Rattle.certificate.proofs.Imports.{◌<◌, ◌∙◌, ◌∷◌, ◌≡◌, ◌≤◌, All, AreGoodModules, CircuitLine, HasCircuitWire}
-use Rattle.certificate.proofs.Imports.{HasCircuitWires, IsGoodModule, circuit_of, get_or_from_slice_get, setting_of}
-use Rattle.certificate.proofs.Imports.{all_module_lines}
+use Rattle.certificate.proofs.Imports.{module_lines_with, precedes_halo_lines, refl, setting_of, slice_get}
+use Rattle.certificate.proofs.Imports.{slice_get_within, some_is, sorted_border_lines, stop_line, subst, sym, wire_name}
+use Rattle.certificate.proofs.Imports.{with_halo_lines, ℕ, ◌++◌, ◌+◌, ◌<◌, ◌∙◌, ◌∷◌, ◌≡◌, ◌≤◌}
 use Rattle.lemmas.proofs.Common.{Bool, filter-append, length_push, slice_get_read, true}
 use Rattle.module_box.proofs.Rising.{pushed}
 use Rattle.certificate.specs.Jobs.{AreJobsOf}

@@ -1,11 +1,10 @@
 -- The indexes of a layout's cells, and the ports in a module's box.
 use Rattle.certificate.proofs.Imports.{All, All-append, Bool, Box2, Cell, Circuit, CircuitLine, HasLocalPortWires}
-use Rattle.certificate.proofs.Imports.{IfSome}
-use Rattle.certificate.proofs.Imports.{IsTrue, LayoutHeader, List, ModuleLines, None, One, Option, Pattern, Some, Zero}
-use Rattle.certificate.proofs.Imports.{[], and_parts, ap, arith, balls_on_layout, cell_same, circuit_of, common_steps}
-use Rattle.certificate.proofs.Imports.{demand_outside_mirrors, end_demand, false, if◌then◌else◌, in_box, in_cells}
-use Rattle.certificate.proofs.Imports.{in_rectangles, is_among, is_cell_at, is_local, known, length, list_all, map}
-use Rattle.certificate.proofs.Imports.{option_map, or_parts, port_at, refl, setting_of, size_fault, size_sides}
+use Rattle.certificate.proofs.Imports.{IfSome, IsTrue, LayoutHeader, List, ModuleLines, None, One, Option, Pattern}
+use Rattle.certificate.proofs.Imports.{Some, Zero, [], and_parts, ap, arith, balls_on_layout, cell_same, circuit_of}
+use Rattle.certificate.proofs.Imports.{common_steps, demand_outside_mirrors, end_demand, false, if◌then◌else◌, in_box}
+use Rattle.certificate.proofs.Imports.{in_cells, in_rectangles, is_among, is_cell_at, is_local, known, length, list_all}
+use Rattle.certificate.proofs.Imports.{map, option_map, or_parts, port_at, refl, setting_of, size_fault, size_sides}
 use Rattle.certificate.proofs.Imports.{slice_get, slice_get-get_or, some_is, start_signal, subst, suc, sym, true}
 use Rattle.certificate.proofs.Imports.{wastes_on_layout, wire_of, wire_or_zero, zero, ℕ, ℤ, ◌++◌, ◌+◌, ◌||◌, ◌∙◌, ◌∷◌}
 use Rattle.certificate.proofs.Imports.{◌≡◌, ◌≤◌}

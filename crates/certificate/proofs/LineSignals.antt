@@ -1,12 +1,11 @@
 -- The signal of one line for its cell at its time
 use Rattle.certificate.proofs.Imports.{AllTimesSignal, Bool, BorderLine, Circuit, Each, Greater, In, Less, List, None}
 use Rattle.certificate.proofs.Imports.{Option, Ordering, Pairs, Rises, Signal, Some, StarsExcludeLaterTimes}
-use Rattle.certificate.proofs.Imports.{TimedSignal, Zero, [], all_times_at, ap, arith, signal_if_starred}
-use Rattle.certificate.proofs.Imports.{border_line_cmp, cases_Bool, cell_same, common_steps, cond-false, cond-true}
-use Rattle.certificate.proofs.Imports.{each_in, eqb-true, event_at, event_if_timed, false, flat_map, inl, inr}
-use Rattle.certificate.proofs.Imports.{is_cell_at}
-use Rattle.certificate.proofs.Imports.{line_signals, nat_cmp, not, one_or_named_wire, ordering_then, refl, signal_at}
-use Rattle.certificate.proofs.Imports.{subst, sym, true, unwrap_or, ℕ, ◌&&◌, ◌++◌, ◌+◌, ◌||◌, ◌∙◌, ◌∷◌, ◌≡◌}
+use Rattle.certificate.proofs.Imports.{TimedSignal, Zero, [], all_times_at, ap, arith, border_line_cmp, cases_Bool}
+use Rattle.certificate.proofs.Imports.{cell_same, common_steps, cond-false, cond-true, each_in, eqb-true, event_at}
+use Rattle.certificate.proofs.Imports.{event_if_timed, false, flat_map, inl, inr, is_cell_at, line_signals, nat_cmp}
+use Rattle.certificate.proofs.Imports.{not, one_or_named_wire, ordering_then, refl, signal_at, signal_if_starred, subst}
+use Rattle.certificate.proofs.Imports.{sym, true, unwrap_or, ℕ, ◌&&◌, ◌++◌, ◌+◌, ◌||◌, ◌∙◌, ◌∷◌, ◌≡◌}
 use Rattle.certificate_lines.specs.Rules.{is_star, is_starred_line_at, same_cell}
 use Rattle.certificate_lines.proofs.LineOrder.{not_itself}
 use Rattle.bbm_rule.proofs.SameCells.{cell_itself}

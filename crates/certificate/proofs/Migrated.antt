@@ -4,14 +4,13 @@ use Rattle.certificate.proofs.Imports.{Edge, Halo, Keep, List, Module, ModuleLin
 use Rattle.certificate.proofs.Imports.{Use, [], add_line, and_parts, ap, append-nil, ap₂, areas, arith, both_none}
 use Rattle.certificate.proofs.Imports.{certificate_grammar, change_last, common_steps, cut_name_in, cuts, edge_in}
 use Rattle.certificate.proofs.Imports.{edge_lines_beside, edges, end_fault, entry_fault, false, filter, flat_map, fold}
-use Rattle.certificate.proofs.Imports.{gates, halos, has_nonlocal_port, is_halo_line, is_last_module_incomplete}
-use Rattle.certificate.proofs.Imports.{has_nonlocal_edge_wire_beside, is_nonlocal_signal, known, last_module, last_of}
-use Rattle.certificate.proofs.Imports.{length}
-use Rattle.certificate.proofs.Imports.{length-map, list_all, list_any, map, map-append, may_precede, module_with_line}
-use Rattle.certificate.proofs.Imports.{modules_by_version, modules_of, nat_le, nat_tests, no_code, option_map}
-use Rattle.certificate.proofs.Imports.{precedes_halo_lines, refl, stop_in, stops, sym, true, true_from_not}
-use Rattle.certificate.proofs.Imports.{used_gate_in}
-use Rattle.certificate.proofs.Imports.{with_halo_lines, without_halo_lines, ℕ, ◌++◌, ◌||◌, ◌∙◌, ◌∷◌, ◌≡◌, ◌≤◌, not}
+use Rattle.certificate.proofs.Imports.{gates, halos, has_nonlocal_edge_wire_beside, has_nonlocal_port, is_halo_line}
+use Rattle.certificate.proofs.Imports.{is_last_module_incomplete, is_nonlocal_signal, known, last_module, last_of}
+use Rattle.certificate.proofs.Imports.{length, length-map, list_all, list_any, map, map-append, may_precede}
+use Rattle.certificate.proofs.Imports.{module_with_line, modules_by_version, modules_of, nat_le, nat_tests, no_code}
+use Rattle.certificate.proofs.Imports.{not, option_map, precedes_halo_lines, refl, stop_in, stops, sym, true}
+use Rattle.certificate.proofs.Imports.{true_from_not, used_gate_in, with_halo_lines, without_halo_lines, ℕ, ◌++◌, ◌||◌}
+use Rattle.certificate.proofs.Imports.{◌∙◌, ◌∷◌, ◌≡◌, ◌≤◌}
 use Rattle.lemmas.proofs.Common.{filter-append}
 use Rattle.std.proofs.lemmas.Simd.{map-map}
 use Rattle.section_text.specs.Codes.{code_if}

@@ -1,15 +1,13 @@
 -- Lines that are good one after the other make good modules.
 use Rattle.certificate.proofs.Imports.{All, AreFaultless, AreModules, Box2, CertificateLine, HasLocalPortWires}
-use Rattle.certificate.proofs.Imports.{IsFaultless}
-use Rattle.certificate.proofs.Imports.{List, Module, ModuleLines, None, PastLimit, Setting, Some, SomethingMissing}
-use Rattle.certificate.proofs.Imports.{Tile, [], add_line, any_at, append-nil, append_assoc, areas, arith, both_none}
-use Rattle.certificate.proofs.Imports.{certificate_grammar, common_steps, end_fault, entry_fault, eqb-true, false}
-use Rattle.certificate.proofs.Imports.{has_nonlocal_port, in_box, is_haloless_version, is_last_module_incomplete}
-use Rattle.certificate.proofs.Imports.{has_nonlocal_edge_wire_beside, last_module, last_of, leaves_gap, modules_of}
-use Rattle.certificate.proofs.Imports.{no_code}
-use Rattle.certificate.proofs.Imports.{or_parts, rectangle_cells, slice_get, slice_get-get_or, slice_get_within}
-use Rattle.certificate.proofs.Imports.{some_is, subst, sym, true, true_from_not, true≢false, whole, ℕ, ◌&&◌, ◌++◌, ◌+◌}
-use Rattle.certificate.proofs.Imports.{◌==◌, ◌||◌, ◌∙◌, ◌∷◌, ◌≡◌, ◌≤◌, mapped_from}
+use Rattle.certificate.proofs.Imports.{IsFaultless, List, Module, ModuleLines, None, PastLimit, Setting, Some}
+use Rattle.certificate.proofs.Imports.{SomethingMissing, Tile, [], add_line, any_at, append-nil, append_assoc, areas}
+use Rattle.certificate.proofs.Imports.{arith, both_none, certificate_grammar, common_steps, end_fault, entry_fault}
+use Rattle.certificate.proofs.Imports.{eqb-true, false, has_nonlocal_edge_wire_beside, has_nonlocal_port, in_box}
+use Rattle.certificate.proofs.Imports.{is_haloless_version, is_last_module_incomplete, last_module, last_of, leaves_gap}
+use Rattle.certificate.proofs.Imports.{mapped_from, modules_of, no_code, or_parts, rectangle_cells, slice_get}
+use Rattle.certificate.proofs.Imports.{slice_get-get_or, slice_get_within, some_is, subst, sym, true, true_from_not}
+use Rattle.certificate.proofs.Imports.{true≢false, whole, ℕ, ◌&&◌, ◌++◌, ◌+◌, ◌==◌, ◌||◌, ◌∙◌, ◌∷◌, ◌≡◌, ◌≤◌}
 use Rattle.lemmas.proofs.Common.{or_cases}
 use Rattle.section_text.specs.declared.limits.Limits.{Limits}
 use Rattle.module_box.specs.Tiling.{IsInside}

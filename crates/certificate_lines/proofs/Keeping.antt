@@ -1,22 +1,20 @@
 -- The tables of the lines after one more line.
 use Rattle.certificate_lines.proofs.Imports.{AreLinesInOrder, AreLocalWiresOfModules, AreModulesWithOwners, Bool}
-use Rattle.certificate_lines.proofs.Imports.{BorderLine, Box2, Cell}
-use Rattle.certificate_lines.proofs.Imports.{CertificateLine, Circuit, Cut, IsBodyLine, IsModule, IsModuleInLimits}
-use Rattle.certificate_lines.proofs.Imports.{LineKey, List, Module, ModuleLines, None, Option, OutOfOrder, Port}
-use Rattle.certificate_lines.proofs.Imports.{RefusalCode, Setting, Some, Use, [], add_line, ap, append-nil, arith}
-use Rattle.certificate_lines.proofs.Imports.{body_line_code, change_last, code_but_for_order, code_if, common_steps}
-use Rattle.certificate_lines.proofs.Imports.{edge_in}
-use Rattle.certificate_lines.proofs.Imports.{false, halo_in, has_nonlocal_port, in_box, is_last_module_incomplete}
-use Rattle.certificate_lines.proofs.Imports.{is_local, is_starred_line_at, key_of, key_or_first, known, last_body_line}
-use Rattle.certificate_lines.proofs.Imports.{last_module, last_of, list_any, may_follow, module_line_code}
-use Rattle.certificate_lines.proofs.Imports.{module_with_line, modules_of, not, IfSome, option_map, option_to_list}
-use Rattle.certificate_lines.proofs.Imports.{or_else, refl, same_cell, size_fault, size_sides, subst, sym, true}
-use Rattle.certificate_lines.proofs.Imports.{true_from_not, ℕ, ◌&&◌, ◌++◌, ◌+◌, ◌||◌, ◌∙◌, ◌∷◌, ◌≡◌, ◌≤◌, length}
+use Rattle.certificate_lines.proofs.Imports.{BorderLine, Box2, Cell, CertificateLine, Circuit, Cut, IfSome, IsBodyLine}
+use Rattle.certificate_lines.proofs.Imports.{IsModule, IsModuleInLimits, LineKey, List, Module, ModuleLines, None}
+use Rattle.certificate_lines.proofs.Imports.{Option, OutOfOrder, Port, RefusalCode, Setting, Some, Use, [], add_line}
+use Rattle.certificate_lines.proofs.Imports.{ap, append-nil, arith, body_line_code, change_last, code_but_for_order}
+use Rattle.certificate_lines.proofs.Imports.{code_if, common_steps, edge_in, false, halo_in, has_nonlocal_port, in_box}
+use Rattle.certificate_lines.proofs.Imports.{is_last_module_incomplete, is_local, is_starred_line_at, key_of}
+use Rattle.certificate_lines.proofs.Imports.{key_or_first, known, last_body_line, last_module, last_of, length}
+use Rattle.certificate_lines.proofs.Imports.{list_any, may_follow, module_line_code, module_with_line, modules_of, not}
+use Rattle.certificate_lines.proofs.Imports.{option_map, option_to_list, or_else, refl, same_cell, size_fault}
+use Rattle.certificate_lines.proofs.Imports.{size_sides, subst, sym, true, true_from_not, ℕ, ◌&&◌, ◌++◌, ◌+◌, ◌||◌, ◌∙◌}
+use Rattle.certificate_lines.proofs.Imports.{◌∷◌, ◌≡◌, ◌≤◌}
 use Rattle.certificate_lines.specs.Modules.{IsWithinLineLimit}
 use Rattle.certificate_lines.specs.Rules.{line_fault}
 use Rattle.certificate_lines.specs.BuilderView.{AreLinesAndWiresTracked, AreLinesTracked, IsEdgeHaloOrStopLine}
-use Rattle.certificate_lines.specs.BuilderView.{IsLastModuleTracked}
-use Rattle.certificate_lines.specs.BuilderView.{wires_made_local}
+use Rattle.certificate_lines.specs.BuilderView.{IsLastModuleTracked, wires_made_local}
 use Rattle.certificate_lines.proofs.BuiltLemmas.{module_built, line_built, good_module}
 use Rattle.certificate_lines.proofs.Growing.{modules_push, last_at, last_pushed, last_changed, body_step}
 use Rattle.certificate_lines.proofs.Lists.{some_is}

@@ -1,7 +1,6 @@
 -- The ports of a layout by their cells, and its parts, which lie inside it
 use Rattle.certificate_lines.proofs.Imports.{ArePortsInLayout, Bool, Cell, LayoutHeader, List, None, Option, Port, Some}
-use Rattle.certificate_lines.proofs.Imports.{[]}
-use Rattle.certificate_lines.proofs.Imports.{and_parts, ap, arith, common_steps, false, get_or, if◌then◌else◌}
+use Rattle.certificate_lines.proofs.Imports.{[], and_parts, ap, arith, common_steps, false, get_or, if◌then◌else◌}
 use Rattle.certificate_lines.proofs.Imports.{is_cell_at, length, list_all, list_all-append, port_at, refl, slice_get}
 use Rattle.certificate_lines.proofs.Imports.{subst, suc, sym, true, zero, ℕ, ℤ, ◌<◌, ◌∙◌, ◌∷◌, ◌≡◌}
 use Rattle.lemmas.proofs.Common.{list_all-map}

@@ -2,8 +2,7 @@
 use Rattle.certificate_lines.proofs.Imports.{Box2, CertificateLine, List, Module, ModuleLines, [], add_line, ap}
 use Rattle.certificate_lines.proofs.Imports.{append-nil, append_assoc, arith, body_lines, change_last, common_steps}
 use Rattle.certificate_lines.proofs.Imports.{false, is_module_line, module_with_line, modules_of, refl, sym, true, ◌++◌}
-use Rattle.certificate_lines.proofs.Imports.{◌∙◌}
-use Rattle.certificate_lines.proofs.Imports.{◌∷◌, ◌≡◌}
+use Rattle.certificate_lines.proofs.Imports.{◌∙◌, ◌∷◌, ◌≡◌}
 use Rattle.lemmas.proofs.Common.{fold}
 
 pub inner_module : (e : CertificateLine) (es : List CertificateLine) → is_module_line e ≡ true →

@@ -1,12 +1,11 @@
 -- Lines in order: what comes after the last comes after all.
 use Rattle.certificate_lines.proofs.Imports.{AreLinesInOrder, Bool, Box2, CertificateLine, Cut, IsBodyLine}
-use Rattle.certificate_lines.proofs.Imports.{IsTotalOrder}
-use Rattle.certificate_lines.proofs.Imports.{Less, LineKey, List, Module, None, Option, Some, [], and_parts, ap, arith}
-use Rattle.certificate_lines.proofs.Imports.{cell_cmp, cell_of, cell_total, common_steps, inl, inr, is_cut_line, is_lt}
-use Rattle.certificate_lines.proofs.Imports.{key_of, key_or_first, last_body_line, last_of, line_cmp, list_all}
-use Rattle.certificate_lines.proofs.Imports.{may_follow, may_precede, nat_cmp_total, ne_eqb, on_total, or-false}
-use Rattle.certificate_lines.proofs.Imports.{or_cases, or_right, rank_of, refl, sort_number_of, sym, then_total, true}
-use Rattle.certificate_lines.proofs.Imports.{◌&&◌, ◌++◌, ◌∙◌, ◌∷◌, ◌≡◌, ◌⊎◌}
+use Rattle.certificate_lines.proofs.Imports.{IsTotalOrder, Less, LineKey, List, Module, None, Option, Some, []}
+use Rattle.certificate_lines.proofs.Imports.{and_parts, ap, arith, cell_cmp, cell_of, cell_total, common_steps, inl}
+use Rattle.certificate_lines.proofs.Imports.{inr, is_cut_line, is_lt, key_of, key_or_first, last_body_line, last_of}
+use Rattle.certificate_lines.proofs.Imports.{line_cmp, list_all, may_follow, may_precede, nat_cmp_total, ne_eqb}
+use Rattle.certificate_lines.proofs.Imports.{on_total, or-false, or_cases, or_right, rank_of, refl, sort_number_of, sym}
+use Rattle.certificate_lines.proofs.Imports.{then_total, true, ◌&&◌, ◌++◌, ◌∙◌, ◌∷◌, ◌≡◌, ◌⊎◌}
 use Rattle.lemmas.proofs.Common.{nat_cmp, and-true}
 use Rattle.certificate_lines.specs.BuilderView.{body_line_or_none}
 use Rattle.certificate_lines.proofs.Growing.{last_pushed}

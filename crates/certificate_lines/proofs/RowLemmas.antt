@@ -1,7 +1,6 @@
 -- The numbers of the rows with a port, for the contracts of `entry_place` and `number_rows`.
 use Rattle.certificate_lines.proofs.Imports.{AreRowsWithPortsNumbered, Box2, Cell, List, None, Option, Port, Some, []}
-use Rattle.certificate_lines.proofs.Imports.{abs_from}
-use Rattle.certificate_lines.proofs.Imports.{and_from, and_parts, ap, ap₂, arith, common_steps, entry_place}
+use Rattle.certificate_lines.proofs.Imports.{abs_from, and_from, and_parts, ap, ap₂, arith, common_steps, entry_place}
 use Rattle.certificate_lines.proofs.Imports.{entry_place_by_row_number, get_or, get_or-set_same, get_or_default, in_box}
 use Rattle.certificate_lines.proofs.Imports.{inl, inr, length, length-replicate, length-set, option_map, place_in, pos}
 use Rattle.certificate_lines.proofs.Imports.{rectangle_cells, refl, replicate, set, slice_get, slice_get_within}

@@ -1,21 +1,18 @@
 -- The tables of ports, and the ports in a box.
 use Rattle.certificate_lines.proofs.Imports.{ArePortsInLayout, AreRowsWithPortsNumbered, Bool, Box2, Cell, Circuit}
-use Rattle.certificate_lines.proofs.Imports.{HaveDistinctCells}
-use Rattle.certificate_lines.proofs.Imports.{LayoutHeader, List, None, Option, Port, Some, [], and_parts, ap, arith}
-use Rattle.certificate_lines.proofs.Imports.{cell, cell_itself, cell_same, common_steps, drop, entry_place, eqb-true}
-use Rattle.certificate_lines.proofs.Imports.{false, flat_map, get_or, get_or-set_same, get_or_default}
-use Rattle.certificate_lines.proofs.Imports.{get_or_from_slice_get, if◌then◌else◌, in_box, is_cell_at, is_local}
-use Rattle.certificate_lines.proofs.Imports.{is_nonlocal_signal, length, length-replicate, length-set, list_all}
-use Rattle.certificate_lines.proofs.Imports.{list_any, list_any-append, map, nat_eq, not, nat_tests, port_number_at}
-use Rattle.certificate_lines.proofs.Imports.{option_map}
-use Rattle.certificate_lines.proofs.Imports.{or-false, port_at, pos, range_with_len, rectangle_cells, refl, replicate}
-use Rattle.certificate_lines.proofs.Imports.{row_cells, set, slice_get, slice_get-get_or, slice_get-map}
-use Rattle.certificate_lines.proofs.Imports.{slice_get_within, subst, suc, sym, take, take-suc, to_z, true, w32, whole}
-use Rattle.certificate_lines.proofs.Imports.{wire_of, zero, ℕ, ℤ, ◌&&◌, ◌*◌, ◌++◌, ◌+◌, ◌-◌, ◌<◌, ◌||◌, ◌∙◌, ◌∷◌, ◌≡◌}
-use Rattle.certificate_lines.proofs.Imports.{◌≤◌}
-use Rattle.lemmas.proofs.Common.{and_or_self, and_zero_l, bit_and, bit_or, cases_Bool, get_or-drop}
-use Rattle.lemmas.proofs.Common.{get_or-set_other, length-take-le, mul-le-mul_right, or_comm, or_zero_l}
-use Rattle.lemmas.proofs.Common.{list_all-append, same_truth}
+use Rattle.certificate_lines.proofs.Imports.{HaveDistinctCells, LayoutHeader, List, None, Option, Port, Some, []}
+use Rattle.certificate_lines.proofs.Imports.{and_parts, ap, arith, cell, cell_itself, cell_same, common_steps, drop}
+use Rattle.certificate_lines.proofs.Imports.{entry_place, eqb-true, false, flat_map, get_or, get_or-set_same}
+use Rattle.certificate_lines.proofs.Imports.{get_or_default, get_or_from_slice_get, if◌then◌else◌, in_box, is_cell_at}
+use Rattle.certificate_lines.proofs.Imports.{is_local, is_nonlocal_signal, length, length-replicate, length-set}
+use Rattle.certificate_lines.proofs.Imports.{list_all, list_any, list_any-append, map, nat_eq, nat_tests, not}
+use Rattle.certificate_lines.proofs.Imports.{option_map, or-false, port_at, port_number_at, pos, range_with_len}
+use Rattle.certificate_lines.proofs.Imports.{rectangle_cells, refl, replicate, row_cells, set, slice_get}
+use Rattle.certificate_lines.proofs.Imports.{slice_get-get_or, slice_get-map, slice_get_within, subst, suc, sym, take}
+use Rattle.certificate_lines.proofs.Imports.{take-suc, to_z, true, w32, whole, wire_of, zero, ℕ, ℤ, ◌&&◌, ◌*◌, ◌++◌}
+use Rattle.certificate_lines.proofs.Imports.{◌+◌, ◌-◌, ◌<◌, ◌||◌, ◌∙◌, ◌∷◌, ◌≡◌, ◌≤◌}
+use Rattle.lemmas.proofs.Common.{and_or_self, and_zero_l, bit_and, bit_or, cases_Bool, get_or-drop, get_or-set_other}
+use Rattle.lemmas.proofs.Common.{length-take-le, list_all-append, mul-le-mul_right, or_comm, or_zero_l, same_truth}
 use Rattle.bbm_rule.proofs.CellLists.{cast_cell, row_more, rows_found}
 use Rattle.certificate_lines.specs.PortTables.{ArePortsInBox, entry_or_zero, number_with_port_in_front}
 use Rattle.certificate_lines.proofs.RowLemmas.{entry_few, entry_own, filled, filled_less, filled_more, filled_none}

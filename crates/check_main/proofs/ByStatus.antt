@@ -2,9 +2,8 @@
 use Rattle.check_main.proofs.Imports.{Check, CheckFault, Err, HoldsOfKnownInput, IsAccepted, IsNoSmallDesignText}
 use Rattle.check_main.proofs.Imports.{IsRightInFull, IsWrongIfPlain, Kinds, LinesHaveMeaning, List, Memory, No, Ok}
 use Rattle.check_main.proofs.Imports.{Outcome, RanCommand, Read, Refused, RelatesReadToWritten, Streams, Text, TooLong}
-use Rattle.check_main.proofs.Imports.{Write}
-use Rattle.check_main.proofs.Imports.{Yes, YesMeans, YesPromises, [], ap, arith, asked_by, bbmcheck, false, fault_of}
-use Rattle.check_main.proofs.Imports.{inl, inr, refl, status_for, sym, true, ℕ, ◌∙◌, ◌∷◌, ◌≡◌, ◌≢◌, ◌≤◌, ◌⊎◌}
+use Rattle.check_main.proofs.Imports.{Write, Yes, YesMeans, YesPromises, [], ap, arith, asked_by, bbmcheck, false}
+use Rattle.check_main.proofs.Imports.{fault_of, inl, inr, refl, status_for, sym, true, ℕ, ◌∙◌, ◌∷◌, ◌≡◌, ◌≢◌, ◌≤◌, ◌⊎◌}
 use Rattle.command_line.specs.CommandLine.{AsksForHelp, AsksOnlyForHelp}
 use Rattle.meaning.specs.Headline.{IsRight}
 use Rattle.headline.specs.Stops.{HasRightStops}

@@ -1,13 +1,11 @@
 -- The gates of good lines are ordered.
-use Rattle.circuit.proofs.Imports.{AreGatesOrdered, AreGoodAfter, AreGoodCircuitLines, Bool, CircuitLine, Gate}
-use Rattle.circuit.proofs.Imports.{GateKind}
-use Rattle.circuit.proofs.Imports.{CircuitLineKind, List, None, [], ap, append-nil, append_assoc, ap₂, arith}
-use Rattle.circuit.proofs.Imports.{limit_or_name_code}
-use Rattle.circuit.proofs.Imports.{cases_Bool, common_steps, cond, consume_fault, consumed, define_fault, defined}
-use Rattle.circuit.proofs.Imports.{false, flat_map-append, gate_count, gate_of_line_kind, gate_with_outs_from, gates_of}
-use Rattle.circuit.proofs.Imports.{has, input_count, is_gate, is_input, length, length-append, length-map, map, number}
-use Rattle.circuit.proofs.Imports.{range_with_len, refl, subst, sum_by-cons, sym, take, true≢false, ℕ, ◌++◌, ◌+◌, ◌<◌}
-use Rattle.circuit.proofs.Imports.{◌∙◌, ◌∷◌, ◌≡◌}
+use Rattle.circuit.proofs.Imports.{AreGatesOrdered, AreGoodAfter, AreGoodCircuitLines, Bool, CircuitLine}
+use Rattle.circuit.proofs.Imports.{CircuitLineKind, Gate, GateKind, List, None, [], ap, append-nil, append_assoc, ap₂}
+use Rattle.circuit.proofs.Imports.{arith, cases_Bool, common_steps, cond, consume_fault, consumed, define_fault}
+use Rattle.circuit.proofs.Imports.{defined, false, flat_map-append, gate_count, gate_of_line_kind, gate_with_outs_from}
+use Rattle.circuit.proofs.Imports.{gates_of, has, input_count, is_gate, is_input, length, length-append, length-map}
+use Rattle.circuit.proofs.Imports.{limit_or_name_code, map, number, range_with_len, refl, subst, sum_by-cons, sym, take}
+use Rattle.circuit.proofs.Imports.{true≢false, ℕ, ◌++◌, ◌+◌, ◌<◌, ◌∙◌, ◌∷◌, ◌≡◌}
 use Rattle.lemmas.proofs.Common.{count_by, sum_by-append}
 use Rattle.circuit.specs.Rules.{largest_limit_code, name_fault}
 use Rattle.circuit.specs.Bridge.{IsGoodAfter}

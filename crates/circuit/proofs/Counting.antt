@@ -1,9 +1,7 @@
 -- There are as many names of inputs as inputs.
 use Rattle.circuit.proofs.Imports.{AreGoodAfter, AreGoodCircuitLines, CircuitLine, CircuitLineKind, HasNameCountOfKind}
-use Rattle.circuit.proofs.Imports.{List, []}
-use Rattle.circuit.proofs.Imports.{arith}
-use Rattle.circuit.proofs.Imports.{common_steps, cond, input_count, input_names, is_input, length, refl, ℕ, ◌++◌, ◌∷◌}
-use Rattle.circuit.proofs.Imports.{◌≡◌}
+use Rattle.circuit.proofs.Imports.{List, [], arith, common_steps, cond, input_count, input_names, is_input, length}
+use Rattle.circuit.proofs.Imports.{refl, ℕ, ◌++◌, ◌∷◌, ◌≡◌}
 use Rattle.circuit.proofs.Bridging.{input_cons}
 
 line_counted : (kind : CircuitLineKind) (ins outs : List (List ℕ)) →

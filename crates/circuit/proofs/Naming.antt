@@ -1,12 +1,11 @@
 -- The names of wires.
 use Rattle.circuit.proofs.Imports.{AreGoodAfter, AreGoodCircuitLines, CircuitLine, CircuitLineKind, Gate}
-use Rattle.circuit.proofs.Imports.{HasNameCountOfKind}
-use Rattle.circuit.proofs.Imports.{List, None}
-use Rattle.circuit.proofs.Imports.{Some, [], append-nil, append_assoc, arith, bytes_eq, cases_Bool, cases_lt}
-use Rattle.circuit.proofs.Imports.{common_steps, cond, define_fault, defined, false, gate_count, gate_of_line_kind}
-use Rattle.circuit.proofs.Imports.{gates_of, has, inl, input_count, input_names, inr, is_gate, is_input, le-ltb, length}
-use Rattle.circuit.proofs.Imports.{list_any-append, number, position, refl, slice_get, subst, suc, sum_by-cons, sym}
-use Rattle.circuit.proofs.Imports.{take, true, wires_after, zero, ℕ, ◌++◌, ◌+◌, ◌<◌, ◌∙◌, ◌∷◌, ◌≡◌, ◌≤◌}
+use Rattle.circuit.proofs.Imports.{HasNameCountOfKind, List, None, Some, [], append-nil, append_assoc, arith, bytes_eq}
+use Rattle.circuit.proofs.Imports.{cases_Bool, cases_lt, common_steps, cond, define_fault, defined, false, gate_count}
+use Rattle.circuit.proofs.Imports.{gate_of_line_kind, gates_of, has, inl, input_count, input_names, inr, is_gate}
+use Rattle.circuit.proofs.Imports.{is_input, le-ltb, length, list_any-append, number, position, refl, slice_get, subst}
+use Rattle.circuit.proofs.Imports.{suc, sum_by-cons, sym, take, true, wires_after, zero, ℕ, ◌++◌, ◌+◌, ◌<◌, ◌∙◌, ◌∷◌}
+use Rattle.circuit.proofs.Imports.{◌≡◌, ◌≤◌}
 use Rattle.lemmas.proofs.Common.{or-true}
 use Rattle.circuit.specs.Meaning.{place_of}
 use Rattle.circuit.specs.Laws.{WiresAreNamed, WireNamesAreDistinct, InputsAreFirst}

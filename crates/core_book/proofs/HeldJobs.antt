@@ -1,11 +1,9 @@
 -- Jobs for which a finding is held, and their least faults
 use Rattle.core_book.proofs.Imports.{AreLeastFaultsOfJob, BookView, Bool, Finding, IsFindingHeld, JobView, LeastFaults}
-use Rattle.core_book.proofs.Imports.{List}
-use Rattle.core_book.proofs.Imports.{Some, [], ap, arith, common_steps, eqb_tells, false, get_or, held_finding, inl}
-use Rattle.core_book.proofs.Imports.{inr}
-use Rattle.core_book.proofs.Imports.{job_of, jobs_decide, length, length-append, map, same_Some, same_job, slice_get}
-use Rattle.core_book.proofs.Imports.{slice_get-map, slice_get_read, subst, sym, true, ℕ, ◌++◌, ◌+◌, ◌<◌, ◌∙◌, ◌∷◌, ◌≡◌}
-use Rattle.core_book.proofs.Imports.{◌≢◌}
+use Rattle.core_book.proofs.Imports.{List, Some, [], ap, arith, common_steps, eqb_tells, false, get_or, held_finding}
+use Rattle.core_book.proofs.Imports.{inl, inr, job_of, jobs_decide, length, length-append, map, same_Some, same_job}
+use Rattle.core_book.proofs.Imports.{slice_get, slice_get-map, slice_get_read, subst, sym, true, ℕ, ◌++◌, ◌+◌, ◌<◌, ◌∙◌}
+use Rattle.core_book.proofs.Imports.{◌∷◌, ◌≡◌, ◌≢◌}
 use Rattle.module_box.proofs.Rising.{pushed}
 use Rattle.core_book.specs.Verdicts.{AreFindingsHeldBelow, IsFirstMissingFinding}
 

@@ -10,8 +10,7 @@ use Rattle.pattern.specs.declared.layout_line.LayoutHeader.{LayoutHeader}
 use Rattle.pattern.specs.declared.layout_line.LayoutLine.{LayoutLine}
 use Rattle.section_text.specs.Limits.{limits_line_count}
 use Rattle.section_text.specs.Section.{Grammar, refused_if_code, result_after_header, result_after_line}
-use Rattle.section_text.specs.Section.{section_body_of}
-use Rattle.section_text.specs.Section.{section_of}
+use Rattle.section_text.specs.Section.{section_body_of, section_of}
 use Rattle.section_text.specs.Sections.{continue_after_section, section_then, value_if_at_end}
 use Rattle.section_text.specs.Words.{bytes_after_last_line_feed, words_of}
 use Rattle.section_text.specs.declared.code.RefusalCode.{RefusalCode}

@@ -1,19 +1,17 @@
 -- The output of `migrate` says what was read, in version 2.
-use Rattle.headline.proofs.Imports.{AreFaultless, AreLines, Bool, Bundle, CertificateLine}
-use Rattle.headline.proofs.Imports.{CircuitLine, End, Grammar, Header, IsFaultless, IsMigrationOf, IsSection, Item}
-use Rattle.headline.proofs.Imports.{LayoutHeader, LayoutLine, List, None, Ok, Option, Pattern, Refusal, RefusalCode}
-use Rattle.headline.proofs.Imports.{Result, SaysBundle, SaysDesign, Setting, Some, Yes, [], ap}
-use Rattle.headline.proofs.Imports.{append-nil, append_assoc, ap₂, arith, bundle_of, bundle_with_limits, bundle_text}
-use Rattle.headline.proofs.Imports.{bytes_after_last_line_feed, certificate_grammar, certificate_section_text}
-use Rattle.headline.proofs.Imports.{circuit_grammar, clean_both, code_if, codes, common_steps, false, flat_map}
-use Rattle.headline.proofs.Imports.{flat_map-append, if◌then◌else◌, is_word_at, layout_grammar, layout_of}
-use Rattle.headline.proofs.Imports.{layout_section_text, length, length-append, length-map, lines_again, lines_of}
-use Rattle.headline.proofs.Imports.{migrate_of, migrated_bundle, nothing_follows, number_after_keyword, number_at}
-use Rattle.headline.proofs.Imports.{number_of, one_line, one_section, or_else, parts_of, port_names_of, read_faultless}
-use Rattle.headline.proofs.Imports.{refl, section_made, section_said, setting_of, subst, sym, take, take-append-drop}
-use Rattle.headline.proofs.Imports.{text_said, true, value_if_at_end, with_line_feed, without_halo_lines, words_of, ℕ}
-use Rattle.headline.proofs.Imports.{◌++◌}
-use Rattle.headline.proofs.Imports.{◌+◌, ◌∙◌, ◌∷◌, ◌≡◌}
+use Rattle.headline.proofs.Imports.{AreFaultless, AreLines, Bool, Bundle, CertificateLine, CircuitLine, End, Grammar}
+use Rattle.headline.proofs.Imports.{Header, IsFaultless, IsMigrationOf, IsSection, Item, LayoutHeader, LayoutLine, List}
+use Rattle.headline.proofs.Imports.{None, Ok, Option, Pattern, Refusal, RefusalCode, Result, SaysBundle, SaysDesign}
+use Rattle.headline.proofs.Imports.{Setting, Some, Yes, [], ap, append-nil, append_assoc, ap₂, arith, bundle_of}
+use Rattle.headline.proofs.Imports.{bundle_text, bundle_with_limits, bytes_after_last_line_feed, certificate_grammar}
+use Rattle.headline.proofs.Imports.{certificate_section_text, circuit_grammar, clean_both, code_if, codes, common_steps}
+use Rattle.headline.proofs.Imports.{false, flat_map, flat_map-append, if◌then◌else◌, is_word_at, layout_grammar}
+use Rattle.headline.proofs.Imports.{layout_of, layout_section_text, length, length-append, length-map, lines_again}
+use Rattle.headline.proofs.Imports.{lines_of, migrate_of, migrated_bundle, nothing_follows, number_after_keyword}
+use Rattle.headline.proofs.Imports.{number_at, number_of, one_line, one_section, or_else, parts_of, port_names_of}
+use Rattle.headline.proofs.Imports.{read_faultless, refl, section_made, section_said, setting_of, subst, sym, take}
+use Rattle.headline.proofs.Imports.{take-append-drop, text_said, true, value_if_at_end, with_line_feed}
+use Rattle.headline.proofs.Imports.{without_halo_lines, words_of, ℕ, ◌++◌, ◌+◌, ◌∙◌, ◌∷◌, ◌≡◌}
 use Rattle.lemmas.proofs.Common.{drop-append_seam}
 use Rattle.section_text.specs.Sections.{section_then}
 use Rattle.section_text.proofs.Again.{drop_clean, lines_clean}

@@ -19,9 +19,8 @@ use Rattle.headline.proofs.Imports.{read_layout-is_named, read_layout-names, ref
 use Rattle.headline.proofs.Imports.{setting_of, size_fault, slice_get, slice_get-map, slice_get_within, subst, suc, sym}
 use Rattle.headline.proofs.Imports.{take, take-append-drop, true, true≢false, verdict_outcome, whole, zero, ℕ, ◌&&◌}
 use Rattle.headline.proofs.Imports.{◌++◌, ◌+◌, ◌<◌, ◌||◌, ◌∙◌, ◌∷◌, ◌≡◌, ◌≢◌, ◌≤◌}
-use Rattle.lemmas.proofs.Common.{is_lt, option_to_list, All-append, and-false, list_any-append, or-true, ordering_then}
-use Rattle.lemmas.proofs.Common.{take-length, less_nat, not_le_test}
-use Rattle.lemmas.proofs.Common.{length-range_with_len, list_all-append}
+use Rattle.lemmas.proofs.Common.{All-append, and-false, is_lt, length-range_with_len, less_nat, list_all-append}
+use Rattle.lemmas.proofs.Common.{list_any-append, not_le_test, option_to_list, or-true, ordering_then, take-length}
 use Rattle.circuit.specs.Meaning.{Gate, place_of, wire_of, wires, wires_after}
 use Rattle.circuit.specs.Rules.{define_fault}
 use Rattle.circuit.proofs.Bridging.{define_first, defined_push, numbers_new}
@@ -29,11 +28,10 @@ use Rattle.circuit.proofs.Naming.{wires_are_named}
 use Rattle.module_box.specs.Locals.{local_wires}
 use Rattle.certificate_lines.specs.Entries.{gates, last_of, areas}
 use Rattle.certificate_lines.specs.Orders.{is_cut_line, line_cmp, may_follow, may_precede, sort_number_of, rank_of}
-use Rattle.certificate_lines.specs.Rules.{are_new_and_distinct, cut_line_code, entry_fault, used_gate_fault}
-use Rattle.certificate_lines.specs.Rules.{keep_line_code, line_fault, use_line_code, code_but_for_order}
-use Rattle.certificate_lines.specs.Rules.{module_box_code}
-use Rattle.certificate_lines.specs.Rules.{end_fault, is_last_module_incomplete, is_local, is_local_wire}
-use Rattle.certificate_lines.specs.Rules.{has_nonlocal_port, leaves_gap, module_line_code, module_limit_fault}
+use Rattle.certificate_lines.specs.Rules.{are_new_and_distinct, code_but_for_order, cut_line_code, end_fault}
+use Rattle.certificate_lines.specs.Rules.{entry_fault, has_nonlocal_port, is_last_module_incomplete, is_local}
+use Rattle.certificate_lines.specs.Rules.{is_local_wire, keep_line_code, leaves_gap, line_fault, module_box_code}
+use Rattle.certificate_lines.specs.Rules.{module_limit_fault, module_line_code, use_line_code, used_gate_fault}
 use Rattle.certificate_lines.proofs.LocalLemmas.{local_more}
 use Rattle.pattern.specs.Lines.{ArePortsNamed}
 use Rattle.certificate_lines.proofs.BoxPlaces.{cells_inside}

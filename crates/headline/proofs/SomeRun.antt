@@ -17,8 +17,7 @@ use Rattle.certificate_lines.proofs.LineOrder.{In, flat_in}
 use Rattle.certificate_lines.proofs.InList.{placed}
 use Rattle.certificate.proofs.FullModules.{stands}
 use Rattle.soundness.proofs.SomeLeast.{Decided, HasOne, both_decided, bools_decided, some_decided, true_decided}
-use Rattle.answers.specs.RunText.{run_sections_of}
-use Rattle.answers.specs.RunText.{run_sections_with_limits}
+use Rattle.answers.specs.RunText.{run_sections_of, run_sections_with_limits}
 use Rattle.headline.proofs.SomeAnswer.{SaysSomething, answered_always}
 use Rattle.headline.proofs.SomeReport.{some_layout}
 use Rattle.headline.proofs.YesIsRight.{laid_out, went_on}

@@ -1,14 +1,13 @@
 -- The lines of a good circuit can be written, if its wires have names
-use Rattle.headline.proofs.Imports.{AllByRecursion, AreGoodAfter, CircuitLine, Delay, End, HasNameCountOfKind}
-use Rattle.headline.proofs.Imports.{Gate, GateKind, Have, Header, Input, Item, List, None, Output, Some}
-use Rattle.headline.proofs.Imports.{Source, Spill, [], and_parts, ap, limit_or_name_code}
-use Rattle.headline.proofs.Imports.{ap₂, arith, bytes_eq, bytes_eq-Decides, cases_Bool, codes}
+use Rattle.headline.proofs.Imports.{AllByRecursion, AreGoodAfter, CircuitLine, Delay, End, Gate, GateKind}
+use Rattle.headline.proofs.Imports.{HasNameCountOfKind, Have, Header, Input, Item, List, None, Output, Some, Source}
+use Rattle.headline.proofs.Imports.{Spill, [], and_parts, ap, ap₂, arith, bytes_eq, bytes_eq-Decides, cases_Bool, codes}
 use Rattle.headline.proofs.Imports.{common_steps, cond, cond_some, consume_have, consumed, decimal, defined, defines}
-use Rattle.headline.proofs.Imports.{entry, false, false≢true, no_code_first, form_of, gate_entry}
-use Rattle.headline.proofs.Imports.{gate_line_of_kind, has, if_one_word, inl, inr, is_name, is_word_at, length}
-use Rattle.headline.proofs.Imports.{list_all, name_after_keyword, name_at, name_of, names_at, names_pass}
-use Rattle.headline.proofs.Imports.{nat_tests, number_at, number_of, number_written, refl, slice_get, subst, sym, true}
-use Rattle.headline.proofs.Imports.{ℕ, ◌&&◌, ◌++◌, ◌+◌, ◌<◌, ◌==◌, ◌>>=◌, ◌^◌, ◌||◌, ◌∙◌, ◌∷◌, ◌≡◌}
+use Rattle.headline.proofs.Imports.{entry, false, false≢true, form_of, gate_entry, gate_line_of_kind, has, if_one_word}
+use Rattle.headline.proofs.Imports.{inl, inr, is_name, is_word_at, length, limit_or_name_code, list_all}
+use Rattle.headline.proofs.Imports.{name_after_keyword, name_at, name_of, names_at, names_pass, nat_tests}
+use Rattle.headline.proofs.Imports.{no_code_first, number_at, number_of, number_written, refl, slice_get, subst, sym}
+use Rattle.headline.proofs.Imports.{true, ℕ, ◌&&◌, ◌++◌, ◌+◌, ◌<◌, ◌==◌, ◌>>=◌, ◌^◌, ◌||◌, ◌∙◌, ◌∷◌, ◌≡◌}
 use Rattle.lemmas.proofs.Common.{left_is_false}
 use Rattle.section_text.specs.Words.{is_number}
 use Rattle.circuit.specs.Forms.{bit_at, gate_kind, words_before_names}

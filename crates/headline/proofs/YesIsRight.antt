@@ -5,24 +5,22 @@ use Rattle.headline.proofs.Imports.{HasRightStops, Header, IsCorrect, IsFaultles
 use Rattle.headline.proofs.Imports.{IsVerdict, Item, JobView, LayoutHeader, LayoutLine, List, None, Ok, Option}
 use Rattle.headline.proofs.Imports.{OutOfOrder, Outcome, Pattern, PortNameLists, Refusal, RefusalCode, Refused, Result}
 use Rattle.headline.proofs.Imports.{SaysBundle, SaysDesign, SaysReport, Some, StopHolds, StopLine, Verdict, Yes, []}
-use Rattle.headline.proofs.Imports.{all_in_modules, all_stops, ap, append-nil, append_assoc, ap₂, limit_or_name_code}
-use Rattle.headline.proofs.Imports.{arith, bundle_of, bundle_with_limits, bytes_after_last_line_feed}
-use Rattle.headline.proofs.Imports.{certificate_grammar}
+use Rattle.headline.proofs.Imports.{all_in_modules, all_stops, ap, append-nil, append_assoc, ap₂, arith, bundle_of}
+use Rattle.headline.proofs.Imports.{bundle_with_limits, bytes_after_last_line_feed, certificate_grammar}
 use Rattle.headline.proofs.Imports.{circuit_grammar, circuit_of, circuit_text, common_steps, cond, consumed, defined}
-use Rattle.headline.proofs.Imports.{drop, eqb, faultless_named, flat_map, unconsumed_wire_code, flat_map-append}
-use Rattle.headline.proofs.Imports.{form_of, gates_are_ordered, inputs_are_first, layout_grammar, layout_of}
-use Rattle.headline.proofs.Imports.{layout_section, layout_text, length, lines_of, modules_in, modules_of, nat_lt}
-use Rattle.headline.proofs.Imports.{netlist_of, or_else, order_fault, parts_of, port_names_of, read_faultless, refl}
-use Rattle.headline.proofs.Imports.{report_text, section_of, setting_of, stop_in, stops_meant, subst, sym, take}
-use Rattle.headline.proofs.Imports.{take-append-drop, verdict_outcome, with_line_feed, words_of, ℕ, ◌++◌, ◌+◌, ◌∙◌, ◌∷◌}
-use Rattle.headline.proofs.Imports.{◌≡◌, ◌≢◌, ◌≤◌}
+use Rattle.headline.proofs.Imports.{drop, eqb, faultless_named, flat_map, flat_map-append, form_of, gates_are_ordered}
+use Rattle.headline.proofs.Imports.{inputs_are_first, layout_grammar, layout_of, layout_section, layout_text, length}
+use Rattle.headline.proofs.Imports.{limit_or_name_code, lines_of, modules_in, modules_of, nat_lt, netlist_of, or_else}
+use Rattle.headline.proofs.Imports.{order_fault, parts_of, port_names_of, read_faultless, refl, report_text, section_of}
+use Rattle.headline.proofs.Imports.{setting_of, stop_in, stops_meant, subst, sym, take, take-append-drop}
+use Rattle.headline.proofs.Imports.{unconsumed_wire_code, verdict_outcome, with_line_feed, words_of, ℕ, ◌++◌, ◌+◌, ◌∙◌}
+use Rattle.headline.proofs.Imports.{◌∷◌, ◌≡◌, ◌≢◌, ◌≤◌}
 use Rattle.lemmas.proofs.Common.{ltb-false}
 use Rattle.section_text.specs.Section.{refused_if_code, result_after_line, result_after_header, section_body_of}
 use Rattle.circuit.specs.Text.{Line}
 use Rattle.section_text.specs.Sections.{continue_after_section}
 use Rattle.circuit.specs.Entries.{rank_of}
-use Rattle.circuit.specs.Rules.{first_unconsumed, gate_count, last_rank}
-use Rattle.circuit.specs.Rules.{exceeds_text_limit}
+use Rattle.circuit.specs.Rules.{exceeds_text_limit, first_unconsumed, gate_count, last_rank}
 use Rattle.circuit.proofs.Valuations.{at_most_one}
 use Rattle.circuit.proofs.Bridging.{count_append}
 use Rattle.circuit.proofs.Fitting.{entry_fits, no_gate_still, no_gate_yet}

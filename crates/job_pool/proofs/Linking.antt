@@ -1,7 +1,6 @@
 -- Links of the members of groups, made from the last number down, and followed from the first one up
 use Rattle.std.proofs.lemmas.List.{get_or-set_other, get_or-set_same}
-use Rattle.job_pool.proofs.Imports.{List, ap, arith, get_or, if◌then◌else◌, length, nat_tests, occurrences, refl}
-use Rattle.job_pool.proofs.Imports.{suc}
+use Rattle.job_pool.proofs.Imports.{List, ap, arith, get_or, if◌then◌else◌, length, nat_tests, occurrences, refl, suc}
 use Rattle.job_pool.proofs.Imports.{sym, take, zero, ℕ, ◌+◌, ◌-◌, ◌<◌, ◌==◌, ◌∙◌, ◌≡◌, ◌≢◌, ◌≤◌}
 use Rattle.lemmas.proofs.Common.{cases_lt, inl, inr, length-set, set, slice_index, subst, ◌⊎◌}
 use Rattle.module_job.specs.Groups.{AreGroups}

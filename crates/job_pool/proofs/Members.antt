@@ -1,10 +1,8 @@
 -- Groups of jobs, and the findings that are due for draws.
 use Rattle.std.proofs.lemmas.Grind.{common_steps}
 use Rattle.job_pool.proofs.Imports.{All, IsEachNumberDrawnOnce, List, [], ap, arith, due_finding_count, get_or}
-use Rattle.job_pool.proofs.Imports.{if◌then◌else◌, length}
-use Rattle.job_pool.proofs.Imports.{map}
-use Rattle.job_pool.proofs.Imports.{nat_tests, occurrences, refl, shape_of, shapes_of, suc, sym, take, total}
-use Rattle.job_pool.proofs.Imports.{zero, ℕ, ◌++◌, ◌+◌, ◌<◌, ◌==◌, ◌∙◌, ◌∷◌, ◌≡◌, ◌≢◌, ◌≤◌}
+use Rattle.job_pool.proofs.Imports.{if◌then◌else◌, length, map, nat_tests, occurrences, refl, shape_of, shapes_of, suc}
+use Rattle.job_pool.proofs.Imports.{sym, take, total, zero, ℕ, ◌++◌, ◌+◌, ◌<◌, ◌==◌, ◌∙◌, ◌∷◌, ◌≡◌, ◌≢◌, ◌≤◌}
 use Rattle.lemmas.proofs.Common.{Some, option_map, slice_get, slice_index, All-head, All-tail}
 use Rattle.lemmas.proofs.Common.{slice_get-map, slice_get_within, take_more}
 use Rattle.module_job.specs.Groups.{AreGroups}

@@ -9,9 +9,8 @@ use Rattle.std.proofs.Math.ListN.{length-set}
 use Rattle.atomic_table.specs.Table.{State, Me, keeps, step, Allows, Splits, Joins}
 use Rattle.atomic_table.proofs.Lists.{at_set, at_snoc, set_else, set_again}
 use Rattle.job_pool.specs.declared.rule.DeskSize.{DeskSize}
-use Rattle.job_pool.specs.Rule.{FitsDeskRule, MeetsDeskRule, lists_of, view_after_claim, view_after_look, IsAfterClaim}
-use Rattle.job_pool.specs.Rule.{IsAfterLook}
-use Rattle.job_pool.specs.Rule.{view_after_split, split_off_view, joined_view, spent_view}
+use Rattle.job_pool.specs.Rule.{FitsDeskRule, IsAfterClaim, IsAfterLook, MeetsDeskRule, joined_view, lists_of}
+use Rattle.job_pool.specs.Rule.{spent_view, split_off_view, view_after_claim, view_after_look, view_after_split}
 use Rattle.job_pool.proofs.Sums.{total_set, total_snoc, total-map, total_le, at_le, count_at_least-append}
 use Rattle.job_pool.proofs.Sums.{past_greatest-append, front-snoc, late_in_all, draw_keeps, merge_keeps, empty_keeps}
 use mathlib.Core.Option.{some, none}

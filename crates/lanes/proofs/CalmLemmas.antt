@@ -1,13 +1,10 @@
 -- Which blocks are still known to stay, after cells or marks changed
 use Rattle.lanes.proofs.Imports.{AreCellNumbers, AreUnmarkedBlocksStable, BlockMarks, BlockPlaces, Bool}
-use Rattle.lanes.proofs.Imports.{IsAntiDiagonalStable}
-use Rattle.lanes.proofs.Imports.{ChangesOnlyDiagonals, Even, HasWordsStrideRows, IsBlockStable, IsNotRowEndBlock}
-use Rattle.lanes.proofs.Imports.{IsSameOutsidePart}
-use Rattle.lanes.proofs.Imports.{IsBlockWordSame, IsMainDiagonalStable, List, Odd, Partition, Planes, TurnsBlock, ap}
-use Rattle.lanes.proofs.Imports.{arith, block_at}
-use Rattle.lanes.proofs.Imports.{block_number_count, by_eq_or_not, by_lt_or_le, common_steps, false, false≢true, get_or}
-use Rattle.lanes.proofs.Imports.{inl}
-use Rattle.lanes.proofs.Imports.{inr, mul-le-mul_left, sym, true, ℕ, ◌*◌, ◌+◌, ◌-◌, ◌<◌, ◌≡◌, ◌≢◌, ◌≤◌}
+use Rattle.lanes.proofs.Imports.{ChangesOnlyDiagonals, Even, HasWordsStrideRows, IsAntiDiagonalStable, IsBlockStable}
+use Rattle.lanes.proofs.Imports.{IsBlockWordSame, IsMainDiagonalStable, IsNotRowEndBlock, IsSameOutsidePart, List, Odd}
+use Rattle.lanes.proofs.Imports.{Partition, Planes, TurnsBlock, ap, arith, block_at, block_number_count, by_eq_or_not}
+use Rattle.lanes.proofs.Imports.{by_lt_or_le, common_steps, false, false≢true, get_or, inl, inr, mul-le-mul_left, sym}
+use Rattle.lanes.proofs.Imports.{true, ℕ, ◌*◌, ◌+◌, ◌-◌, ◌<◌, ◌≡◌, ◌≢◌, ◌≤◌}
 use Rattle.lemmas.proofs.Common.{cases_Bool}
 use Rattle.lanes.specs.Calm.{MarksBlocksSharingCell, UnmarksAtMostBlock}
 use Rattle.lanes.proofs.TurnLemmas.{anti_words, main_words}

@@ -1,13 +1,11 @@
 -- Steps that pass over the blocks that stay
 use Rattle.lanes.proofs.Imports.{AreAllUnmarkedCellsDead, AreBlockCellsUnmarked, AreUnmarkedBlocksStable, BlockMarks}
-use Rattle.lanes.proofs.Imports.{BlockPlaces, Even, HasWordsStrideRows, IsBlockStable, IsNotRowEndBlock, IsPassedBlock}
-use Rattle.lanes.proofs.Imports.{IsNumberUnmarked}
-use Rattle.lanes.proofs.Imports.{IsBlockWordSame, IsBlockWordTurned, LiveMarks, Odd, Partition, Planes, TurnsBlock}
-use Rattle.lanes.proofs.Imports.{TurnsBlocksSatisfying, TurnsNumberedBlocksBetween, ap, arith, bit, bit-zero, block_at}
-use Rattle.lanes.proofs.Imports.{block_number_count}
-use Rattle.lanes.proofs.Imports.{by_eq_or_not, by_lt_or_le, common_steps, div-add-mod, false, false≢true, inl, inr}
-use Rattle.lanes.proofs.Imports.{marks_of, mod-lt, mul-le-mul_left, subst, sym, true, ℕ, ◌%◌, ◌*◌, ◌+◌, ◌/◌, ◌<◌, ◌∙◌}
-use Rattle.lanes.proofs.Imports.{◌≡◌, ◌≢◌, ◌≤◌, ◌⊎◌}
+use Rattle.lanes.proofs.Imports.{BlockPlaces, Even, HasWordsStrideRows, IsBlockStable, IsBlockWordSame}
+use Rattle.lanes.proofs.Imports.{IsBlockWordTurned, IsNotRowEndBlock, IsNumberUnmarked, IsPassedBlock, LiveMarks, Odd}
+use Rattle.lanes.proofs.Imports.{Partition, Planes, TurnsBlock, TurnsBlocksSatisfying, TurnsNumberedBlocksBetween, ap}
+use Rattle.lanes.proofs.Imports.{arith, bit, bit-zero, block_at, block_number_count, by_eq_or_not, by_lt_or_le}
+use Rattle.lanes.proofs.Imports.{common_steps, div-add-mod, false, false≢true, inl, inr, marks_of, mod-lt}
+use Rattle.lanes.proofs.Imports.{mul-le-mul_left, subst, sym, true, ℕ, ◌%◌, ◌*◌, ◌+◌, ◌/◌, ◌<◌, ◌∙◌, ◌≡◌, ◌≢◌, ◌≤◌, ◌⊎◌}
 use Rattle.lanes.specs.Sweeps.{IsInRangeNotInWordRest, TurnsOnlyNamedBlocks}
 use Rattle.lanes.specs.Lanes.{TurnsCellsOfPartition}
 use Rattle.lanes.proofs.TurnLemmas.{calm_turned, half_turned}

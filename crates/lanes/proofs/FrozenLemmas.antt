@@ -1,13 +1,10 @@
 -- Blocks that no step changes
 use Rattle.lanes.proofs.Imports.{AreAllUnmarkedCellsDead, AreMarkedBlocksStable, ArePlaneWordsInRange}
-use Rattle.lanes.proofs.Imports.{AreUnmarkedBlocksStable, BlockMarks}
-use Rattle.lanes.proofs.Imports.{BlockPlaces, Bool, ChangesOnlyDiagonals, Even, HasRoomForAllBlockMarks}
-use Rattle.lanes.proofs.Imports.{HasValueUnderEachAssignment}
-use Rattle.lanes.proofs.Imports.{HasWordsStrideRows, IsBlockHeld, IsBlockHeldAndEmpty, IsBlockWordSame, IsDeadCell}
-use Rattle.lanes.proofs.Imports.{IsNumberUnmarked}
-use Rattle.lanes.proofs.Imports.{IsBlockWordTurned, KeepsCellsOutsideBlocks, List, LiveMarks, Odd, Partition, Planes}
-use Rattle.lanes.proofs.Imports.{TurnsBlock, TurnsNumberedBlocksBetween, ap, arith, bit, block_at, block_number_count}
-use Rattle.lanes.proofs.Imports.{by_eq_or_not}
+use Rattle.lanes.proofs.Imports.{AreUnmarkedBlocksStable, BlockMarks, BlockPlaces, Bool, ChangesOnlyDiagonals, Even}
+use Rattle.lanes.proofs.Imports.{HasRoomForAllBlockMarks, HasValueUnderEachAssignment, HasWordsStrideRows, IsBlockHeld}
+use Rattle.lanes.proofs.Imports.{IsBlockHeldAndEmpty, IsBlockWordSame, IsBlockWordTurned, IsDeadCell, IsNumberUnmarked}
+use Rattle.lanes.proofs.Imports.{KeepsCellsOutsideBlocks, List, LiveMarks, Odd, Partition, Planes, TurnsBlock}
+use Rattle.lanes.proofs.Imports.{TurnsNumberedBlocksBetween, ap, arith, bit, block_at, block_number_count, by_eq_or_not}
 use Rattle.lanes.proofs.Imports.{by_lt_or_le, cell_at, cell_word_bit, common_steps, false, false≢true, get_or, inl, inr}
 use Rattle.lanes.proofs.Imports.{marks_of, subst, true, ℕ, ◌*◌, ◌+◌, ◌-◌, ◌<◌, ◌^◌, ◌≡◌, ◌≢◌, ◌≤◌, ◌⊎◌}
 use Rattle.lemmas.proofs.Common.{props, ∥∥₁_elim, ∥∥₁_map}

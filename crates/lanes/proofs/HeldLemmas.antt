@@ -1,9 +1,8 @@
 -- Blocks that some of their cells hold
 use Rattle.lanes.proofs.Imports.{ArePlaneWordsInRange, BlockPlaces, Bool, HasValueUnderEachAssignment, IsBlockStable}
-use Rattle.lanes.proofs.Imports.{List, Planes, ap, arith, bit}
-use Rattle.lanes.proofs.Imports.{bit-zero, bit_ones, by_lt_or_le, cell_word_bit, common_steps, false, false≢true}
-use Rattle.lanes.proofs.Imports.{get_or, inl, inr, mul-le-mul_left, true, turned, ℕ, ◌*◌, ◌+◌, ◌<◌, ◌||◌, ◌∙◌, ◌≡◌, ◌≤◌}
-use Rattle.lanes.proofs.Imports.{◌⊎◌}
+use Rattle.lanes.proofs.Imports.{List, Planes, ap, arith, bit, bit-zero, bit_ones, by_lt_or_le, cell_word_bit}
+use Rattle.lanes.proofs.Imports.{common_steps, false, false≢true, get_or, inl, inr, mul-le-mul_left, true, turned, ℕ}
+use Rattle.lanes.proofs.Imports.{◌*◌, ◌+◌, ◌<◌, ◌||◌, ◌∙◌, ◌≡◌, ◌≤◌, ◌⊎◌}
 use Rattle.lemmas.proofs.Common.{or_left, or_right}
 use Rattle.bbm_rule.proofs.BitLemmas.{bit_above}
 use Rattle.bbm_rule.proofs.PlaneLemmas.{dead_block}

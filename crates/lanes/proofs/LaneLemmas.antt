@@ -1,9 +1,8 @@
 -- The cells of planes, by assignment.
-use Rattle.lanes.proofs.Imports.{AreCornerWordsTurned, AreCornerWordsTurnedAt, HasWordsStrideRows, List, Planes, ap}
-use Rattle.lanes.proofs.Imports.{arith, bit, by_eq_or_not}
-use Rattle.lanes.proofs.Imports.{common_steps, get_or, get_or-drop, get_or-take, lane, length, mul-le-mul_left}
-use Rattle.lanes.proofs.Imports.{plane_of, refl, turned, ℕ, ◌%◌, ◌*◌, ◌+◌, ◌/◌, ◌<◌, ◌∙◌, ◌≡◌, ◌≤◌}
-use Rattle.lanes.proofs.Imports.{Bool, inl, inr, ◌⊎◌}
+use Rattle.lanes.proofs.Imports.{AreCornerWordsTurned, AreCornerWordsTurnedAt, Bool, HasWordsStrideRows, List, Planes}
+use Rattle.lanes.proofs.Imports.{ap, arith, bit, by_eq_or_not, common_steps, get_or, get_or-drop, get_or-take, inl, inr}
+use Rattle.lanes.proofs.Imports.{lane, length, mul-le-mul_left, plane_of, refl, turned, ℕ, ◌%◌, ◌*◌, ◌+◌, ◌/◌, ◌<◌, ◌∙◌}
+use Rattle.lanes.proofs.Imports.{◌≡◌, ◌≤◌, ◌⊎◌}
 use Rattle.lemmas.proofs.Common.{drop, length-take-le, get_or-append_right, get_or_append_left}
 use Rattle.lanes.specs.Across.{TurnsBlocksAcrossLists}
 use Rattle.bbm_rule.specs.Rows.{paired_place}

@@ -1,20 +1,15 @@
 -- Cells that are known to be dead, and blocks of which one cell at most is live
-use Rattle.lanes.proofs.Imports.{AreAllUnmarkedCellsDead, AreBlockCellsUnmarked, AreCellNumbers, AreNumberedCellsDead}
-use Rattle.lanes.proofs.Imports.{IsAntiDiagonalStable}
-use Rattle.lanes.proofs.Imports.{AreCornerWordsTurned, AreNumberCellsUnmarked, AreUnmarkedBlocksStable, BlockMarks}
-use Rattle.lanes.proofs.Imports.{BlockPlaces}
-use Rattle.lanes.proofs.Imports.{Bool, ChangesOnlyDiagonals, HasWordsStrideRows, IsDeadCell, IsDiagonalStable}
-use Rattle.lanes.proofs.Imports.{IsSameOutsidePart}
-use Rattle.lanes.proofs.Imports.{IsBlockStable, IsMainDiagonalStable, IsNumberUnmarked, List, LiveMarks, Planes}
-use Rattle.lanes.proofs.Imports.{SwapsPart, TakesMarkOfOther}
-use Rattle.lanes.proofs.Imports.{TurnsBlock, TurnsPart, ap, arith, bit, bit-zero, block_at, by_lt_or_le, common_steps}
-use Rattle.lanes.proofs.Imports.{false, get_or, get_or-set_other, get_or-set_same, is_main_diagonal, length, not, set}
-use Rattle.lanes.proofs.Imports.{sym, true}
-use Rattle.lanes.proofs.Imports.{turned, ℕ, ◌*◌, ◌+◌, ◌-◌, ◌<◌, ◌∙◌, ◌≡◌, ◌≢◌, ◌≤◌, ◌⊎◌}
+use Rattle.lanes.proofs.Imports.{AreAllUnmarkedCellsDead, AreBlockCellsUnmarked, AreCellNumbers, AreCornerWordsTurned}
+use Rattle.lanes.proofs.Imports.{AreNumberCellsUnmarked, AreNumberedCellsDead, AreUnmarkedBlocksStable, BlockMarks}
+use Rattle.lanes.proofs.Imports.{BlockPlaces, Bool, ChangesOnlyDiagonals, HasWordsStrideRows, IsAntiDiagonalStable}
+use Rattle.lanes.proofs.Imports.{IsBlockStable, IsDeadCell, IsDiagonalStable, IsMainDiagonalStable, IsNumberUnmarked}
+use Rattle.lanes.proofs.Imports.{IsSameOutsidePart, List, LiveMarks, Planes, SwapsPart, TakesMarkOfOther, TurnsBlock}
+use Rattle.lanes.proofs.Imports.{TurnsPart, ap, arith, bit, bit-zero, block_at, by_lt_or_le, common_steps, false}
+use Rattle.lanes.proofs.Imports.{get_or, get_or-set_other, get_or-set_same, is_main_diagonal, length, not, set, sym}
+use Rattle.lanes.proofs.Imports.{true, turned, ℕ, ◌*◌, ◌+◌, ◌-◌, ◌<◌, ◌∙◌, ◌≡◌, ◌≢◌, ◌≤◌, ◌⊎◌}
 use Rattle.lanes.specs.Calm.{AreAllCellsDead}
 use Rattle.lanes.specs.Live.{AreFirstCellsMarked, AreUnmarkedCellsDead, HasAtMostOneDiagonalMark, MarksCellIf}
-use Rattle.lanes.specs.Live.{MarksChangedCells, SwapsDiagonalMarks}
-use Rattle.lanes.specs.Live.{UnmarksOnlyDeadCells, UnmarksOnlyIfDead}
+use Rattle.lanes.specs.Live.{MarksChangedCells, SwapsDiagonalMarks, UnmarksOnlyDeadCells, UnmarksOnlyIfDead}
 use Rattle.lanes.specs.Turns.{SwapsDiagonal}
 use Rattle.lanes.specs.declared.blocks.Diagonal.{Diagonal}
 use Rattle.lanes.specs.declared.blocks.Diagonal.TheVariants.{Anti, Main}

@@ -1,8 +1,7 @@
 -- Words of marks: numbers that have a mark in one list, and one in another
 use Rattle.lanes.proofs.Imports.{AreNumberCellsUnmarked, Bool, IsNumberUnmarked, List, LiveMarks, ap, arith, bit}
-use Rattle.lanes.proofs.Imports.{bit-and}
-use Rattle.lanes.proofs.Imports.{bit-zero, bit_and, bit_or, cell_at, common_steps, false, get_or, refl, ℕ, ◌%◌, ◌&&◌}
-use Rattle.lanes.proofs.Imports.{◌/◌, ◌||◌, ◌∙◌, ◌≡◌, ◌⊎◌}
+use Rattle.lanes.proofs.Imports.{bit-and, bit-zero, bit_and, bit_or, cell_at, common_steps, false, get_or, refl, ℕ, ◌%◌}
+use Rattle.lanes.proofs.Imports.{◌&&◌, ◌/◌, ◌||◌, ◌∙◌, ◌≡◌, ◌⊎◌}
 use Rattle.lemmas.proofs.Common.{or_parts}
 use Rattle.bbm_rule.proofs.BitLemmas.{bit-or}
 

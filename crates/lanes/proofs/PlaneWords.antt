@@ -1,9 +1,8 @@
 -- Words of cells in their planes, and cells that are dead
 use Rattle.lanes.proofs.Imports.{AreAllUnmarkedCellsDead, AreNumberedCellsDead, IsNumberUnmarked, List, LiveMarks}
-use Rattle.lanes.proofs.Imports.{Planes, ap, arith, bit}
-use Rattle.lanes.proofs.Imports.{bit-zero, by_eq_or_not, by_lt_or_le, common_steps, false, get_or, get_or-set_other}
-use Rattle.lanes.proofs.Imports.{get_or-set_same, lane, length, mul-le-mul_left, plane_of, refl, set, sym, ℕ, ◌%◌, ◌*◌}
-use Rattle.lanes.proofs.Imports.{◌+◌, ◌/◌, ◌<◌, ◌∙◌, ◌≡◌, ◌≢◌, ◌≤◌}
+use Rattle.lanes.proofs.Imports.{Planes, ap, arith, bit, bit-zero, by_eq_or_not, by_lt_or_le, common_steps, false}
+use Rattle.lanes.proofs.Imports.{get_or, get_or-set_other, get_or-set_same, lane, length, mul-le-mul_left, plane_of}
+use Rattle.lanes.proofs.Imports.{refl, set, sym, ℕ, ◌%◌, ◌*◌, ◌+◌, ◌/◌, ◌<◌, ◌∙◌, ◌≡◌, ◌≢◌, ◌≤◌}
 use Rattle.lemmas.proofs.Common.{[], ◌∷◌, suc, zero}
 use Rattle.lanes.specs.Lanes.{SetsCellWord}
 

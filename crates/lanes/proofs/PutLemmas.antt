@@ -1,9 +1,8 @@
 -- A cell that is set, and its mark
 use Rattle.lanes.proofs.Imports.{AreAllUnmarkedCellsDead, ArePlaneWordsInRange, Bool, IsDeadCell, IsNumberUnmarked}
-use Rattle.lanes.proofs.Imports.{List, LiveMarks, Planes, ap}
-use Rattle.lanes.proofs.Imports.{arith, bit, bit-zero, by_eq_or_not, common_steps, div-add-mod, false, get_or, lane}
-use Rattle.lanes.proofs.Imports.{mod-lt, mul-le-mul_left, plane_of, refl, sym, ℕ, ◌%◌, ◌*◌, ◌+◌, ◌/◌, ◌<◌, ◌^◌, ◌∙◌}
-use Rattle.lanes.proofs.Imports.{◌≡◌, ◌≤◌}
+use Rattle.lanes.proofs.Imports.{List, LiveMarks, Planes, ap, arith, bit, bit-zero, by_eq_or_not, common_steps}
+use Rattle.lanes.proofs.Imports.{div-add-mod, false, get_or, lane, mod-lt, mul-le-mul_left, plane_of, refl, sym, ℕ, ◌%◌}
+use Rattle.lanes.proofs.Imports.{◌*◌, ◌+◌, ◌/◌, ◌<◌, ◌^◌, ◌∙◌, ◌≡◌, ◌≤◌}
 use Rattle.bbm_rule.specs.Rows.{SetsCellAtPlace}
 use Rattle.lanes.specs.Lanes.{SetsCell, word_of_source}
 use Rattle.lanes.specs.Live.{SetsCellMark}

@@ -1,9 +1,8 @@
 -- Numbers whose cells have not changed since the last odd step
 use Rattle.lanes.proofs.Imports.{AreUnmarkedBlocksStable, BlockMarks, BlockPlaces, Bool, ChangesOnlyDiagonals, Even}
-use Rattle.lanes.proofs.Imports.{HasWordsStrideRows, IsBlockStable, IsNumberUnmarked, Odd, Partition, Planes, inl, inr}
-use Rattle.lanes.proofs.Imports.{arith}
-use Rattle.lanes.proofs.Imports.{block_at, by_eq_or_not, common_steps, lane, mul-le-mul_left, refl, turned, ℕ, ◌*◌, ◌+◌}
-use Rattle.lanes.proofs.Imports.{◌/◌, ◌<◌, ◌∙◌, ◌≡◌}
+use Rattle.lanes.proofs.Imports.{HasWordsStrideRows, IsBlockStable, IsNumberUnmarked, Odd, Partition, Planes, arith}
+use Rattle.lanes.proofs.Imports.{block_at, by_eq_or_not, common_steps, inl, inr, lane, mul-le-mul_left, refl, turned, ℕ}
+use Rattle.lanes.proofs.Imports.{◌*◌, ◌+◌, ◌/◌, ◌<◌, ◌∙◌, ◌≡◌}
 use Rattle.bbm_rule.proofs.BlockRuns.{mate_lt}
 use Rattle.bbm_rule.proofs.PlaneLemmas.{mate_twice, turned_twice}
 use Rattle.bbm_rule.specs.Rows.{paired_place}

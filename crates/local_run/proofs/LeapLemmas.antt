@@ -1,15 +1,13 @@
 -- Runs that stay as they are, and times that can be leapt over
-use Rattle.local_run.proofs.Imports.{AllTimesSignal, Cell, Greater, HasSameSignalsAtOddTimes, IsOddOfTimePair, IsRising}
-use Rattle.local_run.proofs.Imports.{AreEventPlacesAroundTime, IsRunUnchangedUntil, JobView, Less, List, Moment, None}
+use Rattle.local_run.proofs.Imports.{AllTimesSignal, AreEventPlacesAroundTime, Cell, Greater, HasSameSignalsAtOddTimes}
+use Rattle.local_run.proofs.Imports.{IsOddOfTimePair, IsRising, IsRunUnchangedUntil, JobView, Less, List, Moment, None}
 use Rattle.local_run.proofs.Imports.{Signal, Signals, Some, State, TimedSignal, Valuation, Zero, all_times_at}
-use Rattle.local_run.proofs.Imports.{all_times_none, ap, ap₂, arith, by_lt_or_le, common_steps, event_at}
-use Rattle.local_run.proofs.Imports.{event_none, false, false≢true, in_box, in_halo, inl, inr, is_cell_at, is_first}
-use Rattle.local_run.proofs.Imports.{is_live}
+use Rattle.local_run.proofs.Imports.{all_times_none, ap, ap₂, arith, by_lt_or_le, common_steps, event_at, event_none}
+use Rattle.local_run.proofs.Imports.{false, false≢true, in_box, in_halo, inl, inr, is_cell_at, is_first, is_live}
 use Rattle.local_run.proofs.Imports.{length, local_run, moment_cmp, moment_total, moved_signals, nat_cmp, partner, refl}
-use Rattle.local_run.proofs.Imports.{signal_at, signals_moved, slice_get, slice_get_within, step, subst, suc, sym, true}
-use Rattle.local_run.proofs.Imports.{unwrap_or, with_halo, zero, ℕ, ℤ, ◌%◌, ◌&&◌, ◌+ℤ◌, ◌+◌, ◌-◌, ◌<◌, ◌||◌, ◌∙◌, ◌≡◌}
-use Rattle.local_run.proofs.Imports.{◌≢◌, ◌≤◌}
-use Rattle.local_run.proofs.Imports.{same_Some}
+use Rattle.local_run.proofs.Imports.{same_Some, signal_at, signals_moved, slice_get, slice_get_within, step, subst, suc}
+use Rattle.local_run.proofs.Imports.{sym, true, unwrap_or, with_halo, zero, ℕ, ℤ, ◌%◌, ◌&&◌, ◌+ℤ◌, ◌+◌, ◌-◌, ◌<◌, ◌||◌}
+use Rattle.local_run.proofs.Imports.{◌∙◌, ◌≡◌, ◌≢◌, ◌≤◌}
 use Rattle.bbm_rule.proofs.SameCells.{cell_itself, cell_same}
 use Rattle.module_box.specs.Schedules.{moment_of}
 use Rattle.module_box.proofs.Rising.{all_times_found, event_found}

@@ -1,10 +1,9 @@
 -- Runs under all assignments that leap over times
 use Rattle.local_run.proofs.Imports.{Bool, HasSameSignalsAtOddTimes, IsJob, IsNextStop, IsOddOfTimePair, IsRunReady}
 use Rattle.local_run.proofs.Imports.{IsRunUnchangedUntil, JobView, Planes, ShowsRunAt, Values, and_parts, arith}
-use Rattle.local_run.proofs.Imports.{assignments}
-use Rattle.local_run.proofs.Imports.{by_eq_or_not, by_lt_or_le, cases_Bool, common_steps, false, in_box, in_span, inl}
-use Rattle.local_run.proofs.Imports.{inr, local_run, subst, sym, valuation, ℕ, ℤ, ◌%◌, ◌+◌, ◌-◌, ◌<◌, ◌||◌, ◌∙◌, ◌≡◌}
-use Rattle.local_run.proofs.Imports.{◌≤◌, ◌⊎◌}
+use Rattle.local_run.proofs.Imports.{assignments, by_eq_or_not, by_lt_or_le, cases_Bool, common_steps, false, in_box}
+use Rattle.local_run.proofs.Imports.{in_span, inl, inr, local_run, subst, sym, valuation, ℕ, ℤ, ◌%◌, ◌+◌, ◌-◌, ◌<◌}
+use Rattle.local_run.proofs.Imports.{◌||◌, ◌∙◌, ◌≡◌, ◌≤◌, ◌⊎◌}
 use Rattle.lemmas.proofs.Common.{or_parts}
 use Rattle.local_run.specs.Leaps.{IsLeap}
 use Rattle.local_run.specs.Scans.{IsTimeWithoutFault}

@@ -1,8 +1,7 @@
 -- Jobs of the same shape have the same faults but for where they lie
 use Rattle.local_run.proofs.Imports.{Box2, Contains, Edge, End, Fault, HasFaultWitness, IsFault, IsFaultUnderValues}
-use Rattle.local_run.proofs.Imports.{IsJob}
-use Rattle.local_run.proofs.Imports.{IsKeepFault, JobView, KeepFault, Kind, List, Netlist, None, ShapeView, Signals}
-use Rattle.local_run.proofs.Imports.{Some, State, Stop, Valuation, [], and_parts, ap, ap₂, arith, cases_Bool}
+use Rattle.local_run.proofs.Imports.{IsJob, IsKeepFault, JobView, KeepFault, Kind, List, Netlist, None, ShapeView}
+use Rattle.local_run.proofs.Imports.{Signals, Some, State, Stop, Valuation, [], and_parts, ap, ap₂, arith, cases_Bool}
 use Rattle.local_run.proofs.Imports.{common_steps, fault_cmp, if◌then◌else◌, in_box, in_ring, ints, is_live, job_demand}
 use Rattle.local_run.proofs.Imports.{job_start, local_run, moved_signals, place_in, pos, props, refl, shape_of}
 use Rattle.local_run.proofs.Imports.{shift_to_origin, signal_at, signals_moved, slice_get, subst, suc, sym, true}

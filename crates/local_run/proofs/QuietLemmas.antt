@@ -1,11 +1,9 @@
 -- Cells of which no line of a module says anything
 use Rattle.local_run.proofs.Imports.{AllTimesSignal, AreEventPlacesAroundTime, Box2, Cell, HasBothCellMarks, List}
-use Rattle.local_run.proofs.Imports.{TakesNoMarkOff}
-use Rattle.local_run.proofs.Imports.{Signals, Some, TimedSignal, Zero, all_times_none, ap, ap₂, arith, box_coord}
-use Rattle.local_run.proofs.Imports.{by_lt_or_le, cell_number_at, common_steps, event_none, halo_coord, ints}
-use Rattle.local_run.proofs.Imports.{moved_signals}
-use Rattle.local_run.proofs.Imports.{pos, shift_to_origin, signal_at, signals_moved, slice_get, sym, ℕ, ℤ, ◌%◌, ◌*◌}
-use Rattle.local_run.proofs.Imports.{◌+ℤ◌, ◌+◌, ◌-ℤ◌, ◌/◌, ◌<◌, ◌∙◌, ◌≡◌, ◌≤◌}
+use Rattle.local_run.proofs.Imports.{Signals, Some, TakesNoMarkOff, TimedSignal, Zero, all_times_none, ap, ap₂, arith}
+use Rattle.local_run.proofs.Imports.{box_coord, by_lt_or_le, cell_number_at, common_steps, event_none, halo_coord, ints}
+use Rattle.local_run.proofs.Imports.{moved_signals, pos, shift_to_origin, signal_at, signals_moved, slice_get, sym, ℕ}
+use Rattle.local_run.proofs.Imports.{ℤ, ◌%◌, ◌*◌, ◌+ℤ◌, ◌+◌, ◌-ℤ◌, ◌/◌, ◌<◌, ◌∙◌, ◌≡◌, ◌≤◌}
 use Rattle.bbm_rule.specs.Marks.{MarksOneNumber}
 use Rattle.local_run.specs.Leaps.{AreEventsLaterFrom}
 use Rattle.local_run.specs.Quiet.{AreStarredCellsMarked, AreUnmarkedSignalsZero, LacksOneOfCellMarks}

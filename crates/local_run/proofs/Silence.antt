@@ -1,14 +1,11 @@
 -- Cells that are known to be dead and have no line
 use Rattle.local_run.proofs.Imports.{AreNumbersSkippableBetween, Edge, IsDefinedAndHasFault, IsEdgeCorrectAt}
-use Rattle.local_run.proofs.Imports.{IsHaloCellAsSignal}
-use Rattle.local_run.proofs.Imports.{IsLeastBelow, IsOutsideBoxFromHalo, IsRunReady, JobView, List, None, Planes}
-use Rattle.local_run.proofs.Imports.{ShowsRunAt}
-use Rattle.local_run.proofs.Imports.{Signal, Values, and_parts, ap, ap₂, arith, assignments, box_coord, by_eq_or_not}
-use Rattle.local_run.proofs.Imports.{by_lt_or_le, common_steps, dead_lane, false, false≢true, halo_coord, in_box}
-use Rattle.local_run.proofs.Imports.{in_span, inl, inr, is_defined_under, is_live, lane, local_run, mul-le-mul_left}
-use Rattle.local_run.proofs.Imports.{cell_number_at, refl, signal_at, sym, true, valuation, ℕ, ◌%◌, ◌*◌, ◌+◌, ◌-◌, ◌/◌}
-use Rattle.local_run.proofs.Imports.{◌<◌}
-use Rattle.local_run.proofs.Imports.{◌∙◌, ◌≡◌, ◌≢◌, ◌≤◌}
+use Rattle.local_run.proofs.Imports.{IsHaloCellAsSignal, IsLeastBelow, IsOutsideBoxFromHalo, IsRunReady, JobView, List}
+use Rattle.local_run.proofs.Imports.{None, Planes, ShowsRunAt, Signal, Values, and_parts, ap, ap₂, arith, assignments}
+use Rattle.local_run.proofs.Imports.{box_coord, by_eq_or_not, by_lt_or_le, cell_number_at, common_steps, dead_lane}
+use Rattle.local_run.proofs.Imports.{false, false≢true, halo_coord, in_box, in_span, inl, inr, is_defined_under}
+use Rattle.local_run.proofs.Imports.{is_live, lane, local_run, mul-le-mul_left, refl, signal_at, sym, true, valuation}
+use Rattle.local_run.proofs.Imports.{ℕ, ◌%◌, ◌*◌, ◌+◌, ◌-◌, ◌/◌, ◌<◌, ◌∙◌, ◌≡◌, ◌≢◌, ◌≤◌}
 use Rattle.lanes.specs.Calm.{AreNumberedCellsDead}
 use Rattle.bbm_rule.specs.Marks.{IsNumberUnmarked}
 use Rattle.local_run.specs.Quiet.{AreLineMarks}

@@ -1,21 +1,19 @@
 -- Cells of ring and halo that need no look, since they carry their signals at all times
-use Rattle.local_run.proofs.Imports.{AreNumbersSkippableBetween, Bool, Box2, Cell, Edge, HasNoFaultOfKind}
-use Rattle.local_run.proofs.Imports.{HasWordsStrideRows}
-use Rattle.local_run.proofs.Imports.{IsRunReady, JobView, List, Planes, ShowsRunAt, Signals, Some, TakesNoMarkOff}
-use Rattle.local_run.proofs.Imports.{TimedSignal}
-use Rattle.local_run.proofs.Imports.{Values, ap, ap₂, arith, by_eq_or_not, common_steps, event_at, event_none}
-use Rattle.local_run.proofs.Imports.{halo_coord, [], moved_signals, cell_number_at, refl, shift_to_origin, signal_at}
-use Rattle.local_run.proofs.Imports.{signals_moved, slice_get, subst, sym, ℕ, ℤ, ◌%◌, ◌*◌, ◌+◌, ◌/◌, ◌<◌, ◌∙◌, inl, inr}
-use Rattle.local_run.proofs.Imports.{◌≡◌, ◌≢◌, ◌⊎◌, AreStarredCellMarks, length, shape_of}
+use Rattle.local_run.proofs.Imports.{AreNumbersSkippableBetween, AreStarredCellMarks, Bool, Box2, Cell, Edge}
+use Rattle.local_run.proofs.Imports.{HasNoFaultOfKind, HasWordsStrideRows, IsRunReady, JobView, List, Planes}
+use Rattle.local_run.proofs.Imports.{ShowsRunAt, Signals, Some, TakesNoMarkOff, TimedSignal, Values, [], ap, ap₂, arith}
+use Rattle.local_run.proofs.Imports.{by_eq_or_not, cell_number_at, common_steps, event_at, event_none, halo_coord, inl}
+use Rattle.local_run.proofs.Imports.{inr, length, moved_signals, refl, shape_of, shift_to_origin, signal_at}
+use Rattle.local_run.proofs.Imports.{signals_moved, slice_get, subst, sym, ℕ, ℤ, ◌%◌, ◌*◌, ◌+◌, ◌/◌, ◌<◌, ◌∙◌, ◌≡◌, ◌≢◌}
+use Rattle.local_run.proofs.Imports.{◌⊎◌}
 use Rattle.bbm_rule.specs.Marks.{IsNumberUnmarked, MarksOneNumber}
 use Rattle.lanes.specs.Settled.{AreCellsSameAtNumber, AreSettledBlocksUnchanged, IsBlockSettled}
 use Rattle.lanes.specs.declared.marked_planes.MarkedPlanes.{MarkedPlanes}
 use Rattle.local_run.specs.Quiet.{AreLineMarks, AreUnmarkedSignalsZero, box_at_origin}
 use Rattle.local_run.specs.Scans.{IsHaloAsSignals}
-use Rattle.local_run.specs.Steady.{AreEventMarks, AreSignalsCorrectAtNumber, IsCellNumberMarked, IsNumberOfCell}
-use Rattle.local_run.specs.Steady.{MatchesStarsAtNumber}
-use Rattle.local_run.specs.Steady.{AreUnmarkedSignalsSteady, IsOutsideBoxAndHalo, MatchesStarsWhereSettled}
-use Rattle.local_run.specs.Steady.{all_times_signal}
+use Rattle.local_run.specs.Steady.{AreEventMarks, AreSignalsCorrectAtNumber, AreUnmarkedSignalsSteady}
+use Rattle.local_run.specs.Steady.{IsCellNumberMarked, IsNumberOfCell, IsOutsideBoxAndHalo, MatchesStarsAtNumber}
+use Rattle.local_run.specs.Steady.{MatchesStarsWhereSettled, all_times_signal}
 use Rattle.local_run.proofs.QuietLemmas.{number_below, outer_back, outer_same, quiet_moved, still_quiet}
 use Rattle.local_run.proofs.Silence.{passed_edges, passed_halo, shown_at}
 use Rattle.bbm_rule.proofs.RingTests.{ring_in_box}

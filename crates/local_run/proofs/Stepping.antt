@@ -1,11 +1,10 @@
 -- The steps of the planes are those of the definition
 use Rattle.local_run.proofs.Imports.{Bool, Box2, HasWordsStrideRows, IsOutsideBoxFromHalo, IsRunReady, JobView, Planes}
 use Rattle.local_run.proofs.Imports.{ShowsRunAt, State, Valuation, Values, and_from, and_parts, ap, ap₂, arith}
-use Rattle.local_run.proofs.Imports.{assignments}
-use Rattle.local_run.proofs.Imports.{box_coord, by_eq_or_not, by_lt_or_le, cases_Bool, common_steps, cond-false}
-use Rattle.local_run.proofs.Imports.{cond-true, eq-eqb, false, false≢true, halo_coord, in_box, in_halo, in_span}
-use Rattle.local_run.proofs.Imports.{in_span-negsuc, ints, is_live, job_start, lane, local_run, ne_eqb, negsuc, partner}
-use Rattle.local_run.proofs.Imports.{pos, refl, signal_at, span_from, span_parts, step, subst, suc, sym, true}
+use Rattle.local_run.proofs.Imports.{assignments, box_coord, by_eq_or_not, by_lt_or_le, cases_Bool, common_steps}
+use Rattle.local_run.proofs.Imports.{cond-false, cond-true, eq-eqb, false, false≢true, halo_coord, in_box, in_halo}
+use Rattle.local_run.proofs.Imports.{in_span, in_span-negsuc, ints, is_live, job_start, lane, local_run, ne_eqb, negsuc}
+use Rattle.local_run.proofs.Imports.{partner, pos, refl, signal_at, span_from, span_parts, step, subst, suc, sym, true}
 use Rattle.local_run.proofs.Imports.{valuation, with_halo, zero, ℕ, ℤ, ◌%◌, ◌&&◌, ◌*◌, ◌+ℤ◌, ◌+◌, ◌-ℤ◌, ◌-◌, ◌/◌, ◌<◌}
 use Rattle.local_run.proofs.Imports.{◌||◌, ◌∙◌, ◌≡◌, ◌≢◌, ◌≤◌}
 use Rattle.lemmas.proofs.Common.{add-one, not_from_false, or-false, pred_pos}

@@ -1,11 +1,10 @@
 -- Stops in their order, and the first of them that has a fault
-use Rattle.local_run.proofs.Imports.{HasNoFaultOfKind, IsFirstFaultOfKind, IsLeastBelow, IsNextStop}
-use Rattle.local_run.proofs.Imports.{IsRising, IsStopFault, JobView, Less, Moment, None, Some, Stop}
-use Rattle.local_run.proofs.Imports.{Valuation, Values, ap, arith, assignments, cases_lt, cell_cmp, common_steps}
-use Rattle.local_run.proofs.Imports.{get_or, inl, inr, int_equal, ints, is_defined_under, length, local_run, moment_cmp}
-use Rattle.local_run.proofs.Imports.{nat_equal, refl, same_Some, slice_get, slice_get-get_or}
-use Rattle.local_run.proofs.Imports.{slice_get_within, subst, sym, three_ways, true, valuation, ℕ, ℤ, ◌+◌, ◌<ℤ◌, ◌<◌}
-use Rattle.local_run.proofs.Imports.{◌∙◌, ◌≡◌, ◌≢◌, ◌≤◌, ◌⊎◌}
+use Rattle.local_run.proofs.Imports.{HasNoFaultOfKind, IsFirstFaultOfKind, IsLeastBelow, IsNextStop, IsRising}
+use Rattle.local_run.proofs.Imports.{IsStopFault, JobView, Less, Moment, None, Some, Stop, Valuation, Values, ap, arith}
+use Rattle.local_run.proofs.Imports.{assignments, cases_lt, cell_cmp, common_steps, get_or, inl, inr, int_equal, ints}
+use Rattle.local_run.proofs.Imports.{is_defined_under, length, local_run, moment_cmp, nat_equal, refl, same_Some}
+use Rattle.local_run.proofs.Imports.{slice_get, slice_get-get_or, slice_get_within, subst, sym, three_ways, true}
+use Rattle.local_run.proofs.Imports.{valuation, ℕ, ℤ, ◌+◌, ◌<ℤ◌, ◌<◌, ◌∙◌, ◌≡◌, ◌≢◌, ◌≤◌, ◌⊎◌}
 use Rattle.lemmas.proofs.Common.{below_or_same, int_less, nat_less, then_less}
 use Rattle.module_job.specs.Jobs.{stop_moment}
 use Rattle.local_run.specs.Scans.{IsStopMissed}

@@ -1,13 +1,11 @@
 -- The cells of a box, and the place of a cell's block in a table of owners
-use Rattle.module_box.proofs.Imports.{Box2, HasOwnerTableSizes, Option, OwnersView, Some, and_parts, arith}
-use Rattle.module_box.proofs.Imports.{common_steps}
-use Rattle.module_box.proofs.Imports.{false≢true, get_or, get_or_from_slice_get, in_box, in_span, length}
-use Rattle.module_box.proofs.Imports.{mul-le-mul_right, owner_of, pos, rectangle, refl, slice_get_read, span_parts, sym}
-use Rattle.module_box.proofs.Imports.{true, unsigned_abs, ℕ, ℤ, ◌%◌, ◌*◌, ◌+◌, ◌/◌, ◌<◌, ◌∙◌, ◌≡◌, ◌≤◌}
+use Rattle.module_box.proofs.Imports.{Box2, HasOwnerTableSizes, Option, OwnersView, Some, and_from, and_parts, arith}
+use Rattle.module_box.proofs.Imports.{common_steps, false≢true, get_or, get_or_from_slice_get, in_box, in_span, length}
+use Rattle.module_box.proofs.Imports.{mul-le-mul_right, owner_of, pos, rectangle, refl, slice_get_read, span_from}
+use Rattle.module_box.proofs.Imports.{span_parts, sym, true, unsigned_abs, ℕ, ℤ, ◌%◌, ◌*◌, ◌+◌, ◌/◌, ◌<◌, ◌∙◌, ◌≡◌, ◌≤◌}
 use Rattle.lemmas.proofs.Common.{ints, negsuc}
 use Rattle.lemmas.specs.Bounds.{max_side}
 use Rattle.bbm_rule.proofs.Spans.{in_span-negsuc}
-use Rattle.module_box.proofs.Imports.{and_from, span_from}
 use Rattle.module_box.specs.Moves.{IsSmallShift}
 use Rattle.module_box.specs.Tiling.{IsInside, rectangle_of}
 

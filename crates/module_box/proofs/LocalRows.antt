@@ -1,15 +1,12 @@
 -- The values of all wires of a module, and its gates without a row: one assignment, and rows of assignments
-use Rattle.module_box.proofs.Imports.{All, All-head, All-tail, AreGatesOrdered, AreModuleValuesAtBit, Bool, FollowsRow}
-use Rattle.module_box.proofs.Imports.{Gate}
-use Rattle.module_box.proofs.Imports.{List}
-use Rattle.module_box.proofs.Imports.{AreGateValuesAtBit, Netlist, None, Option, Satisfies, Some, Valuation, [], ap}
-use Rattle.module_box.proofs.Imports.{arith}
-use Rattle.module_box.proofs.Imports.{as_values, bit, cases_Bool, cases_lt, common_steps, defines, eq-eqb, eqb-true}
-use Rattle.module_box.proofs.Imports.{false, get_or, get_or-append-add, get_or_append_left, inl, inr, is_none}
-use Rattle.module_box.proofs.Imports.{is_this_gate, lane, length, length-map, length-range_with_len, length_push, map}
-use Rattle.module_box.proofs.Imports.{mul-le-mul_left, range_with_len, refl, row, slice_get_within, slice_index}
-use Rattle.module_box.proofs.Imports.{slice_index_or, subst, sym, true, true≢false, wires, wires_after, ℕ, ◌%◌, ◌*◌}
-use Rattle.module_box.proofs.Imports.{◌++◌, ◌+◌, ◌/◌, ◌<◌, ◌∙◌, ◌∷◌, ◌≡◌, ◌≢◌, ◌≤◌}
+use Rattle.module_box.proofs.Imports.{All, All-head, All-tail, AreGateValuesAtBit, AreGatesOrdered}
+use Rattle.module_box.proofs.Imports.{AreModuleValuesAtBit, Bool, FollowsRow, Gate, List, Netlist, None, Option}
+use Rattle.module_box.proofs.Imports.{Satisfies, Some, Valuation, [], ap, arith, as_values, bit, cases_Bool, cases_lt}
+use Rattle.module_box.proofs.Imports.{common_steps, defines, eq-eqb, eqb-true, false, get_or, get_or-append-add}
+use Rattle.module_box.proofs.Imports.{get_or_append_left, inl, inr, is_none, is_this_gate, lane, length, length-map}
+use Rattle.module_box.proofs.Imports.{length-range_with_len, length_push, map, mul-le-mul_left, range_with_len, refl}
+use Rattle.module_box.proofs.Imports.{row, slice_get_within, slice_index, slice_index_or, subst, sym, true, true≢false}
+use Rattle.module_box.proofs.Imports.{wires, wires_after, ℕ, ◌%◌, ◌*◌, ◌++◌, ◌+◌, ◌/◌, ◌<◌, ◌∙◌, ◌∷◌, ◌≡◌, ◌≢◌, ◌≤◌}
 use Rattle.lemmas.proofs.Common.{All-cons, All-nil, get_or-set_other, get_or-set_same, length-set, place_within, set}
 use Rattle.lemmas.proofs.Common.{get_or-range_with_len}
 use Rattle.circuit.proofs.Undefined.{undefined_at, undefined_is, wires_grow}

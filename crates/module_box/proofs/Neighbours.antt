@@ -1,9 +1,8 @@
 -- The eight neighbours of a cell, rings and halos
 use Rattle.module_box.proofs.Imports.{Bool, Box2, List, SameInBox, Some, State, and_from, and_parts, ap, ap₂, arith}
-use Rattle.module_box.proofs.Imports.{cases_Bool, common_steps, false, false≢true, in_box, in_halo, in_ring, inl, inr}
-use Rattle.module_box.proofs.Imports.{has_neighbour_in_set, ints, not, or_cases, partner, pos, slice_get, step}
-use Rattle.module_box.proofs.Imports.{step_same}
-use Rattle.module_box.proofs.Imports.{sym, true, ℕ, ℤ, ◌+ℤ◌, ◌-ℤ◌, ◌||◌, ◌∙◌, ◌≡◌, ◌⊎◌}
+use Rattle.module_box.proofs.Imports.{cases_Bool, common_steps, false, false≢true, has_neighbour_in_set, in_box}
+use Rattle.module_box.proofs.Imports.{in_halo, in_ring, inl, inr, ints, not, or_cases, partner, pos, slice_get, step}
+use Rattle.module_box.proofs.Imports.{step_same, sym, true, ℕ, ℤ, ◌+ℤ◌, ◌-ℤ◌, ◌||◌, ◌∙◌, ◌≡◌, ◌⊎◌}
 use Rattle.lemmas.proofs.Common.{not-true, not_from_false, or_left, or_right}
 use Rattle.module_box.specs.Laws.{SameInHalo, HaloCellIsRingCellOfOwner}
 use Rattle.bbm_rule.proofs.Spans.{partner_near}

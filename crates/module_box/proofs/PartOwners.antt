@@ -1,9 +1,7 @@
 -- Tables of owners that boxes take one after the other, from blocks to cells
 use Rattle.module_box.proofs.Imports.{Box2, HasBlockAtPlace, HasOwnerTableSizes, IsEvenBox, List, OwnersView, TakesBox}
-use Rattle.module_box.proofs.Imports.{[]}
-use Rattle.module_box.proofs.Imports.{ap}
-use Rattle.module_box.proofs.Imports.{arith, below_or_from, common_steps, div-mul-add, in_box, inl}
-use Rattle.module_box.proofs.Imports.{inr, length, mod-mul-add, mul-le-mul_right, owner_of, rectangle, refl, slice_get}
+use Rattle.module_box.proofs.Imports.{[], ap, arith, below_or_from, common_steps, div-mul-add, in_box, inl, inr, length}
+use Rattle.module_box.proofs.Imports.{mod-mul-add, mul-le-mul_right, owner_of, rectangle, refl, slice_get}
 use Rattle.module_box.proofs.Imports.{slice_get_within, slice_index, subst, sym, true, ℕ, ℤ, ◌*◌, ◌+◌, ◌/◌, ◌<◌, ◌∙◌}
 use Rattle.module_box.proofs.Imports.{◌≡◌}
 use Rattle.lemmas.proofs.Common.{div-add-mod', mod-lt, replicate}

@@ -1,14 +1,12 @@
 -- Facts about a rising list by comparing its keys with a key
-use Rattle.module_box.proofs.Imports.{AllTimesSignal, Cell, Equal, Greater, IsRising, Less, List, None}
-use Rattle.module_box.proofs.Imports.{Ordering, Some, TimedSignal, [], all_times_at, and_parts, ap, arith}
-use Rattle.module_box.proofs.Imports.{below_or_from, below_or_same, cases_Bool, cell_cmp, common_steps, eqb, eqb-true}
-use Rattle.module_box.proofs.Imports.{event_at, inl, inr, is_cell_at, length, moment_cmp, refl, rules, slice_get, suc}
-use Rattle.module_box.proofs.Imports.{sym}
-use Rattle.module_box.proofs.Imports.{true, zero, ℕ, ℤ, ◌++◌, ◌+◌, ◌<◌, ◌∙◌, ◌∷◌, ◌≡◌, ◌≢◌, ◌≤◌, ◌⊎◌}
+use Rattle.module_box.proofs.Imports.{AllTimesSignal, Cell, Equal, Greater, IsRising, Less, List, None, Ordering, Some}
+use Rattle.module_box.proofs.Imports.{TimedSignal, [], all_times_at, and_parts, ap, arith, below_or_from, below_or_same}
+use Rattle.module_box.proofs.Imports.{cases_Bool, cell_cmp, common_steps, eqb, eqb-true, event_at, inl, inr, is_cell_at}
+use Rattle.module_box.proofs.Imports.{length, moment_cmp, refl, rules, slice_get, suc, sym, true, zero, ℕ, ℤ, ◌++◌, ◌+◌}
+use Rattle.module_box.proofs.Imports.{◌<◌, ◌∙◌, ◌∷◌, ◌≡◌, ◌≢◌, ◌≤◌, ◌⊎◌}
 use Rattle.lemmas.proofs.Common.{CmpEqualImpliesEq, IsTotalOrder, cond-false, cond-true, exact_pairs, exact_signed}
-use Rattle.lemmas.proofs.Common.{exact_unsigned, nat_cmp_total, on_total, then_total, tied_itself}
+use Rattle.lemmas.proofs.Common.{exact_unsigned, nat_cmp_total, on_total, same_or_higher, then_total, tied_itself}
 use Rattle.bbm_rule.proofs.CellOrder.{cell_total}
-use Rattle.lemmas.proofs.Common.{same_or_higher}
 use Rattle.module_box.specs.declared.schedules.Moment.{Moment}
 use Rattle.module_box.specs.Schedules.{is_moment_at}
 use Rattle.bbm_rule.proofs.SameCells.{cell_itself, cell_same}

@@ -1,7 +1,6 @@
 -- The words of a gate's wires: at each bit they are the gate's row
-use Rattle.module_box.proofs.Imports.{Bool, Cswap, Delay, Fredkin, Gate, GateKind, Interact, List, LocalGate, None}
-use Rattle.module_box.proofs.Imports.{AreGateValuesAtBit, Option, Some, Source, Switch, Uninteract, Unswitch, [], ap}
-use Rattle.module_box.proofs.Imports.{ap₂}
+use Rattle.module_box.proofs.Imports.{AreGateValuesAtBit, Bool, Cswap, Delay, Fredkin, Gate, GateKind, Interact, List}
+use Rattle.module_box.proofs.Imports.{LocalGate, None, Option, Some, Source, Switch, Uninteract, Unswitch, [], ap, ap₂}
 use Rattle.module_box.proofs.Imports.{arith, as_values, bit, bit-zero, cases_lt, common_steps, defines, drop, eq-eqb}
 use Rattle.module_box.proofs.Imports.{false, gate_of_local_gate, gate_out_words, get_or, get_or-append-add}
 use Rattle.module_box.proofs.Imports.{get_or_append_left, inl, inr, is_none, is_this_gate, lane, length, length-append}

@@ -3,10 +3,8 @@ use Rattle.pattern.proofs.Imports.{AreGoodAfter, Ball, Bool, Box2, Cell, In, Lay
 use Rattle.pattern.proofs.Imports.{None, Out, Pattern, Port, RefusalCode, Waste, [], ap, append-nil, append_assoc}
 use Rattle.pattern.proofs.Imports.{arith, cell_fault, cells_taken_at_end, cells_taken_at_start, code_if, common_steps}
 use Rattle.pattern.proofs.Imports.{false, has_later_kind_before, largest_limit_code, list_any-append, nat_tests, not}
-use Rattle.pattern.proofs.Imports.{or_last}
-use Rattle.pattern.proofs.Imports.{order_fault, parts_of, subst, sym, takes_cells_at_end, takes_cells_at_start, ℕ, ℤ}
-use Rattle.pattern.proofs.Imports.{◌&&◌, ◌++◌}
-use Rattle.pattern.proofs.Imports.{◌==◌, ◌||◌, ◌∙◌, ◌∷◌, ◌≡◌}
+use Rattle.pattern.proofs.Imports.{or_last, order_fault, parts_of, subst, sym, takes_cells_at_end, takes_cells_at_start}
+use Rattle.pattern.proofs.Imports.{ℕ, ℤ, ◌&&◌, ◌++◌, ◌==◌, ◌||◌, ◌∙◌, ◌∷◌, ◌≡◌}
 use Rattle.lemmas.proofs.Common.{map-append}
 use Rattle.pattern.specs.Lines.{holds}
 use Rattle.pattern.proofs.Orders.{is_nonempty, late_mirror, late_ball, late_in, late_out}

@@ -6,8 +6,7 @@ use Rattle.section_text.specs.Codes.{or_else}
 use Rattle.section_text.specs.declared.code.RefusalCode.TheVariants.{PastLimit}
 use Rattle.section_text.specs.declared.limits.Limits.TheVariants.{First, Second}
 use Rattle.pattern.specs.Laws.{FirstLineLimitsAreUnchanged, FirstSizeLimitsAreUnchanged, SecondLimitsAreWider}
-use Rattle.pattern.specs.Laws.{first_limits_mirror_fault}
-use Rattle.pattern.specs.Laws.{is_mirror_side_in_first_limits, is_side_in_first_limits}
+use Rattle.pattern.specs.Laws.{first_limits_mirror_fault, is_mirror_side_in_first_limits, is_side_in_first_limits}
 use Rattle.pattern.specs.Lines.{is_layout_side, is_mirror_side, layout_line_fault, size_fault, text_limit_fault}
 use Rattle.pattern.specs.Lines.{text_size_fault}
 use Rattle.pattern.specs.declared.layout_line.LayoutHeader.{LayoutHeader}

@@ -1,13 +1,11 @@
 -- The cells of a line, and the cells that are taken.
 use Rattle.pattern.proofs.Imports.{All, AllByRecursion, Bool, Box2, Cell, LayoutHeader, LayoutLine, List, Mirror, None}
 use Rattle.pattern.proofs.Imports.{Some, TakenCell, [], arith, cell_fault, cells_of, cells_taken_at_end}
-use Rattle.pattern.proofs.Imports.{cells_taken_at_start, common_steps, false, flat_map, in_cells, in_layout, in_span}
-use Rattle.pattern.proofs.Imports.{has_taken_cell, inside_is_span, is_inside, is_layout_side, list_any, nat_tests, not}
-use Rattle.pattern.proofs.Imports.{pos}
-use Rattle.pattern.proofs.Imports.{range_with_len, rectangle_cells, refl, row_cells, size_fault, subst, suc, sym}
-use Rattle.pattern.proofs.Imports.{takes_cells_at_end, takes_cells_at_start, true, zero, ℕ, ℤ, ◌%◌, ◌&&◌, ◌++◌, ◌+◌}
-use Rattle.pattern.proofs.Imports.{◌<◌, ◌||◌, ◌∙◌}
-use Rattle.pattern.proofs.Imports.{◌∷◌, ◌≡◌, ◌≤◌}
+use Rattle.pattern.proofs.Imports.{cells_taken_at_start, common_steps, false, flat_map, has_taken_cell, in_cells}
+use Rattle.pattern.proofs.Imports.{in_layout, in_span, inside_is_span, is_inside, is_layout_side, list_any, nat_tests}
+use Rattle.pattern.proofs.Imports.{not, pos, range_with_len, rectangle_cells, refl, row_cells, size_fault, subst, suc}
+use Rattle.pattern.proofs.Imports.{sym, takes_cells_at_end, takes_cells_at_start, true, zero, ℕ, ℤ, ◌%◌, ◌&&◌, ◌++◌}
+use Rattle.pattern.proofs.Imports.{◌+◌, ◌<◌, ◌||◌, ◌∙◌, ◌∷◌, ◌≡◌, ◌≤◌}
 use Rattle.lemmas.proofs.Common.{if◌then◌else◌, All-from_recursion, and_parts, at_most_by_test}
 use Rattle.pattern.specs.DraftBoards.{LiesOnBoard}
 use Rattle.pattern.proofs.Added.{no_code, begun_push, ended_push}

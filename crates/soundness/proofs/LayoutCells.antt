@@ -3,14 +3,12 @@ use Rattle.soundness.proofs.Imports.{AreGoodAfter, Ball, Bool, Box2, Cell, Circu
 use Rattle.soundness.proofs.Imports.{LayoutLine, List, MeetsDemand, Mirror, None, Option, Out, Pattern, Port, Some}
 use Rattle.soundness.proofs.Imports.{Valuation, Waste, [], and_from, and_parts, any_at, ap, arith, cell_fault}
 use Rattle.soundness.proofs.Imports.{cell_same, cells_of, cells_taken_at_end, common_steps, end_demand, false}
-use Rattle.soundness.proofs.Imports.{false≢true, in_box, in_cells, in_ports, in_ports_on, in_rectangles, is_cell_at}
-use Rattle.soundness.proofs.Imports.{has_taken_cell, is_inside, is_live, kept, map, none_stands, option_map}
-use Rattle.soundness.proofs.Imports.{option_map_or}
+use Rattle.soundness.proofs.Imports.{false≢true, has_taken_cell, in_box, in_cells, in_ports, in_ports_on, in_rectangles}
+use Rattle.soundness.proofs.Imports.{is_cell_at, is_inside, is_live, kept, map, none_stands, option_map, option_map_or}
 use Rattle.soundness.proofs.Imports.{parts_of, passed, port_at, port_stands, refl, same_Some, same_truth, size_fault}
 use Rattle.soundness.proofs.Imports.{slice_get, slice_get-map, start, start_signal, suc, sym, takes_cells_at_end}
 use Rattle.soundness.proofs.Imports.{takes_cells_at_start, true, true≢false, values_by_name, whole, wire_or_dead, zero}
-use Rattle.soundness.proofs.Imports.{ℕ, ℤ}
-use Rattle.soundness.proofs.Imports.{◌&&◌, ◌++◌, ◌||◌, ◌∙◌, ◌∷◌, ◌≡◌}
+use Rattle.soundness.proofs.Imports.{ℕ, ℤ, ◌&&◌, ◌++◌, ◌||◌, ◌∙◌, ◌∷◌, ◌≡◌}
 use Rattle.lemmas.proofs.Common.{left_is_false}
 use Rattle.bbm_rule.specs.Boxes.{in_box}
 use Rattle.pattern.specs.Layout.{HaveDistinctCells, in_layout}

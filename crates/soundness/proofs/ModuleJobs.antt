@@ -1,6 +1,5 @@
 -- A module has one job
-use Rattle.lemmas.proofs.Common.{common_steps}
-use Rattle.lemmas.proofs.Common.{cond-true, same_head, same_tail}
+use Rattle.lemmas.proofs.Common.{common_steps, cond-true, same_head, same_tail}
 use Rattle.soundness.proofs.Imports.{All, All-head, All-tail, AllTimesSignal, AreDistinct, AreGatesOrdered, AreLocalsOf}
 use Rattle.soundness.proofs.Imports.{Box2, Circuit, Demand, Gate, GateKind, IsDemandWireBelow, IsJobOf}
 use Rattle.soundness.proofs.Imports.{IsSignalWireBelow, IsTrue, JobView, List, LocalNet, ModuleLines, Netlist, Pattern}

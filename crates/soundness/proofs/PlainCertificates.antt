@@ -1,31 +1,26 @@
 -- A plain certificate decides whether its layout is correct
 use Rattle.soundness.proofs.Imports.{Accepts, All, All-append, All-cons, All-contains, All-head, All-nil, All-tail}
 use Rattle.soundness.proofs.Imports.{AreDistinct, AreGatesOrdered, AreLeastFaultsOfJob, AreReportLines, BelongTogether}
-use Rattle.soundness.proofs.Imports.{Bool}
-use Rattle.soundness.proofs.Imports.{BorderFault, Circuit, CircuitLine, Contains, Contains-append_left, Delay, Fault}
-use Rattle.soundness.proofs.Imports.{Gate, IsModuleAssignmentOf, Greater, HasGoodBorders, HasInputNames}
-use Rattle.soundness.proofs.Imports.{IsAcceptedBundle, IsAssignmentOf, IsBorderFault, IsCellAsCertified, IsCorrect}
-use Rattle.soundness.proofs.Imports.{IsFault}
-use Rattle.soundness.proofs.Imports.{IsFaultUnderValues, IsFirstFault, IsInputName, IsJobOf, IsKeepFault}
-use Rattle.soundness.proofs.Imports.{IsLeastBorderFault}
-use Rattle.soundness.proofs.Imports.{IsAllowedStop, IsLeastFault, IsLeastKeepFault, IsRunOfJobs, IsVerdict, JobView}
-use Rattle.soundness.proofs.Imports.{KeepFault}
-use Rattle.soundness.proofs.Imports.{Kind, LeastFaults, List, ModuleLines, None, Option, Pattern, ReportLine, Satisfies}
-use Rattle.soundness.proofs.Imports.{Some, StopGap, StopHolds, StopLine, TimeLine, Valuation, Zero, [], all_stops}
-use Rattle.soundness.proofs.Imports.{and_from, ap, append-nil, ap₂, are_all_timings_obeyed, arith, assignments, bit}
-use Rattle.soundness.proofs.Imports.{border_line, cases_Bool, circuit_gate, circuit_of, common_steps, cut_wires, cuts}
-use Rattle.soundness.proofs.Imports.{defines, delay_and_meet_lines, edge_signal, eq-eqb, eqb, eqb-true, false}
-use Rattle.soundness.proofs.Imports.{false≢true, fault_cmp, halo_parts, has_valuation, if◌then◌else◌, in_ring, inl, inr}
-use Rattle.soundness.proofs.Imports.{is_among, is_inverse, is_live, keep_line, keeps, kept, known, length, list_all}
-use Rattle.soundness.proofs.Imports.{local_line, local_run, local_values_agree_with_circuit, map, netlist_of, not}
-use Rattle.soundness.proofs.Imports.{nothing_prop}
+use Rattle.soundness.proofs.Imports.{Bool, BorderFault, Circuit, CircuitLine, Contains, Contains-append_left, Delay}
+use Rattle.soundness.proofs.Imports.{Fault, Gate, Greater, HasGoodBorders, HasInputNames, IsAcceptedBundle}
+use Rattle.soundness.proofs.Imports.{IsAllowedStop, IsAssignmentOf, IsBorderFault, IsCellAsCertified, IsCorrect}
+use Rattle.soundness.proofs.Imports.{IsFault, IsFaultUnderValues, IsFirstFault, IsInputName, IsJobOf, IsKeepFault}
+use Rattle.soundness.proofs.Imports.{IsLeastBorderFault, IsLeastFault, IsLeastKeepFault, IsModuleAssignmentOf}
+use Rattle.soundness.proofs.Imports.{IsRunOfJobs, IsVerdict, JobView, KeepFault, Kind, LeastFaults, List, ModuleLines}
+use Rattle.soundness.proofs.Imports.{None, Option, Pattern, ReportLine, Satisfies, Some, StopGap, StopHolds, StopLine}
+use Rattle.soundness.proofs.Imports.{TimeLine, Valuation, Zero, [], all_stops, and_from, ap, append-nil, ap₂}
+use Rattle.soundness.proofs.Imports.{are_all_timings_obeyed, arith, assignments, bit, border_line, cases_Bool}
+use Rattle.soundness.proofs.Imports.{circuit_gate, circuit_of, common_steps, cut_wires, cuts, defines}
+use Rattle.soundness.proofs.Imports.{delay_and_meet_lines, edge_signal, eq-eqb, eqb, eqb-true, false, false≢true}
+use Rattle.soundness.proofs.Imports.{fault_cmp, halo_parts, has_valuation, if◌then◌else◌, in_ring, inl, inr, is_among}
+use Rattle.soundness.proofs.Imports.{is_inverse, is_live, keep_line, keeps, kept, known, length, list_all, local_line}
+use Rattle.soundness.proofs.Imports.{local_run, local_values_agree_with_circuit, map, netlist_of, not, nothing_prop}
 use Rattle.soundness.proofs.Imports.{only_inverse, option_map, option_map_or, option_to_list, ordering_then, props}
 use Rattle.soundness.proofs.Imports.{refl, renumber_keep, report_lines_from, same_Some, setting_of, signal_at}
 use Rattle.soundness.proofs.Imports.{slice_get, slice_get_within, some_at, stops, subst, suc, sym, timing_report_line}
 use Rattle.soundness.proofs.Imports.{true, undefined_has_none, undefined_is_seen, unkept, unkept_gates_from}
-use Rattle.soundness.proofs.Imports.{unkept_lines}
-use Rattle.soundness.proofs.Imports.{values_by_local_number, whole, wire_of, zero, ℕ, ℤ, ∥∥₁_elim, ◌&&◌, ◌++◌, ◌+◌, ◌<◌}
-use Rattle.soundness.proofs.Imports.{◌||◌, ◌∙◌, ◌∷◌, ◌≡◌, ◌≢◌, ◌≤◌}
+use Rattle.soundness.proofs.Imports.{unkept_lines, values_by_local_number, whole, wire_of, zero, ℕ, ℤ, ∥∥₁_elim, ◌&&◌}
+use Rattle.soundness.proofs.Imports.{◌++◌, ◌+◌, ◌<◌, ◌||◌, ◌∙◌, ◌∷◌, ◌≡◌, ◌≢◌, ◌≤◌}
 use Rattle.lemmas.proofs.Common.{nat_cmp}
 use Rattle.circuit.specs.Gates.{uses}
 use Rattle.certificate.specs.Arrivals.{AreOnTime, IsFirstStopTime, IsLastStopTime, TakesStepsFromLastToFirstStop}
@@ -34,11 +29,10 @@ use Rattle.certificate.specs.Times.{is_timing_obeyed}
 use Rattle.certificate.specs.declared.times.StopGap.TheVariants.{Steps, Missing, Before}
 use Rattle.certificate.proofs.ArrivalLemmas.{lines_tell}
 use Rattle.local_run.specs.Faults.{IsEdgeFault}
-use Rattle.soundness.specs.PlainCertificates.{IsPlainModule, IsWrongDesign, PlainNoMeansWrongOrRimLive}
-use Rattle.soundness.specs.PlainCertificates.{PlainVerdictDecidesDesign}
-use Rattle.soundness.specs.PlainCertificates.{TouchesRim, UntimedIsOnTime, IsLiveOnRim, KeepFaultLineMeans, LineMeans}
-use Rattle.soundness.specs.PlainCertificates.{DelayLineMeans, MeetLineMeans, PlainReportLinesHaveMeaning}
-use Rattle.soundness.specs.PlainCertificates.{LocalLineMeans}
+use Rattle.soundness.specs.PlainCertificates.{DelayLineMeans, IsLiveOnRim, IsPlainModule, IsWrongDesign}
+use Rattle.soundness.specs.PlainCertificates.{KeepFaultLineMeans, LineMeans, LocalLineMeans, MeetLineMeans}
+use Rattle.soundness.specs.PlainCertificates.{PlainNoMeansWrongOrRimLive, PlainReportLinesHaveMeaning}
+use Rattle.soundness.specs.PlainCertificates.{PlainVerdictDecidesDesign, TouchesRim, UntimedIsOnTime}
 use Rattle.soundness.proofs.KeptGates.{PlaceOf, place_of}
 use Rattle.soundness.proofs.FirstFaults.{correct_meets, real, runs_up_to, seen_fault, stop_by_lines}
 use Rattle.soundness.proofs.FirstFaults.{IsPlacedWire, assigned, first_means, placed_wire}

@@ -1,19 +1,16 @@
 -- The run of the whole plane is that of the jobs
 use Rattle.soundness.proofs.Imports.{All, BelongTogether, Bool, CircuitLine, Contains, Demand, Fault, HasGoodBorders}
-use Rattle.soundness.proofs.Imports.{HasInputNames, IsAcceptedBundle, IsAssignmentOf, IsFault, IsFaultUnderValues}
-use Rattle.soundness.proofs.Imports.{IsJobOf}
-use Rattle.soundness.proofs.Imports.{IsAllowedStop, IsRunOfJobs, JobView, Kind, List, LooksAsAsked, MeetsDemand}
-use Rattle.soundness.proofs.Imports.{ModuleLines}
-use Rattle.soundness.proofs.Imports.{Pattern, Satisfies, Some, State, StopHolds, StopLine, Valuation, and_parts, ap}
-use Rattle.soundness.proofs.Imports.{arith, cases_Bool, choices_are_assignments, circuit_of, circuit_wire, common_steps}
-use Rattle.soundness.proofs.Imports.{end_demand, false, false≢true, halo_parts, in_box, in_halo, in_ring, inl, inr}
-use Rattle.soundness.proofs.Imports.{is_live, job_demand, known, local_run, local_values_agree_with_circuit, netlist_of}
-use Rattle.soundness.proofs.Imports.{not}
-use Rattle.soundness.proofs.Imports.{option_map_or, refl, renumber_stop, run, run_under, setting_of, signal_at}
-use Rattle.soundness.proofs.Imports.{has_neighbour_in_set, slice_get, slice_get-get_or, slice_get_within, some_at, step}
-use Rattle.soundness.proofs.Imports.{stop_with_wire_number, stops, subst, suc, sym, true, true≢false}
-use Rattle.soundness.proofs.Imports.{values_by_local_number, values_by_name, whole, wire_of, with_halo, zero, ℕ, ℤ, ◌%◌}
-use Rattle.soundness.proofs.Imports.{◌&&◌, ◌<◌, ◌∙◌, ◌≡◌, ◌≢◌, ◌≤◌}
+use Rattle.soundness.proofs.Imports.{HasInputNames, IsAcceptedBundle, IsAllowedStop, IsAssignmentOf, IsFault}
+use Rattle.soundness.proofs.Imports.{IsFaultUnderValues, IsJobOf, IsRunOfJobs, JobView, Kind, List, LooksAsAsked}
+use Rattle.soundness.proofs.Imports.{MeetsDemand, ModuleLines, Pattern, Satisfies, Some, State, StopHolds, StopLine}
+use Rattle.soundness.proofs.Imports.{Valuation, and_parts, ap, arith, cases_Bool, choices_are_assignments, circuit_of}
+use Rattle.soundness.proofs.Imports.{circuit_wire, common_steps, end_demand, false, false≢true, halo_parts}
+use Rattle.soundness.proofs.Imports.{has_neighbour_in_set, in_box, in_halo, in_ring, inl, inr, is_live, job_demand}
+use Rattle.soundness.proofs.Imports.{known, local_run, local_values_agree_with_circuit, netlist_of, not, option_map_or}
+use Rattle.soundness.proofs.Imports.{refl, renumber_stop, run, run_under, setting_of, signal_at, slice_get}
+use Rattle.soundness.proofs.Imports.{slice_get-get_or, slice_get_within, some_at, step, stop_with_wire_number, stops}
+use Rattle.soundness.proofs.Imports.{subst, suc, sym, true, true≢false, values_by_local_number, values_by_name, whole}
+use Rattle.soundness.proofs.Imports.{wire_of, with_halo, zero, ℕ, ℤ, ◌%◌, ◌&&◌, ◌<◌, ◌∙◌, ◌≡◌, ◌≢◌, ◌≤◌}
 use Rattle.lemmas.proofs.Common.{All-contains_itself, not-true, not_from_false}
 use Rattle.bbm_rule.proofs.Steps.{step_dead}
 use Rattle.module_box.specs.Laws.{IsDeadOutsideBox, SameInBox}

@@ -1,9 +1,8 @@
 -- From a yes to the whole pattern
 use Rattle.soundness.proofs.Imports.{AreGatesOrdered, AreGoodAfter, AreModules, BelongTogether, IsAcceptedBundle}
-use Rattle.soundness.proofs.Imports.{IsCorrect}
-use Rattle.soundness.proofs.Imports.{IsVerdict, JobView, LayoutHeader, List, None, Some, Yes, [], arith, circuit_of}
-use Rattle.soundness.proofs.Imports.{common_steps, defined, input_names, modules, netlist_of, parts_of, setting}
-use Rattle.soundness.proofs.Imports.{size_fault, take, ◌≡◌}
+use Rattle.soundness.proofs.Imports.{IsCorrect, IsVerdict, JobView, LayoutHeader, List, None, Some, Yes, [], arith}
+use Rattle.soundness.proofs.Imports.{circuit_of, common_steps, defined, input_names, modules, netlist_of, parts_of}
+use Rattle.soundness.proofs.Imports.{setting, size_fault, take, ◌≡◌}
 use Rattle.pattern.specs.Lines.{ArePortsNamed}
 use Rattle.certificate.specs.Grammars.{CertView}
 use Rattle.core_book.specs.Concluding.{AreJobsOfCertificate, port_names_of}

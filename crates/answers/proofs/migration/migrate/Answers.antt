@@ -1,6 +1,5 @@
 -- The lines of the circuit and of the layout as they are, and those of the certificate that stay.
-use Rattle.lemmas.proofs.Common.{List, ap, ap₂, append_assoc, drop, flat_map, refl, sym, take_rest, ◌++◌, ◌∙◌}
-use Rattle.lemmas.proofs.Common.{◌≡◌}
+use Rattle.lemmas.proofs.Common.{List, ap, append_assoc, ap₂, drop, flat_map, refl, sym, take_rest, ◌++◌, ◌∙◌, ◌≡◌}
 use Rattle.section_text.specs.Section.{with_line_feed}
 use Rattle.section_text.specs.Words.{lines_of}
 use Rattle.section_text.specs.declared.section.Form.TheVariants.{End, Header}

@@ -1,7 +1,6 @@
 use Rattle.border_match.proofs.Imports.{IsBorderFaultOfJob, IsLeastBorderFault, IsLeastCandidate, IsOwnerTableOfJobs}
-use Rattle.border_match.proofs.Imports.{LayoutHeader}
-use Rattle.border_match.proofs.Imports.{Some, ap, arc_value, arith, common_steps, map, modules_in, setting_of}
-use Rattle.border_match.proofs.Imports.{slice_get, subst, sym, whole, ◌∙◌, ◌≡◌}
+use Rattle.border_match.proofs.Imports.{LayoutHeader, Some, ap, arc_value, arith, common_steps, map, modules_in}
+use Rattle.border_match.proofs.Imports.{setting_of, slice_get, subst, sym, whole, ◌∙◌, ◌≡◌}
 use Rattle.lemmas.proofs.Common.{Err, IfOk, Ok, Result}
 use Rattle.module_box.specs.Tiling.{IsTilingOwnerTable}
 use Rattle.certificate_lines.specs.Entries.{modules_of}

@@ -1,11 +1,10 @@
-use Rattle.certificate.proofs.Imports.{All, AreStopsOfLines, Box2, Demand, IsCellInShiftRange, IsJobOf, List}
-use Rattle.certificate.proofs.Imports.{ModuleLines, Netlist}
-use Rattle.certificate.proofs.Imports.{Signal, Signals, StoredBorder, StoredStop, ap, arc_value, arith, cell_at}
-use Rattle.certificate.proofs.Imports.{circuit_of, common_steps, edges, get_or, halos, in_box, is_among, keeps, length}
-use Rattle.certificate.proofs.Imports.{map, module_lines_with, netlist_of, refl, setting_of, stops, stops_in_plane}
-use Rattle.certificate.proofs.Imports.{subst, sym, true, AreLocalLines, IsTrue, HasLocalWire, AreBorderLinesRising}
-use Rattle.certificate.proofs.Imports.{gates}
-use Rattle.certificate.proofs.Imports.{stored_signals, stored_stop, IsWithinMaxSize, ℕ, ◌<◌, ◌∙◌, ◌≡◌, ◌≤◌, CircuitLine}
+use Rattle.certificate.proofs.Imports.{All, AreBorderLinesRising, AreLocalLines, AreStopsOfLines, Box2, CircuitLine}
+use Rattle.certificate.proofs.Imports.{Demand, HasLocalWire, IsCellInShiftRange, IsJobOf, IsTrue, IsWithinMaxSize, List}
+use Rattle.certificate.proofs.Imports.{ModuleLines, Netlist, Signal, Signals, StoredBorder, StoredStop, ap, arc_value}
+use Rattle.certificate.proofs.Imports.{arith, cell_at, circuit_of, common_steps, edges, gates, get_or, halos, in_box}
+use Rattle.certificate.proofs.Imports.{is_among, keeps, length, map, module_lines_with, netlist_of, refl, setting_of}
+use Rattle.certificate.proofs.Imports.{stops, stops_in_plane, stored_signals, stored_stop, subst, sym, true, ℕ, ◌<◌}
+use Rattle.certificate.proofs.Imports.{◌∙◌, ◌≡◌, ◌≤◌}
 use Rattle.lemmas.proofs.Common.{slice_index}
 use Rattle.module_box.specs.Locals.{AreLocalsOf}
 use Rattle.module_job.specs.Jobs.{IsJob}

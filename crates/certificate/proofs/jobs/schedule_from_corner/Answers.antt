@@ -1,7 +1,6 @@
 use Rattle.certificate.proofs.Imports.{All, Box2, IsCellInShiftRange, IsSignalWireBelow, IsSmallShift, Signals}
-use Rattle.certificate.proofs.Imports.{TimedSignal}
-use Rattle.certificate.proofs.Imports.{ap, ap₂, arith, circuit_wire, common_steps, ints, of_z, renumber_signals}
-use Rattle.certificate.proofs.Imports.{shift_to_origin, subst, sym, to_z, w32, wires, ℕ, ℤ, ◌∙◌, ◌≡◌}
+use Rattle.certificate.proofs.Imports.{TimedSignal, ap, ap₂, arith, circuit_wire, common_steps, ints, of_z}
+use Rattle.certificate.proofs.Imports.{renumber_signals, shift_to_origin, subst, sym, to_z, w32, wires, ℕ, ℤ, ◌∙◌, ◌≡◌}
 use Rattle.module_box.specs.Moves.{moved_signals}
 use Rattle.module_job.specs.Shapes.{signals_in_plane}
 use Rattle.module_job.proofs.ShapeParts.{placed_again}

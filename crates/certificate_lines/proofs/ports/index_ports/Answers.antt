@@ -1,9 +1,7 @@
 use Rattle.certificate_lines.proofs.Imports.{ArePortsInLayout, AreRowsWithPortsNumbered, Box2, HaveDistinctCells}
-use Rattle.certificate_lines.proofs.Imports.{LayoutHeader}
-use Rattle.certificate_lines.proofs.Imports.{List}
-use Rattle.certificate_lines.proofs.Imports.{None, Port, Some, arith, common_steps, entry_place, get_or, length, refl}
-use Rattle.certificate_lines.proofs.Imports.{size_fault, size_sides, slice_get, slice_get-get_or, subst, sym, whole, ℕ}
-use Rattle.certificate_lines.proofs.Imports.{◌+◌, ◌<◌, ◌∙◌, ◌≡◌, ◌≤◌}
+use Rattle.certificate_lines.proofs.Imports.{LayoutHeader, List, None, Port, Some, arith, common_steps, entry_place}
+use Rattle.certificate_lines.proofs.Imports.{get_or, length, refl, size_fault, size_sides, slice_get, slice_get-get_or}
+use Rattle.certificate_lines.proofs.Imports.{subst, sym, whole, ℕ, ◌+◌, ◌<◌, ◌∙◌, ◌≡◌, ◌≤◌}
 use Rattle.lemmas.proofs.Common.{take-length}
 use Rattle.certificate_lines.proofs.RowLemmas.{entry_few, entry_some}
 use Rattle.certificate_lines.proofs.TableLemmas.{IsFilling, in_whole, few_entries, no_ports, number_small, one_more}

@@ -1,7 +1,6 @@
 use Rattle.core_book.proofs.Imports.{AreGroups, HoldsFindingOfSameShape, JobView, List, ap, arc_value, arith}
-use Rattle.core_book.proofs.Imports.{common_steps}
-use Rattle.core_book.proofs.Imports.{length, length-map, map, shape_of, shapes_of, slice_get, subst, sym, ℕ, ◌+◌, ◌<◌}
-use Rattle.core_book.proofs.Imports.{◌∙◌, ◌≤◌}
+use Rattle.core_book.proofs.Imports.{common_steps, length, length-map, map, shape_of, shapes_of, slice_get, subst, sym}
+use Rattle.core_book.proofs.Imports.{ℕ, ◌+◌, ◌<◌, ◌∙◌, ◌≤◌}
 use Rattle.core_book.proofs.Fillings.{filled-all, filling-step, is-full, open-stays}
 use Rattle.core_book.proofs.FillingRuns.{first-read, holds_alike, runs_end, runs_step}
 use Rattle.core_book.proofs.HeldJobs.{job-at}

@@ -1,7 +1,6 @@
 use Rattle.module_box.proofs.Imports.{arith, common_steps, length, slice_get-get_or, sym, ◌+◌, ◌-◌, ◌/◌, ◌<◌}
 use Rattle.bbm_rule.proofs.CellOrder.{cell_total, cell_exact}
-use Rattle.module_box.proofs.Rising.{raise_low, drop_high, is_absent, is_first, all_times_none}
-use Rattle.module_box.proofs.Rising.{all_times_found}
+use Rattle.module_box.proofs.Rising.{all_times_found, all_times_none, drop_high, is_absent, is_first, raise_low}
 use Rattle.module_box.proofs.schedules.find_signal_at_all_times.Goals as goal
 
 pub loop-low-preserved-in-Less : goal.loop-low-preserved-in-Less

@@ -1,9 +1,8 @@
 use Rattle.border_match.proofs.Imports.{BorderFault, Borders, Box2, HasCandidateAtMost, HasNoWindowEventBetween}
 use Rattle.border_match.proofs.Imports.{IsAtSomeEventBelow, IsExtentOfEvents, IsFaultOfSearchedJob, IsRising}
-use Rattle.border_match.proofs.Imports.{IsWindowAround}
-use Rattle.border_match.proofs.Imports.{JobView, List, ShapeView, Signals, TimedSignal, Window, ap, arith, ints}
-use Rattle.border_match.proofs.Imports.{moment_cmp, moment_of, pos, shape_of, shift_to_origin}
-use Rattle.border_match.proofs.Imports.{subst, sym, ℕ, ◌+◌, ◌∙◌, ◌≡◌}
+use Rattle.border_match.proofs.Imports.{IsWindowAround, JobView, List, ShapeView, Signals, TimedSignal, Window, ap}
+use Rattle.border_match.proofs.Imports.{arith, ints, moment_cmp, moment_of, pos, shape_of, shift_to_origin, subst, sym}
+use Rattle.border_match.proofs.Imports.{ℕ, ◌+◌, ◌∙◌, ◌≡◌}
 use Rattle.border_match.proofs.EventSignals.{events_unmoved}
 use Rattle.border_match.proofs.Least.{better_for, better_rest, better_same, better_then}
 use Rattle.border_match.proofs.Steps.{cornered, cornered_all, far_step, named_step, named_all, rest_covered, same_fault}

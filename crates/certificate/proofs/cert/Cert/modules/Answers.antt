@@ -1,6 +1,5 @@
 use Rattle.certificate.proofs.Imports.{All, AreModules, CertView, ap, arith, circuit_of, length, length-map, map}
-use Rattle.certificate.proofs.Imports.{module_lines}
-use Rattle.certificate.proofs.Imports.{modules_of, setting_of, subst, sym}
+use Rattle.certificate.proofs.Imports.{module_lines, modules_of, setting_of, subst, sym}
 use Rattle.certificate_lines.specs.Modules.{IsWithinLineLimit}
 use Rattle.certificate_lines.proofs.StoredLemmas.{modules_stored}
 use Rattle.certificate.specs.Grammars.{modules_in, version_number}

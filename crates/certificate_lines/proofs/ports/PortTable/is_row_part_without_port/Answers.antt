@@ -1,8 +1,7 @@
 use Rattle.certificate_lines.proofs.Imports.{ArePortTableFields, Box2, Cell, Inside, List, None, Option, Some, ap}
-use Rattle.certificate_lines.proofs.Imports.{arith, cell}
-use Rattle.certificate_lines.proofs.Imports.{common_steps, drop, entry_place, in_box, ints, length, list_all, nat_eq}
-use Rattle.certificate_lines.proofs.Imports.{port_at, pos, suc, sym, take, to_z, true, w32, zero, ℕ, ◌+◌, ◌-◌, ◌<◌, ◌∙◌}
-use Rattle.certificate_lines.proofs.Imports.{◌≡◌, ◌≤◌}
+use Rattle.certificate_lines.proofs.Imports.{arith, cell, common_steps, drop, entry_place, in_box, ints, length}
+use Rattle.certificate_lines.proofs.Imports.{list_all, nat_eq, port_at, pos, suc, sym, take, to_z, true, w32, zero, ℕ}
+use Rattle.certificate_lines.proofs.Imports.{◌+◌, ◌-◌, ◌<◌, ◌∙◌, ◌≡◌, ◌≤◌}
 use Rattle.certificate_lines.proofs.RowLemmas.{row_entry, row_inside}
 use Rattle.certificate_lines.proofs.TableLemmas.{part_zero, placed, unnumbered, unplaced}
 use Rattle.certificate_lines.proofs.ports.PortTable.is_row_part_without_port.Goals as goal

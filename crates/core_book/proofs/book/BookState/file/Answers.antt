@@ -1,10 +1,8 @@
 use Rattle.core_book.proofs.Imports.{Accepted, BookView, Filed, Filing, IsBook, IsHistoryReplayed, Some, []}
-use Rattle.core_book.proofs.Imports.{held_finding_count}
-use Rattle.core_book.proofs.Imports.{after_filing, ap, arith, book_view, common_steps, filing_of, reply_to, set, subst}
-use Rattle.core_book.proofs.Imports.{sym, ◌++◌, ◌+◌, ◌∙◌, ◌∷◌, ◌≡◌}
+use Rattle.core_book.proofs.Imports.{after_filing, ap, arith, book_view, common_steps, filing_of, held_finding_count}
+use Rattle.core_book.proofs.Imports.{reply_to, set, subst, sym, ◌++◌, ◌+◌, ◌∙◌, ◌∷◌, ◌≡◌}
 use Rattle.core_book.proofs.Filings.{IsBook-filed, accepted-inside, held_finding_count-accepted}
-use Rattle.core_book.proofs.Filings.{held_finding_count-filed}
-use Rattle.core_book.proofs.Filings.{held_finding_count-other, left-accepted, left-other}
+use Rattle.core_book.proofs.Filings.{held_finding_count-filed, held_finding_count-other, left-accepted, left-other}
 use Rattle.core_book.proofs.Replays.{IsHistoryReplayed-filed}
 use Rattle.core_book.proofs.book.BookState.file.Goals.{After-push_reserved}
 use Rattle.core_book.proofs.book.BookState.file.Goals as goal
