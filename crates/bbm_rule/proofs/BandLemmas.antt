@@ -78,23 +78,20 @@ others_kept p s r k marks old new whole run calm i l other free =
 
 -- all of them but pair k, which gets a mark
 pub calm_marked : (p s r k : ℕ) (marks marks' old new : List ℕ) → s % 2 ≡ 0 →
-    TurnsRowPart (p + 2 * (k * s)) s s old new →
-    MarksOneNumber k marks marks' → AreUnmarkedRowPairsStable p s r marks old →
-    AreUnmarkedRowPairsStable p s r marks' new
+    TurnsRowPart (p + 2 * (k * s)) s s old new → MarksOneNumber k marks marks' →
+    AreUnmarkedRowPairsStable p s r marks old → AreUnmarkedRowPairsStable p s r marks' new
 calm_marked p s r k marks marks' old new whole run marked calm i l free = grind (arith, common_steps, others_kept)
 
 -- and pair k too, where no cell of it changed
 pub calm_settled : (p s r k : ℕ) (marks marks' old new : List ℕ) → s % 2 ≡ 0 →
-    TurnsRowPart (p + 2 * (k * s)) s s old new →
-    AreSameCells old new → SetsCellAtPlace k false marks marks' → AreUnmarkedRowPairsStable p s r marks old →
-    AreUnmarkedRowPairsStable p s r marks' new
+    TurnsRowPart (p + 2 * (k * s)) s s old new → AreSameCells old new → SetsCellAtPlace k false marks marks' →
+    AreUnmarkedRowPairsStable p s r marks old → AreUnmarkedRowPairsStable p s r marks' new
 calm_settled p s r k marks marks' old new whole run same sets calm i l free =
     grind (arith, common_steps, common_steps, by_eq_or_not, pair_settled, others_kept)
 
 -- pairs stay where no cell changed
 pub calm_same : (p s r : ℕ) (marks old new : List ℕ) → s % 2 ≡ 0 → AreSameCells old new →
-    AreUnmarkedRowPairsStable p s r marks old →
-    AreUnmarkedRowPairsStable p s r marks new
+    AreUnmarkedRowPairsStable p s r marks old → AreUnmarkedRowPairsStable p s r marks new
 calm_same p s r marks old new whole same calm i l free = grind (arith, common_steps, pair_kept)
 
 -- Pairs stay, but for those that reach the cells that change. `second` has the marks then.
@@ -126,8 +123,7 @@ odd_kept s r k first second third old new whole positive run one two =
 pub even_kept : (s r k : ℕ) (first second third old new : List ℕ) → s % 2 ≡ 0 → 0 < s →
     TurnsRowPart (0 + 2 * (k * s)) s s old new → MarksOneNumber k first second →
     ((i : ℕ) → IsNumberUnmarked third i → IsNumberUnmarked second i × (i + 1 ≢ k)) →
-    AreUnmarkedRowPairsStable (s + 1) s r first old →
-    AreUnmarkedRowPairsStable (s + 1) s r third new
+    AreUnmarkedRowPairsStable (s + 1) s r first old → AreUnmarkedRowPairsStable (s + 1) s r third new
 even_kept s r k first second third old new whole positive run one two =
     but_marked (s + 1) s r (0 + 2 * (k * s)) (0 + 2 * (k * s) + s + s) first third old new whole run.before run.after
     (λ i free.

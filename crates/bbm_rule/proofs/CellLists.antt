@@ -46,8 +46,7 @@ rows_pushed first out out' x w y k from before now =
 any_in_row : (test : Cell → Bool) (x n y k : ℕ) → k < n → test (cell (x + k) y) ≡ true →
     list_any test (row_cells x n y) ≡ true
 any_in_row test x zero y k l t = absurd (omega arith)
-any_in_row test x (suc n) y zero l t =
-    grind (arith, common_steps)
+any_in_row test x (suc n) y zero l t = grind (arith, common_steps)
 any_in_row test x (suc n) y (suc k) l t =
     let e : x + suc k ≡ x + 1 + k = omega arith in
     let t = rw e at t in

@@ -11,12 +11,10 @@ abbrev pub changed_of : ℕ → ℕ → ℕ → ℕ → ℕ
 changed_of ul ur ll lr = bit_xor (bit_or ul lr) (bit_or ur ll)
 
 abbrev pub main_flips_of : ℕ → ℕ → ℕ → ℕ → ℕ
-main_flips_of ul ur ll lr =
-    bit_xor (changed_of ul ur ll lr) (bit_and (changed_of ul ur ll lr) (bit_xor ur ll))
+main_flips_of ul ur ll lr = bit_xor (changed_of ul ur ll lr) (bit_and (changed_of ul ur ll lr) (bit_xor ur ll))
 
 abbrev pub anti_flips_of : ℕ → ℕ → ℕ → ℕ → ℕ
-anti_flips_of ul ur ll lr =
-    bit_xor (changed_of ul ur ll lr) (bit_and (changed_of ul ur ll lr) (bit_xor ul lr))
+anti_flips_of ul ur ll lr = bit_xor (changed_of ul ur ll lr) (bit_and (changed_of ul ur ll lr) (bit_xor ul lr))
 
 -- one bit of each answer
 by_cases_ul : (a b c d : Bool) → xor a (xor (xor (a || d) (b || c)) (xor (a || d) (b || c) && xor b c)) ≡ turned a d b c

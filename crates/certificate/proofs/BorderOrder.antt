@@ -15,8 +15,7 @@ Before d e = ordering_then (nat_cmp (time_rank d.time) (time_rank e.time)) (cell
 pub each_of_test : {A : Type 0} (test : A → Bool) (xs : List A) → list_all test xs ≡ true → Each (λ x. test x ≡ true) xs
 unfolding Each
 each_of_test test [] h = tt
-each_of_test test (x ∷ xs) h =
-    grind (arith, common_steps, and_parts, each_of_test test xs)
+each_of_test test (x ∷ xs) h = grind (arith, common_steps, and_parts, each_of_test test xs)
 
 pub pairs_of_order : (lines : List CertificateLine) → AreLinesInOrder lines →
     Pairs (λ i j. may_precede i j ≡ true) lines

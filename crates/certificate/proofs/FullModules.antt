@@ -52,8 +52,7 @@ pairs_by_place R (x ∷ xs) h = (
 
 -- what lines other than halo lines say is said without these
 pub without_same : {X : Type 0} (f : CertificateLine → List X) → ((e : BorderLine) → f (Halo e) ≡ []) →
-    (lines : List CertificateLine) →
-    flat_map f (without_halo_lines lines) ≡ flat_map f lines
+    (lines : List CertificateLine) → flat_map f (without_halo_lines lines) ≡ flat_map f lines
 unfolding without_halo_lines is_halo_line
 without_same f none [] = refl
 without_same f none (Halo e ∷ lines) = without_same f none lines ∙ ap (λ xs. xs ++ flat_map f lines) (sym (none e))
@@ -107,8 +106,7 @@ abbrev pub lines_with_halos : List CertificateLine → List BorderLine → List 
 lines_with_halos lines hs = filter precedes_halo_lines lines ++ map Halo hs ++ map Stop (flat_map stop_in lines)
 
 pub other_lines : {X : Type 0} (f : CertificateLine → List X) → IsOfEarly f →
-    (lines : List CertificateLine) (hs : List BorderLine) →
-    flat_map f (lines_with_halos lines hs) ≡ flat_map f lines
+    (lines : List CertificateLine) (hs : List BorderLine) → flat_map f (lines_with_halos lines hs) ≡ flat_map f lines
 other_lines f none lines hs = grind (arith, common_steps, nothing_in, append-nil, early_same)
 
 pub halo_lines : (lines : List CertificateLine) (hs : List BorderLine) →
@@ -152,8 +150,7 @@ unfolding may_precede line_cmp rank_of
 halo_before_stop e s = refl
 
 each_mapped : {X : Type 0} (P : CertificateLine → Type 0) (to : X → CertificateLine) (xs : List X) →
-    ((x : X) → In x xs → P (to x)) →
-    Each P (map to xs)
+    ((x : X) → In x xs → P (to x)) → Each P (map to xs)
 unfolding Each In
 each_mapped P to [] h = tt
 each_mapped P to (x ∷ xs) h = (h x (inl refl), each_mapped P to xs (λ y i. h y (inr i)))
@@ -249,8 +246,7 @@ module _ (g : Setting) (ms : List ModuleLines) (good : AreModules g ms) where
   in_beside area e i = grind (arith, common_steps, cases_Bool, in_filter, cond-true, cond-false)
 
   pub beside_in : (area : Box2) (e : BorderLine) → nat_lt 1 g.size.steps ≡ true →
-      in_halo area e.cell.x e.cell.y ≡ true →
-      In e (flat_map edges ms) → In e (edge_lines_beside g ms area)
+      in_halo area e.cell.x e.cell.y ≡ true → In e (flat_map edges ms) → In e (edge_lines_beside g ms area)
   unfolding edge_lines_beside
   beside_in area e long h i = grind (arith, common_steps, cond-true, filter_in)
 
@@ -307,8 +303,7 @@ module _ (g : Setting) (ms : List ModuleLines) (good : AreModules g ms) where
 
     -- the edge lines beside it may be its halo lines
     halo_here : (e : BorderLine) → In e (edge_lines_beside g ms m.area) →
-        is_nonlocal_signal g.circuit (known g.circuit m) e.signal ≡ false →
-        IsAllowedHalo g m.area (known g.circuit m) e
+        is_nonlocal_signal g.circuit (known g.circuit m) e.signal ≡ false → IsAllowedHalo g m.area (known g.circuit m) e
     halo_here e i known_there =
         let b = in_beside m.area e i in
         let n = in_flat edges e ms b.2 in
@@ -356,8 +351,7 @@ module _ (g : Setting) (ms : List ModuleLines) (good : AreModules g ms) where
   none_passes test xs none x i = grind (arith, common_steps, cases_Bool, placed, true≢false, any_at)
 
   none_strange : has_nonlocal_edge_wire_beside g ms ≡ false → (m : ModuleLines) → In m ms → (e : BorderLine) →
-      In e (edge_lines_beside g ms m.area) →
-      is_nonlocal_signal g.circuit (known g.circuit m) e.signal ≡ false
+      In e (edge_lines_beside g ms m.area) → is_nonlocal_signal g.circuit (known g.circuit m) e.signal ≡ false
   unfolding has_nonlocal_edge_wire_beside
   none_strange none m at e i = grind (arith, common_steps, none_passes)
 

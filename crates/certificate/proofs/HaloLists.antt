@@ -67,9 +67,8 @@ same_test boxes p q place old new same h = grind (arith, common_steps)
 
 -- ---- a place more for each box that has a cell in its halo
 
-at_most_one : (r s t : Bool) (p : EdgePlace) (l : List EdgePlace) → (r && s) ≡ false →
-    (r && t) ≡ false → (s && t) ≡ false →
-    ((l ++ (if r then p ∷ [] else [])) ++ (if s then p ∷ [] else [])) ++ (if t then p ∷ [] else [])
+at_most_one : (r s t : Bool) (p : EdgePlace) (l : List EdgePlace) → (r && s) ≡ false → (r && t) ≡ false →
+    (s && t) ≡ false → ((l ++ (if r then p ∷ [] else [])) ++ (if s then p ∷ [] else [])) ++ (if t then p ∷ [] else [])
     ≡ l ++ (if r || s || t then p ∷ [] else [])
 at_most_one r s t p l h1 h2 h3 = grind (arith, common_steps, append-nil)
 
@@ -110,9 +109,8 @@ module _ (x y : ℤ) where
   corner b = in_box b x' y' && not (in_box b x y || (in_box b x' y || (in_box b x y' || false)))
 
   pub beside_places : (boxes : List Box2) (place : EdgePlace) (old l m new : List (List EdgePlace)) →
-      ((k : ℕ) (b : Box2) → slice_get boxes k ≡ Some b → IsEvenBox b) →
-      AddsPlaceIfBoxPasses boxes side place old l → AddsPlaceIfBoxPasses boxes above place l m →
-      AddsPlaceIfBoxPasses boxes corner place m new →
+      ((k : ℕ) (b : Box2) → slice_get boxes k ≡ Some b → IsEvenBox b) → AddsPlaceIfBoxPasses boxes side place old l →
+      AddsPlaceIfBoxPasses boxes above place l m → AddsPlaceIfBoxPasses boxes corner place m new →
       AddsPlaceIfBoxPasses boxes (λ b. in_halo b x y) place old new
   unfolding in_box
   beside_places boxes place old l m new even s a c = record {
@@ -185,8 +183,7 @@ module _ (ms : List StoredModule) (boxes : List Box2) where
 -- ---- tables and lists
 
 pub still_ready : (boxes : List Box2) (o : OwnersView) (old new : List (List EdgePlace)) →
-    AreOwnersAndListsReady boxes o old →
-    length new ≡ length old → AreOwnersAndListsReady boxes o new
+    AreOwnersAndListsReady boxes o old → length new ≡ length old → AreOwnersAndListsReady boxes o new
 still_ready boxes o old new h same = grind (arith, common_steps)
 
 pub taken_one : {X : Type 0} (xs : List X) (i : ℕ) (x : X) → i < length xs → x ≡ get_or xs i x →

@@ -20,8 +20,7 @@ unfoldable pub at_cell : ℤ → ℤ → List BorderLine → List BorderLine
 at_cell x y es = filter (λ e. is_cell_at e.cell x y) es
 
 pub all_times_past : (e : BorderLine) (time : Option ℕ) (s : Signal) (rest : List AllTimesSignal) (x y : ℤ) →
-    is_cell_at e.cell x y ≡ false →
-    all_times_at (signal_if_starred e time s ++ rest) x y ≡ all_times_at rest x y
+    is_cell_at e.cell x y ≡ false → all_times_at (signal_if_starred e time s ++ rest) x y ≡ all_times_at rest x y
 unfolding all_times_at
 all_times_past e time s rest x y h1 = grind (arith, common_steps, cond-false)
 

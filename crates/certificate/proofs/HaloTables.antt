@@ -39,8 +39,7 @@ module _ (g : Setting) (ms : List StoredModule) where
   lines_at k d lt = mapped_at (module_lines g.circuit) ms k (get_or ms k d) (slice_get-get_or ms k d lt)
 
   -- edge lines are inside the rectangle and not on its rim
-  pub inner_edges : AreModules g lines →
-      All (λ m. All (λ e. IsInnerCell (whole g.size) (line_cell e)) m.edges.items) ms
+  pub inner_edges : AreModules g lines → All (λ m. All (λ e. IsInnerCell (whole g.size) (line_cell e)) m.edges.items) ms
   inner_edges good k d lt =
       let m = get_or ms k d in
       all_unmapped (λ (e : BorderLine). IsInnerCell (whole g.size) e.cell) (border_line g.circuit) m.edges.items
@@ -89,8 +88,7 @@ module _ (g : Setting) (ms : List StoredModule) where
   none_placed lists few count empty = grind (arith, common_steps, cond-false, short)
 
   pub all_placed : (boxes : List Box2) (old new : List (List EdgePlace)) → 1 < g.size.steps →
-      boxes ≡ map (λ m. m.area) ms →
-      length old ≡ length ms → ((i : ℕ) → list_at_or_empty old i ≡ []) →
+      boxes ≡ map (λ m. m.area) ms → length old ≡ length ms → ((i : ℕ) → list_at_or_empty old i ≡ []) →
       AddsEdgePlacesInHalo ms boxes (flat_map (λ m. m.edges.items) ms) old new → HaveEdgePlacesFromModule g ms 0 new
   unfolding edge_lines_beside
   all_placed boxes old new many are count empty h = record {

@@ -88,16 +88,14 @@ pub record IsFullModule (cs : List CircuitLine) (p : Pattern) (ms : List StoredM
   pub good : IsGoodModule cs p m hs
 
 -- by the places of these lines
-pub full_module : {cs : List CircuitLine} {p : Pattern} {ms : List StoredModule} {lists : List (List EdgePlace)}
-    {k : ℕ} {m : StoredModule} {places : List EdgePlace} {hs : List StoredBorder} →
-    AreGoodModules cs p ms → has_nonlocal_edge_wire_beside (setting_of cs p) (all_module_lines cs ms) ≡ false →
+pub full_module : {cs : List CircuitLine} {p : Pattern} {ms : List StoredModule} {lists : List (List EdgePlace)} {k : ℕ}
+    {m : StoredModule} {places : List EdgePlace} {hs : List StoredBorder} → AreGoodModules cs p ms →
+    has_nonlocal_edge_wire_beside (setting_of cs p) (all_module_lines cs ms) ≡ false →
     HaveEdgePlacesFromModule (setting_of cs p) ms k lists → slice_get ms k ≡ Some m →
     list_at_or_empty lists k ≡ places →
     ((g : Setting) (area : Box2) → AreModules g (map (module_lines g.circuit) ms) →
-    map (border_line g.circuit) (edge_lines_at ms places)
-    ≡ edge_lines_beside g (map (module_lines g.circuit) ms) area →
-    map (border_line g.circuit) hs
-    ≡ sorted_border_lines (edge_lines_beside g (map (module_lines g.circuit) ms) area)) →
+    map (border_line g.circuit) (edge_lines_at ms places) ≡ edge_lines_beside g (map (module_lines g.circuit) ms) area →
+    map (border_line g.circuit) hs ≡ sorted_border_lines (edge_lines_beside g (map (module_lines g.circuit) ms) area)) →
     All (HasCircuitWire (circuit_of cs)) hs → IsFullModule cs p ms m hs
 full_module {cs} {p} {ms} {lists} {k} {m} {places} {hs} good complete left at taken sorted own =
     let g = setting_of cs p in
@@ -134,8 +132,7 @@ module _ (c : Circuit) (p : Pattern) (f : ModuleLines → ModuleLines) (ms : Lis
     few = let w = slice_get_within ms done m at in omega (arith, w);
     each = λ i n k a e. elim (pushed js j i k e) [
       | inl before ↦ h.each i n k a before
-      | inr last ↦
-          grind (arith, common_steps, some_is)
+      | inr last ↦ grind (arith, common_steps, some_is)
     ];
   }
 

@@ -131,8 +131,7 @@ abbrev IsInLayout : LayoutHeader → Cell → Type 0
 IsInLayout s c = in_layout s c.x c.y ≡ true
 
 pub others_inside : (p : Pattern) (s : LayoutHeader) → s ≡ p.size → AreGoodAfter s [] (parts_of p) →
-    (cells : List Cell) →
-    cells ≡ ball_waste_and_port_cells p → AllInLayout s cells
+    (cells : List Cell) → cells ≡ ball_waste_and_port_cells p → AllInLayout s cells
 others_inside p s is good cells are =
     let ports = ports_on_layout p s is good in
     subst (AllInLayout s) (sym are)
@@ -146,8 +145,7 @@ apart : (xs ys : List Cell) (x y : ℤ) → in_cells (xs ++ ys) x y ≡ false �
 apart xs ys x y e = grind (arith, common_steps, or_parts, list_any-append)
 
 pub nothing_here : (p : Pattern) (x y : ℤ) →
-    (in_cells (ball_waste_and_port_cells p) x y || in_rectangles p.mirrors x y) ≡ false →
-    HasNothingAt p x y
+    (in_cells (ball_waste_and_port_cells p) x y || in_rectangles p.mirrors x y) ≡ false → HasNothingAt p x y
 nothing_here p x y e = grind (arith, common_steps, or_parts, apart, no_port)
 
 -- ---- the mirrors of a layout
@@ -155,8 +153,7 @@ nothing_here p x y e = grind (arith, common_steps, or_parts, apart, no_port)
 all_on_grid : (s : LayoutHeader) (b : Board) → (b.width ≡ s.w) × (b.height ≡ s.h) → s.w ≤ max_side → s.h ≤ max_side →
     (rs : List Box2) → list_all (λ r. is_inside s (Mirror r)) rs ≡ true → All (IsOnGrid b) rs
 all_on_grid s b size w h [] e k d lt = absurd (omega arith)
-all_on_grid s b size w h (r ∷ rs) e zero d lt =
-    grind (arith, common_steps, mirror_fits, and_parts)
+all_on_grid s b size w h (r ∷ rs) e zero d lt = grind (arith, common_steps, mirror_fits, and_parts)
 all_on_grid s b size w h (r ∷ rs) e (suc k) d lt =
     all_on_grid s b size w h rs (and_parts (is_inside s (Mirror r)) (list_all (λ r. is_inside s (Mirror r)) rs) e).1
     k d (omega arith)
@@ -174,9 +171,8 @@ mirrors_on_grid p s b mirrors is size limits good are =
 
 -- the ports in the box, where the module's wires have these numbers in the circuit
 pub locals_have_ports : (lines : List CircuitLine) (p : Pattern) (m : ModuleLines) →
-    HasLocalPortWires (setting_of lines p) m →
-    (local : List ℕ) → local ≡ known (circuit_of lines) m
-    → ArePortWiresLocalIn (circuit_of lines) local p.ins m.area
+    HasLocalPortWires (setting_of lines p) m → (local : List ℕ) → local ≡ known (circuit_of lines) m →
+    ArePortWiresLocalIn (circuit_of lines) local p.ins m.area
     × ArePortWiresLocalIn (circuit_of lines) local p.outs m.area
 locals_have_ports lines p m has local are =
     let both : List ℕ → Type 0 = λ ws.

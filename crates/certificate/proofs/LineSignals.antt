@@ -86,8 +86,7 @@ module _ (c : Circuit) where
   timed_itself e t et = ap (λ x. is_star x && same_cell e.cell e.cell) et
 
   none_after : (e : BorderLine) (t : ℕ) (es : List BorderLine) → e.time ≡ Some t →
-      Each (λ d. border_line_cmp e d ≡ Less) es →
-      all_times_at (all_times_of es) e.cell.x e.cell.y ≡ None
+      Each (λ d. border_line_cmp e d ≡ Less) es → all_times_at (all_times_of es) e.cell.x e.cell.y ≡ None
   unfolding Each all_times_at
   none_after e t [] et a = refl
   none_after e t (d ∷ es) et a =
@@ -95,9 +94,7 @@ module _ (c : Circuit) where
       ∙ none_after e t es et a.1
 
   none_all_times : (e : BorderLine) (t : ℕ) (es : List BorderLine) → e.time ≡ Some t → Rises es →
-      StarsExcludeLaterTimes es →
-      In e es →
-      all_times_at (all_times_of es) e.cell.x e.cell.y ≡ None
+      StarsExcludeLaterTimes es → In e es → all_times_at (all_times_of es) e.cell.x e.cell.y ≡ None
   unfolding Pairs In StarsExcludeLaterTimes
   none_all_times e t [] et r u i = absurd i
   none_all_times e t (d ∷ es) et r u (inl same) =
@@ -117,8 +114,7 @@ module _ (c : Circuit) where
   event_first e time t s rest h1 = grind (arith, common_steps, cond-true, cell_itself)
 
   event_skips : (d e : BorderLine) (time : Option ℕ) (t : ℕ) → d.time ≡ time → e.time ≡ Some t →
-      border_line_cmp d e ≡ Less →
-      (s : Signal) (rest : List TimedSignal) →
+      border_line_cmp d e ≡ Less → (s : Signal) (rest : List TimedSignal) →
       event_at (event_if_timed d time s ++ rest) t e.cell.x e.cell.y ≡ event_at rest t e.cell.x e.cell.y
   unfolding event_at
   event_skips d e time t h1 h2 h3 s rest =
@@ -127,8 +123,7 @@ module _ (c : Circuit) where
   -- ---- either
 
   said_by : (e : BorderLine) (time : Option ℕ) (t : ℕ) (es : List BorderLine) → e.time ≡ time → SaysAt t time →
-      Rises es →
-      StarsExcludeLaterTimes es → In e es →
+      Rises es → StarsExcludeLaterTimes es → In e es →
       signal_at (line_signals c es) t e.cell.x e.cell.y ≡ one_or_named_wire c e.signal
   unfolding signal_at
   said_by e None t es et says r u i =
@@ -147,7 +142,6 @@ module _ (c : Circuit) where
 
   -- a line of lines in order says the signal of its cell
   pub line_said : (e : BorderLine) (t : ℕ) (es : List BorderLine) → SaysAt t e.time → Rises es →
-      StarsExcludeLaterTimes es →
-      In e es →
+      StarsExcludeLaterTimes es → In e es →
       signal_at (line_signals c es) t e.cell.x e.cell.y ≡ one_or_named_wire c e.signal
   line_said e t es says r u i = said_by e e.time t es refl says r u i

@@ -35,8 +35,7 @@ module _ (g : Setting) (es : List CertificateLine) (sound : AreGoodModulesSoFar 
 
   sound_push : (i : CertificateLine) → entry_fault g es i ≡ None → AreGoodModulesSoFar g (modules_of (es ++ i ∷ []))
   unfolding entry_fault add_line
-  sound_push (Module b) e =
-      grind (arith, common_steps, modules_push, module_sound, good_module)
+  sound_push (Module b) e = grind (arith, common_steps, modules_push, module_sound, good_module)
   sound_push i e = inner_sound i tt (good_line g es i e)
 
 -- a line without a fault passes the tests of a line, and that of the limits of its text
@@ -99,8 +98,7 @@ one_or_two v e = grind (arith, common_steps, or_cases, eqb-true)
 
 -- the version of what was read
 pub read_version : (l : Limits) (g : Setting) (v : ℕ) (es : List CertificateLine) →
-    IsFaultless (certificate_grammar l g) v es →
-    (1 ≤ v) × (v ≤ 2)
+    IsFaultless (certificate_grammar l g) v es → (1 ≤ v) × (v ≤ 2)
 read_version l g v es good = one_or_two v (true_from_not _ (no_code _ PastLimit good.header))
 
 -- and in version 2 each module knows the wires of the edge lines beside it
@@ -110,8 +108,7 @@ pub read_complete : (l : Limits) (g : Setting) (v : ℕ) (es : List CertificateL
 read_complete l g v es good = no_code _ SomethingMissing (both_none (end_fault g es) _ good.end).1
 
 pub faultless_modules : (l : Limits) (g : Setting) (v : ℕ) (es : List CertificateLine) →
-    IsFaultless (certificate_grammar l g) v es →
-    AreModules g (modules_of es)
+    IsFaultless (certificate_grammar l g) v es → AreModules g (modules_of es)
 unfolding end_fault
 faultless_modules l g v es good =
     let sound = sound_all l g v es [] (none_sound g) good.each in
@@ -121,8 +118,7 @@ faultless_modules l g v es good =
 
 -- and each has few lines
 pub faultless_lines : (l : Limits) (g : Setting) (v : ℕ) (es : List CertificateLine) →
-    IsFaultless (certificate_grammar l g) v es →
-    All IsWithinLineLimit (modules_of es)
+    IsFaultless (certificate_grammar l g) v es → All IsWithinLineLimit (modules_of es)
 faultless_lines l g v es good =
     let sound = sound_all l g v es [] (none_sound g) good.each in
     λ k d lt. (sound.each k _ (slice_get-get_or (modules_of es) k d lt)).few_borders

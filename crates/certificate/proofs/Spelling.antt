@@ -59,8 +59,7 @@ stop_spelled ws v s at e =
     (is_at_is ws 0 v at) (number_at_spelled ws 1 t timed) (name_at_is ws 2 n named) place.column place.row))))
 
 number_spelled : (ws : List (List ℕ)) (v : List ℕ) (n : ℕ) → is_word_at ws 0 v ≡ true →
-    number_after_keyword ws ≡ Some n →
-    ws ≡ v ∷ decimal n ∷ []
+    number_after_keyword ws ≡ Some n → ws ≡ v ∷ decimal n ∷ []
 unfolding number_after_keyword
 number_spelled ws v n at e =
     let found = passed (eqb (length ws) 2) (number_at ws 1) n e in

@@ -43,8 +43,7 @@ unfolding Each Pairs
 numbered_alone s o = grind (arith, common_steps)
 
 pub stops_rise : (c : Circuit) (l : LocalNet) (lines : List CertificateLine) (ss : List listed.Stop) →
-    AreLinesInOrder lines →
-    AreStopsOfLines c l (flat_map stop_in lines) ss → IsRising moment_cmp stop_moment ss
+    AreLinesInOrder lines → AreStopsOfLines c l (flat_map stop_in lines) ss → IsRising moment_cmp stop_moment ss
 stops_rise c l lines ss o are =
     rising_of moment_cmp stop_moment (renumber_stop (circuit_wire l)) (λ a. refl) ss _ are.same
     (pairs_flat StopBefore MomentBefore (λ s. stop_with_wire_number s (wire_of c s.wire))

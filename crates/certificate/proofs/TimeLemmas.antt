@@ -41,16 +41,14 @@ splits (e ∷ es) = splits_step e es (splits es)
 
 -- and where the lines were read, they are those of all lines: the first is a module line
 starts_with_module : (l : Limits) (g : Setting) (v : ℕ) (es : List CertificateLine) →
-    AreFaultless (certificate_grammar l g) v [] es →
-    body_lines es ≡ []
+    AreFaultless (certificate_grammar l g) v [] es → body_lines es ≡ []
 unfolding body_lines entry_fault modules_of last_of
 starts_with_module l g v [] good = refl
 starts_with_module l g v (Module b ∷ es) good = refl
 starts_with_module l g v (i ∷ es) good = absurd (let first = (passed_line l g v [] i good.0).1 in cc)
 
 pub all_in_modules : (l : Limits) (g : Setting) (v : ℕ) (es : List CertificateLine) →
-    IsFaultless (certificate_grammar l g) v es →
-    all_stops (modules_of es) ≡ flat_map stop_in es
+    IsFaultless (certificate_grammar l g) v es → all_stops (modules_of es) ≡ flat_map stop_in es
 all_in_modules l g v es good = grind (arith, common_steps, splits, starts_with_module)
 
 -- ---- the lines of gates, one after the other
@@ -94,8 +92,7 @@ lines_told c ms ss firsts lasts f l ef el es hf hl i =
 -- ---- stops as they are kept
 
 -- the stops of one module more
-pub stops_more : (c : Circuit) (ms : List StoredModule) (i : ℕ) (m : StoredModule) → i < length ms →
-    m ≡ get_or ms i m →
+pub stops_more : (c : Circuit) (ms : List StoredModule) (i : ℕ) (m : StoredModule) → i < length ms → m ≡ get_or ms i m →
     all_stops (map (module_lines c) (take (i + 1) ms))
     ≡ all_stops (map (module_lines c) (take i ms)) ++ map (stop_line c) m.stops.items
 stops_more c ms i m lt is = grind (arith, common_steps, flat_map-map, flat_more, stops_with)

@@ -83,8 +83,7 @@ mapped_from g (x ∷ xs) zero b other e = some_is (g x) b e
 mapped_from g (x ∷ xs) (suc i) b other e = mapped_from g xs i b other e
 
 pub same_count : {A B : Type 0} (g : A → B) (f : Cell → B) (b : Box2) (xs : List A) →
-    map g xs ≡ map f (rectangle_cells b) →
-    length xs ≡ b.w * b.h
+    map g xs ≡ map f (rectangle_cells b) → length xs ≡ b.w * b.h
 same_count g f b xs e = sym (length-map xs g) ∙ ap length e ∙ length-map (rectangle_cells b) f ∙ box_length b
 
 pub found_at : {A B : Type 0} (g : A → B) (f : Cell → B) (b : Box2) (xs : List A) (other : A) →

@@ -44,8 +44,7 @@ pub record PassesAlone (g : Setting) (count : ℕ) (before : Option ModuleLines)
   pub box : IsGoodBox g.size b
 
 pub passes_alone : (g : Setting) (count : ℕ) (before : Option ModuleLines) (b : Box2) →
-    module_box_code g count before b ≡ None →
-    PassesAlone g count before b
+    module_box_code g count before b ≡ None → PassesAlone g count before b
 unfolding module_box_code
 passes_alone g count before b e = grind (arith, common_steps, both_none, or_parts, no_code, less)
 
@@ -122,8 +121,7 @@ module _ (g : Setting) (ms : List ModuleLines) where
   }
 
   pub module_built : (b : Box2) (old new : OwnersView) → AreModulesWithOwners g ms old →
-      IsGoodModule g ms (last_of ms) b →
-      (number : ℕ) → number ≡ length ms → PutsBox b number old new →
+      IsGoodModule g ms (last_of ms) b → (number : ℕ) → number ≡ length ms → PutsBox b number old new →
       AreModulesWithOwners g (ms ++ new_module b ∷ []) new
   module_built b old new built good number is puts = grind (arith, common_steps, module_sound, areas_push, length-map)
 

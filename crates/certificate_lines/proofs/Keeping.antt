@@ -41,8 +41,7 @@ pub record IsGoodLine (g : Setting) (es : List CertificateLine) (i : Certificate
   pub words : code_but_for_order g module_lines i ≡ None
 
 good_by : (g : Setting) (es : List CertificateLine) (i : CertificateLine) (o : Option ModuleLines) →
-    last_module es ≡ o →
-    body_line_code g o i ≡ None → IsGoodLine g es i
+    last_module es ≡ o → body_line_code g o i ≡ None → IsGoodLine g es i
 good_by g es i None is e = absurd cc
 good_by g es i (Some m) is e = grind (arith, common_steps, both_none, true_from_not, no_code)
 
@@ -59,8 +58,7 @@ made_local g m is (Cut n) inner follows good =
     let words = (new_wire g.circuit _ _ n good).1 in
     known_cut g m is n follows words.wire words.named
     ∙ ap (λ o. known g.circuit m ++ option_to_list o) (sym words.named)
-made_local g m is (Use k) inner follows good =
-    grind (arith, common_steps, good_use)
+made_local g m is (Use k) inner follows good = grind (arith, common_steps, good_use)
 made_local g m is i inner follows good = known_same g m i refl refl ∙ sym (append-nil (known g.circuit m))
 
 -- a list of the cells of starred lines, after one more line
@@ -116,8 +114,7 @@ module _ (g : Setting) (es : List CertificateLine) (owners : OwnersView) (last :
 
   pub too_late : (m : ModuleLines) (i : CertificateLine) (b : Bool) → last_module es ≡ Some m →
       ((lines : List CertificateLine) → AreLinesInOrder lines → last_of lines ≡ last → b ≡ may_follow lines i) →
-      b ≡ false →
-      Some OutOfOrder ≡ body_line_code g (last_module es) i
+      b ≡ false → Some OutOfOrder ≡ body_line_code g (last_module es) i
   too_late m i b some f late =
       let not_after : may_follow m.lines i ≡ false = sym (follows_by m i b some f) ∙ late in
       ap (λ a. or_else (code_if (not a) OutOfOrder) (code_but_for_order g m i)) (sym not_after) ∙ inner_is m i some
@@ -175,10 +172,9 @@ module _ (g : Setting) (es : List CertificateLine) (owners : OwnersView) (last :
     unfolding begun_lines last_of
     begun_present = grind (arith, common_steps)
 
-    pub kept_module : module_line_code g (modules_of es) (last_module es) b ≡ None →
-        (number : ℕ) → number ≡ length (modules_of es) → PutsBox b number owners new_owners
-        → AreLinesTracked g (es ++ Module b ∷ []) new_owners
-        None [] [] []
+    pub kept_module : module_line_code g (modules_of es) (last_module es) b ≡ None → (number : ℕ) →
+        number ≡ length (modules_of es) → PutsBox b number owners new_owners →
+        AreLinesTracked g (es ++ Module b ∷ []) new_owners None [] [] []
     unfolding begun_lines add_line
     kept_module good number is puts =
         let more : modules_of (es ++ Module b ∷ []) ≡ modules_of es ++ begun_lines ∷ [] = modules_push es (Module b) in

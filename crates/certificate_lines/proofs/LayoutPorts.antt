@@ -47,8 +47,7 @@ pub none_stands : (ports : List Port) (x y : ℤ) → port_at ports x y ≡ None
     slice_get ports i ≡ Some p → is_cell_at p.cell x y ≡ true → ⊥
 unfolding port_at
 none_stands [] x y e i p at h = cc
-none_stands (q ∷ ports) x y e zero p at h =
-    grind (arith, common_steps, absent_here)
+none_stands (q ∷ ports) x y e zero p at h = grind (arith, common_steps, absent_here)
 none_stands (q ∷ ports) x y e (suc i) p at h =
     none_stands ports x y (absent_here (is_cell_at q.cell x y) q.name (port_at ports x y) e).1 i p at h
 

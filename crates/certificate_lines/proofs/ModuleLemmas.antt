@@ -55,8 +55,7 @@ pub list_all_push : {A : Type 0} (test : A → Bool) (xs : List A) (x : A) → l
 list_all_push test xs x h k = list_all-append test xs (x ∷ []) ∙ rw (h, k) refl
 
 pub order_push : (lines : List CertificateLine) (j : CertificateLine) → AreLinesInOrder lines →
-    may_follow lines j ≡ true →
-    AreLinesInOrder (lines ++ j ∷ [])
+    may_follow lines j ≡ true → AreLinesInOrder (lines ++ j ∷ [])
 unfolding AreLinesInOrder may_follow
 order_push [] j order h = (refl, tt)
 order_push (i ∷ lines) j order h =

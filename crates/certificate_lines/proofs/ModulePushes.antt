@@ -72,8 +72,7 @@ unfolding is_line_time_allowed
 free_time steps starred t h1 = grind (arith, common_steps, and_parts)
 
 free_of_star : (g : Setting) (area : Box2) (starred : Bool) (e : BorderLine) →
-    is_edge_place_and_time_allowed g.size area starred e ≡ true →
-    (is_star e.time || not starred) ≡ true
+    is_edge_place_and_time_allowed g.size area starred e ≡ true → (is_star e.time || not starred) ≡ true
 unfolding is_edge_place_and_time_allowed
 free_of_star g area starred e place = grind (arith, common_steps, free_time, and_parts)
 

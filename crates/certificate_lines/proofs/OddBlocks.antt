@@ -69,8 +69,7 @@ three_cells a a' b b' s = grind arith
 
 pub halo_either : (b : Box2) (x y : ℤ) → IsEvenBox b →
     (not (in_box b x y) && ((in_span b.x b.w x || in_span b.x b.w (partner 1 x))
-    && (in_span b.y b.h y || in_span b.y b.h (partner 1 y))))
-    ≡ in_halo b x y
+    && (in_span b.y b.h y || in_span b.y b.h (partner 1 y)))) ≡ in_halo b x y
 halo_either b x y even = grind (arith, common_steps, halo_read, near_either)
 
 -- a cell is in the halo of a box if it is outside, and the box has one of the other cells of its block

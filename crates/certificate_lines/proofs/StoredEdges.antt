@@ -35,8 +35,7 @@ any_mapped test f (x ∷ xs) = ap (λ b. test (f x) || b) (any_mapped test f xs)
 
 pub lacked_stored : (c : Circuit) (ms : List StoredModule) →
     list_any (λ m. list_any (λ b. does_neighbour_lack_wire c (modules_of (lines_of_modules c ms)) (border_line c b))
-    m.edges.items) ms
-    ≡ list_any (lacks_wire_of_some_edge c (flat_map edges (modules_of (lines_of_modules c ms))))
+    m.edges.items) ms ≡ list_any (lacks_wire_of_some_edge c (flat_map edges (modules_of (lines_of_modules c ms))))
     (modules_of (lines_of_modules c ms))
 lacked_stored c ms =
     let ns = modules_of (lines_of_modules c ms) in

@@ -83,12 +83,10 @@ gate_there gates k found h1 h2 = grind (arith, common_steps, false≢true, slice
 
 pub may_store : (g : Setting) (m : ModuleLines) (i : CertificateLine) (wire : Option ℕ) → IsModule g m →
     size_fault g.size ≡ None → length g.circuit.netlist.gates ≤ max_gates → IsBodyLine i →
-    code_but_for_order g m i ≡ None →
-    IsWireOfLine g.circuit i wire → MayBeStored i wire
+    code_but_for_order g m i ≡ None → IsWireOfLine g.circuit i wire → MayBeStored i wire
 may_store g m (Module b) wire is sized few body good own = absurd body
 may_store g m (Cut n) wire is sized few body good own = wire_there (wire_name g.circuit) wire n own.name
-may_store g m (Use k) wire is sized few body good own =
-    grind (arith, common_steps, good_use, slice_get_within)
+may_store g m (Use k) wire is sized few body good own = grind (arith, common_steps, good_use, slice_get_within)
 may_store g m (Keep k) wire is sized few body good own =
     let within = gate_there g.circuit.netlist.gates k _ refl (keep_good g (gates m) k good).inverse in
     omega (arith, within, few)

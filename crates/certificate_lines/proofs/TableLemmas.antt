@@ -55,10 +55,8 @@ module _ (ports : List Port) (apart : HaveDistinctCells ports) (b : Box2) (c : C
       let r = cell_passed by_cell (rectangle_cells b) h in
       let n = passed_name c local (port_at ports r.0.x r.0.y) r.2 in
       let p = port_stands ports r.0.x r.0.y n.0 n.1 in
-      let inside : in_box b p.port.cell.x p.port.cell.y ≡ true =
-      grind (arith, common_steps, cell_same, in_box_cells) in
-      let named : not (is_local c local p.port.name) ≡ true =
-      ap (λ n. not (is_local c local n)) p.named ∙ n.2 in
+      let inside : in_box b p.port.cell.x p.port.cell.y ≡ true = grind (arith, common_steps, cell_same, in_box_cells) in
+      let named : not (is_local c local p.port.name) ≡ true = ap (λ n. not (is_local c local n)) p.named ∙ n.2 in
       any_at by_port ports p.number p.port p.numbered (rw (inside, named) refl)
 
   from_ports : list_any by_port ports ≡ true → list_any by_cell (rectangle_cells b) ≡ true
@@ -108,8 +106,7 @@ no_number b n h1 = grind (arith, common_steps)
 pub unnumbered : (ports : List Port) (x y : ℤ) → port_number_at ports x y ≡ 0 → port_at ports x y ≡ None
 unfolding port_number_at port_at
 unnumbered [] x y e = refl
-unnumbered (p ∷ ports) x y e =
-    grind (arith, common_steps, no_number, unnumbered ports x y)
+unnumbered (p ∷ ports) x y e = grind (arith, common_steps, no_number, unnumbered ports x y)
 
 -- the port of a number
 pub record IsNumbered (ports : List Port) (k : ℕ) (x y : ℤ) : Type 0 where
@@ -166,8 +163,7 @@ push_here : (ports : List Port) (p : Port) (x y : ℤ) → is_cell_at p.cell x y
     port_number_at (ports ++ p ∷ []) x y ≡ suc (length ports)
 unfolding port_number_at
 push_here [] p x y on none = rw on refl
-push_here (q ∷ ports) p x y on none =
-    grind (arith, common_steps, no_number, push_here ports p x y on)
+push_here (q ∷ ports) p x y on none = grind (arith, common_steps, no_number, push_here ports p x y on)
 
 none_there : (ports : List Port) (x y : ℤ) →
     ((i : ℕ) (q : Port) → slice_get ports i ≡ Some q → is_cell_at q.cell x y ≡ true → ⊥) → port_number_at ports x y ≡ 0

@@ -43,10 +43,8 @@ module _ {R W E : Type 0} {source : Source R} {sink : Sink W} {messages : Sink E
 
   -- a run with this fault said it
   said_as : (fault : CheckFault) (r : RanCommand source sink messages (asked_by words) old new status) →
-      r.ended ≡ Err fault →
-      WritesFaultLine messages old.errors new.errors fault
-  said_as fault r is =
-      at_fault (WritesFaultLine messages old.errors new.errors) r.ended fault is r.said
+      r.ended ≡ Err fault → WritesFaultLine messages old.errors new.errors fault
+  said_as fault r is = at_fault (WritesFaultLine messages old.errors new.errors) r.ended fault is r.said
 
   -- and left the writer alone, if it is another than of the writer
   unwritten_as : (fault : CheckFault) (r : RanCommand source sink messages (asked_by words) old new status) →
@@ -127,11 +125,9 @@ module _ {R W E : Type 0} {source : Source R} {sink : Sink W} {messages : Sink E
   refused three = answered_as Refused (ran (accepted_at_three three)) three
 
   -- 4: the reader failed, or the writer, or the text is too long, and `errors` has the line for this
-  pub device : status ≡ 4 →
-      ((source.has_failed new.reader ≡ true)
+  pub device : status ≡ 4 → ((source.has_failed new.reader ≡ true)
       × WritesFaultLine messages old.errors new.errors Read)
-      ⊎ ((sink.has_failed new.writer ≡ true)
-      × WritesFaultLine messages old.errors new.errors Write)
+      ⊎ ((sink.has_failed new.writer ≡ true) × WritesFaultLine messages old.errors new.errors Write)
       ⊎ (GivesTooMuch (source.left old.reader) (source.left new.reader)
       × WritesFaultLine messages old.errors new.errors TooLong)
   device four = either

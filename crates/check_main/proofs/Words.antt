@@ -64,8 +64,7 @@ each_asks : (text : Text) → asked_by (codes "check" ∷ codes "--workers" ∷ 
 unfolding bundle_met defaults_fault flags_fault flags_pass walk_fault walk_passes walked
 each_asks text = refl
 
-in_range : (test : ℕ → Bool) (m a n : ℕ) → list_all test (range_with_len a m) ≡ true → a ≤ n → n < a + m →
-    test n ≡ true
+in_range : (test : ℕ → Bool) (m a n : ℕ) → list_all test (range_with_len a m) ≡ true → a ≤ n → n < a + m → test n ≡ true
 in_range test zero a n h low high = absurd (omega (arith, low, high))
 in_range test (suc m) a n h low high =
     let both = and_parts (test a) (list_all test (range_with_len (a + 1) m)) h in

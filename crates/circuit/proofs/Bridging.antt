@@ -82,8 +82,7 @@ ordered_line names before rest (GateLine k) ins outs good later e f =
     ap (λ (names : List (List ℕ)). map (number names) ins) e
     ∙ numbers_left (defined before) (outs ++ defined rest) ins have in
     grind (arith, common_steps, numbers_below, length-map, numbers_new, length-append)
-ordered_line names before rest _ ins outs good later e f =
-    grind (arith, common_steps, length-append)
+ordered_line names before rest _ ins outs good later e f = grind (arith, common_steps, length-append)
 
 not_input : (r : CircuitLine) (rest : List CircuitLine) → input_count (r ∷ rest) ≡ 0 →
     (is_input r.kind ≡ false) × (input_count rest ≡ 0)
@@ -111,8 +110,7 @@ record Far (names : List (List ℕ)) (before : List CircuitLine) (rest : List Ci
 far_next : (names : List (List ℕ)) (before rest : List CircuitLine) (kind : CircuitLineKind)
     (ins outs : List (List ℕ)) →
     Far names before (record { kind = kind; ins = ins; outs = outs } ∷ rest) → length outs ≡ cond (is_input kind) 1 0 →
-    is_gate kind ≡ false →
-    Far names (before ++ record { kind = kind; ins = ins; outs = outs } ∷ []) rest
+    is_gate kind ≡ false → Far names (before ++ record { kind = kind; ins = ins; outs = outs } ∷ []) rest
 far_next names before rest kind ins outs far e f = grind (arith, common_steps, push_cons, count_append, defined_push)
 
 gate_first : (names : List (List ℕ)) (before rest : List CircuitLine) (k : GateKind) (ins outs : List (List ℕ)) →
@@ -148,8 +146,7 @@ ordered_rest names before rest (GateLine k) ins outs good far later = gate_first
 ordered_rest names before rest _ ins outs good far later = grind (arith, common_steps, push_cons, far_next)
 
 ordered_lines : (names : List (List ℕ)) (before rest : List CircuitLine) → AreGoodAfter before rest →
-    Far names before rest →
-    AreGatesOrdered (input_count (before ++ rest)) (gates_of names rest)
+    Far names before rest → AreGatesOrdered (input_count (before ++ rest)) (gates_of names rest)
 unfolding AreGatesOrdered
 ordered_lines names before [] good far = tt
 ordered_lines names before (r ∷ rest) good far =
@@ -161,8 +158,7 @@ gates_are_ordered entries good =
 
 -- ---- one more line
 pub good_push : (before rest : List CircuitLine) (r : CircuitLine) → AreGoodAfter before rest →
-    IsGoodAfter (before ++ rest) r →
-    AreGoodAfter before (rest ++ r ∷ [])
+    IsGoodAfter (before ++ rest) r → AreGoodAfter before (rest ++ r ∷ [])
 unfolding AreGoodAfter
 good_push before [] r good next = (subst (λ (l : List CircuitLine). IsGoodAfter l r) (append-nil before) next, tt)
 good_push before (a ∷ rest) r good next = (
@@ -220,8 +216,7 @@ line_added entries numbers (GateLine k) ins outs good same =
 line_added entries numbers _ ins outs good same = refl
 
 pub gates_push : (entries : List CircuitLine) (r : CircuitLine) (numbers : List ℕ) → AreGoodCircuitLines entries →
-    IsGoodAfter entries r →
-    take (length r.ins) numbers ≡ map (number (defined entries)) r.ins →
+    IsGoodAfter entries r → take (length r.ins) numbers ≡ map (number (defined entries)) r.ins →
     gates_of (defined (entries ++ r ∷ [])) (entries ++ r ∷ [])
     ≡ gates_of (defined entries) entries ++ gate_with_outs_from r.kind numbers (length (defined entries))
 gates_push entries r numbers good next same =

@@ -116,8 +116,7 @@ own_push d n own new w m at = elim (cases_lt w (length d)) [
   | inl small ↦
       let o = own w m (sym (slice_left d (n ∷ []) w small) ∙ at) in
       (number_left d (n ∷ []) m o.1 ∙ o.0, has_left d (n ∷ []) m o.1)
-  | inr large ↦
-      grind (arith, common_steps, slice_last, number_new, bytes_same, list_any-append, or-true)
+  | inr large ↦ grind (arith, common_steps, slice_last, number_new, bytes_same, list_any-append, or-true)
 ]
 
 own_all : (d ns : List (List ℕ)) → AreOwn d → define_fault d ns ≡ None → AreOwn (d ++ ns)

@@ -137,8 +137,7 @@ found_from vs (g ∷ gs) out ordered e =
 
 -- ---- only one
 unique_after : (n : ℕ) (gs : List Gate) (v v' : Valuation) → AreGatesOrdered n gs → All (FollowsRow v) gs →
-    All (FollowsRow v') gs →
-    ((w : ℕ) → w < n → v w ≡ v' w) → (w : ℕ) → w < wires_after n gs → v w ≡ v' w
+    All (FollowsRow v') gs → ((w : ℕ) → w < n → v w ≡ v' w) → (w : ℕ) → w < wires_after n gs → v w ≡ v' w
 unfolding AreGatesOrdered wires_after
 unique_after n [] v v' ordered rows rows' same w h = same w h
 unique_after n (g ∷ gs) v v' ordered rows rows' same w h =

@@ -18,8 +18,7 @@ other_name n m e = elim (cases_Bool (bytes_eq m n)) [
   | inr h ↦ h
 ]
 
-has_other : (m n : List ℕ) (ms : List (List ℕ)) → has (m ∷ ms) n ≡ false →
-    (bytes_eq n m ≡ false) × (has ms n ≡ false)
+has_other : (m n : List ℕ) (ms : List (List ℕ)) → has (m ∷ ms) n ≡ false → (bytes_eq n m ≡ false) × (has ms n ≡ false)
 has_other m n ms h = grind (arith, common_steps, cases_Bool, has_front, true≢false)
 
 has_last : (c : List (List ℕ)) (m n : List ℕ) → bytes_eq n m ≡ false → has (c ++ m ∷ []) n ≡ has c n
@@ -220,9 +219,8 @@ pub consumed_next : (d c ns : List (List ℕ)) (p : ℕ) (n : List ℕ) (w : ℕ
     consume_fault d (c ++ take (p + 1) ns) (drop (p + 1) ns) ≡ consume_fault d c ns
 consumed_next d c ns p n w ws next free new = grind (arith, common_steps, earlier, take_more, front, list_any-append)
 
-pub wires_next : (d c ns : List (List ℕ)) (p : ℕ) (n : List ℕ) (w : ℕ) (ins : List ℕ) →
-    Next d c ns p n w (take p ins) → p < length ins →
-    take (p + 1) (slice_set ins p w) ≡ map (number d) (take (p + 1) ns)
+pub wires_next : (d c ns : List (List ℕ)) (p : ℕ) (n : List ℕ) (w : ℕ) (ins : List ℕ) → Next d c ns p n w (take p ins) →
+    p < length ins → take (p + 1) (slice_set ins p w) ≡ map (number d) (take (p + 1) ns)
 wires_next d c ns p n w ins next short = grind (arith, common_steps, take_more_set, map-append, take_more)
 
 -- each wire that is consumed has a mark

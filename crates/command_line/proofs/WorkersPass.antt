@@ -212,9 +212,8 @@ workers_pass words t none is =
     named true r same is each = text_passes r.1 t (each ((bytes_eq-Decides r.0 (codes "check")).0 same)) is
     named false r other is each = cc
 
-    go : (o : Option (Text × List Row)) → subcommand_of bbmcheck words ≡ o
-        → option_and_then workers_of o ≡ Some t
-        → entered_fault (built bbmcheck) (met_in words) ≡ [] → IsUnsignedIn 1 64 t
+    go : (o : Option (Text × List Row)) → subcommand_of bbmcheck words ≡ o → option_and_then workers_of o ≡ Some t →
+        entered_fault (built bbmcheck) (met_in words) ≡ [] → IsUnsignedIn 1 64 t
     go None found is none = cc
     go (Some r) found is none = named (bytes_eq r.0 (codes "check")) r refl is
         (λ same. entered_passes (met_in words) r found none same)

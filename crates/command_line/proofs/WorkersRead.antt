@@ -30,10 +30,9 @@ reads_digits E gives only t pass None read = absurd (only t (Err read.0) read.1 
 
 -- and so what is read of the option's text is the number that the words ask for
 pub number_read : (E : Type 0) (gives : Text → Result ℕ E → Type 0) →
-    ((u : Text) (x : Result ℕ E) → gives u x → ParsesUnsigned 64 10 u x)
-    → (words : List Text) → fault_of bbmcheck words ≡ [] → (text : Option Text) → workers_text words ≡ text
-    → (r : Option ℕ) → (text ≡ None → r ≡ None) → ((t : Text) → text ≡ Some t → ReadsOne gives t r) →
-    unwrap_or r 1 ≡ workers_asked words
+    ((u : Text) (x : Result ℕ E) → gives u x → ParsesUnsigned 64 10 u x) → (words : List Text) →
+    fault_of bbmcheck words ≡ [] → (text : Option Text) → workers_text words ≡ text → (r : Option ℕ) →
+    (text ≡ None → r ≡ None) → ((t : Text) → text ≡ Some t → ReadsOne gives t r) → unwrap_or r 1 ≡ workers_asked words
 number_read E gives only words none None is r missing read = rw (missing refl, is) refl
 number_read E gives only words none (Some t) is r missing read =
     rw is (reads_digits E gives only t (workers_pass words t none is) r (read t refl))

@@ -76,8 +76,7 @@ new-core digest jobs seats = record {
   replayed = IsHistoryReplayed-new digest jobs;
 }
 
-pub length-new : (digest : List ℕ) (jobs : List JobView) (seats : ℕ) →
-    length (new_core digest jobs seats).draws ≡ seats
+pub length-new : (digest : List ℕ) (jobs : List JobView) (seats : ℕ) → length (new_core digest jobs seats).draws ≡ seats
 unfolding new_core
 length-new digest jobs seats = length-replicate seats []
 

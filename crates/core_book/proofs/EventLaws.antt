@@ -35,8 +35,7 @@ draws-each-once digest jobs seats es seated = (all-core digest jobs seats es sea
 
 -- where a claim answers `Empty`, the next number after it is past the numbers
 empty-past : (n next : ℕ) (lists : List (List ℕ)) (seat : ℕ) → seat < length lists → IsEachNumberDrawnOnce next lists →
-    (has : Bool) →
-    is_seat_finished n (get_or lists seat []) ≡ has →
+    (has : Bool) → is_seat_finished n (get_or lists seat []) ≡ has →
     answer_of_claim (if has then Claimed.Empty else claim_answer_of_draw n next) ≡ Answered.Empty →
     n ≤ (if has then next else next + 1)
 empty-past n next lists seat inside is true e h = let past = one_if_seat_finished-all n next lists seat inside e is in

@@ -170,8 +170,7 @@ own-moved : (b c : BookView) (n : ℕ) (f : Finding) → b.digest ≡ c.digest �
 own-moved b c n f digest jobs p = grind (arith, common_steps, slice_get)
 
 own-set : (b : BookView) (n : ℕ) (f : Finding) → n < length b.findings → BelongsToBook b n f → IsBook b →
-    (k : ℕ) (g : Finding) →
-    get_or (set b.findings n (Some f)) k None ≡ Some g → BelongsToBook b k g
+    (k : ℕ) (g : Finding) → get_or (set b.findings n (Some f)) k None ≡ Some g → BelongsToBook b k g
 own-set b n f inside own is k g e = grind (arith, common_steps, eqb_tells, get_or-set_same, get_or-set_other)
 
 -- a book that holds what another one held after a filing

@@ -43,11 +43,10 @@ held_more b jobs n j at below now k i less there =
     ]
 
 each_more : (jobs : List JobView) (fs : List LeastFaults) (n : ℕ) (j : JobView) (g : LeastFaults) → length fs ≡ n →
-    slice_get jobs n ≡ Some j → AreLeastFaultsOfJob j g
-    → ((k : ℕ) (i : JobView) (f : LeastFaults) → slice_get jobs k ≡ Some i → slice_get fs k ≡ Some f →
-    AreLeastFaultsOfJob i f)
-    → (k : ℕ) (i : JobView) (f : LeastFaults) → slice_get jobs k ≡ Some i → slice_get (fs ++ g ∷ []) k ≡ Some f →
-    AreLeastFaultsOfJob i f
+    slice_get jobs n ≡ Some j → AreLeastFaultsOfJob j g →
+    ((k : ℕ) (i : JobView) (f : LeastFaults) → slice_get jobs k ≡ Some i → slice_get fs k ≡ Some f →
+    AreLeastFaultsOfJob i f) → (k : ℕ) (i : JobView) (f : LeastFaults) → slice_get jobs k ≡ Some i →
+    slice_get (fs ++ g ∷ []) k ≡ Some f → AreLeastFaultsOfJob i f
 each_more jobs fs n j g count at least each k i f there got =
     elim (pushed fs g k f got) [
       | inl old ↦ each k i f there old
@@ -58,8 +57,7 @@ each_more jobs fs n j g count at least each k i f there got =
 
 pub one-more : (b : BookView) (jobs : List JobView) (n : ℕ) (fs : List LeastFaults) (j : JobView) (f : Finding)
     (r : LeastFaults) → AreFaultsBelow b jobs n fs → slice_get jobs n ≡ Some j → held_finding b n ≡ Some f →
-    job_of f ≡ j →
-    AreLeastFaultsOfJob (job_of f) r → AreFaultsBelow b jobs (n + 1) (fs ++ r ∷ [])
+    job_of f ≡ j → AreLeastFaultsOfJob (job_of f) r → AreFaultsBelow b jobs (n + 1) (fs ++ r ∷ [])
 one-more b jobs n fs j f r below at held whole told = record {
   held = held_more b jobs n j at below.held (record { finding = f; held = held; whole = whole });
   count_is = length-append fs (r ∷ []) ∙ ap (λ (m : ℕ). m + 1) below.count_is;

@@ -44,9 +44,8 @@ number-more ks held n f inside h k =
 -- the book after a filing, by the numbers that were accepted then and what is held then
 by-reply : (b : BookView) (f : Finding) (ks : List ℕ) (held : List (Option Finding)) → IsHistoryReplayed b →
     accepted_after (replay b.history).accepted (number_of f) (reply_to b f) ≡ ks →
-    findings_after b.findings f (reply_to b f) ≡ held →
-    length ks ≡ held_finding_count (after_filing b f) → ((k : ℕ) → has_number ks k ≡ is_some (get_or held k None)) →
-    IsHistoryReplayed (after_filing b f)
+    findings_after b.findings f (reply_to b f) ≡ held → length ks ≡ held_finding_count (after_filing b f) →
+    ((k : ℕ) → has_number ks k ≡ is_some (get_or held k None)) → IsHistoryReplayed (after_filing b f)
 by-reply b f ks held is numbers same count each =
     let e : LogEntry = Filed (filing_of b f) in
     let push = replay_from-push empty_replayed b.history e in

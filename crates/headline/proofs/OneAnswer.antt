@@ -19,8 +19,7 @@ clash : (s : LayoutHeader) (state : State) → IsDeadOutside s state → IsLiveO
 clash s state stays goes = true≢false (sym (stays goes.x goes.y goes.lives) ∙ goes.outside)
 
 one_run : (asked : RunQuestion) (output output' : List ℕ) (outcome outcome' : Outcome) →
-    SaysRunEnd asked output outcome →
-    SaysRunEnd asked output' outcome' → (output ≡ output') × (outcome ≡ outcome')
+    SaysRunEnd asked output outcome → SaysRunEnd asked output' outcome' → (output ≡ output') × (outcome ≡ outcome')
 one_run asked output output' outcome outcome' h h' = grind (arith, common_steps, one_layout)
 
 -- a command that has one answer to what is asked has one to each text

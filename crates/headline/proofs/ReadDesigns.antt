@@ -94,8 +94,7 @@ in_order l before (r ∷ rest) good =
     grind (arith, common_steps, no_code_first, (in_order l (before ++ r ∷ []) rest good.1))
 
 pub design_by : (l : Limits) (circuit : List CircuitLine) (p : Pattern) (ls : List (List ℕ)) →
-    IsSection form_of ls tt circuit →
-    IsFaultless (circuit_grammar l) tt circuit →
+    IsSection form_of ls tt circuit → IsFaultless (circuit_grammar l) tt circuit →
     IsFaultless (layout_grammar l (Some (port_names_of circuit))) p.size (parts_of p) → IsDesign circuit p
 design_by l circuit p ls is good layout =
     let ports = Some (port_names_of circuit) in

@@ -155,8 +155,7 @@ record IsAskedLayout (l : Limits) (asked : RunQuestion) : Type 0 where
   pub good : IsFaultless (layout_grammar l None) size parts
   pub same : (size, parts) ≡ asked.0
 
-asked_first : (lines : LayoutHeader × List LayoutLine) (read : Result (List (List ℕ)) Refusal)
-    (asked : RunQuestion) →
+asked_first : (lines : LayoutHeader × List LayoutLine) (read : Result (List (List ℕ)) Refusal) (asked : RunQuestion) →
     pair_with_result lines read ≡ Ok asked → lines ≡ asked.0
 asked_first lines read asked h1 = grind (arith, common_steps)
 

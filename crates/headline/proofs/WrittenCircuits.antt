@@ -110,8 +110,7 @@ gate_form : (k : GateKind) (rest : List (List ℕ)) →
 unfolding form_of is_word_at
 gate_form k rest = grind (arith, common_steps)
 
-head_words : (k : GateKind) → IsShort (Gate k) →
-    IsWord (gate_word k) × AllByRecursion IsWord (gate_parameter_words k)
+head_words : (k : GateKind) → IsShort (Gate k) → IsWord (gate_word k) × AllByRecursion IsWord (gate_parameter_words k)
 head_words (Source true) h = (refl, (refl, tt))
 head_words (Source false) h = (refl, (refl, tt))
 head_words (Delay n) h = (refl, (decimal_word n (h n refl), tt))
@@ -166,9 +165,7 @@ first_of : (n : List ℕ) (ns : List (List ℕ)) → AreNames (n ∷ ns) → is_
 first_of n ns h = (and_parts (is_name n) (list_all is_name ns) h).0
 
 pub line_of : (kind : CircuitLineKind) (ins outs : List (List ℕ)) → HasNameCountOfKind (entry kind ins outs) →
-    AreNames ins →
-    AreNames outs →
-    IsShort kind → HasLine form_of (Item (entry kind ins outs))
+    AreNames ins → AreNames outs → IsShort kind → HasLine form_of (Item (entry kind ins outs))
 unfolding form_of is_word_at name_after_keyword name_at
 line_of (Gate k) ins outs fits i o right = gate_line k ins outs fits i o right
 line_of Input [] (n ∷ []) fits i o right = lone_line (codes "input") n _ refl (first_of n [] o)

@@ -237,9 +237,8 @@ mirror_within k s before (Mirror r) within good = grind (arith, common_steps, na
 mirror_within k s before part within good = refl
 
 faultless_on : (k : Limits) (s : LayoutHeader) (l : HasLimits s) (names : PortNameLists)
-    (before parts : List LayoutLine) →
-    IsWithin k s → InOrder before parts → AreGoodAfter s before parts → AllByRecursion (IsPortName s l names) parts →
-    AreFaultless (layout_grammar k (Some names)) s before parts
+    (before parts : List LayoutLine) → IsWithin k s → InOrder before parts → AreGoodAfter s before parts →
+    AllByRecursion (IsPortName s l names) parts → AreFaultless (layout_grammar k (Some names)) s before parts
 unfolding layout_line_fault line_fault
 faultless_on k s l names before [] within order good n = tt
 faultless_on k s l names before (part ∷ parts) within order good n = (

@@ -66,16 +66,12 @@ unless_ok : (n : ℕ) (o : Option RefusalCode) (r : Result (Unit {0} × List Cir
 unless_ok n o r y h1 = grind (arith, common_steps)
 
 line_good : (l : Limits) (words : List (List ℕ)) (ls : List (List ℕ)) (before : List CircuitLine) (n : ℕ)
-    (rows : List CircuitLine)
-    (o : Option Line) → form_of words ≡ o → HasNoGateYet before
-    → result_after_line (circuit_grammar l) tt before n
-    (λ i. section_body_of (circuit_grammar l) tt (before ++ i ∷ []) (n + 1) ls) o
-    ≡ Ok (tt, rows)
-    → ((i : CircuitLine) → HasNoGateYet (before ++ i ∷ []) →
+    (rows : List CircuitLine) (o : Option Line) → form_of words ≡ o → HasNoGateYet before →
+    result_after_line (circuit_grammar l) tt before n
+    (λ i. section_body_of (circuit_grammar l) tt (before ++ i ∷ []) (n + 1) ls) o ≡ Ok (tt, rows) →
+    ((i : CircuitLine) → HasNoGateYet (before ++ i ∷ []) →
     section_body_of (circuit_grammar l) tt (before ++ i ∷ []) (n + 1) ls ≡ Ok (tt, rows) →
-    MoreGood (before ++ i ∷ []) rows)
-    →
-    MoreGood before rows
+    MoreGood (before ++ i ∷ []) rows) → MoreGood before rows
 unfolding AreGoodAfter
 line_good l words ls before n rows (Some (Item r)) f none e rec =
     let passed = unless_ok n (or_else (order_fault before r)
@@ -102,8 +98,7 @@ line_good l words ls before n rows (Some End) f none e rec = grind (arith, commo
 line_good l words ls before n rows _ f none e rec = absurd cc
 
 body_good : (l : Limits) (ls : List (List ℕ)) (before : List CircuitLine) (n : ℕ) (rows : List CircuitLine) →
-    HasNoGateYet before →
-    section_body_of (circuit_grammar l) tt before n ls ≡ Ok (tt, rows) → MoreGood before rows
+    HasNoGateYet before → section_body_of (circuit_grammar l) tt before n ls ≡ Ok (tt, rows) → MoreGood before rows
 unfolding section_body_of
 body_good l [] before n rows none e = absurd cc
 body_good l (line ∷ ls) before n rows none e =
@@ -112,8 +107,7 @@ body_good l (line ∷ ls) before n rows none e =
 
 header_good : (l : Limits) (ls : List (List ℕ)) (n : ℕ) (rows : List CircuitLine) (o : Option Line) →
     result_after_header (circuit_grammar l) n (λ k. section_body_of (circuit_grammar l) k [] (n + 1) ls) o
-    ≡ Ok (tt, rows) →
-    AreGoodCircuitLines rows
+    ≡ Ok (tt, rows) → AreGoodCircuitLines rows
 header_good l ls n rows (Some (Header k)) e =
     let t = body_good l ls [] (n + 1) rows refl
     (unless_ok n None (section_body_of (circuit_grammar l) tt [] (n + 1) ls) (tt, rows) e).1 in
@@ -200,11 +194,9 @@ past_layout text b = drop (length b.parts + 2) (past_circuit text b)
 -- the three sections of a text are read one after the other, and no byte follows them
 pub record AreSections (text : List ℕ) (b : Bundle) : Type 0 where
   pub circuit : section_of (circuit_grammar (text_limits text)) (limits_line_count (text_limits text))
-      (section_lines text)
-      ≡ Ok (tt, b.circuit)
+      (section_lines text) ≡ Ok (tt, b.circuit)
   pub layout : section_of (layout_grammar (text_limits text) (Some (port_names_of b.circuit)))
-      (limits_line_count (text_limits text) + (length b.circuit + 2))
-      (past_circuit text b) ≡ Ok (b.size, b.parts)
+      (limits_line_count (text_limits text) + (length b.circuit + 2)) (past_circuit text b) ≡ Ok (b.size, b.parts)
   pub certificate : section_of (certificate_grammar (text_limits text)
       (setting_of b.circuit (layout_of b.size b.parts)))
       (limits_line_count (text_limits text) + (length b.circuit + 2) + (length b.parts + 2)) (past_layout text b)
@@ -271,8 +263,7 @@ own_design text b output outcome circuit layout reads says said =
 
 by_read : (text output : List ℕ) (outcome : Outcome) (circuit : List CircuitLine) (layout : Pattern)
     (read : Result Bundle Refusal) → bundle_of text ≡ read → AnswersOrRefuses SaysReport read output outcome →
-    outcome ≢ Refused →
-    SaysDesign text circuit layout → IsGoodDesign text circuit layout
+    outcome ≢ Refused → SaysDesign text circuit layout → IsGoodDesign text circuit layout
 by_read text output outcome circuit layout (Ok b) e says some said =
     own_design text b output outcome circuit layout e says said
 by_read text output outcome circuit layout (Err refusal) e told some said = absurd (some told.1)

@@ -29,8 +29,7 @@ bound n seats word views r =
 -- one view changed: the others still fit, since the word never falls
 fits_set : (n word now id : ℕ) (views : List View) (w : View) → word ≤ now →
     ((j : ℕ) (v : View) → get_elem? views j ≡ some v → FitsDeskRule n word v) → FitsDeskRule n now w →
-    (j : ℕ) (v : View) →
-    get_elem? (set views id w) j ≡ some v → FitsDeskRule n now v
+    (j : ℕ) (v : View) → get_elem? (set views id w) j ≡ some v → FitsDeskRule n now v
 fits_set n word now id views w le others mine j v at =
     ⊎_elim
     (λ (x : (j ≡ id) × (w ≡ v)). subst (FitsDeskRule n now) x.1 mine)
@@ -157,8 +156,7 @@ fits_new n word places = record {
 
 fits_more : (n word : ℕ) (views : List View) (w : View) →
     ((j : ℕ) (v : View) → get_elem? views j ≡ some v → FitsDeskRule n word v) → FitsDeskRule n word w →
-    (j : ℕ) (v : View) →
-    get_elem? (views ++ w ∷ []) j ≡ some v → FitsDeskRule n word v
+    (j : ℕ) (v : View) → get_elem? (views ++ w ∷ []) j ≡ some v → FitsDeskRule n word v
 fits_more n word views w others mine j v at =
     ⊎_elim (λ (x : get_elem? views j ≡ some v). others j v x) (λ (x : w ≡ v). subst (FitsDeskRule n word) x mine)
     (at_snoc views w v j at)

@@ -29,8 +29,7 @@ AreRangeCellNumbers b n p = (b.odd + n ≤ p.stride * p.rows) × (b.right + n �
     × (b.down + n ≤ p.stride * p.rows) × (b.even + n ≤ p.stride * p.rows)
 
 pub range_cell_numbers : (part : Partition) (p : Planes) (first end : ℕ) → first < end →
-    end ≤ block_number_count part p →
-    AreRangeCellNumbers (block_at part p.stride first) (end - first) p
+    end ≤ block_number_count part p → AreRangeCellNumbers (block_at part p.stride first) (end - first) p
 range_cell_numbers part p first end h1 h2 = grind (arith, common_steps)
 
 pub count_below : (part : Partition) (p : Planes) (u : ℕ) → u < block_number_count part p → u < p.stride * p.rows
@@ -82,8 +81,7 @@ block_cells main anti b p q main_stays anti_stays part = record {
 -- the blocks without a mark are not those with a cell that changed
 pub still_stable : (main anti : Bool) (b : BlockPlaces) (m m' : BlockMarks) (p q : Planes) →
     HasWordsStrideRows p.words p.stride p.rows q → ChangesOnlyDiagonals main anti b p q →
-    MarksBlocksSharingCell main anti p.stride b m m' →
-    AreUnmarkedBlocksStable m p → AreUnmarkedBlocksStable m' q
+    MarksBlocksSharingCell main anti p.stride b m m' → AreUnmarkedBlocksStable m p → AreUnmarkedBlocksStable m' q
 still_stable main anti b m m' p q size ch marks calm part u is free =
     let count = rw (same_count part p q size) at is.0 in
     let inside = rw size.1 at is.1 in

@@ -16,18 +16,15 @@ use Rattle.lanes.proofs.LaneLemmas.{inner_lane, odd_lane}
 
 -- ---- words that are turned once, and stay before or after
 pub turned_before : (w : ℕ) (b : BlockPlaces) (k : ℕ) (p q r : Planes) → IsBlockWordSame w b k p q →
-    IsBlockWordTurned w b k q r →
-    IsBlockWordTurned w b k p r
+    IsBlockWordTurned w b k q r → IsBlockWordTurned w b k p r
 turned_before w b k p q r e t = rw (e.odd, e.right, e.down, e.even) at t
 
 pub turned_after : (w : ℕ) (b : BlockPlaces) (k : ℕ) (p q r : Planes) → IsBlockWordSame w b k q r →
-    IsBlockWordTurned w b k p q →
-    IsBlockWordTurned w b k p r
+    IsBlockWordTurned w b k p q → IsBlockWordTurned w b k p r
 turned_after w b k p q r e t = rw (e.odd, e.right, e.down, e.even) t
 
 pub same_twice : (w : ℕ) (b : BlockPlaces) (k : ℕ) (p q r : Planes) → IsBlockWordSame w b k p q →
-    IsBlockWordSame w b k q r →
-    IsBlockWordSame w b k p r
+    IsBlockWordSame w b k q r → IsBlockWordSame w b k p r
 same_twice w b k p q r e f = grind (arith, common_steps)
 
 -- ---- named blocks

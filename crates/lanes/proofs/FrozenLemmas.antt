@@ -79,8 +79,7 @@ all_may_turn part p q t first = record {
 
 -- ---- frozen blocks after a step
 same_room : (b : FrozenBlocks) (p q : Planes) → HasWordsStrideRows p.words p.stride p.rows q →
-    HasRoomForAllBlockMarks b p →
-    HasRoomForAllBlockMarks b q
+    HasRoomForAllBlockMarks b p → HasRoomForAllBlockMarks b q
 same_room b p q size room = grind (arith, common_steps)
 
 -- a cell is before those of the first block, or has a block
@@ -112,8 +111,7 @@ abbrev MarkedStay : Partition → List ℕ → Planes → Planes → Type 0
 MarkedStay part marks p q = (n : ℕ) → cell_at marks n ≡ true → BlockSame (block_at part p.stride n) p q
 
 cells_stay : (part : Partition) (marks : List ℕ) (p q : Planes) → MarkedStay part marks p q →
-    KeepsCellsOutsideBlocks part p q →
-    CellsStay part marks p q
+    KeepsCellsOutsideBlocks part p q → CellsStay part marks p q
 cells_stay part marks p q stay first = record {
   odd = λ u marked. elim (has_block part p.stride u).odd [
     | inl h ↦ same_bits p.words u _ _ (λ k l. first.odd u k h l)
@@ -147,11 +145,9 @@ held_on Odd Even b p q u size stay cells m h = grind (arith, common_steps, still
 held_on Even Odd b p q u size stay cells m h = grind (arith, common_steps, still_held)
 held_on Even Even b p q u size stay cells m h = let s = stay u m in grind (arith, common_steps, still_held)
 
-empty_on : (part : Partition) (b : FrozenBlocks) (p q : Planes) (u : ℕ) →
-    HasWordsStrideRows p.words p.stride p.rows q → MarkedStay part (marks_of part b.marks) p q →
-    CellsStay part (marks_of part b.marks) p q → cell_at b.marks.odd.items u ≡ true →
-    IsBlockHeldAndEmpty Odd b.marks p u →
-    IsBlockHeldAndEmpty Odd b.marks q u
+empty_on : (part : Partition) (b : FrozenBlocks) (p q : Planes) (u : ℕ) → HasWordsStrideRows p.words p.stride p.rows q →
+    MarkedStay part (marks_of part b.marks) p q → CellsStay part (marks_of part b.marks) p q →
+    cell_at b.marks.odd.items u ≡ true → IsBlockHeldAndEmpty Odd b.marks p u → IsBlockHeldAndEmpty Odd b.marks q u
 empty_on Odd b p q u size stay cells m h = let s = stay u m in grind (arith, common_steps, still_empty)
 empty_on Even b p q u size stay cells m h = grind (arith, common_steps, still_empty)
 
@@ -177,9 +173,8 @@ frozen_on part b p q size stay first f = record {
     cells = cells_stay part (marks_of part b.marks) p q stay first
 
 -- ---- frozen blocks, if they were found
-pub still_frozen : (part : Partition) (b : FrozenBlocks) (p q : Planes) →
-    HasWordsStrideRows p.words p.stride p.rows q → MayTurnBlocks part p q → AreBlocksFrozenIfFound b p →
-    AreBlocksFrozenIfFound b q
+pub still_frozen : (part : Partition) (b : FrozenBlocks) (p q : Planes) → HasWordsStrideRows p.words p.stride p.rows q →
+    MayTurnBlocks part p q → AreBlocksFrozenIfFound b p → AreBlocksFrozenIfFound b q
 still_frozen part b p q size may frozen = ∥∥₁_map frozen (λ h e. frozen_on part b p q size (stay (h e)) may.first (h e))
   where
     stay : AreMarkedBlocksFrozen b p → MarkedStay part (marks_of part b.marks) p q
@@ -192,8 +187,7 @@ stable_prop : (part : Partition) (marks : List ℕ) (p : Planes) → IsProp (Are
 stable_prop part marks p = Prim.hlevel props
 
 pub found_stable : (part : Partition) (b : FrozenBlocks) (p : Planes) → ArePlaneWordsInRange p →
-    AreBlocksFrozenIfFound b p →
-    b.is_found ≡ true → AreMarkedBlocksStable part (marks_of part b.marks) p
+    AreBlocksFrozenIfFound b p → b.is_found ≡ true → AreMarkedBlocksStable part (marks_of part b.marks) p
 found_stable part b p words frozen e = ∥∥₁_elim frozen (stable_prop part (marks_of part b.marks) p) (λ h. record {
   calm = λ u is m. held_stable (block_at part p.stride u) p _ _ _ _ words (((h e).blocks part).held u is m);
   last = ((h e).blocks part).last;

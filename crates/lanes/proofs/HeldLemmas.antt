@@ -15,8 +15,7 @@ room_of w u n long l e = let m : w * (u + 1) ≤ w * n = mul-le-mul_left w (omeg
 pub run_room : (w at n cells long : ℕ) → at + n ≤ cells → long ≡ w * cells → w * at + w * n ≤ long
 run_room w at n cells long l e = let m : w * (at + n) ≤ w * cells = mul-le-mul_left w l in omega (arith, m, e)
 
-pub all_live : (w at : ℕ) (cells : List ℕ) →
-    ((k : ℕ) → k < w → get_or cells (w * at + k) 0 ≡ 18446744073709551615) →
+pub all_live : (w at : ℕ) (cells : List ℕ) → ((k : ℕ) → k < w → get_or cells (w * at + k) 0 ≡ 18446744073709551615) →
     HasValueUnderEachAssignment true w (cell_word_bit w cells at)
 all_live w at cells same k j lk lj = ap (λ (n : ℕ). bit n j) (same k lk) ∙ bit_ones j lj
 
@@ -73,8 +72,7 @@ one_live : (w : ℕ) (A D : Type 0) (a d : ℕ → ℕ → Bool) →
 one_live w A D a d h1 k j h2 h3 = grind (arith, common_steps, or_left, or_right)
 
 held_calm : (w : ℕ) (A B C D : Type 0) (a b c d : ℕ → ℕ → Bool) → IsBlockHeldByCorners w A B C D a b c d → (k j : ℕ) →
-    k < w →
-    j < 64 → IsCalmAt (a k j) (b k j) (c k j) (d k j)
+    k < w → j < 64 → IsCalmAt (a k j) (b k j) (c k j) (d k j)
 held_calm w A B C D a b c d (inl h) k j lk lj = grind (arith, common_steps, calm_live, one_live)
 held_calm w A B C D a b c d (inr h) k j lk lj = grind (arith, common_steps, calm_dead)
 
@@ -95,8 +93,7 @@ held_stable b p A B C D words held = (grind (arith, common_steps, calm))
 
 -- a block that is held stays
 pub held_stays : (w : ℕ) (A B C D : Type 0) (a b c d a' b' c' d' : ℕ → ℕ → Bool) →
-    IsBlockHeldByCorners w A B C D a b c d →
-    MayTurn w a b c d a' b' c' d' → BlockStays w a b c d a' b' c' d'
+    IsBlockHeldByCorners w A B C D a b c d → MayTurn w a b c d a' b' c' d' → BlockStays w a b c d a' b' c' d'
 held_stays w A B C D a b c d a' b' c' d' h (inl t) = record {
   upper_left = λ k j lk lj. t.upper_left k j lk lj ∙ (held_calm w A B C D a b c d h k j lk lj).upper_left;
   upper_right = λ k j lk lj. t.upper_right k j lk lj ∙ (held_calm w A B C D a b c d h k j lk lj).upper_right;

@@ -80,8 +80,7 @@ either_dead : (w n a b : ℕ) (m o xs ys : List ℕ) → a < n → b < n → Are
 either_dead w n a b m o xs ys h1 h2 h3 h4 h5 = grind (arith, common_steps)
 
 pub lone_turned : (d : Diagonal) (b : BlockPlaces) (l : LiveMarks) (p q : Planes) → AreCellNumbers b p →
-    HasAtMostOneDiagonalMark d l b →
-    AreAllUnmarkedCellsDead l p → SwapsDiagonal d b p q → TurnsBlock b p q
+    HasAtMostOneDiagonalMark d l b → AreAllUnmarkedCellsDead l p → SwapsDiagonal d b p q → TurnsBlock b p q
 lone_turned Main b l p q in_planes lone dead swap =
     grind (arith, common_steps, main_moved, one_word, same_beside, either_dead)
 lone_turned Anti b l p q in_planes lone dead swap =
@@ -96,16 +95,14 @@ swapped_cells Anti b p q swap = grind (arith, common_steps, other_cell)
 -- ---- which cells are dead afterwards
 -- those whose marks and words changed places
 swap_dead : (w n a b : ℕ) (m o m' xs ys xs' : List ℕ) → b < n → AreUnmarkedCellsDead w n m xs →
-    AreUnmarkedCellsDead w n o ys →
-    TakesMarkOfOther a b m o m' → IsSameOutsidePart (w * a) w xs xs' →
+    AreUnmarkedCellsDead w n o ys → TakesMarkOfOther a b m o m' → IsSameOutsidePart (w * a) w xs xs' →
     ((k : ℕ) → k < w → get_or xs' (w * a + k) 0 ≡ get_or ys (w * b + k) 0) → AreUnmarkedCellsDead w n m' xs'
 swap_dead w n a b m o m' xs ys xs' lb dead others takes beside moved v l free k h =
     grind (arith, common_steps, other_cell)
 
 pub swapped_dead : (d : Diagonal) (b : BlockPlaces) (l l' : LiveMarks) (p q : Planes) →
     HasWordsStrideRows p.words p.stride p.rows q → AreCellNumbers b p → SwapsDiagonal d b p q →
-    SwapsDiagonalMarks d b l l' →
-    AreAllUnmarkedCellsDead l p → AreAllUnmarkedCellsDead l' q
+    SwapsDiagonalMarks d b l l' → AreAllUnmarkedCellsDead l p → AreAllUnmarkedCellsDead l' q
 swapped_dead Main b l l' p q size room s m dead =
     rw (size.0, size.1, size.2, s.1, s.2, m.2, m.3) (
       swap_dead p.words (p.stride * p.rows) b.odd b.even _ _ _ _ _ _ room.3 dead.0 dead.3 m.0 s.0.first_beside
@@ -133,8 +130,7 @@ kept_dead changes w n c m m' xs ys marks same dead u l free k h = grind (arith, 
 
 pub cells_dead : (main anti : Bool) (b : BlockPlaces) (l l' : LiveMarks) (p q : Planes) →
     HasWordsStrideRows p.words p.stride p.rows q → ChangesOnlyDiagonals main anti b p q →
-    MarksChangedCells main anti b l l' →
-    AreAllUnmarkedCellsDead l p → AreAllUnmarkedCellsDead l' q
+    MarksChangedCells main anti b l l' → AreAllUnmarkedCellsDead l p → AreAllUnmarkedCellsDead l' q
 cells_dead main anti b l l' p q size ch marks dead = grind (arith, common_steps, kept_dead)
 
 -- those without a mark, after marks were taken off dead ones
@@ -143,8 +139,7 @@ unmark_dead_cells : (w n c : ℕ) (m m' xs : List ℕ) → UnmarksOnlyIfDead w c
 unmark_dead_cells w n c m m' xs drops dead u l free k h = grind (arith, common_steps)
 
 pub drops_dead : (b : BlockPlaces) (l l' : LiveMarks) (p : Planes) → UnmarksOnlyDeadCells p b l l' →
-    AreAllUnmarkedCellsDead l p →
-    AreAllUnmarkedCellsDead l' p
+    AreAllUnmarkedCellsDead l p → AreAllUnmarkedCellsDead l' p
 drops_dead b l l' p drops dead = grind (arith, common_steps, unmark_dead_cells)
 
 -- none, where all have marks

@@ -61,8 +61,7 @@ unfolding lane
 lane_at q a x y w st s ew es e = grind (arith, common_steps)
 
 pub sets_word : (p q : Planes) (x y k word : ℕ) → q.words ≡ p.words → q.stride ≡ p.stride → x / 2 < p.stride →
-    k < p.words →
-    p.words * (p.stride * (y / 2) + x / 2) + k < length (plane_of p x y) →
+    k < p.words → p.words * (p.stride * (y / 2) + x / 2) + k < length (plane_of p x y) →
     ((x' y' : ℕ) → x' % 2 ≡ x % 2 → y' % 2 ≡ y % 2 →
     plane_of q x' y' ≡ set (plane_of p x y) (p.words * (p.stride * (y / 2) + x / 2) + k) word) →
     ((x' y' : ℕ) → x' % 2 ≡ x % 2 → y' % 2 ≡ y % 2 → plane_of p x' y' ≡ plane_of p x y) →
@@ -100,10 +99,9 @@ sets_word p q x y k word ew es lx lk room same old other = record {
         differ (omega arith, omega arith, first.1)
 
 pub sets_odd : (p q : Planes) (x y k word : ℕ) → q.words ≡ p.words → q.stride ≡ p.stride → x / 2 < p.stride →
-    k < p.words → p.words * (p.stride * (y / 2) + x / 2) + k < length p.odd.items →
-    x % 2 ≡ 0 → y % 2 ≡ 0 → q.odd.items ≡ set p.odd.items (p.words * (p.stride * (y / 2) + x / 2) + k) word →
-    q.right.items ≡ p.right.items → q.down.items ≡ p.down.items → q.even.items ≡ p.even.items →
-    SetsCellWord x y k word p q
+    k < p.words → p.words * (p.stride * (y / 2) + x / 2) + k < length p.odd.items → x % 2 ≡ 0 → y % 2 ≡ 0 →
+    q.odd.items ≡ set p.odd.items (p.words * (p.stride * (y / 2) + x / 2) + k) word → q.right.items ≡ p.right.items →
+    q.down.items ≡ p.down.items → q.even.items ≡ p.even.items → SetsCellWord x y k word p q
 sets_odd p q x y k word ew es lx lk room px py e_odd e_right e_down e_even =
     grind (arith, common_steps, sets_word, plane_odd, by_eq_or_not, plane_down, plane_right, plane_even)
 
@@ -116,10 +114,9 @@ sets_down p q x y k word ew es lx lk room px py e_odd e_right e_down e_even =
     grind (arith, common_steps, sets_word, plane_down, by_eq_or_not, plane_odd, plane_right, plane_even)
 
 pub sets_right : (p q : Planes) (x y k word : ℕ) → q.words ≡ p.words → q.stride ≡ p.stride → x / 2 < p.stride →
-    k < p.words → p.words * (p.stride * (y / 2) + x / 2) + k < length p.right.items →
-    x % 2 ≡ 1 → y % 2 ≡ 0 → q.odd.items ≡ p.odd.items →
-    q.right.items ≡ set p.right.items (p.words * (p.stride * (y / 2) + x / 2) + k) word → q.down.items ≡ p.down.items →
-    q.even.items ≡ p.even.items → SetsCellWord x y k word p q
+    k < p.words → p.words * (p.stride * (y / 2) + x / 2) + k < length p.right.items → x % 2 ≡ 1 → y % 2 ≡ 0 →
+    q.odd.items ≡ p.odd.items → q.right.items ≡ set p.right.items (p.words * (p.stride * (y / 2) + x / 2) + k) word →
+    q.down.items ≡ p.down.items → q.even.items ≡ p.even.items → SetsCellWord x y k word p q
 sets_right p q x y k word ew es lx lk room px py e_odd e_right e_down e_even =
     grind (arith, common_steps, sets_word, plane_right, by_eq_or_not, plane_odd, plane_down, plane_even)
 

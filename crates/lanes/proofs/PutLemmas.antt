@@ -69,8 +69,7 @@ sets_even_mark l l' x y u value px py sets odd right down =
 -- each cell without a mark is dead
 abbrev AreCellsDead : ℕ → ℕ → ℕ → LiveMarks → Planes → Type 0
 AreCellsDead w s r l p = (x y : ℕ) → x / 2 < s → y / 2 < r →
-    IsNumberUnmarked (plane_marks_at l x y) (s * (y / 2) + x / 2) →
-    IsDeadCell w (s * (y / 2) + x / 2) (plane_of p x y)
+    IsNumberUnmarked (plane_marks_at l x y) (s * (y / 2) + x / 2) → IsDeadCell w (s * (y / 2) + x / 2) (plane_of p x y)
 
 number_in_plane : (s r i j : ℕ) → i < s → j < r → s * j + i < s * r
 number_in_plane s r i j li lj = let m : s * (j + 1) ≤ s * r = mul-le-mul_left s (omega arith) in omega arith
@@ -95,8 +94,7 @@ cells_of_planes l p dead x y lx ly free = grind (
 -- the cell with a number, in one plane
 at_cell : (w s r x y i j : ℕ) (l : LiveMarks) (p : Planes) (m xs : List ℕ) → x / 2 ≡ i → y / 2 ≡ j →
     plane_marks_at l x y ≡ m → plane_of p x y ≡ xs → i < s → j < r → AreCellsDead w s r l p →
-    IsNumberUnmarked m (s * j + i) →
-    IsDeadCell w (s * j + i) xs
+    IsNumberUnmarked m (s * j + i) → IsDeadCell w (s * j + i) xs
 at_cell w s r x y i j l p m xs ei ej em exs li lj dead = grind (arith, common_steps)
 
 -- the four cells with a number
@@ -135,8 +133,7 @@ plane_small : (q : Planes) (x y k : ℕ) → ArePlaneWordsInRange q → get_or (
 plane_small q x y k words = grind (arith, common_steps, plane_odd, plane_down, plane_right, plane_even)
 
 zero_by_lanes : (w s x y k : ℕ) (q : Planes) → q.words ≡ w → q.stride ≡ s → ArePlaneWordsInRange q →
-    ((b : ℕ) → b < 64 → lane q (64 * k + b) x y ≡ false) →
-    get_or (plane_of q x y) (w * (s * (y / 2) + x / 2) + k) 0 ≡ 0
+    ((b : ℕ) → b < 64 → lane q (64 * k + b) x y ≡ false) → get_or (plane_of q x y) (w * (s * (y / 2) + x / 2) + k) 0 ≡ 0
 zero_by_lanes w s x y k q ew es words dead = zero_word _ (plane_small q x y _ words) (λ b l.
     let e = sym (lane_at q (64 * k + b) x y w s (plane_of q x y) ew es refl) ∙ dead b l in
     rw (quotient k b l, remainder k b l) at e)

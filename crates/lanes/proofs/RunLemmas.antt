@@ -22,11 +22,9 @@ beside_run w first len n k xs ys same l out = by_lt_or_le n first
 -- words by other places that are the same
 placed : (ul ur ll lr ul' ur' ll' lr' : List ℕ) (a b c d a' b' c' d' : ℕ) → a ≡ a' → b ≡ b' → c ≡ c' → d ≡ d' →
     AreCornerWordsTurned (get_or ul a 0) (get_or ur b 0) (get_or ll c 0) (get_or lr d 0) (get_or ul' a 0)
-    (get_or ur' b 0)
-    (get_or ll' c 0) (get_or lr' d 0) →
+    (get_or ur' b 0) (get_or ll' c 0) (get_or lr' d 0) →
     AreCornerWordsTurned (get_or ul a' 0) (get_or ur b' 0) (get_or ll c' 0) (get_or lr d' 0) (get_or ul' a' 0)
-    (get_or ur' b' 0)
-    (get_or ll' c' 0) (get_or lr' d' 0)
+    (get_or ur' b' 0) (get_or ll' c' 0) (get_or lr' d' 0)
 placed ul ur ll lr ul' ur' ll' lr' a b c d a' b' c' d' ea eb ec ed t = rw (ea, eb, ec, ed) at t
 
 -- ---- the blocks of a partition

@@ -78,8 +78,7 @@ row_below s r i y u at within = grind (arith, common_steps, mul-le-mul_left)
 -- a block that stays after all were turned did not change, since a turn undoes itself
 pub same_after_turn : (m : BlockMarks) (p q : Planes) (u : ℕ) → HasWordsStrideRows p.words p.stride p.rows q →
     TurnsCellsOfPartition Odd p q → AreUnmarkedBlocksStable m q → u < p.stride * p.rows →
-    IsNumberUnmarked m.odd.items u →
-    AreCellsSameAtNumber u p q
+    IsNumberUnmarked m.odd.items u → AreCellsSameAtNumber u p q
 same_after_turn m p q u size turns calm within free = grind (arith, common_steps, same)
   where
     stable : IsBlockStable (block_at Odd q.stride u) q

@@ -34,12 +34,11 @@ beside : (a k long : ℕ) (xs ys : List ℕ) → k ≡ long → a + long ≤ len
 beside a k long xs ys e room l = grind (arith, common_steps, get_or-take, take-put_mid_below, get_or-drop, drop-put_mid)
 
 pub part_turned : (a b c d ka kb kc kd long : ℕ) (ul ur ll lr p q r s : List ℕ) → ka ≡ long → kb ≡ long → kc ≡ long →
-    kd ≡ long →
-    a + long ≤ length ul → b + long ≤ length ur → c + long ≤ length ll → d + long ≤ length lr → length p ≡ long →
-    length q ≡ long → length r ≡ long → length s ≡ long →
+    kd ≡ long → a + long ≤ length ul → b + long ≤ length ur → c + long ≤ length ll → d + long ≤ length lr →
+    length p ≡ long → length q ≡ long → length r ≡ long → length s ≡ long →
     ((k : ℕ) → k < long → AreCornerWordsTurnedAt k (mid_of a ka ul) (mid_of b kb ur) (mid_of c kc ll)
-    (mid_of d kd lr) p q r s) →
-    TurnsPart a b c d long ul ur ll lr (put_mid a ka ul p) (put_mid b kb ur q) (put_mid c kc ll r) (put_mid d kd lr s)
+    (mid_of d kd lr) p q r s) → TurnsPart a b c d long ul ur ll lr (put_mid a ka ul p) (put_mid b kb ur q)
+    (put_mid c kc ll r) (put_mid d kd lr s)
 part_turned a b c d ka kb kc kd long ul ur ll lr p q r s ea eb ec ed ra rb rc rd lp lq lr' ls turns = record {
   turned = λ k l.
       let h = turns k l in
@@ -92,14 +91,12 @@ word_of_bits a b same = same_from_bits a b (λ j. at_place j (same j))
 
 -- the words of a diagonal that stays are as they were
 pub main_words : (ul ur ll lr ul' ur' ll' lr' : ℕ) → IsDiagonalStable ul lr ur ll →
-    AreCornerWordsTurned ul ur ll lr ul' ur' ll' lr' →
-    (ul' ≡ ul) × (lr' ≡ lr)
+    AreCornerWordsTurned ul ur ll lr ul' ur' ll' lr' → (ul' ≡ ul) × (lr' ≡ lr)
 main_words ul ur ll lr ul' ur' ll' lr' stays t =
     (word_of_bits ul' ul (λ j. t.upper_left j ∙ (stays j).0), word_of_bits lr' lr (λ j. t.lower_right j ∙ (stays j).1))
 
 pub anti_words : (ul ur ll lr ul' ur' ll' lr' : ℕ) → IsDiagonalStable ur ll ul lr →
-    AreCornerWordsTurned ul ur ll lr ul' ur' ll' lr' →
-    (ur' ≡ ur) × (ll' ≡ ll)
+    AreCornerWordsTurned ul ur ll lr ul' ur' ll' lr' → (ur' ≡ ur) × (ll' ≡ ll)
 anti_words ul ur ll lr ul' ur' ll' lr' stays t =
     (word_of_bits ur' ur (λ j. t.upper_right j ∙ (stays j).0), word_of_bits ll' ll (λ j. t.lower_left j ∙ (stays j).1))
 

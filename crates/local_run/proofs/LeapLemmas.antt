@@ -56,8 +56,7 @@ unfolding step
 step_alike k m s x y e = grind (arith, common_steps, partner_alike)
 
 with_halo_alike : (j : JobView) (u : Valuation) (k m : ℕ) (s s' : State) (x y : ℤ) → s x y ≡ s' x y →
-    signal_at j.halos k x y ≡ signal_at j.halos m x y →
-    with_halo j u k s x y ≡ with_halo j u m s' x y
+    signal_at j.halos k x y ≡ signal_at j.halos m x y → with_halo j u k s x y ≡ with_halo j u m s' x y
 unfolding with_halo
 with_halo_alike j u k m s s' x y e h = ap₂ (λ p q. p || (in_halo j.area x y && is_live u q)) e h
 
@@ -89,9 +88,8 @@ even_of t = elim (even_or_odd t) [
 ]
 
 after_same : (j : JobView) (u : Valuation) (t o n k : ℕ) → IsOddOfTimePair t o → IsRunUnchangedUntil j u t (t + 2) →
-    HasSameSignalsAtOddTimes j.halos o n → t ≤ k → k < n →
-    ((x y : ℤ) → local_run j u k x y ≡ local_run j u t x y) → (x y : ℤ) →
-    local_run j u (suc k) x y ≡ local_run j u t x y
+    HasSameSignalsAtOddTimes j.halos o n → t ≤ k → k < n → ((x y : ℤ) → local_run j u k x y ≡ local_run j u t x y) →
+    (x y : ℤ) → local_run j u (suc k) x y ≡ local_run j u t x y
 after_same j u t o n k of stays steady from l same x y =
     let odd = of.odd in
     let low = of.from in
@@ -108,9 +106,7 @@ after_same j u t o n k of stays steady from l same x y =
 
 -- ---- and so on
 stays_by : (j : JobView) (u : Valuation) (t o n d : ℕ) → IsOddOfTimePair t o → IsRunUnchangedUntil j u t (t + 2) →
-    HasSameSignalsAtOddTimes j.halos o n →
-    t + d ≤ n →
-    (x y : ℤ) → local_run j u (t + d) x y ≡ local_run j u t x y
+    HasSameSignalsAtOddTimes j.halos o n → t + d ≤ n → (x y : ℤ) → local_run j u (t + d) x y ≡ local_run j u t x y
 stays_by j u t o n zero of stays steady l x y = let e : t + 0 ≡ t = omega arith in ap (λ k. local_run j u k x y) e
 stays_by j u t o n (suc d) of stays steady l x y =
     let e : t + suc d ≡ suc (t + d) = omega arith in
@@ -162,8 +158,7 @@ later_in_time at xs i j a b rising le ea eb = by_lt_or_le i j
     (λ ge. grind (arith, common_steps, same_Some, slice_get))
 
 later : (es : List TimedSignal) (i j : ℕ) (a b : TimedSignal) → IsRising moment_cmp moment_of es → i ≤ j →
-    slice_get es i ≡ Some a →
-    slice_get es j ≡ Some b → a.at.time ≤ b.at.time
+    slice_get es i ≡ Some a → slice_get es j ≡ Some b → a.at.time ≤ b.at.time
 later = later_in_time moment_of
 
 pub raise_time : (es : List TimedSignal) (t low high m : ℕ) (a : TimedSignal) → IsRising moment_cmp moment_of es →
@@ -200,14 +195,12 @@ none_before es t low high a rising b met at = none_until es t low high a.at.time
 
 -- that time is not before t
 pub above_at : (es : List TimedSignal) (t low high : ℕ) (a : TimedSignal) → AreEventPlacesAroundTime es t low high →
-    high ≤ low →
-    slice_get es low ≡ Some a → t ≤ a.at.time
+    high ≤ low → slice_get es low ≡ Some a → t ≤ a.at.time
 above_at es t low high a b met at = b.above low a met at
 
 -- or at the end
 pub none_at_all : (es : List TimedSignal) (t low high n : ℕ) → AreEventPlacesAroundTime es t low high →
-    length es ≤ low →
-    HasNoEventsBetween es t n
+    length es ≤ low → HasNoEventsBetween es t n
 none_at_all es t low high n b met i e ei from to = grind (arith, common_steps, by_lt_or_le, slice_get_within)
 
 -- ---- where there are no events, signals stay

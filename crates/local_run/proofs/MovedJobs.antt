@@ -112,8 +112,7 @@ looked_up dx dy b b' other xs xs' m along same x y = grind (arith, common_steps,
 
 carried_on : (a b c d : ℕ) (s s' : Signals) →
     moved_signals (shift_to_origin a) (shift_to_origin c) s ≡ moved_signals (shift_to_origin b) (shift_to_origin d) s' →
-    (t : ℕ) (x y : ℤ) →
-    signal_at s' t (x +ℤ (pos b -ℤ pos a)) (y +ℤ (pos d -ℤ pos c)) ≡ signal_at s t x y
+    (t : ℕ) (x y : ℤ) → signal_at s' t (x +ℤ (pos b -ℤ pos a)) (y +ℤ (pos d -ℤ pos c)) ≡ signal_at s t x y
 carried_on a b c d s s' e t x y =
     sym (signals_moved (shift_to_origin b) (shift_to_origin d) s' t (x +ℤ (pos b -ℤ pos a)) (y +ℤ (pos d -ℤ pos c)))
     ∙ ap₂ (λ p q. signal_at (moved_signals (shift_to_origin b) (shift_to_origin d) s') t p q) (sym (same_way x a b))
@@ -177,8 +176,7 @@ least_keep_stays j k (Some f) same least = grind (arith, common_steps, keep_stay
 
 -- ---- the cell of a fault is in the box, and so near
 under_inside : (j : JobView) (u : Valuation) (t : ℕ) (kind : Kind) (x y : ℤ) → IsJob j →
-    IsFaultUnderValues j u t kind x y →
-    in_box j.area x y ≡ true
+    IsFaultUnderValues j u t kind x y → in_box j.area x y ≡ true
 unfolding in_ring
 under_inside j u t Edge x y is f = (and_parts _ _ f.ring).0
 under_inside j u t Stop x y is f = grind (arith, common_steps)

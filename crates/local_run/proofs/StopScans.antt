@@ -30,8 +30,7 @@ pub record AreTried (j : JobView) (vs : Values) (t place : ℕ) : Type 0 where
   pub before : (k : ℕ) (s : listed.Stop) → k < place → slice_get j.stops k ≡ Some s → s.at.time ≤ t
   pub from : (k : ℕ) (s : listed.Stop) → place ≤ k → slice_get j.stops k ≡ Some s → t ≤ s.at.time
   pub free : (k : ℕ) (s : listed.Stop) (a : ℕ) → k < place → slice_get j.stops k ≡ Some s → s.at.time ≡ t →
-      a < assignments j →
-      ¬ IsStopMissed j vs a s
+      a < assignments j → ¬ IsStopMissed j vs a s
 
 -- a stop more
 pub one_more : (j : JobView) (vs : Values) (t place : ℕ) (s : listed.Stop) → AreTried j vs t place →
@@ -162,9 +161,8 @@ pub past_all : (j : JobView) (vs : Values) (t place : ℕ) → AreTried j vs t p
     AreAllTried j vs t place
 past_all j vs t place tried past = all_tried j vs t place tried (at_end j t place past)
 
-pub past_these : (j : JobView) (vs : Values) (t place : ℕ) (s : listed.Stop) →
-    IsRising moment_cmp stop_moment j.stops → AreTried j vs t place → slice_get j.stops place ≡ Some s → s.at.time ≢ t →
-    AreAllTried j vs t place
+pub past_these : (j : JobView) (vs : Values) (t place : ℕ) (s : listed.Stop) → IsRising moment_cmp stop_moment j.stops →
+    AreTried j vs t place → slice_get j.stops place ≡ Some s → s.at.time ≢ t → AreAllTried j vs t place
 past_these j vs t place s rising tried e other =
     all_tried j vs t place tried (before_later j vs t place s rising tried e other)
 

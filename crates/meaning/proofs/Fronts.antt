@@ -72,8 +72,7 @@ rest_more : (line rest : List ℕ) → AreLines (line ∷ []) →
 unfolding bytes_after_last_line_feed
 rest_more line rest clean = grind (arith, common_steps, append_assoc, slice_split_at, last_part_more, some_part)
 
-rest_split : (text : List ℕ) →
-    bytes_after_last_line_feed (front_text Second ++ text) ≡ bytes_after_last_line_feed text
+rest_split : (text : List ℕ) → bytes_after_last_line_feed (front_text Second ++ text) ≡ bytes_after_last_line_feed text
 unfolding front_line
 rest_split text = rest_more front_line text front_clean
 

@@ -46,9 +46,8 @@ owner_in_table o x y t h =
     (halves _ _ (let q : unsigned_abs x < o.width = omega (arith, p.0) in q) t.width.2))
 
 pub owner_read : (o : OwnersView) (x y : ℤ) (a b r : ℕ) → HasOwnerTableSizes o → in_box (rectangle o) x y ≡ true →
-    a ≡ unsigned_abs y →
-    b ≡ unsigned_abs x →
-    r ≡ get_or o.numbers ((a / 2) * (o.width / 2) + b / 2) r → r ≡ owner_of o x y
+    a ≡ unsigned_abs y → b ≡ unsigned_abs x → r ≡ get_or o.numbers ((a / 2) * (o.width / 2) + b / 2) r →
+    r ≡ owner_of o x y
 unfolding owner_of
 owner_read o x y a b r t h ea eb e = grind (arith, common_steps, get_or_from_slice_get, slice_get_read, owner_in_table)
 

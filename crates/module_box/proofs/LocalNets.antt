@@ -69,8 +69,7 @@ known_rest n cuts gates i =
     ∙ sym (append_assoc cuts (flat_map (outs_of n) (take i gates)) (flat_map (outs_of n) (drop i gates)))
 
 known_more : (n : Netlist) (cuts gates : List ℕ) (i k : ℕ) (g : Gate) → i < length gates → k ≡ get_or gates i k →
-    slice_get n.gates k ≡ Some g →
-    local_wires n cuts (take (i + 1) gates) ≡ local_wires n cuts (take i gates) ++ g.outs
+    slice_get n.gates k ≡ Some g → local_wires n cuts (take (i + 1) gates) ≡ local_wires n cuts (take i gates) ++ g.outs
 known_more n cuts gates i k g within is at = grind (arith, common_steps, take_more, append-nil, flat_map-append)
 
 -- the gate g over other numbers: the wires that it uses stand at its ins in the list, and those that it defines come
@@ -123,8 +122,7 @@ next_known n cuts gates i k keys done lines part within is = grind (arith, commo
 
 -- and so for the gate that the circuit has there
 pub known_ins : (n : Netlist) (keys : List ℕ) (k : ℕ) (g : Gate) → UsesOnlyKnownWires n keys k →
-    slice_get n.gates k ≡ Some g →
-    All (λ w. IsTrue (is_among keys w)) g.ins
+    slice_get n.gates k ≡ Some g → All (λ w. IsTrue (is_among keys w)) g.ins
 known_ins n keys k g known at = grind (arith, common_steps, same_Some)
 
 -- those that it defines are not
@@ -141,9 +139,8 @@ next_new n cuts gates i k keys done g lines part within is at =
 
 -- it is done
 pub part_more : (n : Netlist) (cuts gates : List ℕ) (i k : ℕ) (keys new : List ℕ) (done : List Gate) (g h : Gate) →
-    AreGatesOrdered n.given n.gates →
-    IsPart n cuts gates i keys done → i < length gates → k ≡ get_or gates i k → slice_get n.gates k ≡ Some g →
-    IsOver keys g h → new ≡ keys ++ g.outs →
+    AreGatesOrdered n.given n.gates → IsPart n cuts gates i keys done → i < length gates → k ≡ get_or gates i k →
+    slice_get n.gates k ≡ Some g → IsOver keys g h → new ≡ keys ++ g.outs →
     IsPart n cuts gates (i + 1) new (done ++ h ∷ [])
 part_more n cuts gates i k keys new done g h ordered part within is at over added =
     let all : List ℕ = local_wires n cuts gates in

@@ -113,13 +113,11 @@ pub record AreRowsBelow (l : Netlist) (words chunk : ℕ) (values undefined defi
 
 pub rows_more : (l : Netlist) (words chunk word : ℕ)
     (column gaps values values' undefined undefined' defined defined' : List ℕ) → AreGatesOrdered l.given l.gates →
-    chunk < words →
-    IsWritten words chunk (wires l) column values values' →
+    chunk < words → IsWritten words chunk (wires l) column values values' →
     IsWritten words chunk (length l.gates) gaps undefined undefined' → length values' ≡ length values →
-    length undefined' ≡ length undefined →
-    defined' ≡ defined ++ word ∷ [] → ((b : ℕ) → b < 64 → AreModuleValuesAtBit l (64 * chunk + b) column gaps word b) →
-    AreRowsBelow l words chunk values undefined defined →
-    AreRowsBelow l words (chunk + 1) values' undefined' defined'
+    length undefined' ≡ length undefined → defined' ≡ defined ++ word ∷ [] →
+    ((b : ℕ) → b < 64 → AreModuleValuesAtBit l (64 * chunk + b) column gaps word b) →
+    AreRowsBelow l words chunk values undefined defined → AreRowsBelow l words (chunk + 1) values' undefined' defined'
 unfolding bit_of_row
 rows_more l words chunk word column gaps values values' undefined undefined' defined defined' ordered within written
     gaps_written long tall pushed columns before = record {
@@ -168,8 +166,7 @@ rows_more l words chunk word column gaps values values' undefined undefined' def
     }
 
 pub written : (words place n : ℕ) (column old new column' old' : List ℕ) → column' ≡ column → old' ≡ old →
-    length column ≡ n →
-    ((w : ℕ) → w < length column' → slice_index new (words * w + place) ≡ slice_index column' w) →
+    length column ≡ n → ((w : ℕ) → w < length column' → slice_index new (words * w + place) ≡ slice_index column' w) →
     ((w k : ℕ) → w < length column' → k < words → k ≢ place →
     slice_index new (words * w + k) ≡ slice_index old' (words * w + k)) → IsWritten words place n column old new
 written words place n column old new column' old' same_column same_old long put kept = grind (arith, common_steps)
@@ -188,8 +185,7 @@ is_gate_at : (o : Option ℕ) (k : ℕ) → o ≡ Some k → is_this_gate o k �
 is_gate_at o k e = ap (λ (o : Option ℕ). is_this_gate o k) e ∙ eq-eqb k k refl
 
 pub column_at : (l : Netlist) (given words undefined : List ℕ) (defined a b : ℕ) → AreGatesOrdered l.given l.gates →
-    length given ≡ l.given →
-    ((i : ℕ) → i < l.given → bit (slice_index_or given i 0) b ≡ bit a i) →
+    length given ≡ l.given → ((i : ℕ) → i < l.given → bit (slice_index_or given i 0) b ≡ bit a i) →
     AreGateValuesAtBit given l.gates words undefined defined b → AreModuleValuesAtBit l a words undefined defined b
 column_at l given words undefined defined a b ordered long bits says =
     let vs : List Bool = lane b given in
@@ -208,8 +204,7 @@ column_at l given words undefined defined a b ordered long bits says =
 -- where no gate of a column is undefined, the values are there
 pub column_defined : (l : Netlist) (a b defined : ℕ) (words undefined : List ℕ) →
     AreModuleValuesAtBit l a words undefined defined b →
-    ((k : ℕ) → k < length l.gates → bit (slice_index undefined k) b ≡ false) →
-    bit defined b ≡ true
+    ((k : ℕ) → k < length l.gates → bit (slice_index undefined k) b ≡ false) → bit defined b ≡ true
 column_defined l a b defined words undefined is clear =
     grind (arith, common_steps, cases_Bool, slice_get_within, true≢false)
 

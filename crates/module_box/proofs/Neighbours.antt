@@ -88,8 +88,7 @@ halo_parts b x y h = let p = and_parts (not (in_box b x y)) (has_neighbour_in_se
     (not-true _ p.0, p.1)
 
 pub ring_from : (b : Box2) (x y : ℤ) → in_box b x y ≡ true →
-    has_neighbour_in_set (λ x' y'. not (in_box b x' y')) x y ≡ true →
-    in_ring b x y ≡ true
+    has_neighbour_in_set (λ x' y'. not (in_box b x' y')) x y ≡ true → in_ring b x y ≡ true
 unfolding in_ring
 ring_from b x y h near = and_from _ _ h near
 

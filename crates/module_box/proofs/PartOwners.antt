@@ -34,8 +34,7 @@ module _ (o : OwnersView) (t : HasOwnerTableSizes o) where
 
   pub has_cell : (b : Box2) (x y : ℤ) → IsEvenBox b → in_box (rectangle o) x y ≡ true →
       HasBlockAtPlace b (o.width / 2) (place_of o x y) → in_box b x y ≡ true
-  has_cell b x y even inside here =
-      grind (arith, common_steps, in_box_nats, box_up, div-mul-add, mod-mul-add, halves)
+  has_cell b x y even inside here = grind (arith, common_steps, in_box_nats, box_up, div-mul-add, mod-mul-add, halves)
 
   -- the corner of a block is in the rectangle
   pub corner_inside : (k : ℕ) → k < length o.numbers →

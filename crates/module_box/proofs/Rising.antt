@@ -33,9 +33,8 @@ pub record IsBetween {A K : Type 0} (cmp : K → K → Ordering) (key : A → K)
   pub above : (i : ℕ) (a : A) → high ≤ i → slice_get xs i ≡ Some a → cmp k (key a) ≡ Less
 
 pub raise_low : {A K : Type 0} (cmp : K → K → Ordering) (key : A → K) (xs : List A) (k : K) (low high m : ℕ) (a : A) →
-    IsTotalOrder cmp → IsRising cmp key xs →
-    IsBetween cmp key xs k low high → slice_get xs m ≡ Some a → cmp (key a) k ≡ Less →
-    IsBetween cmp key xs k (m + 1) high
+    IsTotalOrder cmp → IsRising cmp key xs → IsBetween cmp key xs k low high → slice_get xs m ≡ Some a →
+    cmp (key a) k ≡ Less → IsBetween cmp key xs k (m + 1) high
 raise_low cmp key xs k low high m a total rising b at less = grind (arith, common_steps, below_or_same, same_some)
 
 pub drop_high : {A K : Type 0} (cmp : K → K → Ordering) (key : A → K) (xs : List A) (k : K) (low high m : ℕ) (a : A) →
@@ -55,8 +54,7 @@ is_absent cmp key xs k low high total b met i a e same =
 
 -- an earlier element has another key
 pub is_first : {A K : Type 0} (cmp : K → K → Ordering) (key : A → K) (xs : List A) (m : ℕ) (a : A) → IsTotalOrder cmp →
-    IsRising cmp key xs → slice_get xs m ≡ Some a →
-    (i : ℕ) (b : A) → i < m → slice_get xs i ≡ Some b → key b ≢ key a
+    IsRising cmp key xs → slice_get xs m ≡ Some a → (i : ℕ) (b : A) → i < m → slice_get xs i ≡ Some b → key b ≢ key a
 is_first cmp key xs m a total rising at i b lt e same =
     less_equal (sym (rising.rises i m b a lt e at) ∙ ap (λ z. cmp z (key a)) same ∙ tied_itself total (key a))
 
@@ -72,8 +70,7 @@ then_own_moment : (m : Moment) → is_moment_at m m.time m.cell.x m.cell.y ≡ t
 then_own_moment m = rw (eqb_itself m.time, cell_itself m.cell)
 
 pub all_times_none : (hs : List AllTimesSignal) (c : Cell) →
-    ((i : ℕ) (h : AllTimesSignal) → slice_get hs i ≡ Some h → h.cell ≢ c) →
-    all_times_at hs c.x c.y ≡ None
+    ((i : ℕ) (h : AllTimesSignal) → slice_get hs i ≡ Some h → h.cell ≢ c) → all_times_at hs c.x c.y ≡ None
 unfolding all_times_at
 all_times_none [] c f = refl
 all_times_none (h ∷ hs) c f = elim (cases_Bool (is_cell_at h.cell c.x c.y)) [
@@ -93,8 +90,7 @@ all_times_some (g ∷ hs) (suc i) h e f = elim (cases_Bool (is_cell_at g.cell h.
 ]
 
 pub event_none : (es : List TimedSignal) (m : Moment) →
-    ((i : ℕ) (e : TimedSignal) → slice_get es i ≡ Some e → e.at ≢ m) →
-    event_at es m.time m.cell.x m.cell.y ≡ None
+    ((i : ℕ) (e : TimedSignal) → slice_get es i ≡ Some e → e.at ≢ m) → event_at es m.time m.cell.x m.cell.y ≡ None
 unfolding event_at
 event_none [] m f = refl
 event_none (h ∷ hs) m f = elim (cases_Bool (is_moment_at h.at m.time m.cell.x m.cell.y)) [
@@ -114,8 +110,7 @@ event_some (g ∷ hs) (suc i) h e f = elim (cases_Bool (is_moment_at g.at h.at.t
 ]
 
 pub all_times_found : (hs : List AllTimesSignal) (i : ℕ) (h : AllTimesSignal) (c : Cell) → h.cell ≡ c →
-    slice_get hs i ≡ Some h →
-    ((j : ℕ) (h' : AllTimesSignal) → j < i → slice_get hs j ≡ Some h' → h'.cell ≢ h.cell) →
+    slice_get hs i ≡ Some h → ((j : ℕ) (h' : AllTimesSignal) → j < i → slice_get hs j ≡ Some h' → h'.cell ≢ h.cell) →
     all_times_at hs c.x c.y ≡ Some h.signal
 all_times_found hs i h c same e f = grind (arith, common_steps, all_times_some)
 

@@ -74,9 +74,8 @@ read_lane ws b w = ap (λ (d : Bool). get_or (lane b ws) w d) (sym (bit-zero b))
 
 -- ---- one gate
 front_ins : (kind : GateKind) (f : ℕ → Bool) (ins : List ℕ) → length ins ≡ 4 →
-    map f (take (uses kind) ins)
-    ≡ take (uses kind) (f (get_or ins 0 0) ∷ f (get_or ins 1 0) ∷ f (get_or ins 2 0) ∷ f (get_or ins 3 0)
-    ∷ [])
+    map f (take (uses kind) ins) ≡ take (uses kind)
+    (f (get_or ins 0 0) ∷ f (get_or ins 1 0) ∷ f (get_or ins 2 0) ∷ f (get_or ins 3 0) ∷ [])
 front_ins kind f ins h1 = grind (arith, common_steps)
 
 -- the words of the wires that a gate uses
@@ -277,9 +276,8 @@ pub column_none : (given : List ℕ) (gs : List LocalGate) (words undefined : Li
 column_none given gs words undefined same none = grind (arith, common_steps, column_start)
 
 pub column_more : (given : List ℕ) (gs : List LocalGate) (k : ℕ) (d : LocalGate) (old new undefined undefined' : List ℕ)
-    (defined defined' none first : ℕ) → k < length gs →
-    AddsOutWords (gate_of_local_gate (get_or gs k d)) old new none → first ≡ bit_and defined none →
-    undefined' ≡ undefined ++ first ∷ [] → defined' ≡ bit_xor defined first →
+    (defined defined' none first : ℕ) → k < length gs → AddsOutWords (gate_of_local_gate (get_or gs k d)) old new none →
+    first ≡ bit_and defined none → undefined' ≡ undefined ++ first ∷ [] → defined' ≡ bit_xor defined first →
     AreInColumn given gs k old undefined defined → AreInColumn given gs (k + 1) new undefined' defined'
 unfolding wires_after
 column_more given gs k d old new undefined undefined' defined defined' none first within adds is_first more fewer

@@ -46,8 +46,7 @@ begins_inside p h =
     grind (arith, common_steps, parts_inside, list_all-append, right_is_true, list_all-map, left_is_true)
 
 pub mirrors_fit : (s : LayoutHeader) (rs : List Box2) → list_all (λ r. is_inside s (Mirror r)) rs ≡ true →
-    s.w ≤ max_side →
-    s.h ≤ max_side → (k : ℕ) (d : Box2) → k < length rs →
+    s.w ≤ max_side → s.h ≤ max_side → (k : ℕ) (d : Box2) → k < length rs →
     ((get_or rs k d).x + (get_or rs k d).w ≤ max_side) × ((get_or rs k d).y + (get_or rs k d).h ≤ max_side)
 mirrors_fit s [] e w h k d lt = absurd (omega arith)
 mirrors_fit s (r ∷ rs) e w h zero d lt = grind (arith, common_steps, mirror_fits, left_is_true)

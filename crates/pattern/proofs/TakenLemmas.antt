@@ -44,8 +44,7 @@ row_inside s x (suc n) y wide high =
     grind (arith, common_steps, row_inside s (x + 1) n y (omega arith) high, in_span_of)
 
 append_inside : (s : LayoutHeader) (xs ys : List Cell) → AllByRecursion (IsInside s) xs →
-    AllByRecursion (IsInside s) ys →
-    AllByRecursion (IsInside s) (xs ++ ys)
+    AllByRecursion (IsInside s) ys → AllByRecursion (IsInside s) (xs ++ ys)
 append_inside s [] ys front back = back
 append_inside s (x ∷ xs) ys front back = (front.0, append_inside s xs ys front.1 back)
 
@@ -57,8 +56,7 @@ rows_inside s x w y (suc n) wide high =
     (row_inside s x w y wide (omega arith)) (rows_inside s x w (y + 1) n wide (omega arith))
 
 -- where the corner of a mirror that lies inside is
-pub mirror_fits : (s : LayoutHeader) (r : Box2) → is_inside s (Mirror r) ≡ true →
-    (r.x + r.w ≤ s.w) × (r.y + r.h ≤ s.h)
+pub mirror_fits : (s : LayoutHeader) (r : Box2) → is_inside s (Mirror r) ≡ true → (r.x + r.w ≤ s.w) × (r.y + r.h ≤ s.h)
 unfolding is_inside
 mirror_fits s r e = grind (arith, common_steps, and_parts, at_most_by_test)
 
@@ -126,11 +124,9 @@ any_same p q same (c ∷ cells) = rw (same c, any_same p q same cells) refl
 
 pub taken_by : (one other : Board) (parts : List LayoutLine) (part : LayoutLine) (cells : List Cell) →
     ((x y : ℤ) → live one x y ≡ cells_taken_at_start parts x y) →
-    ((x y : ℤ) → live other x y ≡ cells_taken_at_end parts x y) →
-    cells ≡ cells_of part
-    → (if takes_cells_at_start part then list_any (λ c. live one c.x c.y) cells else list_any
-    (λ c. live other c.x c.y) cells)
-    ≡ has_taken_cell parts part
+    ((x y : ℤ) → live other x y ≡ cells_taken_at_end parts x y) → cells ≡ cells_of part →
+    (if takes_cells_at_start part then list_any (λ c. live one c.x c.y) cells else list_any
+    (λ c. live other c.x c.y) cells) ≡ has_taken_cell parts part
 unfolding has_taken_cell
 taken_by one other parts part cells same_begun same_ended are =
     rw (

@@ -83,8 +83,7 @@ unfolding words_of_four words_of_five
 no_five l w r a none = grind (arith, common_steps, not_one_more, test_failed)
 
 pub five_are : (l w r : List ℕ) (ws : List (List ℕ)) → words_of l ≡ w ∷ words_of r →
-    Some ws ≡ words_of_four (words_of r) →
-    Some (w ∷ ws) ≡ words_of_five (words_of l)
+    Some ws ≡ words_of_four (words_of r) → Some (w ∷ ws) ≡ words_of_five (words_of l)
 unfolding words_of_four words_of_five
 five_are l w r ws a some = grind (arith, common_steps, test_of, one_more)
 

@@ -120,7 +120,6 @@ module _ (ws : List (List ℕ)) (i before after : ℕ) where
   names_are w ins outs between arrow first last end =
       let within = slice_get_within ws (i + before) w (sym between) in
       let fit = names_fit ws (i + before + 1) after outs (sym last) (omega (arith, within)) in
-      let left : 0 ≡ length ws - (i + before + 1 + after) =
-      ap length end ∙ length-drop (i + before + 1 + after) ws in
+      let left : 0 ≡ length ws - (i + before + 1 + after) = ap length end ∙ length-drop (i + before + 1 + after) ws in
       rw (is_so (length ws) (i + before + 1 + after) (omega (arith, left)) fit, sym between, arrow, sym first, sym last)
       refl

@@ -62,8 +62,7 @@ on_by on ports x y (Some n) own e =
     (and_from (on s.port.name) (is_cell_at s.port.cell x y) (ap on s.named ∙ h) s.stands))
 
 port_is : (ports : List Port) (q : Port) (i : ℕ) (o : Option (List ℕ)) → HaveDistinctCells ports →
-    slice_get ports i ≡ Some q →
-    port_at ports q.cell.x q.cell.y ≡ o → o ≡ Some q.name
+    slice_get ports i ≡ Some q → port_at ports q.cell.x q.cell.y ≡ o → o ≡ Some q.name
 port_is ports q i None own at e = absurd (none_stands ports q.cell.x q.cell.y e i q at (cell_itself q.cell))
 port_is ports q i (Some n) own at e =
     ap (λ (m : List ℕ). Some m) (sym (only_port ports q.cell.x q.cell.y n own e i q at (cell_itself q.cell)))
@@ -119,8 +118,7 @@ unfolding cell_fault has_taken_cell cells_of takes_cells_at_start is_inside
 free_here s before q e = grind (arith, common_steps)
 
 all_free : (s : LayoutHeader) (before : List LayoutLine) (ports : List Port) (rest : List LayoutLine) →
-    AreGoodAfter s before (map Out ports ++ rest) →
-    (i : ℕ) (q : Port) → slice_get ports i ≡ Some q → IsFree s before q
+    AreGoodAfter s before (map Out ports ++ rest) → (i : ℕ) (q : Port) → slice_get ports i ≡ Some q → IsFree s before q
 all_free s before [] rest good i q e = absurd cc
 all_free s before (p ∷ ports) rest good zero q e = grind (arith, common_steps, same_Some, free_here)
 all_free s before (p ∷ ports) rest good (suc i) q e =
@@ -168,8 +166,7 @@ is_output p good i q e =
 -- ---- the end
 
 pub met_mirror : (c : Circuit) (p : Pattern) (v : Valuation) (x y : ℤ) (live : Bool) →
-    in_rectangles p.mirrors x y ≡ true →
-    MeetsDemand v (end_demand c p x y) live → live ≡ true
+    in_rectangles p.mirrors x y ≡ true → MeetsDemand v (end_demand c p x y) live → live ≡ true
 unfolding end_demand
 met_mirror c p v x y live e h = grind (arith, common_steps)
 

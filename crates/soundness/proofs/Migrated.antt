@@ -133,8 +133,7 @@ module _ (lines : List CircuitLine) (p : Pattern) (ms : List ModuleLines) (jobs 
 
   none_outside : (m : ModuleLines) → IsModule g m → (t : ℕ) (x y : ℤ) → in_box (whole p.size) x y ≡ false →
       halo_signal c m t x y ≡ Zero
-  none_outside m is t x y out =
-      no_signal c (halos m) t x y (grind (arith, common_steps, other_cell))
+  none_outside m is t x y out = no_signal c (halos m) t x y (grind (arith, common_steps, other_cell))
 
   module _ (i : ℕ) (m : ModuleLines) (j k : JobView) (at : slice_get ms i ≡ Some m) (of_j : IsJobOf c p m j)
       (of_k : IsJobOf c p (with_halo_lines g ms m) k) where

@@ -74,8 +74,7 @@ module _ (c : Circuit) (ws : List ℕ) where
     pub events_below : Each (λ e. IsSignalWireBelow (length ws) e.signal) (map numbered_event es)
 
   back_from : (e : BorderLine) (time : Option ℕ) (s : Signal) (hs : List AllTimesSignal) (es : List TimedSignal) →
-      IsNumbered ws s →
-      IsBack hs es → IsBack (signal_if_starred e time s ++ hs) (event_if_timed e time s ++ es)
+      IsNumbered ws s → IsBack hs es → IsBack (signal_if_starred e time s ++ hs) (event_if_timed e time s ++ es)
   unfolding numbered_all_times numbered_event Each
   back_from e None s hs es is more = grind (arith, common_steps)
   back_from e (Some t) s hs es is more = grind (arith, common_steps)

@@ -109,8 +109,7 @@ same_steps : (c : Circuit) (ss : List StopLine) (m n a b : ℕ) → TakesStepsFr
 same_steps c ss m n a b s t = grind (arith, common_steps)
 
 not_before : (c : Circuit) (ss : List StopLine) (n a b s t : ℕ) → TakesStepsFromLastToFirstStop c ss n a b →
-    IsLastStopTime c ss a s →
-    IsFirstStopTime c ss b t → t < s → ⊥
+    IsLastStopTime c ss a s → IsFirstStopTime c ss b t → t < s → ⊥
 not_before c ss n a b s t takes last first lt = grind (arith, common_steps)
 
 kept_gap : (c : Circuit) (ss : List StopLine) (k n a b : ℕ) (gap : StopGap) → TakesStepsFromLastToFirstStop c ss n a b →
@@ -228,8 +227,7 @@ module _ (lines : List CircuitLine) (p : Pattern) (m : ModuleLines) (jobs : List
       record {
         at = at;
         first = only_number m k.0 n k.1;
-        is = subst (λ k. IsJobOf c p k j)
-            (sym (only_module m k.0 n k.1)) (b.are_jobs.each n k.0 j k.1 at);
+        is = subst (λ k. IsJobOf c p k j) (sym (only_module m k.0 n k.1)) (b.are_jobs.each n k.0 j k.1 at);
       }
 
   -- every assignment is that of some values of the inputs
@@ -295,8 +293,7 @@ module _ (lines : List CircuitLine) (p : Pattern) (m : ModuleLines) (jobs : List
   no_border n f fault = grind (arith, common_steps, only_module, halo_parts)
 
   edge_of : (j : JobView) (u : Valuation) (t : ℕ) (kind : Kind) (x y : ℤ) → kind ≡ Edge →
-      IsFaultUnderValues j u t kind x y →
-      IsEdgeFault j u t x y
+      IsFaultUnderValues j u t kind x y → IsEdgeFault j u t x y
   edge_of j u t kind x y h1 h2 = grind (arith, common_steps)
 
   good : (inputs v : Valuation) (t : ℕ) → ¬ TouchesRim lines p → Satisfies (netlist_of lines) inputs v →
@@ -426,9 +423,8 @@ module _ (lines : List CircuitLine) (p : Pattern) (m : ModuleLines) (jobs : List
       h))
 
   its_first : (f : Fault) (j : JobView) (v : Valuation) → IsItsJob 0 j → IsFault j f →
-      ((g : Fault) → IsFault j g → fault_cmp f g ≢ Greater) →
-      Satisfies (netlist_of lines) (its_inputs f.assignment) v → IsFirstFault lines p (m ∷ []) jobs
-      (its_inputs f.assignment) v 0 m f
+      ((g : Fault) → IsFault j g → fault_cmp f g ≢ Greater) → Satisfies (netlist_of lines) (its_inputs f.assignment) v →
+      IsFirstFault lines p (m ∷ []) jobs (its_inputs f.assignment) v 0 m f
   its_first f j v it fault least s = record {
     bundle = b;
     lines_are = refl;
@@ -585,8 +581,7 @@ plain_decides lines p m jobs named ports b plain = (
       let all : IsAcceptedBundle lines p (m ∷ []) jobs = record { bundle = b; accepted = is } in (
         correct lines p (m ∷ []) jobs named ports all,
         on_time lines p (m ∷ []) jobs named all,
-        off_rim lines p
-            (m ∷ []) jobs named b is,
+        off_rim lines p (m ∷ []) jobs named b is,
       )),
   (λ is.
       accepts lines p m jobs named b plain (no_fault lines p m jobs named b plain is.0 is.1.stops is.2)

@@ -173,8 +173,7 @@ all_borders g ms (suc count) n =
 -- ---- a job of a module is a good one
 
 job_good : (lines : List CircuitLine) (p : Pattern) (m : ModuleLines) (j : JobView) → size_fault p.size ≡ None →
-    IsModule (setting_of lines p) m →
-    IsJobOf (circuit_of lines) p m j → IsJob j
+    IsModule (setting_of lines p) m → IsJobOf (circuit_of lines) p m j → IsJob j
 job_good lines p m j limits own is =
     let c = circuit_of lines in
     let fits = within_512 (setting_of lines p) m p.size refl limits own in

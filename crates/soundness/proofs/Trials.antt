@@ -51,8 +51,7 @@ range_at n a k lt = slice_get-get_or (range_with_len a n) k 0 (omega (arith, lt,
 
 -- a test that all numbers below n pass
 pub all_below : (test : ℕ → Bool) (n k : ℕ) → list_all test (range_with_len 0 n) ≡ true → k < n → test k ≡ true
-all_below test n k all lt =
-    all_at test (range_with_len 0 n) k k all (range_at n 0 k lt ∙ ap Some (omega arith))
+all_below test n k all lt = all_at test (range_with_len 0 n) k k all (range_at n 0 k lt ∙ ap Some (omega arith))
 
 -- the odd times before the last one
 abbrev pub at_odd_times : ℕ → (ℕ → Bool) → Bool
@@ -142,8 +141,7 @@ no_fault_under : (j : JobView) (u : Valuation) (t : ℕ) (kind : Kind) (x y : �
 no_fault_under j u t Edge x y is p f =
     f.differs ((booleans_Decides _ _).0 (implied (in_ring j.area x y) _
     (at_every j.area _ (p.edges t f.odd f.early) x y (ring_in_box j.area x y f.ring)) f.ring))
-no_fault_under j u t Stop x y is p f =
-    grind (arith, common_steps, slice_get-get_or, all_at)
+no_fault_under j u t Stop x y is p f = grind (arith, common_steps, slice_get-get_or, all_at)
 no_fault_under j u t End x y is p f =
     f.differs (subst (λ n. MeetsDemand u (job_demand j x y) (local_run j u n x y)) (sym f.last)
     (meets_is u _ _ (at_every j.area _ p.end x y f.inside)))

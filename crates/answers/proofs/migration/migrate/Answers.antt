@@ -13,8 +13,7 @@ use Rattle.answers.specs.MigrateText.{bundle_text, certificate_section_text, lay
 use Rattle.answers.proofs.KeptLines.{header_line, section_kept}
 use Rattle.answers.proofs.migration.migrate.Goals as goal
 
-joined : (b : Bundle) →
-    (circuit_text b.circuit ++ layout_section_text b.size b.parts)
+joined : (b : Bundle) → (circuit_text b.circuit ++ layout_section_text b.size b.parts)
     ++ (form_text (Header 2) ++ flat_map entry_text (without_halo_lines b.entries) ++ form_text End) ≡ migrate_of b
 unfolding bundle_text certificate_section_text
 joined b = refl

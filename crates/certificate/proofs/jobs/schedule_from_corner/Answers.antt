@@ -25,9 +25,7 @@ moved-requires-clause-events c =
 
 -- what is moved back by these numbers
 moved_back : (x y : ℕ) (dx dy : ℤ) (s own : Signals) → dx ≡ shift_to_origin x → IsSmallShift dx →
-    dy ≡ shift_to_origin y →
-    IsSmallShift dy →
-    own ≡ moved_signals (to_z w32 (of_z w32 dx)) (to_z w32 (of_z w32 dy)) s →
+    dy ≡ shift_to_origin y → IsSmallShift dy → own ≡ moved_signals (to_z w32 (of_z w32 dx)) (to_z w32 (of_z w32 dy)) s →
     own ≡ moved_signals (shift_to_origin x) (shift_to_origin y) s
 moved_back x y dx dy s own e p f q is =
     is ∙ ap₂ (λ u v. moved_signals u v s) (passed (shift_to_origin x) dx e p) (passed (shift_to_origin y) dy f q)

@@ -43,11 +43,10 @@ entry_place-requires-clause-small c =
 
 -- a port at a place among the numbers has a number that fits
 few : (s : LayoutHeader) → size_fault s ≡ None → (b : Box2) → b ≡ whole s → (ports : List Port) →
-    HaveDistinctCells ports →
-    ArePortsInLayout s ports → (rows : List ℕ) (count : ℕ) → AreRowsWithPortsNumbered b ports rows count →
-    (k : ℕ) (p : Port) →
-    slice_get ports k ≡ Some p → (place : ℕ) → entry_place b rows p.cell.x p.cell.y ≡ Some place → (numbers : List ℕ) →
-    IsFilling b ports rows count k numbers → k + 1 < 4294967296
+    HaveDistinctCells ports → ArePortsInLayout s ports → (rows : List ℕ) (count : ℕ) →
+    AreRowsWithPortsNumbered b ports rows count → (k : ℕ) (p : Port) → slice_get ports k ≡ Some p → (place : ℕ) →
+    entry_place b rows p.cell.x p.cell.y ≡ Some place → (numbers : List ℕ) → IsFilling b ports rows count k numbers →
+    k + 1 < 4294967296
 few s limits b is ports apart on_board rows count are k p at place there numbers filling =
     let small = small_sides s limits b is in
     let most = few_entries count b.w b.h are.few small.0 small.1 in

@@ -7,12 +7,10 @@ use Rattle.core_book.proofs.HeldJobs.{job-at}
 use Rattle.core_book.proofs.filling.fill_open_book.Goals as goal
 
 pub returns-then-is_full-clause-full : goal.returns-then-is_full-clause-full
-returns-then-is_full-clause-full c =
-    grind (arith, common_steps, is-full)
+returns-then-is_full-clause-full c = grind (arith, common_steps, is-full)
 
 pub fill_number-requires-clause-job : goal.fill_number-requires-clause-job
-fill_number-requires-clause-job c =
-    grind (arith, common_steps, job-at, open-stays)
+fill_number-requires-clause-job c = grind (arith, common_steps, job-at, open-stays)
 
 -- each job has a group
 within : {Y : Type 0} (view : Y → JobView) (jobs : List Y) (g : List ℕ) (n : ℕ) →

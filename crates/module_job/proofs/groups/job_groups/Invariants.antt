@@ -14,6 +14,5 @@ invariant-loop-number l = record {
   summaries : (summary : List ℕ) →
       IsFirstOf (map shape_summary (map shape_of (map arc_value l.jobs))) l.number summary
       (get same_key l.summaries summary);
-  keys : AreHeadsBefore shape_summary shape_digest (map shape_of (map arc_value l.jobs)) l.number
-      (get same_key l.keys);
+  keys : AreHeadsBefore shape_summary shape_digest (map shape_of (map arc_value l.jobs)) l.number (get same_key l.keys);
 }

@@ -61,12 +61,10 @@ returns-in_default-clause-after c =
     grind (arith, common_steps, without, c.in_default.not-Accepted, c.args.finding, c.self.view_is)
 
 pub returns-in_default-clause-counted : goal.returns-in_default-clause-counted
-returns-in_default-clause-counted c =
-    grind (arith, common_steps, held_finding_count-filed, without)
+returns-in_default-clause-counted c = grind (arith, common_steps, held_finding_count-filed, without)
 
 pub index_mut-requires : goal.index_mut-requires
-index_mut-requires c =
-    grind (arith, common_steps, accepted-inside, accepted, filing)
+index_mut-requires c = grind (arith, common_steps, accepted-inside, accepted, filing)
 
 pub invariant_of-self-2 : goal.invariant_of-self-2
 invariant_of-self-2 c =
