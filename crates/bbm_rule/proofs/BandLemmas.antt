@@ -58,11 +58,6 @@ pub pair_kept : (p s : ℕ) (old new : List ℕ) → s % 2 ≡ 0 →
     TurnsRowPart p s s new new
 pair_kept p s old new whole same run = grind (arith, common_steps, mate_lt)
 
--- a pair stays where no cell of it changed when it was turned
-pub pair_settled : (p s : ℕ) (old new : List ℕ) → s % 2 ≡ 0 → TurnsRowPart p s s old new → AreSameCells old new →
-    TurnsRowPart p s s new new
-pair_settled p s old new whole run same = grind (arith, common_steps, pair_kept)
-
 after_pair : (k i s : ℕ) → k < i → 2 * (k * s) + 2 * s ≤ 2 * (i * s)
 after_pair k i s l = let h : (k + 1) * s ≤ i * s = mul-le-mul_right s (omega arith) in omega arith
 
@@ -87,7 +82,7 @@ pub calm_settled : (p s r k : ℕ) (marks marks' old new : List ℕ) → s % 2 �
     TurnsRowPart (p + 2 * (k * s)) s s old new → AreSameCells old new → SetsCellAtPlace k false marks marks' →
     AreUnmarkedRowPairsStable p s r marks old → AreUnmarkedRowPairsStable p s r marks' new
 calm_settled p s r k marks marks' old new whole run same sets calm i l free =
-    grind (arith, common_steps, common_steps, by_eq_or_not, pair_settled, others_kept)
+    grind (arith, common_steps, common_steps, by_eq_or_not, others_kept)
 
 -- pairs stay where no cell changed
 pub calm_same : (p s r : ℕ) (marks old new : List ℕ) → s % 2 ≡ 0 → AreSameCells old new →
