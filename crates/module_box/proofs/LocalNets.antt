@@ -7,7 +7,7 @@ use Rattle.module_box.proofs.Imports.{length, length-append, length-map, length-
 use Rattle.module_box.proofs.Imports.{range_with_len, refl, renumber_gate, same_Some, slice_get, slice_get-get_or}
 use Rattle.module_box.proofs.Imports.{slice_get_read, slice_index, subst, suc, sym, take, take-append-drop, take_more}
 use Rattle.module_box.proofs.Imports.{uses, wires_after, zero, ℕ, ◌*◌, ◌++◌, ◌+◌, ◌<◌, ◌∙◌, ◌∷◌, ◌≡◌, ◌≤◌, ◌⊎◌}
-use Rattle.lemmas.proofs.Common.{append-nil, flat_map-append, get_or_at, take_all}
+use Rattle.lemmas.proofs.Common.{append-nil, flat_map-append, take_all}
 use Rattle.module_box.specs.Locals.{outs_of, local_wires, UsesOnlyKnownWires, AreLocalLines}
 use Rattle.module_box.proofs.WireLists.{different_front}
 
@@ -48,18 +48,6 @@ same_front keys rest (w ∷ ws) below =
     ap₂ (λ x xs. x ∷ xs) (get_or_append_left keys rest 0 w (All-head (λ w. w < length keys) w ws below))
     (same_front keys rest ws (All-tail (λ w. w < length keys) w ws below))
 
--- and those that come next
-next_wires : (keys outs rest : List ℕ) →
-    map (slice_index (keys ++ (outs ++ rest))) (range_with_len (length keys) (length outs)) ≡ outs
-next_wires keys [] rest = refl
-next_wires keys (w ∷ outs) rest =
-    let longer : List ℕ = keys ++ w ∷ [] in
-    let more : map (slice_index (longer ++ (outs ++ rest))) (range_with_len (length longer) (length outs)) ≡ outs =
-    next_wires longer outs rest in
-    ap₂ (λ x xs. x ∷ xs) (get_or_at keys w (outs ++ rest) 0 (length keys) refl)
-    (ap₂ (λ (l : List ℕ) m. map (slice_index l) (range_with_len m (length outs)))
-    (sym (append_assoc keys (w ∷ []) (outs ++ rest))) (sym (length_push keys w)) ∙ more)
-
 -- ---- what is known after i gates, and what comes later
 known_rest : (n : Netlist) (cuts gates : List ℕ) (i : ℕ) →
     local_wires n cuts gates ≡ local_wires n cuts (take i gates) ++ flat_map (outs_of n) (drop i gates)
@@ -83,7 +71,7 @@ pub record IsOver (keys : List ℕ) (g h : Gate) : Type 0 where
 -- it is that gate by the wires that stand at its numbers, however many come later
 renumbered : (keys all rest : List ℕ) (g h : Gate) → all ≡ keys ++ (g.outs ++ rest) → length g.outs ≡ defines g.kind →
     IsOver keys g h → g ≡ renumber_gate (slice_index all) h
-renumbered keys all rest g h whole many over = grind (arith, common_steps, same_front, next_wires)
+renumbered keys all rest g h whole many over = grind (arith, common_steps, same_front)
 
 -- an element of a list with one more at its end
 push_cases : (gs : List Gate) (h : Gate) (j : ℕ) (f : Gate) → slice_get (gs ++ h ∷ []) j ≡ Some f →

@@ -1,6 +1,6 @@
 -- Facts about a rising list by comparing its keys with a key
 use Rattle.module_box.proofs.Imports.{AllTimesSignal, Cell, Equal, Greater, IsRising, Less, List, None, Ordering, Some}
-use Rattle.module_box.proofs.Imports.{TimedSignal, [], all_times_at, and_parts, ap, arith, below_or_from, below_or_same}
+use Rattle.module_box.proofs.Imports.{TimedSignal, [], all_times_at, and_parts, ap, arith}
 use Rattle.module_box.proofs.Imports.{cases_Bool, cell_cmp, common_steps, eqb, eqb-true, event_at, inl, inr, is_cell_at}
 use Rattle.module_box.proofs.Imports.{length, moment_cmp, refl, rules, slice_get, suc, sym, true, zero, ℕ, ℤ, ◌++◌, ◌+◌}
 use Rattle.module_box.proofs.Imports.{◌<◌, ◌∙◌, ◌∷◌, ◌≡◌, ◌≢◌, ◌≤◌, ◌⊎◌}
@@ -32,11 +32,6 @@ pub record IsBetween {A K : Type 0} (cmp : K → K → Ordering) (key : A → K)
   pub below : (i : ℕ) (a : A) → i < low → slice_get xs i ≡ Some a → cmp (key a) k ≡ Less
   pub above : (i : ℕ) (a : A) → high ≤ i → slice_get xs i ≡ Some a → cmp k (key a) ≡ Less
 
-pub raise_low : {A K : Type 0} (cmp : K → K → Ordering) (key : A → K) (xs : List A) (k : K) (low high m : ℕ) (a : A) →
-    IsTotalOrder cmp → IsRising cmp key xs → IsBetween cmp key xs k low high → slice_get xs m ≡ Some a →
-    cmp (key a) k ≡ Less → IsBetween cmp key xs k (m + 1) high
-raise_low cmp key xs k low high m a total rising b at less = grind (arith, common_steps, below_or_same, same_some)
-
 pub drop_high : {A K : Type 0} (cmp : K → K → Ordering) (key : A → K) (xs : List A) (k : K) (low high m : ℕ) (a : A) →
     IsTotalOrder cmp → IsRising cmp key xs →
     IsBetween cmp key xs k low high → slice_get xs m ≡ Some a → cmp (key a) k ≡ Greater → IsBetween cmp key xs k low m
@@ -44,13 +39,6 @@ drop_high cmp key xs k low high m a total rising b at greater = grind (arith, co
 
 less_equal : Less ≡ Equal → ⊥
 less_equal e = cc
-
--- the bounds have met: the key is not there
-pub is_absent : {A K : Type 0} (cmp : K → K → Ordering) (key : A → K) (xs : List A) (k : K) (low high : ℕ) →
-    IsTotalOrder cmp → IsBetween cmp key xs k low high → high ≤ low →
-    (i : ℕ) (a : A) → slice_get xs i ≡ Some a → key a ≢ k
-is_absent cmp key xs k low high total b met i a e same =
-    grind (arith, common_steps, tied_itself, below_or_from, less_equal)
 
 -- an earlier element has another key
 pub is_first : {A K : Type 0} (cmp : K → K → Ordering) (key : A → K) (xs : List A) (m : ℕ) (a : A) → IsTotalOrder cmp →
@@ -65,9 +53,6 @@ eqb_itself a = search rules
 
 pub then_moment : (m n : Moment) → is_moment_at m n.time n.cell.x n.cell.y ≡ true → m ≡ n
 then_moment m n h = grind (arith, common_steps, and_parts, eqb-true, cell_same)
-
-then_own_moment : (m : Moment) → is_moment_at m m.time m.cell.x m.cell.y ≡ true
-then_own_moment m = rw (eqb_itself m.time, cell_itself m.cell)
 
 pub all_times_none : (hs : List AllTimesSignal) (c : Cell) →
     ((i : ℕ) (h : AllTimesSignal) → slice_get hs i ≡ Some h → h.cell ≢ c) → all_times_at hs c.x c.y ≡ None
@@ -103,7 +88,7 @@ pub event_some : (es : List TimedSignal) (i : ℕ) (h : TimedSignal) → slice_g
     event_at es h.at.time h.at.cell.x h.at.cell.y ≡ Some h.signal
 unfolding event_at
 event_some [] i h e f = grind (arith, common_steps)
-event_some (g ∷ hs) zero h e f = grind (arith, common_steps, same_some, cond-true, then_own_moment)
+event_some (g ∷ hs) zero h e f = grind (arith, common_steps, same_some, cond-true)
 event_some (g ∷ hs) (suc i) h e f = elim (cases_Bool (is_moment_at g.at h.at.time h.at.cell.x h.at.cell.y)) [
   | inl t ↦ absurd (f 0 g (omega arith) refl (then_moment g.at h.at t))
   | inr n ↦ cond-false _ _ _ n ∙ event_some hs i h e (λ j h' lt. f (suc j) h' (omega arith))
