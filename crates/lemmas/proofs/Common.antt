@@ -79,7 +79,7 @@ pub use Rattle.std.specs.List.{range_with_len, slice_split}
 pub use Rattle.std.specs.List.Sorted.{IsPermutation, IsSortedBy}
 pub use Rattle.std.specs.Option.{option_eq, option_map_or}
 pub use Rattle.std.specs.Ordering.{on, ordering_reverse, ordering_then}
-pub use Rattle.std.specs.Prelude.{int_le, int_lt, ⊤}
+pub use Rattle.std.specs.Prelude.{int_lt, ⊤}
 pub use Rattle.std.specs.Result.{is_err}
 pub use Rattle.std.specs.Str.{bytes_eq, chars}
 pub use Rattle.std.specs.Vec.{with_items}

@@ -48,9 +48,6 @@ is_first cmp key xs m a total rising at i b lt e same =
 
 -- ---- what the lookups give
 
-eqb_itself : (a : ℕ) → eqb a a ≡ true
-eqb_itself a = search rules
-
 pub then_moment : (m n : Moment) → is_moment_at m n.time n.cell.x n.cell.y ≡ true → m ≡ n
 then_moment m n h = grind (arith, common_steps, and_parts, eqb-true, cell_same)
 
