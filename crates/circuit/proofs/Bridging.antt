@@ -107,12 +107,6 @@ record Far (names : List (List ℕ)) (before : List CircuitLine) (rest : List Ci
   no_gate : gate_count before ≡ 0
   only_inputs : length (defined before) ≡ input_count before
 
-far_next : (names : List (List ℕ)) (before rest : List CircuitLine) (kind : CircuitLineKind)
-    (ins outs : List (List ℕ)) →
-    Far names before (record { kind = kind; ins = ins; outs = outs } ∷ rest) → length outs ≡ cond (is_input kind) 1 0 →
-    is_gate kind ≡ false → Far names (before ++ record { kind = kind; ins = ins; outs = outs } ∷ []) rest
-far_next names before rest kind ins outs far e f = grind (arith, common_steps, push_cons, count_append, defined_push)
-
 gate_first : (names : List (List ℕ)) (before rest : List CircuitLine) (k : GateKind) (ins outs : List (List ℕ)) →
     AreGoodAfter before (record { kind = GateLine k; ins = ins; outs = outs } ∷ rest) →
     Far names before (record { kind = GateLine k; ins = ins; outs = outs } ∷ rest) →
@@ -143,7 +137,7 @@ ordered_rest : (names : List (List ℕ)) (before rest : List CircuitLine) (kind 
     (gates_of names (record { kind = kind; ins = ins; outs = outs } ∷ rest))
 unfolding AreGoodAfter
 ordered_rest names before rest (GateLine k) ins outs good far later = gate_first names before rest k ins outs good far
-ordered_rest names before rest _ ins outs good far later = grind (arith, common_steps, push_cons, far_next)
+ordered_rest names before rest _ ins outs good far later = grind (arith, common_steps, push_cons)
 
 ordered_lines : (names : List (List ℕ)) (before rest : List CircuitLine) → AreGoodAfter before rest →
     Far names before rest → AreGatesOrdered (input_count (before ++ rest)) (gates_of names rest)

@@ -1,8 +1,8 @@
 -- The names of wires.
-use Rattle.circuit.proofs.Imports.{AreGoodAfter, AreGoodCircuitLines, CircuitLine, CircuitLineKind, Gate}
+use Rattle.circuit.proofs.Imports.{AreGoodAfter, AreGoodCircuitLines, CircuitLine, CircuitLineKind}
 use Rattle.circuit.proofs.Imports.{HasNameCountOfKind, List, None, Some, [], append-nil, append_assoc, arith, bytes_eq}
 use Rattle.circuit.proofs.Imports.{cases_Bool, cases_lt, common_steps, cond, define_fault, defined, false, gate_count}
-use Rattle.circuit.proofs.Imports.{gate_of_line_kind, gates_of, has, inl, input_count, input_names, inr, is_gate}
+use Rattle.circuit.proofs.Imports.{gate_of_line_kind, gates_of, has, inl, input_count, input_names, inr}
 use Rattle.circuit.proofs.Imports.{is_input, le-ltb, length, list_any-append, number, position, refl, slice_get, subst}
 use Rattle.circuit.proofs.Imports.{suc, sum_by-cons, sym, take, true, wires_after, zero, ℕ, ◌++◌, ◌+◌, ◌<◌, ◌∙◌, ◌∷◌}
 use Rattle.circuit.proofs.Imports.{◌≡◌, ◌≤◌}
@@ -59,15 +59,10 @@ wires_are_named entries good = grind (arith, common_steps, wires_more)
 
 -- ---- each gate's line has a gate
 
-counted_line : (names : List (List ℕ)) (kind : CircuitLineKind) (ins outs : List (List ℕ)) (gates : List Gate) →
-    length (gate_of_line_kind names ins outs kind ++ gates) ≡ cond (is_gate kind) 1 0 + length gates
-counted_line names Input ins outs gates = omega arith
-counted_line names _ ins outs gates = omega arith
-
 pub gates_counted : (names : List (List ℕ)) (entries : List CircuitLine) →
     length (gates_of names entries) ≡ gate_count entries
 gates_counted names [] = refl
-gates_counted names (r ∷ entries) = grind (arith, common_steps, gates_counted names entries, sum_by-cons, counted_line)
+gates_counted names (r ∷ entries) = grind (arith, common_steps, gates_counted names entries, sum_by-cons)
 
 -- ---- the inputs are the first wires
 

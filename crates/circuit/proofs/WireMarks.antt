@@ -76,9 +76,6 @@ others c (m ∷ d) n h =
     let new = has_other m n d h in
     ap₂ (λ (b : Bool) bs. b ∷ bs) (sym (has_last c n m (other_name n m new.0))) (others c d n new.1)
 
-has_new : (c : List (List ℕ)) (n : List ℕ) → has (c ++ n ∷ []) n ≡ true
-has_new c n = grind (arith, common_steps, list_any-append, bytes_same)
-
 mark_one : (c d : List (List ℕ)) (n : List ℕ) → Distinct d → has d n ≡ true →
     slice_set (map (has c) d) (number d n) true ≡ map (has (c ++ n ∷ [])) d
 unfolding number
@@ -86,7 +83,7 @@ mark_one c [] n is h = absurd (true≢false (sym h))
 mark_one c (m ∷ d) n is h = elim (cases_Bool (bytes_eq n m)) [
   | inl e ↦
       let same = same_bytes n m e in
-      rw e (grind (arith, common_steps, has_new, others))
+      rw e (grind (arith, common_steps, others))
   | inr e ↦
       let next : number d n + 1 ≡ suc (number d n) = omega arith in
       rw e (ap (λ k. slice_set (map (has c) (m ∷ d)) k true) next

@@ -1,8 +1,8 @@
 -- Facts about a rising list by comparing its keys with a key
 use Rattle.module_box.proofs.Imports.{AllTimesSignal, Cell, Equal, Greater, IsRising, Less, List, None, Ordering, Some}
 use Rattle.module_box.proofs.Imports.{TimedSignal, [], all_times_at, and_parts, ap, arith}
-use Rattle.module_box.proofs.Imports.{cases_Bool, cell_cmp, common_steps, eqb, eqb-true, event_at, inl, inr, is_cell_at}
-use Rattle.module_box.proofs.Imports.{length, moment_cmp, refl, rules, slice_get, suc, sym, true, zero, ℕ, ℤ, ◌++◌, ◌+◌}
+use Rattle.module_box.proofs.Imports.{cases_Bool, cell_cmp, common_steps, eqb-true, event_at, inl, inr, is_cell_at}
+use Rattle.module_box.proofs.Imports.{length, moment_cmp, refl, slice_get, suc, sym, true, zero, ℕ, ℤ, ◌++◌, ◌+◌}
 use Rattle.module_box.proofs.Imports.{◌<◌, ◌∙◌, ◌∷◌, ◌≡◌, ◌≢◌, ◌≤◌, ◌⊎◌}
 use Rattle.lemmas.proofs.Common.{CmpEqualImpliesEq, IsTotalOrder, cond-false, cond-true, exact_pairs, exact_signed}
 use Rattle.lemmas.proofs.Common.{exact_unsigned, nat_cmp_total, on_total, same_or_higher, then_total, tied_itself}
