@@ -2,7 +2,7 @@
 use Rattle.check_main.proofs.Imports.{Check, CheckFault, Err, HoldsOfKnownInput, IsAccepted, IsNoSmallDesignText}
 use Rattle.check_main.proofs.Imports.{IsRightInFull, IsWrongIfPlain, Kinds, LinesHaveMeaning, List, Memory, No, Ok}
 use Rattle.check_main.proofs.Imports.{Outcome, RanCommand, Read, Refused, RelatesReadToWritten, Streams, Text, TooLong}
-use Rattle.check_main.proofs.Imports.{Write, Yes, YesMeans, YesPromises, [], ap, arith, asked_by, bbmcheck, false}
+use Rattle.check_main.proofs.Imports.{Write, Yes, YesMeans, YesPromises, [], ap, arith, asked_by, bbmcheck_app, false}
 use Rattle.check_main.proofs.Imports.{fault_of, inl, inr, refl, status_for, sym, true, ℕ, ◌∙◌, ◌∷◌, ◌≡◌, ◌≢◌, ◌≤◌, ◌⊎◌}
 use Rattle.command_line.specs.CommandLine.{AsksForHelp, AsksOnlyForHelp}
 use Rattle.meaning.specs.Headline.{IsRight}
@@ -29,7 +29,7 @@ module _ {R W E : Type 0} {source : Source R} {sink : Sink W} {messages : Sink E
   -- a fact that holds in both cases
   either : {P : Type 0} → (RanCommand source sink messages (asked_by words) old new status → P) →
       (ExplainedWords sink messages words old new status → P) → P
-  either by_run by_words = split (fault_of bbmcheck words) (λ a. by_run (ran a)) (λ n. by_words (explained n))
+  either by_run by_words = split (fault_of bbmcheck_app words) (λ a. by_run (ran a)) (λ n. by_words (explained n))
 
   -- the answer that a run gave
   answered_as : (outcome : Outcome) (r : RanCommand source sink messages (asked_by words) old new status) →
@@ -91,7 +91,7 @@ module _ {R W E : Type 0} {source : Source R} {sink : Sink W} {messages : Sink E
 
   -- other words do not end with these statuses
   is_accepted : status ≢ 0 → status ≢ 2 → status ≢ 4 → status ≢ 5 → IsAccepted words
-  is_accepted zero two four five = split (fault_of bbmcheck words) (λ a. a)
+  is_accepted zero two four five = split (fault_of bbmcheck_app words) (λ a. a)
       (λ n. absurd (elim (explained n).by_status.range [
         | inl is ↦ zero is
         | inr (inl is) ↦ two is
