@@ -3,7 +3,7 @@ use Rattle.pattern.proofs.Imports.{All, AllByRecursion, Bool, Box2, Cell, Layout
 use Rattle.pattern.proofs.Imports.{Some, TakenCell, [], arith, cell_fault, cells_of, cells_taken_at_end}
 use Rattle.pattern.proofs.Imports.{cells_taken_at_start, common_steps, false, flat_map, has_taken_cell, in_cells}
 use Rattle.pattern.proofs.Imports.{in_layout, in_span, inside_is_span, is_inside, is_layout_side, list_any, nat_tests}
-use Rattle.pattern.proofs.Imports.{not, pos, range_with_len, rectangle_cells, refl, row_cells, size_fault, subst, suc}
+use Rattle.pattern.proofs.Imports.{pos, range_with_len, rectangle_cells, refl, row_cells, size_fault, subst, suc}
 use Rattle.pattern.proofs.Imports.{sym, takes_cells_at_end, takes_cells_at_start, true, zero, ℕ, ℤ, ◌%◌, ◌&&◌, ◌++◌}
 use Rattle.pattern.proofs.Imports.{◌+◌, ◌<◌, ◌||◌, ◌∙◌, ◌∷◌, ◌≡◌, ◌≤◌}
 use Rattle.lemmas.proofs.Common.{if◌then◌else◌, All-from_recursion, and_parts, at_most_by_test}
@@ -19,15 +19,12 @@ pub record IsSized (s : LayoutHeader) : Type 0 where
   pub height : (2 ≤ s.h) × (s.h ≤ max_side) × (s.h % 2 ≡ 0)
   pub steps : s.steps ≤ max_steps
 
-all_three : (a b c : Bool) → not (a && b && c) ≡ false → (a ≡ true) × (b ≡ true) × (c ≡ true)
-all_three a b c h1 = grind (arith, common_steps)
-
 side : (n : ℕ) → is_layout_side n ≡ true → (2 ≤ n) × (n ≤ max_side) × (n % 2 ≡ 0)
 side n e = grind (arith, nat_tests)
 
 pub is_sized : (s : LayoutHeader) → size_fault s ≡ None → IsSized s
 unfolding size_fault
-is_sized s e = grind (arith, common_steps, all_three, no_code, side, nat_tests)
+is_sized s e = grind (arith, common_steps, no_code, side, nat_tests)
 
 -- ---- cells that lie inside
 
