@@ -47,10 +47,6 @@ pub record AreApart (b c : BlockPlaces) : Type 0 where
   pub down : b.down ≢ c.down
   pub even : b.even ≢ c.even
 
-pub others_apart : (part : Partition) (s n m : ℕ) → n ≢ m → AreApart (block_at part s n) (block_at part s m)
-others_apart Odd s n m ne = record { odd = ne; right = ne; down = ne; even = ne }
-others_apart Even s n m ne = grind (arith, common_steps)
-
 -- ---- cells that a turned part leaves
 pub other_cell : (w c u k : ℕ) (xs ys : List ℕ) → IsSameOutsidePart (w * c) w xs ys → k < w → u ≢ c →
     get_or ys (w * u + k) 0 ≡ get_or xs (w * u + k) 0

@@ -6,9 +6,9 @@ use Rattle.lanes.proofs.Imports.{IsBlockStable, IsDeadCell, IsDiagonalStable, Is
 use Rattle.lanes.proofs.Imports.{IsSameOutsidePart, List, LiveMarks, Planes, SwapsPart, TakesMarkOfOther, TurnsBlock}
 use Rattle.lanes.proofs.Imports.{TurnsPart, ap, arith, bit, bit-zero, block_at, by_lt_or_le, common_steps, false}
 use Rattle.lanes.proofs.Imports.{get_or, get_or-set_other, get_or-set_same, is_main_diagonal, length, not, set, sym}
-use Rattle.lanes.proofs.Imports.{true, turned, ℕ, ◌*◌, ◌+◌, ◌-◌, ◌<◌, ◌∙◌, ◌≡◌, ◌≢◌, ◌≤◌, ◌⊎◌}
+use Rattle.lanes.proofs.Imports.{turned, ℕ, ◌*◌, ◌+◌, ◌-◌, ◌<◌, ◌∙◌, ◌≡◌, ◌≤◌, ◌⊎◌}
 use Rattle.lanes.specs.Calm.{AreAllCellsDead}
-use Rattle.lanes.specs.Live.{AreFirstCellsMarked, AreUnmarkedCellsDead, HasAtMostOneDiagonalMark, MarksCellIf}
+use Rattle.lanes.specs.Live.{AreFirstCellsMarked, AreUnmarkedCellsDead, HasAtMostOneDiagonalMark}
 use Rattle.lanes.specs.Live.{MarksChangedCells, SwapsDiagonalMarks, UnmarksOnlyDeadCells, UnmarksOnlyIfDead}
 use Rattle.lanes.specs.Turns.{SwapsDiagonal}
 use Rattle.lanes.specs.declared.blocks.Diagonal.{Diagonal}
@@ -18,10 +18,6 @@ use Rattle.lanes.proofs.TurnLemmas.{same_beside}
 use Rattle.bbm_rule.proofs.PlaneLemmas.{dead_block as none_turned}
 
 -- ---- words that change places, one after another
-beside_more : (a k m : ℕ) (xs xs' xs'' : List ℕ) → IsSameOutsidePart a k xs xs' → IsSameOutsidePart (a + k) m xs' xs'' →
-    IsSameOutsidePart a (k + m) xs xs''
-beside_more a k m xs xs' xs'' s t = grind (arith, common_steps)
-
 swapped_more : (a b k m : ℕ) (ys xs' ys' xs'' : List ℕ) →
     ((j : ℕ) → j < k → get_or xs' (a + j) 0 ≡ get_or ys (b + j) 0) →
     IsSameOutsidePart b k ys ys' → ((j : ℕ) → j < m → get_or xs'' (a + k + j) 0 ≡ get_or ys' (b + k + j) 0) →
@@ -35,7 +31,7 @@ swapped_more a b k m ys xs' ys' xs'' first beside second later j l = by_lt_or_le
 
 pub swaps_more : (a b k m : ℕ) (xs ys xs' ys' xs'' ys'' : List ℕ) → SwapsPart a b k xs ys xs' ys' →
     SwapsPart (a + k) (b + k) m xs' ys' xs'' ys'' → SwapsPart a b (k + m) xs ys xs'' ys''
-swaps_more a b k m xs ys xs' ys' xs'' ys'' s t = grind (arith, common_steps, swapped_more, beside_more)
+swaps_more a b k m xs ys xs' ys' xs'' ys'' s t = grind (arith, common_steps, swapped_more)
 
 -- ---- blocks of which no cell is live
 none_stays : (a b c d : ℕ) → a ≡ 0 → b ≡ 0 → c ≡ 0 → d ≡ 0 → IsDiagonalStable a b c d
@@ -122,16 +118,10 @@ swapped_dead Anti b l l' p q size room s m dead =
       dead.3,
     )
 
--- those of a block that was turned, where the cells that may have changed have marks
-kept_dead : (changes : Bool) (w n c : ℕ) (m m' xs ys : List ℕ) → MarksCellIf changes c m m' →
-    ((u k : ℕ) → k < w → (changes ≡ true → u ≢ c) → get_or ys (w * u + k) 0 ≡ get_or xs (w * u + k) 0) →
-    AreUnmarkedCellsDead w n m xs → AreUnmarkedCellsDead w n m' ys
-kept_dead changes w n c m m' xs ys marks same dead u l free k h = grind (arith, common_steps)
-
 pub cells_dead : (main anti : Bool) (b : BlockPlaces) (l l' : LiveMarks) (p q : Planes) →
     HasWordsStrideRows p.words p.stride p.rows q → ChangesOnlyDiagonals main anti b p q →
     MarksChangedCells main anti b l l' → AreAllUnmarkedCellsDead l p → AreAllUnmarkedCellsDead l' q
-cells_dead main anti b l l' p q size ch marks dead = grind (arith, common_steps, kept_dead)
+cells_dead main anti b l l' p q size ch marks dead = grind (arith, common_steps)
 
 -- those without a mark, after marks were taken off dead ones
 unmark_dead_cells : (w n c : ℕ) (m m' xs : List ℕ) → UnmarksOnlyIfDead w c xs m m' → AreUnmarkedCellsDead w n m xs →

@@ -44,10 +44,7 @@ plane_even p x y ex ey = rw (ex, ey) refl
 pub unique_place : (w c c' r r' : ℕ) → r < w → r' < w → w * c + r ≡ w * c' + r' → (c ≡ c') × (r ≡ r')
 unique_place w c c' r r' l l' e = by_lt_or_le c c'
     (λ h. let m : w * (c + 1) ≤ w * c' = mul-le-mul_left w (omega arith) in absurd (omega arith))
-    (grind (arith, common_steps, mul-le-mul_left, by_sum))
-  where
-    by_sum : c ≡ c' → r ≡ r'
-    by_sum q = let m : w * c ≡ w * c' = ap (λ n. w * n) q in omega arith
+    (grind (arith, common_steps, mul-le-mul_left))
 
 -- the words of another cell are as before
 pub other_word : (w u k v l word : ℕ) (xs : List ℕ) → k < w → l < w → v ≢ u →

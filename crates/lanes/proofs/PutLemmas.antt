@@ -2,7 +2,7 @@
 use Rattle.lanes.proofs.Imports.{AreAllUnmarkedCellsDead, ArePlaneWordsInRange, Bool, IsDeadCell, IsNumberUnmarked}
 use Rattle.lanes.proofs.Imports.{List, LiveMarks, Planes, ap, arith, bit, bit-zero, by_eq_or_not, common_steps}
 use Rattle.lanes.proofs.Imports.{div-add-mod, false, get_or, lane, mod-lt, mul-le-mul_left, plane_of, refl, sym, ℕ, ◌%◌}
-use Rattle.lanes.proofs.Imports.{◌*◌, ◌+◌, ◌/◌, ◌<◌, ◌^◌, ◌∙◌, ◌≡◌, ◌≤◌}
+use Rattle.lanes.proofs.Imports.{◌*◌, ◌+◌, ◌/◌, ◌<◌, ◌^◌, ◌∙◌, ◌≡◌}
 use Rattle.bbm_rule.specs.Rows.{SetsCellAtPlace}
 use Rattle.lanes.specs.Lanes.{SetsCell, word_of_source}
 use Rattle.lanes.specs.Live.{SetsCellMark}
@@ -17,13 +17,6 @@ same_plane : (l : LiveMarks) (x y x' y' : ℕ) → x' % 2 ≡ x % 2 → y' % 2 �
     plane_marks_at l x' y' ≡ plane_marks_at l x y
 unfolding plane_marks_at
 same_plane l x y x' y' ex ey = rw (ex, ey) refl
-
--- the marks of one plane change, and there only that of one number
-sets_mark : (l l' : LiveMarks) (x y u : ℕ) (value : Bool) →
-    SetsCellAtPlace u value (plane_marks_at l x y) (plane_marks_at l' x y) →
-    ((x' y' : ℕ) → ((x' % 2 ≡ x % 2) × (y' % 2 ≡ y % 2) → ⊥) → plane_marks_at l' x' y' ≡ plane_marks_at l x' y') →
-    SetsCellMark x y u value l l'
-sets_mark l l' x y u value sets others = grind (arith, common_steps, same_plane)
 
 marks_odd : (l : LiveMarks) (x y : ℕ) → x % 2 ≡ 0 → y % 2 ≡ 0 → plane_marks_at l x y ≡ l.odd.items
 unfolding plane_marks_at
@@ -45,25 +38,25 @@ pub sets_odd_mark : (l l' : LiveMarks) (x y u : ℕ) (value : Bool) → x % 2 �
     SetsCellAtPlace u value l.odd.items l'.odd.items → l'.right.items ≡ l.right.items → l'.down.items ≡ l.down.items →
     l'.even.items ≡ l.even.items → SetsCellMark x y u value l l'
 sets_odd_mark l l' x y u value px py sets right down even =
-    grind (arith, common_steps, sets_mark, by_eq_or_not, marks_odd, marks_down, marks_right, marks_even)
+    grind (arith, common_steps, by_eq_or_not, marks_odd, marks_down, marks_right, marks_even)
 
 pub sets_down_mark : (l l' : LiveMarks) (x y u : ℕ) (value : Bool) → x % 2 ≡ 0 → y % 2 ≡ 1 →
     SetsCellAtPlace u value l.down.items l'.down.items → l'.odd.items ≡ l.odd.items → l'.right.items ≡ l.right.items →
     l'.even.items ≡ l.even.items → SetsCellMark x y u value l l'
 sets_down_mark l l' x y u value px py sets odd right even =
-    grind (arith, common_steps, sets_mark, by_eq_or_not, marks_odd, marks_down, marks_right, marks_even)
+    grind (arith, common_steps, by_eq_or_not, marks_odd, marks_down, marks_right, marks_even)
 
 pub sets_right_mark : (l l' : LiveMarks) (x y u : ℕ) (value : Bool) → x % 2 ≡ 1 → y % 2 ≡ 0 →
     SetsCellAtPlace u value l.right.items l'.right.items → l'.odd.items ≡ l.odd.items → l'.down.items ≡ l.down.items →
     l'.even.items ≡ l.even.items → SetsCellMark x y u value l l'
 sets_right_mark l l' x y u value px py sets odd down even =
-    grind (arith, common_steps, sets_mark, by_eq_or_not, marks_odd, marks_down, marks_right, marks_even)
+    grind (arith, common_steps, by_eq_or_not, marks_odd, marks_down, marks_right, marks_even)
 
 pub sets_even_mark : (l l' : LiveMarks) (x y u : ℕ) (value : Bool) → x % 2 ≡ 1 → y % 2 ≡ 1 →
     SetsCellAtPlace u value l.even.items l'.even.items → l'.odd.items ≡ l.odd.items → l'.right.items ≡ l.right.items →
     l'.down.items ≡ l.down.items → SetsCellMark x y u value l l'
 sets_even_mark l l' x y u value px py sets odd right down =
-    grind (arith, common_steps, sets_mark, by_eq_or_not, marks_odd, marks_down, marks_right, marks_even)
+    grind (arith, common_steps, by_eq_or_not, marks_odd, marks_down, marks_right, marks_even)
 
 -- ---- dead cells, by column and row
 -- each cell without a mark is dead
@@ -71,16 +64,12 @@ abbrev AreCellsDead : ℕ → ℕ → ℕ → LiveMarks → Planes → Type 0
 AreCellsDead w s r l p = (x y : ℕ) → x / 2 < s → y / 2 < r →
     IsNumberUnmarked (plane_marks_at l x y) (s * (y / 2) + x / 2) → IsDeadCell w (s * (y / 2) + x / 2) (plane_of p x y)
 
-number_in_plane : (s r i j : ℕ) → i < s → j < r → s * j + i < s * r
-number_in_plane s r i j li lj = let m : s * (j + 1) ≤ s * r = mul-le-mul_left s (omega arith) in omega arith
-
 -- if the cells without a mark are dead by plane and number, they are by column and row
 cells_of_planes : (l : LiveMarks) (p : Planes) → AreAllUnmarkedCellsDead l p → AreCellsDead p.words p.stride p.rows l p
 cells_of_planes l p dead x y lx ly free = grind (
   arith,
   common_steps,
   by_eq_or_not,
-  number_in_plane,
   marks_odd,
   marks_down,
   marks_right,

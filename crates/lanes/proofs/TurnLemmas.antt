@@ -1,9 +1,9 @@
 -- Parts of lists whose blocks are turned, and blocks that stay
 use Rattle.lanes.proofs.Imports.{AreCornerWordsTurned, AreCornerWordsTurnedAt, BlockPlaces, IsBlockStable}
 use Rattle.lanes.proofs.Imports.{IsDiagonalStable, IsSameOutsidePart, List}
-use Rattle.lanes.proofs.Imports.{Planes, TurnsBlock, TurnsPart, ap, arith, bit, bit-is, bit-xor, bit-zero, bit_and}
+use Rattle.lanes.proofs.Imports.{Planes, TurnsBlock, TurnsPart, ap, arith, bit, bit-is, bit_and}
 use Rattle.lanes.proofs.Imports.{bit_at, bit_or, bit_xor, common_steps, false, false≢true, get_or-drop, get_or-take}
-use Rattle.lanes.proofs.Imports.{length, not, not-false, refl, sym, xor, ℕ, ◌+◌, ◌<◌, ◌∙◌, ◌≡◌, ◌≤◌}
+use Rattle.lanes.proofs.Imports.{length, not, not-false, refl, sym, ℕ, ◌+◌, ◌<◌, ◌∙◌, ◌≡◌, ◌≤◌}
 use Rattle.lemmas.proofs.Common.{◌↔◌, nat_eq, and_or_self, and_zero_l, bit_at-lt, eqb-true, or_comm, same_from_bits}
 use Rattle.lemmas.proofs.Common.{xor_assoc, xor_self, xor_zero_l, xor_zero_r}
 use Rattle.std.proofs.lemmas.Slice.{take-put_mid_below, drop-put_mid}
@@ -64,16 +64,13 @@ pub same_beside : (a n : ℕ) (xs : List ℕ) → IsSameOutsidePart a n xs xs
 same_beside a n xs = record { below = λ k l. refl; above = λ k l. refl }
 
 -- ---- blocks that stay
-flips_none : (a f j : ℕ) → f ≡ 0 → bit (bit_xor a f) j ≡ bit a j
-flips_none a f j e = grind (arith, common_steps, bit-xor, bit-zero, xor)
-
 pub main_stays : (ul ur ll lr : ℕ) → main_flips_of ul ur ll lr ≡ 0 → IsDiagonalStable ul lr ur ll
 main_stays ul ur ll lr e j =
-    let t = words_turned ul ur ll lr in grind (arith, common_steps, flips_none, main_flips_of)
+    let t = words_turned ul ur ll lr in grind (arith, common_steps, main_flips_of)
 
 pub anti_stays : (ul ur ll lr : ℕ) → anti_flips_of ul ur ll lr ≡ 0 → IsDiagonalStable ur ll ul lr
 anti_stays ul ur ll lr e j =
-    let t = words_turned ul ur ll lr in grind (arith, common_steps, flips_none, anti_flips_of)
+    let t = words_turned ul ur ll lr in grind (arith, common_steps, anti_flips_of)
 
 pub calm_turned : (ul ur ll lr : ℕ) → IsDiagonalStable ul lr ur ll → IsDiagonalStable ur ll ul lr →
     AreCornerWordsTurned ul ur ll lr ul ur ll lr
