@@ -13,11 +13,6 @@ use Rattle.lanes.proofs.PlaneWords.{lane_at, plane_down, plane_even, plane_odd, 
 use Rattle.lanes.proofs.PlaneWords.{unique_place}
 
 -- ---- the mark of one cell
-same_plane : (l : LiveMarks) (x y x' y' : ℕ) → x' % 2 ≡ x % 2 → y' % 2 ≡ y % 2 →
-    plane_marks_at l x' y' ≡ plane_marks_at l x y
-unfolding plane_marks_at
-same_plane l x y x' y' ex ey = rw (ex, ey) refl
-
 marks_odd : (l : LiveMarks) (x y : ℕ) → x % 2 ≡ 0 → y % 2 ≡ 0 → plane_marks_at l x y ≡ l.odd.items
 unfolding plane_marks_at
 marks_odd l x y ex ey = rw (ex, ey) refl
