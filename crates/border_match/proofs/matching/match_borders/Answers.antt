@@ -29,7 +29,7 @@ least_fault-requires-clause-borders_ready c =
     let are = subst (IsTilingOwnerTable o)
     (sym (meant_areas s.version (setting_of s.circuit s.layout) (modules_of s.entries)))
     owners.owners in
-    let good = c.modules-count.ensures.good in
+    let good = c.modules-count.ensures.valid.good in
     let got : slice_get js c.loop-job.job-index ≡ Some c.deref.result.now =
     job_at arc_value c.args.jobs.now c.loop-job.job-index _ c.deref.result.now c.loop-job-test.true
     (c.deref.ensures ∙ ap arc_value c.job-item.is) in (
@@ -49,7 +49,7 @@ loop-job-preserved c =
     let are = subst (IsTilingOwnerTable o)
     (sym (meant_areas s.version (setting_of s.circuit s.layout) (modules_of s.entries)))
     owners.owners in
-    let good = c.modules-count.ensures.good in
+    let good = c.modules-count.ensures.valid.good in
     let got : slice_get js c.loop-job.job-index ≡ Some c.deref.result.now =
     job_at arc_value c.args.jobs.now c.loop-job.job-index _ c.deref.result.now c.loop-job-test.true
     (c.deref.ensures ∙ ap arc_value c.job-item.is) in
