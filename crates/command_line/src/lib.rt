@@ -90,7 +90,7 @@ fn worker_count_error(alloc: Global) -> Result<Error, AllocError>
 }
 
 fn command<'a>(alloc: Global) -> Result<Command<'a>, AllocError>
-    ensures { IfOk result (λ command. app_of command ≡ bbmcheck) }
+    ensures { IfOk result (λ command. app_of command ≡ bbmcheck_app) }
 {
     top_command_without_commands(alloc)?
         .subcommand(check_command(alloc)?)?
