@@ -41,8 +41,7 @@ module _ (s : LayoutHeader) where
   mirrors_first : (ms : List Box2) (parts : List LayoutLine) → layout_of s (map Mirror ms ++ parts)
       ≡ record (layout_of s parts) { mirrors = ms ++ (layout_of s parts).mirrors }
   mirrors_first [] parts = refl
-  mirrors_first (m ∷ ms) parts =
-      ap (λ (q : Pattern). record q { mirrors = m ∷ q.mirrors }) (mirrors_first ms parts)
+  mirrors_first (m ∷ ms) parts = ap (λ (q : Pattern). record q { mirrors = m ∷ q.mirrors }) (mirrors_first ms parts)
 
   balls_first : (bs : List Cell) (parts : List LayoutLine) → layout_of s (map Ball bs ++ parts)
       ≡ record (layout_of s parts) { balls = bs ++ (layout_of s parts).balls }
@@ -197,8 +196,7 @@ module _ (l : Limits) (f0 f2 : FeedView) (unread : f0.taken ≡ limits_line_coun
           (ended l f0.text circuit layout.size (parts_of layout)) cert right ∙ text_2
 
       pub bundle_read : cert.circuit ≡ circuit → cert.layout ≡ layout → ahead f3 ≡ [] →
-          bytes_after_last_line_feed f3.text ≡ [] →
-          bundle_with_limits l f0.text ≡ Ok (bundle_of_certificate cert)
+          bytes_after_last_line_feed f3.text ≡ [] → bundle_with_limits l f0.text ≡ Ok (bundle_of_certificate cert)
       unfolding ended whole
       bundle_read same_circuit same_layout none over =
           certificate_read ∙ at_the_end f3.taken (ahead f3) (bytes_after_last_line_feed f0.text)
@@ -228,7 +226,6 @@ refusal_answers says read fault output outcome fails told =
 
 pub bundle_answers : (says : Bundle → List ℕ → Outcome → Type 0) (read : Result Bundle Refusal) (cert : CertView)
     (output : List ℕ) (outcome : Outcome) → read ≡ Ok (bundle_of_certificate cert) →
-    says (bundle_of_certificate cert) output outcome →
-    AnswersOrRefuses says read output outcome
+    says (bundle_of_certificate cert) output outcome → AnswersOrRefuses says read output outcome
 bundle_answers says read cert output outcome was_read said =
     subst (λ r. AnswersOrRefuses says r output outcome) (sym was_read) said

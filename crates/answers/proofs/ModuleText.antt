@@ -52,8 +52,7 @@ four o w a b c z = rw (
 pub line_made : (n : ℕ) (k : Counts) (o p q r s t : List ℕ) → p ≡ o ++ codes "module" →
     q ≡ p ++ space_and_word (decimal n) →
     r ≡ q ++ flat_map space_and_word (box_words k.area) → s ≡ r ++ flat_map space_and_word (words_of_counts k) →
-    t ≡ s ++ 10 ∷ [] →
-    t ≡ o ++ module_line n k
+    t ≡ s ++ 10 ∷ [] → t ≡ o ++ module_line n k
 unfolding module_line
 line_made n k o p q r s t e f g h i =
     i ∙ ap (λ l. l ++ 10 ∷ []) (h

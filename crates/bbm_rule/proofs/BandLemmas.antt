@@ -1,12 +1,9 @@
 -- Pairs of rows that stay, while others are turned
-use Rattle.bbm_rule.proofs.Imports.{AreSameBits, AreSameCells, AreUnmarkedRowPairsStable, HasNoSetBit}
-use Rattle.bbm_rule.proofs.Imports.{HasWordAt, IsNumberUnmarked, List, MarksOneNumber, SetsCellAtPlace, SetsWordAt}
-use Rattle.bbm_rule.proofs.Imports.{TurnsRowPart, inl}
-use Rattle.bbm_rule.proofs.Imports.{inr, ◌⊎◌}
-use Rattle.bbm_rule.proofs.Imports.{TurnsRows, arith, bit, bit_or, cell_at, common_steps, false, get_or, length}
-use Rattle.bbm_rule.proofs.Imports.{length-set, mul-le-mul_right, nat_eq, nat_tests, not, paired_place, set, suc, sym}
-use Rattle.bbm_rule.proofs.Imports.{zero, ℕ}
-use Rattle.bbm_rule.proofs.Imports.{◌%◌, ◌*◌, ◌+◌, ◌-◌, ◌/◌, ◌<◌, ◌∙◌, ◌≡◌, ◌≢◌, ◌≤◌}
+use Rattle.bbm_rule.proofs.Imports.{AreSameBits, AreSameCells, AreUnmarkedRowPairsStable, HasNoSetBit, HasWordAt}
+use Rattle.bbm_rule.proofs.Imports.{IsNumberUnmarked, List, MarksOneNumber, SetsCellAtPlace, SetsWordAt, TurnsRowPart}
+use Rattle.bbm_rule.proofs.Imports.{TurnsRows, arith, bit, bit_or, cell_at, common_steps, false, get_or, inl, inr}
+use Rattle.bbm_rule.proofs.Imports.{length, length-set, mul-le-mul_right, nat_eq, nat_tests, not, paired_place, set}
+use Rattle.bbm_rule.proofs.Imports.{suc, sym, zero, ℕ, ◌%◌, ◌*◌, ◌+◌, ◌-◌, ◌/◌, ◌<◌, ◌∙◌, ◌≡◌, ◌≢◌, ◌≤◌, ◌⊎◌}
 use Rattle.lemmas.proofs.Common.{or_parts}
 use Rattle.bbm_rule.proofs.BitLemmas.{by_lt_or_le, by_eq_or_not, bit-or, bit-zero}
 use Rattle.bbm_rule.proofs.BlockRuns.{mate_lt, rows_join, word_is_window, word_set}
@@ -61,11 +58,6 @@ pub pair_kept : (p s : ℕ) (old new : List ℕ) → s % 2 ≡ 0 →
     TurnsRowPart p s s new new
 pair_kept p s old new whole same run = grind (arith, common_steps, mate_lt)
 
--- a pair stays where no cell of it changed when it was turned
-pub pair_settled : (p s : ℕ) (old new : List ℕ) → s % 2 ≡ 0 → TurnsRowPart p s s old new → AreSameCells old new →
-    TurnsRowPart p s s new new
-pair_settled p s old new whole run same = grind (arith, common_steps, pair_kept)
-
 after_pair : (k i s : ℕ) → k < i → 2 * (k * s) + 2 * s ≤ 2 * (i * s)
 after_pair k i s l = let h : (k + 1) * s ≤ i * s = mul-le-mul_right s (omega arith) in omega arith
 
@@ -81,23 +73,20 @@ others_kept p s r k marks old new whole run calm i l other free =
 
 -- all of them but pair k, which gets a mark
 pub calm_marked : (p s r k : ℕ) (marks marks' old new : List ℕ) → s % 2 ≡ 0 →
-    TurnsRowPart (p + 2 * (k * s)) s s old new →
-    MarksOneNumber k marks marks' → AreUnmarkedRowPairsStable p s r marks old →
-    AreUnmarkedRowPairsStable p s r marks' new
+    TurnsRowPart (p + 2 * (k * s)) s s old new → MarksOneNumber k marks marks' →
+    AreUnmarkedRowPairsStable p s r marks old → AreUnmarkedRowPairsStable p s r marks' new
 calm_marked p s r k marks marks' old new whole run marked calm i l free = grind (arith, common_steps, others_kept)
 
 -- and pair k too, where no cell of it changed
 pub calm_settled : (p s r k : ℕ) (marks marks' old new : List ℕ) → s % 2 ≡ 0 →
-    TurnsRowPart (p + 2 * (k * s)) s s old new →
-    AreSameCells old new → SetsCellAtPlace k false marks marks' → AreUnmarkedRowPairsStable p s r marks old →
-    AreUnmarkedRowPairsStable p s r marks' new
+    TurnsRowPart (p + 2 * (k * s)) s s old new → AreSameCells old new → SetsCellAtPlace k false marks marks' →
+    AreUnmarkedRowPairsStable p s r marks old → AreUnmarkedRowPairsStable p s r marks' new
 calm_settled p s r k marks marks' old new whole run same sets calm i l free =
-    grind (arith, common_steps, common_steps, by_eq_or_not, pair_settled, others_kept)
+    grind (arith, common_steps, common_steps, by_eq_or_not, others_kept)
 
 -- pairs stay where no cell changed
 pub calm_same : (p s r : ℕ) (marks old new : List ℕ) → s % 2 ≡ 0 → AreSameCells old new →
-    AreUnmarkedRowPairsStable p s r marks old →
-    AreUnmarkedRowPairsStable p s r marks new
+    AreUnmarkedRowPairsStable p s r marks old → AreUnmarkedRowPairsStable p s r marks new
 calm_same p s r marks old new whole same calm i l free = grind (arith, common_steps, pair_kept)
 
 -- Pairs stay, but for those that reach the cells that change. `second` has the marks then.
@@ -129,8 +118,7 @@ odd_kept s r k first second third old new whole positive run one two =
 pub even_kept : (s r k : ℕ) (first second third old new : List ℕ) → s % 2 ≡ 0 → 0 < s →
     TurnsRowPart (0 + 2 * (k * s)) s s old new → MarksOneNumber k first second →
     ((i : ℕ) → IsNumberUnmarked third i → IsNumberUnmarked second i × (i + 1 ≢ k)) →
-    AreUnmarkedRowPairsStable (s + 1) s r first old →
-    AreUnmarkedRowPairsStable (s + 1) s r third new
+    AreUnmarkedRowPairsStable (s + 1) s r first old → AreUnmarkedRowPairsStable (s + 1) s r third new
 even_kept s r k first second third old new whole positive run one two =
     but_marked (s + 1) s r (0 + 2 * (k * s)) (0 + 2 * (k * s) + s + s) first third old new whole run.before run.after
     (λ i free.

@@ -2,8 +2,7 @@
 use Rattle.bbm_rule.proofs.Imports.{HasWordAt, IsWordPairTurned, List, SetsWordAt, TurnsRowPart, TurnsRows, ap, arith}
 use Rattle.bbm_rule.proofs.Imports.{cell_at, common_steps, get_or, get_or-set_other, get_or-set_same, length}
 use Rattle.bbm_rule.proofs.Imports.{length-set, mul-le-mul_right, paired_place, refl, set, sym, turned, ℕ, ◌%◌, ◌*◌}
-use Rattle.bbm_rule.proofs.Imports.{◌+◌, ◌-◌}
-use Rattle.bbm_rule.proofs.Imports.{◌<◌, ◌∙◌, ◌≡◌, ◌≢◌, ◌≤◌}
+use Rattle.bbm_rule.proofs.Imports.{◌+◌, ◌-◌, ◌<◌, ◌∙◌, ◌≡◌, ◌≢◌, ◌≤◌}
 use Rattle.bbm_rule.proofs.BitLemmas.{by_lt_or_le, by_eq_or_not}
 use Rattle.bbm_rule.proofs.PairLemmas.{cell_in_word, by_place, mate_even, mate_odd}
 

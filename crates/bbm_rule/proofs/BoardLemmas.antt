@@ -1,9 +1,8 @@
 -- The board that the rows of a grid stand for.
-use Rattle.bbm_rule.proofs.Imports.{Board, List, TurnsRows, [], and-false, ap, arith, board, cell_at, common_steps}
-use Rattle.bbm_rule.proofs.Imports.{div-add-mod, div-mul-add, false, inl, inr, is_board_cell, is_inside, live, map}
-use Rattle.bbm_rule.proofs.Imports.{mod-mul-add, mul-le-mul_right, nat_tests, not_lt_test, paired_place, pos, refl}
-use Rattle.bbm_rule.proofs.Imports.{step, suc}
-use Rattle.bbm_rule.proofs.Imports.{sym, true, turned, zero, ℕ, ◌%◌, ◌*◌, ◌+◌, ◌-◌, ◌/◌, ◌<◌, ◌∙◌, ◌∷◌, ◌≡◌, ◌≤◌}
+use Rattle.bbm_rule.proofs.Imports.{Board, List, TurnsRows, and-false, ap, arith, board, cell_at, common_steps}
+use Rattle.bbm_rule.proofs.Imports.{div-add-mod, div-mul-add, false, inl, inr, is_board_cell, is_inside, live}
+use Rattle.bbm_rule.proofs.Imports.{mod-mul-add, mul-le-mul_right, not_lt_test, paired_place, pos, refl, step, suc, sym}
+use Rattle.bbm_rule.proofs.Imports.{true, turned, zero, ℕ, ◌%◌, ◌*◌, ◌+◌, ◌-◌, ◌/◌, ◌<◌, ◌∙◌, ◌≡◌, ◌≤◌}
 use Rattle.lemmas.proofs.Common.{nat_le, div_below, get_or-map-range_with_len, mod_below, mul-le-mul_left, lt_test}
 use Rattle.lemmas.proofs.Common.{not_le_test}
 use Rattle.bbm_rule.specs.Rows.{HasLiveMargin, HasDeadMargin}
@@ -21,9 +20,6 @@ pub record IsPlane (w h s : ℕ) (words : List ℕ) : Type 0 where
   pub row : s % 2 ≡ 0
   pub room : w + 2 ≤ s
   pub margin : (x y : ℕ) → x < s → is_board_cell w h x y ≡ false → cell_at words (s * y + x) ≡ false
-
-le_test : (a b : ℕ) → a ≤ b → nat_le a b ≡ true
-le_test a b l = grind (arith, nat_tests)
 
 pub not_inner_column : (w h x y : ℕ) → w < x → is_board_cell w h x y ≡ false
 not_inner_column w h x y l = rw (not_le_test x w l, and-false (nat_le 1 x)) refl
@@ -138,7 +134,7 @@ odd_step t w h s r old new at_odd plane plane' rows e u v =
     ]
 
 inner_test : (w h x y : ℕ) → x < w → y < h → is_board_cell w h (suc x) (suc y) ≡ true
-inner_test w h x y lx ly = grind (arith, common_steps, le_test)
+inner_test w h x y lx ly = grind (arith, common_steps)
 
 inside_ext : (b : Board) (x y : ℕ) → is_board_cell b.width b.height x y ≡ false → is_inside b (ext x) (ext y) ≡ false
 inside_ext b zero y outer = refl
@@ -184,13 +180,9 @@ undone s r first second third whole positive one two p =
         let column : p % s < s = mod_below p s positive in
         rw place at (at_place (p % s) (p / s) column row)
 
-map_same : {A B : Type 0} (f g : A → B) → ((a : A) → f a ≡ g a) → (xs : List A) → map f xs ≡ map g xs
-map_same f g same [] = refl
-map_same f g same (x ∷ xs) = rw (same x, map_same f g same xs) refl
-
 pub board_same : (w h s : ℕ) (old new : List ℕ) → ((p : ℕ) → cell_at new p ≡ cell_at old p) →
     board w h s new ≡ board w h s old
-board_same w h s old new same = grind (arith, common_steps, map_same)
+board_same w h s old new same = grind (arith, common_steps)
 
 pub plane_same : (w h s : ℕ) (old new : List ℕ) → ((p : ℕ) → cell_at new p ≡ cell_at old p) → IsPlane w h s old →
     IsPlane w h s new

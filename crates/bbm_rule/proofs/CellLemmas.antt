@@ -1,8 +1,7 @@
 -- Single cells.
 use Rattle.bbm_rule.proofs.Imports.{Bool, List, SetsCellAtPlace, arith, bit, bit_and, bit_or, cell_at, common_steps}
-use Rattle.bbm_rule.proofs.Imports.{false}
-use Rattle.bbm_rule.proofs.Imports.{get_or, get_or-set_other, get_or-set_same, length, nat_eq, refl, set, sym, true}
-use Rattle.bbm_rule.proofs.Imports.{w64, ℕ, ◌%◌, ◌*◌, ◌+◌, ◌-◌, ◌/◌, ◌<◌, ◌^◌, ◌≡◌, ◌≢◌}
+use Rattle.bbm_rule.proofs.Imports.{false, get_or, get_or-set_other, get_or-set_same, length, nat_eq, refl, set, sym}
+use Rattle.bbm_rule.proofs.Imports.{true, w64, ℕ, ◌%◌, ◌*◌, ◌+◌, ◌-◌, ◌/◌, ◌<◌, ◌^◌, ◌≡◌, ◌≢◌}
 use Rattle.lemmas.proofs.Common.{bit_at_clear_other, bit_at_clear_same, bit_at_set_other, bit_at_set_same, shr_and_one}
 use Rattle.bbm_rule.proofs.BitLemmas.{by_eq_or_not, bit-is}
 use Rattle.bbm_rule.proofs.PairLemmas.{cell_in_word}

@@ -5,9 +5,8 @@ use Rattle.bbm_rule.proofs.Imports.{◌||◌, ◌∙◌, ◌∷◌, ◌≡◌, �
 use Rattle.bbm_rule.specs.CellLists.{cell, row_cells}
 use Rattle.bbm_rule.specs.declared.block.Cell.{Cell}
 use Rattle.lemmas.proofs.Common.{append-nil, append_assoc, ap₂, cond, filter, filter-append}
-use Rattle.lemmas.proofs.Common.{filter_of_map_range_with_len_more, flat_map, flat_map-append}
-use Rattle.lemmas.proofs.Common.{list_any, list_any-append, map-id, map-range_with_len_more, or-true}
-use Rattle.lemmas.proofs.Common.{range_with_len, to_z, ◌++◌}
+use Rattle.lemmas.proofs.Common.{filter_of_map_range_with_len_more, flat_map, flat_map-append, list_any}
+use Rattle.lemmas.proofs.Common.{list_any-append, map-id, map-range_with_len_more, or-true, range_with_len, to_z, ◌++◌}
 use Rattle.lemmas.specs.Bounds.{max_side}
 
 pub row_more : (x n y j : ℕ) → x + n ≡ j → row_cells x (n + 1) y ≡ row_cells x n y ++ cell j y ∷ []
@@ -47,8 +46,7 @@ rows_pushed first out out' x w y k from before now =
 any_in_row : (test : Cell → Bool) (x n y k : ℕ) → k < n → test (cell (x + k) y) ≡ true →
     list_any test (row_cells x n y) ≡ true
 any_in_row test x zero y k l t = absurd (omega arith)
-any_in_row test x (suc n) y zero l t =
-    grind (arith, common_steps)
+any_in_row test x (suc n) y zero l t = grind (arith, common_steps)
 any_in_row test x (suc n) y (suc k) l t =
     let e : x + suc k ≡ x + 1 + k = omega arith in
     let t = rw e at t in

@@ -1,6 +1,5 @@
 -- A run of cells in one word.
-use Rattle.lemmas.proofs.Common.{common_steps}
-use Rattle.lemmas.proofs.Common.{pow_pos}
+use Rattle.lemmas.proofs.Common.{common_steps, pow_pos}
 use Rattle.bbm_rule.proofs.Imports.{FillsRowPart, List, arith, bit, bit_or, cell_at, false, get_or, get_or-set_other}
 use Rattle.bbm_rule.proofs.Imports.{length, set, true, ℕ, ◌%◌, ◌*◌, ◌+◌, ◌-◌, ◌/◌, ◌<◌, ◌^◌, ◌||◌, ◌∙◌, ◌≡◌, ◌≤◌}
 use Rattle.bbm_rule.proofs.BitLemmas.{bit-or, bit-shr, bit-mod, bit-shl_low, bit-shl_high, bit_above}

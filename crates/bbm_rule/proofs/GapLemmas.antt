@@ -1,8 +1,7 @@
 -- The first number without a mark: it is the first one with a mark in the complement of the words.
 use Rattle.bbm_rule.proofs.Imports.{IsNumberUnmarked, List, arith, bit, bit_at, bit_at-lt, cell_at, common_steps}
-use Rattle.bbm_rule.proofs.Imports.{get_or, inl}
-use Rattle.bbm_rule.proofs.Imports.{inr, length, map, not, refl, sym, trailing_zeros, true, w64, ℕ, ◌%◌, ◌*◌, ◌+◌, ◌/◌}
-use Rattle.bbm_rule.proofs.Imports.{◌<◌, ◌^◌, ◌∙◌, ◌≡◌, ◌≢◌, ◌≤◌}
+use Rattle.bbm_rule.proofs.Imports.{get_or, inl, inr, length, map, not, refl, sym, trailing_zeros, true, w64, ℕ, ◌%◌}
+use Rattle.bbm_rule.proofs.Imports.{◌*◌, ◌+◌, ◌/◌, ◌<◌, ◌^◌, ◌∙◌, ◌≡◌, ◌≢◌, ◌≤◌}
 use Rattle.lemmas.proofs.Common.{bit_at_not, bit_not, get_or-map, false_from_not, true_from_not}
 use Rattle.bbm_rule.proofs.BitLemmas.{bit-is, zero_or_one}
 use Rattle.bbm_rule.proofs.MarkLemmas.{first_bit, first_marked, none_before, none_in_word}

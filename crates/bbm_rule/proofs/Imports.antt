@@ -8,9 +8,8 @@ pub use Rattle.bbm_rule.specs.Marks.{IsNumberUnmarked, MarksOneNumber}
 pub use Rattle.bbm_rule.specs.Plane.{State, parity}
 unfoldable pub use Rattle.bbm_rule.specs.Plane.{partner, step, turned}
 pub use Rattle.bbm_rule.specs.Rows.{AreFlipBitsForTurn, AreSameCells, FillsRowPart, HasDeadMarginInRow, HasWordAt}
-pub use Rattle.bbm_rule.specs.Rows.{IsWordPairTurned}
-pub use Rattle.bbm_rule.specs.Rows.{SetsCellAtPlace, SetsWordAt, TurnsRowPart, TurnsRows, flip_carried_bits}
-pub use Rattle.bbm_rule.specs.Rows.{is_board_cell}
+pub use Rattle.bbm_rule.specs.Rows.{IsWordPairTurned, SetsCellAtPlace, SetsWordAt, TurnsRowPart, TurnsRows}
+pub use Rattle.bbm_rule.specs.Rows.{flip_carried_bits, is_board_cell}
 unfoldable pub use Rattle.bbm_rule.specs.Rows.{cell_at, paired_place}
 unfoldable pub use Rattle.bbm_rule.specs.Spans.{in_span}
 pub use Rattle.bbm_rule.specs.Words.{TurnsCornerWordsBetween}

@@ -1,8 +1,7 @@
 -- Marks, and the next one
 use Rattle.bbm_rule.proofs.Imports.{IsNumberUnmarked, List, MarksOneNumber, SetsCellAtPlace, ap, arith, bit, bit_at}
-use Rattle.bbm_rule.proofs.Imports.{cell_at}
-use Rattle.bbm_rule.proofs.Imports.{common_steps, false, false≢true, get_or, refl, sym, trailing_zeros, true, w64, ℕ}
-use Rattle.bbm_rule.proofs.Imports.{◌%◌, ◌*◌, ◌+◌, ◌-◌, ◌/◌, ◌<◌, ◌^◌, ◌∙◌, ◌≡◌, ◌≢◌, ◌≤◌}
+use Rattle.bbm_rule.proofs.Imports.{cell_at, common_steps, false, false≢true, get_or, refl, sym, trailing_zeros, true}
+use Rattle.bbm_rule.proofs.Imports.{w64, ℕ, ◌%◌, ◌*◌, ◌+◌, ◌-◌, ◌/◌, ◌<◌, ◌^◌, ◌∙◌, ◌≡◌, ◌≢◌, ◌≤◌}
 use Rattle.lemmas.proofs.Common.{bit_at-trailing_zeros, bit_at_ones, div-le_self}
 use Rattle.bbm_rule.proofs.BitLemmas.{by_lt_or_le, by_eq_or_not, bit-is, bit-zero, bit-shr, bit_above}
 

@@ -1,24 +1,17 @@
 -- A step commutes with an even move
-use Rattle.bbm_rule.proofs.Imports.{Bool, ap, arith, cases_Bool, common_steps, cond-false, cond-true, ints, negsuc}
-use Rattle.bbm_rule.proofs.Imports.{parity, partner, pos, refl, step, suc, turned, ℕ, ℤ, ◌%◌, ◌+ℤ◌, ◌+◌, ◌∙◌, ◌≡◌}
+use Rattle.bbm_rule.proofs.Imports.{ap, arith, cases_Bool, common_steps, cond-false, cond-true, ints, negsuc}
+use Rattle.bbm_rule.proofs.Imports.{parity, partner, pos, refl, step, suc, ℕ, ℤ, ◌%◌, ◌+ℤ◌, ◌+◌, ◌∙◌, ◌≡◌}
 use Rattle.lemmas.proofs.Common.{cases_lt, down_moved, up_moved}
 use Rattle.bbm_rule.specs.Moves.{StepCommutesWithEvenMoves}
-
--- what is added is at least, or at most, what is there
-sum_up : (a b c : ℕ) → a ≡ suc b + c → pos a +ℤ negsuc b ≡ pos c
-sum_up a b c e = omega (arith, ints)
-
-sum_down : (a b c : ℕ) → b ≡ a + c → pos a +ℤ negsuc b ≡ negsuc c
-sum_down a b c e = omega (arith, ints)
 
 turned_sum : (a b : ℕ) → negsuc a +ℤ pos b ≡ pos b +ℤ negsuc a
 turned_sum a b = omega (arith, ints)
 
 mixed : (a b n : ℕ) → (suc b) % 2 ≡ 0 → n ≡ a % 2 → parity (pos a +ℤ negsuc b) ≡ n
-mixed a b n even is = grind (arith, common_steps, cases_lt, sum_up, sum_down)
+mixed a b n even is = grind (arith, common_steps, cases_lt)
 
 mixed_back : (a b : ℕ) → b % 2 ≡ 0 → parity (pos b +ℤ negsuc a) ≡ (a + 1) % 2
-mixed_back a b even = grind (arith, common_steps, cases_lt, sum_up, sum_down)
+mixed_back a b even = grind (arith, common_steps, cases_lt)
 
 -- an even move keeps parities
 pub parity_moved : (x d : ℤ) → parity d ≡ 0 → parity (x +ℤ d) ≡ parity x
@@ -33,9 +26,6 @@ unfolding partner
 partner_moved t x d even =
     grind (arith, common_steps, common_steps, parity_moved, cases_Bool, cond-true, up_moved, cond-false, down_moved)
 
-same_turned : (a a' b b' c c' d d' : Bool) → a ≡ a' → b ≡ b' → c ≡ c' → d ≡ d' → turned a b c d ≡ turned a' b' c' d'
-same_turned a a' b b' c c' d d' p q r s = λ i. turned (p i) (q i) (r i) (s i)
-
 pub step_moved : StepCommutesWithEvenMoves
 unfolding step
-step_moved t dx dy s s' even_x even_y moved x y = grind (arith, common_steps, partner_moved, same_turned)
+step_moved t dx dy s s' even_x even_y moved x y = grind (arith, common_steps, partner_moved)

@@ -1,10 +1,8 @@
 -- Two words one above the other, and windows of 64 cells.
 use Rattle.bbm_rule.proofs.Imports.{AreFlipBitsForTurn, AreSameBits, Bool, HasNoSetBit, HasWordAt, IsWordPairTurned}
-use Rattle.bbm_rule.proofs.Imports.{List, arith}
-use Rattle.bbm_rule.proofs.Imports.{bit, bit_or, bit_xor, cell_at, common_steps, div-add-mod, div-mul-add, false}
-use Rattle.bbm_rule.proofs.Imports.{get_or, mod-mul-add, nat_eq, or-false, paired_place, refl, suc, true, turned, zero}
-use Rattle.bbm_rule.proofs.Imports.{ℕ, ◌%◌}
-use Rattle.bbm_rule.proofs.Imports.{◌*◌, ◌+◌, ◌-◌, ◌/◌, ◌<◌, ◌^◌, ◌||◌, ◌∙◌, ◌≡◌}
+use Rattle.bbm_rule.proofs.Imports.{List, arith, bit, bit_or, bit_xor, cell_at, common_steps, div-add-mod, div-mul-add}
+use Rattle.bbm_rule.proofs.Imports.{false, get_or, mod-mul-add, nat_eq, or-false, paired_place, refl, suc, true, turned}
+use Rattle.bbm_rule.proofs.Imports.{zero, ℕ, ◌%◌, ◌*◌, ◌+◌, ◌-◌, ◌/◌, ◌<◌, ◌^◌, ◌||◌, ◌∙◌, ◌≡◌}
 use Rattle.bbm_rule.proofs.BitLemmas.{by_lt_or_le, by_eq_or_not, holds_below, below_from_test, bit-or, bit-shr, bit-mod}
 use Rattle.bbm_rule.proofs.BitLemmas.{bit-shl_low, bit-shl_high, bit_above, bit-xor, xor, xor_false}
 

@@ -1,8 +1,7 @@
 -- Blocks on the plane
 use Rattle.bbm_rule.proofs.Imports.{Board, Bool, State, arith, common_steps, false, inl, inr, ints, live, nat_lt}
-use Rattle.bbm_rule.proofs.Imports.{paired_place}
-use Rattle.bbm_rule.proofs.Imports.{nat_tests, negsuc, next_neg, not, partner, pos, pred_pos, refl, step, suc, true}
-use Rattle.bbm_rule.proofs.Imports.{turned, zero, ℕ, ℤ, ◌%◌, ◌+◌, ◌-◌, ◌<◌, ◌≡◌, ◌≤◌, ◌⊎◌}
+use Rattle.bbm_rule.proofs.Imports.{nat_tests, negsuc, next_neg, not, paired_place, partner, pos, pred_pos, refl, step}
+use Rattle.bbm_rule.proofs.Imports.{suc, true, turned, zero, ℕ, ℤ, ◌%◌, ◌+◌, ◌-◌, ◌<◌, ◌≡◌, ◌≤◌, ◌⊎◌}
 use Rattle.bbm_rule.proofs.Steps.{step_dead}
 use Rattle.bbm_rule.proofs.BitLemmas.{by_lt_or_le, by_eq_or_not}
 use Rattle.bbm_rule.proofs.PairLemmas.{mate_even, mate_odd}

@@ -6,28 +6,17 @@ use Rattle.bbm_rule.proofs.Spans.{span_from}
 use Rattle.bbm_rule.specs.Boxes.{in_box, has_neighbour_in_set, in_ring, in_halo}
 use Rattle.bbm_rule.specs.declared.block.Box2.{Box2}
 
-ring_bits : (a b c d e f : Bool) →
-    ((b && e) && (not (a && d) || not (b && d) || not (c && d) || not (a && e) || not (c && e) || not (a && f)
-    || not (b && f) || not (c && f)))
-    ≡ ((b && e) && not ((a && c) && (d && f)))
-ring_bits a b c d e f = grind arith
-
-halo_bits : (a b c d e f : Bool) →
-    (not (b && e) && ((a && d) || (b && d) || (c && d) || (a && e) || (c && e) || (a && f) || (b && f) || (c && f)))
-    ≡ (not (b && e) && ((a || b || c) && (d || e || f)))
-halo_bits a b c d e f = grind arith
-
 ring_is : (b : Box2) (x y : ℤ) → in_ring b x y ≡ (in_box b x y && not
     ((in_span b.x b.w (x -ℤ pos 1) && in_span b.x b.w (x +ℤ pos 1))
     && (in_span b.y b.h (y -ℤ pos 1) && in_span b.y b.h (y +ℤ pos 1))))
 unfolding in_ring has_neighbour_in_set in_box
-ring_is b x y = grind (arith, common_steps, ring_bits)
+ring_is b x y = grind (arith, common_steps)
 
 halo_is : (b : Box2) (x y : ℤ) → in_halo b x y ≡ (not (in_box b x y) &&
     ((in_span b.x b.w (x -ℤ pos 1) || in_span b.x b.w x || in_span b.x b.w (x +ℤ pos 1))
     && (in_span b.y b.h (y -ℤ pos 1) || in_span b.y b.h y || in_span b.y b.h (y +ℤ pos 1))))
 unfolding in_halo has_neighbour_in_set in_box
-halo_is b x y = grind (arith, common_steps, halo_bits)
+halo_is b x y = grind (arith, common_steps)
 
 -- what the tests answer, from what they test
 pub ring_read : (b : Box2) (x y : ℤ) (inside inner_x inner_y : Bool) → inside ≡ in_box b x y →

@@ -1,11 +1,9 @@
 -- Runs of blocks that begin at the second cell of each word
 use Rattle.bbm_rule.proofs.Imports.{AreFlipBitsForTurn, AreSameCells, HasNoSetBit, HasWordAt, IsWordPairTurned, List}
-use Rattle.bbm_rule.proofs.Imports.{SetsWordAt}
-use Rattle.bbm_rule.proofs.Imports.{TurnsRowPart, ap, arith, bit, bit_or, bit_xor, cell_at, common_steps, false}
-use Rattle.bbm_rule.proofs.Imports.{flip_carried_bits, get_or, get_or-set_other, get_or-set_same, length, length-set}
-use Rattle.bbm_rule.proofs.Imports.{or-false, paired_place, refl, set, sym, true, turned, ℕ, ◌%◌, ◌*◌, ◌+◌, ◌-◌, ◌/◌}
-use Rattle.bbm_rule.proofs.Imports.{◌<◌, ◌^◌}
-use Rattle.bbm_rule.proofs.Imports.{◌||◌, ◌∙◌, ◌≡◌, ◌≢◌, ◌≤◌}
+use Rattle.bbm_rule.proofs.Imports.{SetsWordAt, TurnsRowPart, ap, arith, bit, bit_or, bit_xor, cell_at, common_steps}
+use Rattle.bbm_rule.proofs.Imports.{false, flip_carried_bits, get_or, get_or-set_other, get_or-set_same, length}
+use Rattle.bbm_rule.proofs.Imports.{length-set, or-false, paired_place, refl, set, sym, true, turned, ℕ, ◌%◌, ◌*◌, ◌+◌}
+use Rattle.bbm_rule.proofs.Imports.{◌-◌, ◌/◌, ◌<◌, ◌^◌, ◌||◌, ◌∙◌, ◌≡◌, ◌≢◌, ◌≤◌}
 use Rattle.lemmas.proofs.Common.{set-set, set_comm, xor_assoc, xor_comm}
 use Rattle.bbm_rule.specs.Rows.{flip}
 use Rattle.bbm_rule.proofs.BitLemmas.{by_lt_or_le, by_eq_or_not, xor, xor_false, bit-or, bit-xor, bit-shr, bit-zero}
@@ -76,8 +74,7 @@ window_flips main anti = bit_or (main / 2) anti
 
 window_bit : (v main anti j : ℕ) → bit (bit_xor v (window_flips main anti)) j
     ≡ xor (bit v j) (bit main (1 + j) || bit anti j)
-window_bit v main anti j =
-    rw (bit-xor v (bit_or (main / 2) anti) j, bit-or (main / 2) anti j, bit-shr main 1 j) refl
+window_bit v main anti j = rw (bit-xor v (bit_or (main / 2) anti) j, bit-or (main / 2) anti j, bit-shr main 1 j) refl
 
 side_shifted : (a n b m main anti : ℕ) → AreFlipBitsForTurn second_mask a n b m main anti →
     ((j : ℕ) → j < 63 → bit n j ≡ bit a (1 + j)) → ((j : ℕ) → j < 63 → bit m j ≡ bit b (1 + j)) → (j : ℕ) → j < 64 →
@@ -194,8 +191,7 @@ pub word_shifted : (i s x y main anti m a : ℕ) (words : List ℕ) → 0 < s �
     (i + s) (bit_xor (bit_xor (get_or words (i + s) 0) (main / 9223372036854775808))
     (bit_or a (m * 2 % 18446744073709551616)))) in
     TurnsRowPart (64 * i + 1) 64 (64 * s) old new × (HasNoSetBit m → HasNoSetBit a → AreSameCells old new)
-word_shifted i s x y main anti m a words positive room alone small small' has_x has_y flips =
-    rw same_words (run, stays)
+word_shifted i s x y main anti m a words positive room alone small small' has_x has_y flips = rw same_words (run, stays)
   where
     old : List ℕ
     old = flip_carried_bits i s main anti words
@@ -232,8 +228,7 @@ word_shifted i s x y main anti m a words positive room alone small small' has_x 
 
     has_mid : HasWordAt mid (64 * (i + s) + 1) y
     has_mid = record {
-      cells = λ j l. has_below.cells j l
-          ∙ sym (sets_above.after (64 * (i + s) + 1 + j) (omega arith));
+      cells = λ j l. has_below.cells j l ∙ sym (sets_above.after (64 * (i + s) + 1 + j) (omega arith));
     }
 
     sets_below : SetsWordAt (64 * (i + s) + 1) (bit_xor y (window_flips a m)) mid new

@@ -1,6 +1,6 @@
 -- Numbers in a span, and the two coordinates of a block
 use Rattle.bbm_rule.proofs.Imports.{and_parts, arith, cases_Bool, common_steps, cond-false, cond-true, eqb-true}
-use Rattle.bbm_rule.proofs.Imports.{false, in_span, ints, le-leb, ltb-true, nat_tests, negsuc, next_neg}
+use Rattle.bbm_rule.proofs.Imports.{false, in_span, le-leb, ltb-true, nat_tests, negsuc, next_neg}
 use Rattle.bbm_rule.proofs.Imports.{parity, partner, pos, pred_pos, refl, suc, sym, true, zero, ℕ, ℤ, ◌%◌, ◌&&◌, ◌+ℤ◌}
 use Rattle.bbm_rule.proofs.Imports.{◌+◌, ◌-ℤ◌, ◌<◌, ◌∙◌, ◌≡◌, ◌≤◌, ◌⊎◌}
 use Rattle.lemmas.proofs.Common.{eqb, leb, ltb, ne_eqb, and_from, eqb-false, leb-true, lt-ltb}
@@ -39,9 +39,6 @@ partner_down : (t : ℕ) (z : ℤ) → eqb (parity z) (t % 2) ≡ false → part
 unfolding partner
 partner_down t z e = cond-false _ _ _ e
 
-less_one_negative : (k : ℕ) → negsuc k -ℤ pos 1 ≡ negsuc (suc k)
-less_one_negative k = omega (arith, ints)
-
 up_even : (f n k : ℕ) → f % 2 ≡ 0 → n % 2 ≡ 0 → k % 2 ≡ 0 → in_span f n (pos (k + 1)) ≡ in_span f n (pos k)
 unfolding in_span
 up_even f n k pf pn pk = grind (arith, common_steps, same_tests)
@@ -56,9 +53,9 @@ even_down f n t zero pf pn pt e = absurd (eqb-false 0 (t % 2) e (sym pt))
 even_down f n t (suc m) pf pn pt e = grind (arith, common_steps, eqb-false, partner_down, pred_pos, up_even)
 
 negative_partner : (f n t k : ℕ) → t % 2 ≡ 0 → in_span f n (partner t (negsuc k)) ≡ false
-negative_partner f n t zero pt = grind (arith, common_steps, partner_down, ne_eqb, less_one_negative, in_span-negsuc)
+negative_partner f n t zero pt = grind (arith, common_steps, partner_down, ne_eqb, in_span-negsuc)
 negative_partner f n t (suc k) pt =
-    grind (arith, common_steps, partner_up, next_neg, in_span-negsuc, partner_down, less_one_negative)
+    grind (arith, common_steps, partner_up, next_neg, in_span-negsuc, partner_down)
 
 -- an even step keeps a coordinate in an even span, or outside it
 pub even_span : (f n t : ℕ) (z : ℤ) → f % 2 ≡ 0 → n % 2 ≡ 0 → t % 2 ≡ 0 → in_span f n (partner t z) ≡ in_span f n z

@@ -1,9 +1,7 @@
 -- The bitwise formula of a turn.
 use Rattle.bbm_rule.proofs.Imports.{AreFlipBitsForTurn, Bool, HasNoSetBit, List, [], and-false, arith, bit, bit_and}
-use Rattle.bbm_rule.proofs.Imports.{bit_or}
-use Rattle.bbm_rule.proofs.Imports.{bit_xor, common_steps, eqb-true, false, get_or, nat_eq, refl, true, turned}
-use Rattle.bbm_rule.proofs.Imports.{turned_block_number}
-use Rattle.bbm_rule.proofs.Imports.{ℕ, ◌&&◌, ◌<◌, ◌||◌, ◌∷◌, ◌≡◌}
+use Rattle.bbm_rule.proofs.Imports.{bit_or, bit_xor, common_steps, eqb-true, false, get_or, nat_eq, refl, true, turned}
+use Rattle.bbm_rule.proofs.Imports.{turned_block_number, ℕ, ◌&&◌, ◌<◌, ◌||◌, ◌∷◌, ◌≡◌}
 use Rattle.lemmas.proofs.Common.{and-true}
 use Rattle.bbm_rule.specs.Words.{AreCornerWordsTurned}
 use Rattle.bbm_rule.proofs.BitLemmas.{holds_below, below_from_test, xor, bit-and, bit-or, bit-xor}
@@ -13,12 +11,10 @@ abbrev pub changed_of : ℕ → ℕ → ℕ → ℕ → ℕ
 changed_of ul ur ll lr = bit_xor (bit_or ul lr) (bit_or ur ll)
 
 abbrev pub main_flips_of : ℕ → ℕ → ℕ → ℕ → ℕ
-main_flips_of ul ur ll lr =
-    bit_xor (changed_of ul ur ll lr) (bit_and (changed_of ul ur ll lr) (bit_xor ur ll))
+main_flips_of ul ur ll lr = bit_xor (changed_of ul ur ll lr) (bit_and (changed_of ul ur ll lr) (bit_xor ur ll))
 
 abbrev pub anti_flips_of : ℕ → ℕ → ℕ → ℕ → ℕ
-anti_flips_of ul ur ll lr =
-    bit_xor (changed_of ul ur ll lr) (bit_and (changed_of ul ur ll lr) (bit_xor ul lr))
+anti_flips_of ul ur ll lr = bit_xor (changed_of ul ur ll lr) (bit_and (changed_of ul ur ll lr) (bit_xor ul lr))
 
 -- one bit of each answer
 by_cases_ul : (a b c d : Bool) → xor a (xor (xor (a || d) (b || c)) (xor (a || d) (b || c) && xor b c)) ≡ turned a d b c

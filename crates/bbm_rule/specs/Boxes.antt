@@ -1,6 +1,5 @@
 -- Boxes of cells, their rings and halos, and the boxes that tile a rectangle
-use Rattle.std.specs.Prelude.{◌≡◌, ℕ, ℤ, pos, ◌+◌, ◌+ℤ◌, ◌-ℤ◌, ◌%◌, ◌&&◌, ◌||◌, not, List, slice_get}
-use Rattle.std.specs.Prelude.{Some, IsTrue}
+use Rattle.std.specs.Prelude.{IsTrue, List, Some, not, pos, slice_get, ℕ, ℤ, ◌%◌, ◌&&◌, ◌+ℤ◌, ◌+◌, ◌-ℤ◌, ◌||◌, ◌≡◌}
 use Rattle.bbm_rule.specs.Plane.{State}
 use Rattle.bbm_rule.specs.Spans.{in_area}
 use Rattle.bbm_rule.specs.declared.block.Box2.{Box2}

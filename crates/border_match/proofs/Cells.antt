@@ -1,11 +1,10 @@
 -- Cells of a halo, and the modules that have them
 use Rattle.border_match.proofs.Imports.{AreReadyBorders, BorderFault, Borders, Box2, Cell, IsFaultOfSearchedJob}
 use Rattle.border_match.proofs.Imports.{IsInOrAroundBox, IsJob, JobView, List, Some, and_parts, ap, ap₂, arith}
-use Rattle.border_match.proofs.Imports.{cases_Bool}
-use Rattle.border_match.proofs.Imports.{common_steps, false, false≢true, get_or, in_box, in_halo, ints, jobs_of, length}
-use Rattle.border_match.proofs.Imports.{length-map, map, option_map, owner_of, pos, same_some, slice_get}
-use Rattle.border_match.proofs.Imports.{slice_get-get_or, slice_get-map, slice_get_within, sym, true, ℕ, ℤ, ◌&&◌, ◌+ℤ◌}
-use Rattle.border_match.proofs.Imports.{◌+◌, ◌-◌, ◌<◌, ◌∙◌, ◌≡◌, ◌≤◌, ◌⊎◌}
+use Rattle.border_match.proofs.Imports.{cases_Bool, common_steps, false, false≢true, get_or, in_box, in_halo, ints}
+use Rattle.border_match.proofs.Imports.{jobs_of, length, length-map, map, option_map, owner_of, pos, same_some}
+use Rattle.border_match.proofs.Imports.{slice_get, slice_get-get_or, slice_get-map, slice_get_within, sym, true, ℕ, ℤ}
+use Rattle.border_match.proofs.Imports.{◌&&◌, ◌+ℤ◌, ◌+◌, ◌-◌, ◌<◌, ◌∙◌, ◌≡◌, ◌≤◌, ◌⊎◌}
 use Rattle.lemmas.proofs.Common.{◌-ℤ◌, ◌||◌, and_from}
 use Rattle.bbm_rule.specs.Spans.{in_span}
 use Rattle.bbm_rule.proofs.Spans.{span_from, span_parts}

@@ -1,8 +1,7 @@
 -- The signal of the cell and time of an event
 use Rattle.border_match.proofs.Imports.{IsEventListed, IsRising, List, Signals, TimedSignal, [], all_times_at, ap}
-use Rattle.border_match.proofs.Imports.{arith}
-use Rattle.border_match.proofs.Imports.{common_steps, ints, moment_cmp, moment_of, moment_total, moved_signals, pos}
-use Rattle.border_match.proofs.Imports.{shift_to_origin, signal_at, signals_back, subst, ℕ, ℤ, ◌+ℤ◌, ◌≡◌}
+use Rattle.border_match.proofs.Imports.{arith, common_steps, ints, moment_cmp, moment_of, moment_total, moved_signals}
+use Rattle.border_match.proofs.Imports.{pos, shift_to_origin, signal_at, signals_back, subst, ℕ, ℤ, ◌+ℤ◌, ◌≡◌}
 use Rattle.module_box.proofs.MovedBoxes.{events_rising}
 use Rattle.module_box.proofs.Rising.{event_some, is_first}
 

@@ -99,6 +99,5 @@ not_less o p same not e = not (same ∙ e)
 
 -- a cell around a box is seen in its window
 pub seen : (area corner : Box2) (w : Window) (c : Cell) → IsWindowAround area corner w →
-    IsInOrAroundFromCorner area corner c →
-    IsInWindow w c
+    IsInOrAroundFromCorner area corner c → IsInWindow w c
 seen area corner w c is g = grind (arith, common_steps, ints)

@@ -11,9 +11,7 @@ pub use Rattle.border_match.specs.BorderFaults.{IsBorderFault, IsLeastBorderFaul
 unfoldable pub use Rattle.border_match.specs.BorderFaults.{border_fault_cmp}
 pub use Rattle.border_match.specs.Candidates.{HasCandidateAtMost, IsLeastCandidate, IsUpdatedCandidate}
 pub use Rattle.border_match.specs.Surroundings.{HasNoWindowEventBetween, IsEdgeEventExtent, IsEventOutsideWindow}
-pub use Rattle.border_match.specs.Surroundings.{IsExtentOfEvents}
-pub use Rattle.border_match.specs.Surroundings.{IsInWindow}
-pub use Rattle.border_match.specs.Surroundings.{IsWindowAround}
+pub use Rattle.border_match.specs.Surroundings.{IsExtentOfEvents, IsInWindow, IsWindowAround}
 pub use Rattle.border_match.specs.declared.borders.Borders.{Borders}
 pub use Rattle.border_match.specs.declared.fault.BorderFault.{BorderFault}
 pub use Rattle.border_match.specs.declared.signals.RingOrHalo.TheVariants.{Halo, Ring}

@@ -1,10 +1,7 @@
 -- Candidates for a least border fault
 use Rattle.border_match.proofs.Imports.{BorderFault, Greater, HasCandidateAtMost, IsLeastCandidate, IsUpdatedCandidate}
-use Rattle.border_match.proofs.Imports.{None}
-use Rattle.border_match.proofs.Imports.{Option}
-use Rattle.border_match.proofs.Imports.{Ordering, Some, arith, border_fault_cmp, common_steps, false, tied_itself, ◌≡◌}
-use Rattle.border_match.proofs.Imports.{◌≢◌}
-use Rattle.border_match.proofs.Imports.{◌⊎◌}
+use Rattle.border_match.proofs.Imports.{None, Option, Ordering, Some, arith, border_fault_cmp, common_steps, false}
+use Rattle.border_match.proofs.Imports.{tied_itself, ◌≡◌, ◌≢◌, ◌⊎◌}
 use Rattle.lemmas.proofs.Common.{is_gt, upto}
 use Rattle.border_match.proofs.FaultOrder.{border_total}
 
@@ -28,8 +25,7 @@ pub lesser_kept : (o m : BorderFault) (best : Option BorderFault) → best ≡ S
 lesser_kept o m best is greater h c = grind (arith, common_steps, border_total, at_most_trans)
 
 pub covers_after : (o : Option BorderFault) (m h : BorderFault) → HasCandidateAtMost o m →
-    border_fault_cmp m h ≢ Greater →
-    HasCandidateAtMost o h
+    border_fault_cmp m h ≢ Greater → HasCandidateAtMost o h
 covers_after o m h h1 h2 = grind (arith, common_steps, at_most_trans)
 
 -- ---- steps of a search
@@ -48,8 +44,7 @@ module _ (F : BorderFault → Type 0) where
   better_with P o o' m f least kept one covered = grind (arith, common_steps, covers_after)
 
   pub better_then : (P Q R : BorderFault → Type 0) (a b c : Option BorderFault) → IsUpdatedCandidate F P a b →
-      IsUpdatedCandidate F Q b c →
-      ((h : BorderFault) → F h → R h → P h ⊎ Q h) → IsUpdatedCandidate F R a c
+      IsUpdatedCandidate F Q b c → ((h : BorderFault) → F h → R h → P h ⊎ Q h) → IsUpdatedCandidate F R a c
   better_then P Q R a b c p q split = grind (arith, common_steps)
 
   pub better_for : (P Q : BorderFault → Type 0) (a b : Option BorderFault) → IsUpdatedCandidate F P a b →

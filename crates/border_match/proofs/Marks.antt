@@ -34,8 +34,7 @@ local_place x y dx dy cell s moved es at place ex ey by same are is =
 pub still_marked : (b : Borders) (other : JobView) (event : TimedSignal) (old new : List Bool) →
     slice_get (jobs_of b) (owner_of b.owners.now event.at.cell.x event.at.cell.y) ≡ Some other →
     IsEventListed other.edges.events event → AddsOnlyMarksOfEventsAt b.job.now.halos.events event.at old new →
-    AreHaloEventMarks b old →
-    AreHaloEventMarks b new
+    AreHaloEventMarks b old → AreHaloEventMarks b new
 still_marked b other event old new owned listed adds marked = grind (arith, common_steps)
 
 -- ---- no mark at first
@@ -59,8 +58,7 @@ pub event_step : (seen : List Bool) (events : List TimedSignal) (i : ℕ) (e : T
     IsAtUnmarkedEventBelow i seen events f ⊎ IsAtEvent e f
 event_step seen events i e f got h = elim (below_or_same h.unmarked.named.place i h.below) [
   | inl lt ↦ inl (record { unmarked = h.unmarked; below = lt })
-  | inr same ↦
-      grind (arith, common_steps, same_some, slice_get, same_fault)
+  | inr same ↦ grind (arith, common_steps, same_some, slice_get, same_fault)
 ]
 
 pub unmarked_all : (seen : List Bool) (events : List TimedSignal) (k : ℕ) (f : BorderFault) → length events ≤ k →

@@ -43,8 +43,7 @@ with_below b ks new k is below lt = grind (arith, common_steps, with_either)
 -- ---- columns and rows
 
 noted_still : (b : Borders) (old new : List ℕ) (x y : ℤ) → KeepsAllModuleNumbers old new →
-    IsOwnerListedIfOutsideBox b old x y →
-    IsOwnerListedIfOutsideBox b new x y
+    IsOwnerListedIfOutsideBox b old x y → IsOwnerListedIfOutsideBox b new x y
 noted_still b old new x y keeps noted inside out = keeps _ (noted inside out)
 
 -- the cells of a module's box have that module as their owner
@@ -63,24 +62,21 @@ no_column b ks y z x from c r left lt top under = absurd (omega (arith, lt, left
 -- the columns up to the last one of an area that has the cell (x, y), as far down as the area
 pub columns_more : (b : Borders) (old new : List ℕ) (y z z' x : ℕ) (a : Box2) (cx cy : ℤ) → cx ≡ pos x → cy ≡ pos y →
     in_box a cx cy ≡ true → z' ≤ z → z' ≤ a.y + a.h → AreOwnersListedToColumn b old y z x →
-    KeepsAllModuleNumbers old new →
-    AreOutsideOwnersListed b new a → AreOwnersListedToColumn b new y z' (a.x + a.w)
+    KeepsAllModuleNumbers old new → AreOutsideOwnersListed b new a → AreOwnersListedToColumn b new y z' (a.x + a.w)
 columns_more b old new y z z' x a cx cy ex ey has le within before keeps here c r left lt top under =
     grind (arith, common_steps, area_at, below_or_from, noted_still, area_from)
 
 -- the columns behind x are outside of the rectangle or of the halo
 pub all_columns : (b : Borders) (ks : List ℕ) (y z x : ℕ) → AreReadyBorders b →
     ((c : ℕ) → x ≤ c → c < b.job.now.area.x + b.job.now.area.w + 1 → b.whole.w ≤ c) →
-    AreOwnersListedToColumn b ks y z x →
-    AreOwnersListedInRows b ks y z
+    AreOwnersListedToColumn b ks y z x → AreOwnersListedInRows b ks y z
 all_columns b ks y z x ready end before c r left lt top under = grind (arith, common_steps, below_or_from, whole_parts)
 
 pub no_row : (b : Borders) (ks : List ℕ) (y z : ℕ) → z ≡ y → AreOwnersListedInRows b ks y z
 no_row b ks y z same c r left lt top under = absurd (omega (arith, top, under, same))
 
 pub rows_more : (b : Borders) (old new : List ℕ) (x y z : ℕ) → AreOwnersListedInRows b old x y →
-    KeepsAllModuleNumbers old new →
-    AreOwnersListedInRows b new y z → AreOwnersListedInRows b new x z
+    KeepsAllModuleNumbers old new → AreOwnersListedInRows b new y z → AreOwnersListedInRows b new x z
 rows_more b old new x y z above keeps here c r left lt top under =
     grind (arith, common_steps, below_or_from, noted_still)
 

@@ -17,8 +17,7 @@ use Rattle.border_match.proofs.NearModules.{among_more}
 
 -- the cell of the line at this place, moved
 star_at : (dx dy : ℤ) (b : Borders) (stars : List AllTimesSignal) (k : ℕ) (d : AllTimesSignal) (f : BorderFault) →
-    k < length stars →
-    (h : DiffersAtStar b (map (moved_all_times dx dy) stars) f) → h.place ≡ k →
+    k < length stars → (h : DiffersAtStar b (map (moved_all_times dx dy) stars) f) → h.place ≡ k →
     moved_cell dx dy (get_or stars k d).cell ≡ f.cell
 star_at dx dy b stars k d f lt h same = grind (arith, common_steps, slice_get-map, slice_get-get_or, same_some)
 
@@ -68,8 +67,7 @@ pub stars_of : (x y : ℕ) (own moved : Signals) (stars : List AllTimesSignal) �
 stars_of x y own moved stars same are = grind (arith, common_steps, signals_back, ints)
 
 pub starred_back : (b : Borders) (area corner : Box2) (stars own : List AllTimesSignal) (f : BorderFault) →
-    corner ≡ area →
-    map (moved_all_times (pos area.x) (pos area.y)) stars ≡ own → DiffersAtStar b own f →
+    corner ≡ area → map (moved_all_times (pos area.x) (pos area.y)) stars ≡ own → DiffersAtStar b own f →
     DiffersAtStar b (map (moved_all_times (pos corner.x) (pos corner.y)) stars) f
 starred_back b area corner stars own f same are h = grind (arith, common_steps)
 

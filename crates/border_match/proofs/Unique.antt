@@ -1,6 +1,5 @@
 -- A module has one least border fault, or none
-use Rattle.border_match.proofs.Imports.{None, Some, ap, border_fault_cmp}
-use Rattle.border_match.proofs.Imports.{refl}
+use Rattle.border_match.proofs.Imports.{None, Some, ap, border_fault_cmp, refl}
 use Rattle.lemmas.proofs.Common.{both_ways}
 use Rattle.border_match.specs.Laws.{LeastBorderFaultIsUnique}
 use Rattle.border_match.proofs.FaultOrder.{border_total, border_exact}

@@ -3,20 +3,17 @@ use Rattle.certificate.proofs.Imports.{All, All-append, All-cons, All-head, All-
 use Rattle.certificate.proofs.Imports.{List, None, Option, Some, StopLine, TimeLine, [], all_stops, and_parts, ap}
 use Rattle.certificate.proofs.Imports.{arith, common_steps, delay_line, earlier, eqb-true, fold, if◌then◌else◌}
 use Rattle.certificate.proofs.Imports.{last_times, later, length, lines_of_numbered_gates, list_all, max, meet_line}
-use Rattle.certificate.proofs.Imports.{min}
-use Rattle.certificate.proofs.Imports.{nat_le, nat_tests, option_to_list, refl, same_Some, slice_get}
-use Rattle.certificate.proofs.Imports.{stop_times_of_wire, subst, suc, sym, true, zero, ℕ, ◌+◌, ◌-◌, ◌<◌, ◌==◌, ◌∙◌}
-use Rattle.certificate.proofs.Imports.{◌∷◌, ◌≡◌, ◌≤◌, ◌++◌}
+use Rattle.certificate.proofs.Imports.{min, nat_le, nat_tests, option_to_list, refl, same_Some, slice_get}
+use Rattle.certificate.proofs.Imports.{stop_times_of_wire, subst, suc, sym, true, zero, ℕ, ◌++◌, ◌+◌, ◌-◌, ◌<◌, ◌==◌}
+use Rattle.certificate.proofs.Imports.{◌∙◌, ◌∷◌, ◌≡◌, ◌≤◌}
 use Rattle.lemmas.proofs.Common.{All-contains, Contains-append_left, Contains-append_right, list_all-append, eq_test}
 use Rattle.circuit.specs.declared.circuit_line.GateKind.{GateKind}
 use Rattle.circuit.specs.declared.circuit_line.GateKind.TheVariants.{Delay}
-use Rattle.certificate.specs.Arrivals.{IsFirstStopTime, IsLastStopTime, LastStopsMeetAt, TakesStepsFromLastToFirstStop}
-use Rattle.certificate.specs.Arrivals.{IsTimeLineTrue}
-use Rattle.certificate.specs.Arrivals.{IsDelayGapTrue, IsMeetingTimeTrue}
+use Rattle.certificate.specs.Arrivals.{IsDelayGapTrue, IsFirstStopTime, IsLastStopTime, IsMeetingTimeTrue}
+use Rattle.certificate.specs.Arrivals.{IsTimeLineTrue, LastStopsMeetAt, TakesStepsFromLastToFirstStop}
 use Rattle.certificate.specs.Laws.{ObeyedLinesAreOnTime, TimeLinesAreTrue}
-use Rattle.certificate.specs.Times.{common_time, delay_line_of_kind, first_seen_time, gap_between, is_timing_obeyed}
-use Rattle.certificate.specs.Times.{last_seen_time}
-use Rattle.certificate.specs.Times.{meet_line_of_times, first_wire_time}
+use Rattle.certificate.specs.Times.{common_time, delay_line_of_kind, first_seen_time, first_wire_time, gap_between}
+use Rattle.certificate.specs.Times.{is_timing_obeyed, last_seen_time, meet_line_of_times}
 use Rattle.certificate.specs.declared.times.StopGap.{StopGap}
 use Rattle.certificate.specs.declared.times.StopGap.TheVariants.{Steps, Missing, Before}
 use Rattle.certificate.proofs.SeenLaws.{first_is_least, last_is_greatest}
@@ -72,8 +69,7 @@ gap_missing : (last first : Option ℕ) (l f : ℕ) → gap_between last first �
 gap_missing last first l f h1 h2 h3 = grind (arith, common_steps)
 
 takes : (c : Circuit) (ss : List StopLine) (m a b : ℕ) →
-    gap_between (last_seen_time c ss a) (first_seen_time c ss b) ≡ Steps m →
-    TakesStepsFromLastToFirstStop c ss m a b
+    gap_between (last_seen_time c ss a) (first_seen_time c ss b) ≡ Steps m → TakesStepsFromLastToFirstStop c ss m a b
 takes c ss m a b e = grind (arith, common_steps, is_last, is_first)
 
 gap_tells : (c : Circuit) (ss : List StopLine) (a b : ℕ) (gap : StopGap) →
@@ -132,8 +128,7 @@ all_times P last (v ∷ ws) h =
     later_there w there = (suc there.0, (let lt = there.1 in omega (arith, lt)), there.2)
 
 meet_at : (c : Circuit) (ss : List StopLine) (ws : List ℕ) (t : ℕ) →
-    All (λ u. u ≡ t) (last_times (last_seen_time c ss) ws) →
-    LastStopsMeetAt c ss ws t
+    All (λ u. u ≡ t) (last_times (last_seen_time c ss) ws) → LastStopsMeetAt c ss ws t
 meet_at c ss ws t h w s there last =
     All-contains (λ u. u ≡ t) (last_times (last_seen_time c ss) ws) s h
     (listed (last_seen_time c ss) ws w s there (last_is c ss w s last))
@@ -162,9 +157,8 @@ meet_lines_tell : (c : Circuit) (ss : List StopLine) (k : ℕ) (g : Gate) → sl
 meet_lines_tell c ss k g at = grind (arith, common_steps, nat_tests, meet_tells)
 
 all_numbered : (P : TimeLine → Type 0) (f : ℕ → Gate → List TimeLine) (all : List Gate) →
-    ((k : ℕ) (g : Gate) → slice_get all k ≡ Some g → All P (f k g)) →
-    (j : ℕ) (gates : List Gate) → ((i : ℕ) → slice_get gates i ≡ slice_get all (j + i)) →
-    All P (lines_of_numbered_gates f j gates)
+    ((k : ℕ) (g : Gate) → slice_get all k ≡ Some g → All P (f k g)) → (j : ℕ) (gates : List Gate) →
+    ((i : ℕ) → slice_get gates i ≡ slice_get all (j + i)) → All P (lines_of_numbered_gates f j gates)
 unfolding lines_of_numbered_gates
 all_numbered P f all each j [] at = All-nil P
 all_numbered P f all each j (g ∷ gates) at =
@@ -196,8 +190,7 @@ kept_at : (f : ℕ → Gate → List TimeLine) (j : ℕ) (gates : List Gate) (i 
     list_all is_timing_obeyed (f (j + i) g) ≡ true
 unfolding lines_of_numbered_gates
 kept_at f j [] i g e at = absurd cc
-kept_at f j (h ∷ gates) zero g e at =
-    grind (arith, common_steps, obeyed_parts, same_Some)
+kept_at f j (h ∷ gates) zero g e at = grind (arith, common_steps, obeyed_parts, same_Some)
 kept_at f j (h ∷ gates) (suc i) g e at =
     let p = obeyed_parts (f j h) (lines_of_numbered_gates f (j + 1) gates) e in
     subst (λ n. list_all is_timing_obeyed (f n g) ≡ true) (omega arith) (kept_at f (j + 1) gates i g p.1 at)

@@ -1,11 +1,10 @@
 -- The edge and halo lines of a module rise, those with a `*` by their cells, the others by time and cell.
 use Rattle.certificate.proofs.Imports.{AllTimesSignal, AreLinesInOrder, Bool, BorderLine, CertificateLine, Each, Less}
-use Rattle.certificate.proofs.Imports.{List}
-use Rattle.certificate.proofs.Imports.{Option, Ordering, Pairs, Signal, TimedSignal, [], and_parts, signal_if_starred}
-use Rattle.certificate.proofs.Imports.{arith, cell_cmp, cell_of, common_steps, edge_in, event_if_timed, false, halo_in}
+use Rattle.certificate.proofs.Imports.{List, Option, Ordering, Pairs, Signal, TimedSignal, [], and_parts, arith}
+use Rattle.certificate.proofs.Imports.{cell_cmp, cell_of, common_steps, edge_in, event_if_timed, false, halo_in}
 use Rattle.certificate.proofs.Imports.{is_cut_line, line_cmp, list_all, may_precede, moment_cmp, ordering_then}
-use Rattle.certificate.proofs.Imports.{pairs_flat}
-use Rattle.certificate.proofs.Imports.{rank_of, sort_number_of, time_rank, true, ℕ, ◌||◌, ◌∷◌, ◌≡◌}
+use Rattle.certificate.proofs.Imports.{pairs_flat, rank_of, signal_if_starred, sort_number_of, time_rank, true, ℕ, ◌||◌}
+use Rattle.certificate.proofs.Imports.{◌∷◌, ◌≡◌}
 use Rattle.std.specs.List.{flat_map}
 use Rattle.std.specs.Ordering.{nat_cmp, is_lt}
 
@@ -16,8 +15,7 @@ Before d e = ordering_then (nat_cmp (time_rank d.time) (time_rank e.time)) (cell
 pub each_of_test : {A : Type 0} (test : A → Bool) (xs : List A) → list_all test xs ≡ true → Each (λ x. test x ≡ true) xs
 unfolding Each
 each_of_test test [] h = tt
-each_of_test test (x ∷ xs) h =
-    grind (arith, common_steps, and_parts, each_of_test test xs)
+each_of_test test (x ∷ xs) h = grind (arith, common_steps, and_parts, each_of_test test xs)
 
 pub pairs_of_order : (lines : List CertificateLine) → AreLinesInOrder lines →
     Pairs (λ i j. may_precede i j ≡ true) lines

@@ -1,10 +1,9 @@
 -- Lists of what cells carry and must be, that grow row by row.
 use Rattle.certificate.proofs.Imports.{AddsStartsAndDemands, All, Box2, Cell, Circuit, Demand, IsDemandWireBelow}
-use Rattle.certificate.proofs.Imports.{IsSignalWireBelow, List, LocalNet, Pattern, Signal, [], ap, arith}
-use Rattle.certificate.proofs.Imports.{circuit_wire, common_steps, end_demand, flat_map, in_box, map, map-append, pos}
-use Rattle.certificate.proofs.Imports.{range_with_len, refl, renumber_demand, renumber_signal, replicate, row_cells}
-use Rattle.certificate.proofs.Imports.{start_signal, suc, sym, to_z, true, w32, wires, zero, ℕ, ◌++◌, ◌+◌, ◌-◌, ◌<◌}
-use Rattle.certificate.proofs.Imports.{◌∙◌, ◌∷◌, ◌≡◌, ◌≤◌}
+use Rattle.certificate.proofs.Imports.{IsSignalWireBelow, List, LocalNet, Pattern, Signal, [], ap, arith, circuit_wire}
+use Rattle.certificate.proofs.Imports.{common_steps, end_demand, flat_map, in_box, map, map-append, pos, range_with_len}
+use Rattle.certificate.proofs.Imports.{refl, renumber_demand, renumber_signal, replicate, row_cells, start_signal, suc}
+use Rattle.certificate.proofs.Imports.{sym, to_z, true, w32, wires, zero, ℕ, ◌++◌, ◌+◌, ◌-◌, ◌<◌, ◌∙◌, ◌∷◌, ◌≡◌, ◌≤◌}
 use Rattle.lemmas.proofs.Common.{get_or-replicate, length-replicate}
 use Rattle.bbm_rule.specs.CellLists.{cell}
 use Rattle.certificate.specs.declared.layout_tables.CellLists.{CellLists}
@@ -14,8 +13,7 @@ use Rattle.bbm_rule.proofs.RingTests.{area_from}
 
 -- a row in two parts
 row_parts : (x a b y : ℕ) → row_cells x (a + b) y ≡ row_cells x a y ++ row_cells (x + a) b y
-row_parts x zero b y =
-    grind (arith, common_steps)
+row_parts x zero b y = grind (arith, common_steps)
 row_parts x (suc a) b y =
     let e : x + suc a ≡ x + 1 + a = omega arith in
     let n : suc a + b ≡ suc (a + b) = omega arith in
@@ -36,8 +34,7 @@ module _ {A B : Type 0} (g : A → B) (f : Cell → B) (first old new : List A) 
 
   -- the same value for the cells up to the column n
   pub grow_same : (v : A) (n : ℕ) → k ≤ n → new ≡ old ++ replicate (n - k) v →
-      ((j : ℕ) → k ≤ j → j < n → f (cell j y) ≡ g v) →
-      map g new ≡ map g first ++ map f (row_cells x (n - x) y)
+      ((j : ℕ) → k ≤ j → j < n → f (cell j y) ≡ g v) → map g new ≡ map g first ++ map f (row_cells x (n - x) y)
   grow_same v n le pushed same =
       let start : x + (k - x) ≡ k = omega arith in
       let count : k - x + (n - k) ≡ n - x = omega arith in
@@ -45,8 +42,7 @@ module _ {A B : Type 0} (g : A → B) (f : Cell → B) (first old new : List A) 
 
   -- and a value for one cell
   pub grow_cell : (a : A) → k < max_side → y < max_side → new ≡ old ++ a ∷ [] →
-      g a ≡ f (record { x = to_z w32 k; y = to_z w32 y }) →
-      map g new ≡ map g first ++ map f (row_cells x (k + 1 - x) y)
+      g a ≡ f (record { x = to_z w32 k; y = to_z w32 y }) → map g new ≡ map g first ++ map f (row_cells x (k + 1 - x) y)
   grow_cell a low row pushed here =
       let count : k + 1 - x ≡ k - x + 1 = omega arith in
       grown (cell k y ∷ []) (a ∷ []) pushed (ap (λ (b : B). b ∷ []) (here ∙ ap f (cast_cell k y low row)))
@@ -82,8 +78,7 @@ module _ (c : Circuit) (p : Pattern) (l : LocalNet) (first old new : CellLists) 
   demands_at d = end_demand c p d.x d.y
 
   pub add_same : (start : Signal) (demand : Demand) (n : ℕ) → k ≤ n →
-      new.starts ≡ old.starts ++ replicate (n - k) start →
-      new.demands ≡ old.demands ++ replicate (n - k) demand →
+      new.starts ≡ old.starts ++ replicate (n - k) start → new.demands ≡ old.demands ++ replicate (n - k) demand →
       ((j : ℕ) → k ≤ j → j < n → start_signal c p (pos j) (pos y) ≡ renumber_signal (circuit_wire l) start) →
       ((j : ℕ) → k ≤ j → j < n → end_demand c p (pos j) (pos y) ≡ renumber_demand (circuit_wire l) demand) →
       IsSignalWireBelow (wires l.netlist) start → IsDemandWireBelow (wires l.netlist) demand →
@@ -102,6 +97,5 @@ module _ (c : Circuit) (p : Pattern) (l : LocalNet) (first old new : CellLists) 
 
 -- a cell of a box, whose numbers were cast
 pub cast_inside : (b : Box2) (x y : ℕ) → x < max_side → y < max_side → b.x ≤ x → x < b.x + b.w → b.y ≤ y →
-    y < b.y + b.h →
-    in_box b (to_z w32 x) (to_z w32 y) ≡ true
+    y < b.y + b.h → in_box b (to_z w32 x) (to_z w32 y) ≡ true
 cast_inside b x y low row left right top bottom = grind (arith, common_steps, cast_cell, area_from)

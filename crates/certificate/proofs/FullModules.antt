@@ -1,24 +1,20 @@
 -- The modules of version 2 as modules of version 1
 use Rattle.certificate.proofs.Imports.{All, AreDistinct, AreLinesInOrder, AreModules, Bool, BorderLine, Box2, Cell}
 use Rattle.certificate.proofs.Imports.{CertificateLine, Each, Equal, Halo, HasLocalPortWires, IfSome, In, IsModule}
-use Rattle.certificate.proofs.Imports.{IsTrue}
-use Rattle.certificate.proofs.Imports.{Less, List, ModuleLines, Option, Ordering, Pairs, Rises, Setting, Some}
-use Rattle.certificate.proofs.Imports.{StarsExcludeLaterTimes, Stop, StopLine, Tile, [], all_in, any_at, ap, ap₂, areas}
-use Rattle.certificate.proofs.Imports.{arith, border_line_cmp, cases_Bool, cell_of, common_steps, cond-false, cond-true}
-use Rattle.certificate.proofs.Imports.{cut_wires, cuts, each_in, edge_in, edge_lines_beside, edges, false, filter}
-use Rattle.certificate.proofs.Imports.{filter_in, flat_map, gates, halo_in, halos, in_box, in_each, in_filter, in_flat}
-use Rattle.certificate.proofs.Imports.{in_halo, in_ordered, inl, inr, is_halo_line, is_haloless_version, is_local}
-use Rattle.certificate.proofs.Imports.{is_lt}
-use Rattle.certificate.proofs.Imports.{is_nonlocal_signal, keeps, known, has_nonlocal_edge_wire_beside, length}
-use Rattle.certificate.proofs.Imports.{append-nil}
-use Rattle.certificate.proofs.Imports.{length-map, line_cmp, list_all, list_any, local_wires, map, mapped_at}
-use Rattle.certificate.proofs.Imports.{mapped_from, may_precede, modules_by_version, nat_lt, option_to_list}
-use Rattle.certificate.proofs.Imports.{ordered_rises, pairs_filter, placed, precedes_halo_lines, rank_of, refl}
-use Rattle.certificate.proofs.Imports.{slice_get}
-use Rattle.certificate.proofs.Imports.{some_is, sort_number_of, sorted_border_lines, stop_in, stops, subst, suc, sym}
-use Rattle.certificate.proofs.Imports.{true, true≢false, whole, wire_of, with_halo_lines, without_halo_lines, zero, ℕ}
-use Rattle.certificate.proofs.Imports.{ℤ, ◌&&◌}
-use Rattle.certificate.proofs.Imports.{◌++◌, ◌<◌, ◌||◌, ◌∙◌, ◌∷◌, ◌≡◌, ◌≢◌, ◌≤◌, get_or, slice_get-get_or}
+use Rattle.certificate.proofs.Imports.{IsTrue, Less, List, ModuleLines, Option, Ordering, Pairs, Rises, Setting, Some}
+use Rattle.certificate.proofs.Imports.{StarsExcludeLaterTimes, Stop, StopLine, Tile, [], all_in, any_at, ap, append-nil}
+use Rattle.certificate.proofs.Imports.{ap₂, areas, arith, border_line_cmp, cases_Bool, cell_of, common_steps}
+use Rattle.certificate.proofs.Imports.{cond-false, cond-true, cut_wires, cuts, each_in, edge_in, edge_lines_beside}
+use Rattle.certificate.proofs.Imports.{edges, false, filter, filter_in, flat_map, gates, get_or, halo_in, halos}
+use Rattle.certificate.proofs.Imports.{has_nonlocal_edge_wire_beside, in_box, in_each, in_filter, in_flat, in_halo}
+use Rattle.certificate.proofs.Imports.{in_ordered, inl, inr, is_halo_line, is_haloless_version, is_local, is_lt}
+use Rattle.certificate.proofs.Imports.{is_nonlocal_signal, keeps, known, length, length-map, line_cmp, list_all}
+use Rattle.certificate.proofs.Imports.{list_any, local_wires, map, mapped_at, mapped_from, may_precede}
+use Rattle.certificate.proofs.Imports.{modules_by_version, nat_lt, option_to_list, ordered_rises, pairs_filter, placed}
+use Rattle.certificate.proofs.Imports.{precedes_halo_lines, rank_of, refl, slice_get, slice_get-get_or, some_is}
+use Rattle.certificate.proofs.Imports.{sort_number_of, sorted_border_lines, stop_in, stops, subst, suc, sym, true}
+use Rattle.certificate.proofs.Imports.{true≢false, whole, wire_of, with_halo_lines, without_halo_lines, zero, ℕ, ℤ}
+use Rattle.certificate.proofs.Imports.{◌&&◌, ◌++◌, ◌<◌, ◌||◌, ◌∙◌, ◌∷◌, ◌≡◌, ◌≢◌, ◌≤◌}
 use Rattle.std.proofs.lemmas.Simd.{map-map}
 use Rattle.bbm_rule.proofs.CellOrder.{cell_exact}
 use Rattle.certificate_lines.specs.Modules.{IsAllowedEdge, IsAllowedHalo, IsAllowedStop}
@@ -56,8 +52,7 @@ pairs_by_place R (x ∷ xs) h = (
 
 -- what lines other than halo lines say is said without these
 pub without_same : {X : Type 0} (f : CertificateLine → List X) → ((e : BorderLine) → f (Halo e) ≡ []) →
-    (lines : List CertificateLine) →
-    flat_map f (without_halo_lines lines) ≡ flat_map f lines
+    (lines : List CertificateLine) → flat_map f (without_halo_lines lines) ≡ flat_map f lines
 unfolding without_halo_lines is_halo_line
 without_same f none [] = refl
 without_same f none (Halo e ∷ lines) = without_same f none lines ∙ ap (λ xs. xs ++ flat_map f lines) (sym (none e))
@@ -111,8 +106,7 @@ abbrev pub lines_with_halos : List CertificateLine → List BorderLine → List 
 lines_with_halos lines hs = filter precedes_halo_lines lines ++ map Halo hs ++ map Stop (flat_map stop_in lines)
 
 pub other_lines : {X : Type 0} (f : CertificateLine → List X) → IsOfEarly f →
-    (lines : List CertificateLine) (hs : List BorderLine) →
-    flat_map f (lines_with_halos lines hs) ≡ flat_map f lines
+    (lines : List CertificateLine) (hs : List BorderLine) → flat_map f (lines_with_halos lines hs) ≡ flat_map f lines
 other_lines f none lines hs = grind (arith, common_steps, nothing_in, append-nil, early_same)
 
 pub halo_lines : (lines : List CertificateLine) (hs : List BorderLine) →
@@ -156,8 +150,7 @@ unfolding may_precede line_cmp rank_of
 halo_before_stop e s = refl
 
 each_mapped : {X : Type 0} (P : CertificateLine → Type 0) (to : X → CertificateLine) (xs : List X) →
-    ((x : X) → In x xs → P (to x)) →
-    Each P (map to xs)
+    ((x : X) → In x xs → P (to x)) → Each P (map to xs)
 unfolding Each In
 each_mapped P to [] h = tt
 each_mapped P to (x ∷ xs) h = (h x (inl refl), each_mapped P to xs (λ y i. h y (inr i)))
@@ -253,8 +246,7 @@ module _ (g : Setting) (ms : List ModuleLines) (good : AreModules g ms) where
   in_beside area e i = grind (arith, common_steps, cases_Bool, in_filter, cond-true, cond-false)
 
   pub beside_in : (area : Box2) (e : BorderLine) → nat_lt 1 g.size.steps ≡ true →
-      in_halo area e.cell.x e.cell.y ≡ true →
-      In e (flat_map edges ms) → In e (edge_lines_beside g ms area)
+      in_halo area e.cell.x e.cell.y ≡ true → In e (flat_map edges ms) → In e (edge_lines_beside g ms area)
   unfolding edge_lines_beside
   beside_in area e long h i = grind (arith, common_steps, cond-true, filter_in)
 
@@ -311,8 +303,7 @@ module _ (g : Setting) (ms : List ModuleLines) (good : AreModules g ms) where
 
     -- the edge lines beside it may be its halo lines
     halo_here : (e : BorderLine) → In e (edge_lines_beside g ms m.area) →
-        is_nonlocal_signal g.circuit (known g.circuit m) e.signal ≡ false →
-        IsAllowedHalo g m.area (known g.circuit m) e
+        is_nonlocal_signal g.circuit (known g.circuit m) e.signal ≡ false → IsAllowedHalo g m.area (known g.circuit m) e
     halo_here e i known_there =
         let b = in_beside m.area e i in
         let n = in_flat edges e ms b.2 in
@@ -360,8 +351,7 @@ module _ (g : Setting) (ms : List ModuleLines) (good : AreModules g ms) where
   none_passes test xs none x i = grind (arith, common_steps, cases_Bool, placed, true≢false, any_at)
 
   none_strange : has_nonlocal_edge_wire_beside g ms ≡ false → (m : ModuleLines) → In m ms → (e : BorderLine) →
-      In e (edge_lines_beside g ms m.area) →
-      is_nonlocal_signal g.circuit (known g.circuit m) e.signal ≡ false
+      In e (edge_lines_beside g ms m.area) → is_nonlocal_signal g.circuit (known g.circuit m) e.signal ≡ false
   unfolding has_nonlocal_edge_wire_beside
   none_strange none m at e i = grind (arith, common_steps, none_passes)
 

@@ -1,14 +1,12 @@
 -- Lists of the places of edge lines, as places are added
 use Rattle.certificate.proofs.Imports.{AddsEdgePlacesInHalo, AreOwnersAndListsReady, Bool, Box2, Cell, EdgePlace}
-use Rattle.certificate.proofs.Imports.{IsEvenBox}
-use Rattle.certificate.proofs.Imports.{IsInnerCell, List}
-use Rattle.certificate.proofs.Imports.{Some, StoredBorder, StoredModule, [], and_from, and_parts, ap, append-nil}
-use Rattle.certificate.proofs.Imports.{append_assoc, arith, cases_Bool, common_steps, cond-false, cond-true}
-use Rattle.certificate.proofs.Imports.{edge_lines_at, edge_lines_at_place, eqb-true, false, filter, flat_map-append}
-use Rattle.certificate.proofs.Imports.{get_or, option_to_list, take, take_more, ◌+◌, if◌then◌else◌, in_box, in_halo}
-use Rattle.certificate.proofs.Imports.{in_span, length, line_cell, list_at_or_empty, map, not, pos, rectangle, refl}
-use Rattle.certificate.proofs.Imports.{slice_get, some_is, suc, sym, true, true_from_not, zero, ℕ, ℤ, ◌&&◌, ◌++◌, ◌+ℤ◌}
-use Rattle.certificate.proofs.Imports.{◌<◌, ◌||◌, ◌∙◌, ◌∷◌, ◌≡◌}
+use Rattle.certificate.proofs.Imports.{IsEvenBox, IsInnerCell, List, Some, StoredBorder, StoredModule, [], and_from}
+use Rattle.certificate.proofs.Imports.{and_parts, ap, append-nil, append_assoc, arith, cases_Bool, common_steps}
+use Rattle.certificate.proofs.Imports.{cond-false, cond-true, edge_lines_at, edge_lines_at_place, eqb-true, false}
+use Rattle.certificate.proofs.Imports.{filter, flat_map-append, get_or, if◌then◌else◌, in_box, in_halo, in_span, length}
+use Rattle.certificate.proofs.Imports.{line_cell, list_at_or_empty, map, not, option_to_list, pos, rectangle, refl}
+use Rattle.certificate.proofs.Imports.{slice_get, some_is, suc, sym, take, take_more, true, true_from_not, zero, ℕ, ℤ}
+use Rattle.certificate.proofs.Imports.{◌&&◌, ◌++◌, ◌+ℤ◌, ◌+◌, ◌<◌, ◌||◌, ◌∙◌, ◌∷◌, ◌≡◌}
 use Rattle.lemmas.proofs.Common.{◌-ℤ◌, slice_set, eqb-false, filter-append}
 use Rattle.bbm_rule.specs.Plane.{partner}
 use Rattle.bbm_rule.proofs.Spans.{partner_near}
@@ -69,9 +67,8 @@ same_test boxes p q place old new same h = grind (arith, common_steps)
 
 -- ---- a place more for each box that has a cell in its halo
 
-at_most_one : (r s t : Bool) (p : EdgePlace) (l : List EdgePlace) → (r && s) ≡ false →
-    (r && t) ≡ false → (s && t) ≡ false →
-    ((l ++ (if r then p ∷ [] else [])) ++ (if s then p ∷ [] else [])) ++ (if t then p ∷ [] else [])
+at_most_one : (r s t : Bool) (p : EdgePlace) (l : List EdgePlace) → (r && s) ≡ false → (r && t) ≡ false →
+    (s && t) ≡ false → ((l ++ (if r then p ∷ [] else [])) ++ (if s then p ∷ [] else [])) ++ (if t then p ∷ [] else [])
     ≡ l ++ (if r || s || t then p ∷ [] else [])
 at_most_one r s t p l h1 h2 h3 = grind (arith, common_steps, append-nil)
 
@@ -112,9 +109,8 @@ module _ (x y : ℤ) where
   corner b = in_box b x' y' && not (in_box b x y || (in_box b x' y || (in_box b x y' || false)))
 
   pub beside_places : (boxes : List Box2) (place : EdgePlace) (old l m new : List (List EdgePlace)) →
-      ((k : ℕ) (b : Box2) → slice_get boxes k ≡ Some b → IsEvenBox b) →
-      AddsPlaceIfBoxPasses boxes side place old l → AddsPlaceIfBoxPasses boxes above place l m →
-      AddsPlaceIfBoxPasses boxes corner place m new →
+      ((k : ℕ) (b : Box2) → slice_get boxes k ≡ Some b → IsEvenBox b) → AddsPlaceIfBoxPasses boxes side place old l →
+      AddsPlaceIfBoxPasses boxes above place l m → AddsPlaceIfBoxPasses boxes corner place m new →
       AddsPlaceIfBoxPasses boxes (λ b. in_halo b x y) place old new
   unfolding in_box
   beside_places boxes place old l m new even s a c = record {
@@ -187,8 +183,7 @@ module _ (ms : List StoredModule) (boxes : List Box2) where
 -- ---- tables and lists
 
 pub still_ready : (boxes : List Box2) (o : OwnersView) (old new : List (List EdgePlace)) →
-    AreOwnersAndListsReady boxes o old →
-    length new ≡ length old → AreOwnersAndListsReady boxes o new
+    AreOwnersAndListsReady boxes o old → length new ≡ length old → AreOwnersAndListsReady boxes o new
 still_ready boxes o old new h same = grind (arith, common_steps)
 
 pub taken_one : {X : Type 0} (xs : List X) (i : ℕ) (x : X) → i < length xs → x ≡ get_or xs i x →

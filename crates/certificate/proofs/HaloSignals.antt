@@ -1,14 +1,13 @@
 -- The signals of a halo's cells by the edge lines beside a module
 use Rattle.certificate.proofs.Imports.{AllTimesSignal, AreModules, BorderLine, Box2, Cell, Circuit, In, Less, List}
 use Rattle.certificate.proofs.Imports.{ModuleLines, Option, Setting, Signal, Some, TimedSignal, Zero, [], all_times_at}
-use Rattle.certificate.proofs.Imports.{ap, ap₂, arith, border_line_cmp, cases_Bool, cell_same, signal_if_starred}
-use Rattle.certificate.proofs.Imports.{common_steps, cond-false, cond-true, edge_lines_beside, edges, event_at}
-use Rattle.certificate.proofs.Imports.{event_if_timed, false, filter, filter_in, flat_map, in_box, in_filter, in_flat}
-use Rattle.certificate.proofs.Imports.{in_halo, in_ordered, inl, inr, is_cell_at, line_signals, mapped_at, nat_lt}
-use Rattle.certificate.proofs.Imports.{nat_tests}
-use Rattle.certificate.proofs.Imports.{one_or_named_wire, ordered_in, pairs_filter, placed, refl, rising_same}
-use Rattle.certificate.proofs.Imports.{signal_at, slice_get, some_is, sorted_border_lines, subst, sym, true, unwrap_or}
-use Rattle.certificate.proofs.Imports.{ℕ, ℤ, ◌++◌, ◌<◌, ◌∙◌, ◌∷◌, ◌≡◌}
+use Rattle.certificate.proofs.Imports.{ap, ap₂, arith, border_line_cmp, cases_Bool, cell_same, common_steps, cond-false}
+use Rattle.certificate.proofs.Imports.{cond-true, edge_lines_beside, edges, event_at, event_if_timed, false, filter}
+use Rattle.certificate.proofs.Imports.{filter_in, flat_map, in_box, in_filter, in_flat, in_halo, in_ordered, inl, inr}
+use Rattle.certificate.proofs.Imports.{is_cell_at, line_signals, mapped_at, nat_lt, nat_tests, one_or_named_wire}
+use Rattle.certificate.proofs.Imports.{ordered_in, pairs_filter, placed, refl, rising_same, signal_at}
+use Rattle.certificate.proofs.Imports.{signal_if_starred, slice_get, some_is, sorted_border_lines, subst, sym, true}
+use Rattle.certificate.proofs.Imports.{unwrap_or, ℕ, ℤ, ◌++◌, ◌<◌, ◌∙◌, ◌∷◌, ◌≡◌}
 use Rattle.lemmas.proofs.Common.{◌%◌, and-false}
 use Rattle.certificate.specs.Laws.{HaloCarriesOwnersEdge}
 use Rattle.certificate_lines.proofs.LineOrder.{flat_in}
@@ -21,8 +20,7 @@ unfoldable pub at_cell : ℤ → ℤ → List BorderLine → List BorderLine
 at_cell x y es = filter (λ e. is_cell_at e.cell x y) es
 
 pub all_times_past : (e : BorderLine) (time : Option ℕ) (s : Signal) (rest : List AllTimesSignal) (x y : ℤ) →
-    is_cell_at e.cell x y ≡ false →
-    all_times_at (signal_if_starred e time s ++ rest) x y ≡ all_times_at rest x y
+    is_cell_at e.cell x y ≡ false → all_times_at (signal_if_starred e time s ++ rest) x y ≡ all_times_at rest x y
 unfolding all_times_at
 all_times_past e time s rest x y h1 = grind (arith, common_steps, cond-false)
 

@@ -1,17 +1,14 @@
 -- The lists of the edge lines beside each module, from the modules of a certificate
-use Rattle.certificate.proofs.Imports.{AddsEdgePlacesInHalo, All, AreModules, BorderLine, Box2, Circuit, EdgePlace}
-use Rattle.certificate.proofs.Imports.{HaveEdgePlacesFromModule, HasCircuitWires, IsEvenBox, IsInnerCell, IsModule}
-use Rattle.certificate.proofs.Imports.{List}
-use Rattle.certificate.proofs.Imports.{ModuleLines}
-use Rattle.certificate.proofs.Imports.{Setting, Some, StoredBorder, StoredModule, [], ap, areas, arith, border_line}
-use Rattle.certificate.proofs.Imports.{cases_Bool, common_steps, cond-false, cond-true, edge_lines_at}
-use Rattle.certificate.proofs.Imports.{edge_lines_beside, edges, false, filter, flat_map, get_or, in_halo, length}
-use Rattle.certificate.proofs.Imports.{length-map, line_cell, list_at_or_empty, map, map-append, mapped_at, mapped_from}
-use Rattle.certificate.proofs.Imports.{module_lines, nat_lt, nat_tests, refl, slice_get, slice_get-get_or, subst, sym}
-use Rattle.certificate.proofs.Imports.{true, whole, ℕ, ◌++◌, ◌<◌, ◌∙◌, ◌∷◌, ◌≡◌, ◌≤◌, ap₂, All-append, All-cons}
-use Rattle.certificate.proofs.Imports.{All-nil, HasCircuitWire, None, Option, edge_lines_at_place}
-use Rattle.certificate.proofs.Imports.{get_or_from_slice_get}
-use Rattle.certificate.proofs.Imports.{option_to_list, slice_get_within}
+use Rattle.certificate.proofs.Imports.{AddsEdgePlacesInHalo, All, All-append, All-cons, All-nil, AreModules, BorderLine}
+use Rattle.certificate.proofs.Imports.{Box2, Circuit, EdgePlace, HasCircuitWire, HasCircuitWires}
+use Rattle.certificate.proofs.Imports.{HaveEdgePlacesFromModule, IsEvenBox, IsInnerCell, IsModule, List, ModuleLines}
+use Rattle.certificate.proofs.Imports.{None, Option, Setting, Some, StoredBorder, StoredModule, [], ap, ap₂, areas}
+use Rattle.certificate.proofs.Imports.{arith, border_line, cases_Bool, common_steps, cond-false, cond-true}
+use Rattle.certificate.proofs.Imports.{edge_lines_at, edge_lines_at_place, edge_lines_beside, edges, false, filter}
+use Rattle.certificate.proofs.Imports.{flat_map, get_or, get_or_from_slice_get, in_halo, length, length-map, line_cell}
+use Rattle.certificate.proofs.Imports.{list_at_or_empty, map, map-append, mapped_at, mapped_from, module_lines, nat_lt}
+use Rattle.certificate.proofs.Imports.{nat_tests, option_to_list, refl, slice_get, slice_get-get_or, slice_get_within}
+use Rattle.certificate.proofs.Imports.{subst, sym, true, whole, ℕ, ◌++◌, ◌<◌, ◌∙◌, ◌∷◌, ◌≡◌, ◌≤◌}
 use Rattle.lemmas.proofs.Common.{all_unmapped}
 use Rattle.certificate_lines.specs.Modules.{IsWithinLineLimit}
 use Rattle.module_box.proofs.BoxCells.{in_rectangle}
@@ -42,8 +39,7 @@ module _ (g : Setting) (ms : List StoredModule) where
   lines_at k d lt = mapped_at (module_lines g.circuit) ms k (get_or ms k d) (slice_get-get_or ms k d lt)
 
   -- edge lines are inside the rectangle and not on its rim
-  pub inner_edges : AreModules g lines →
-      All (λ m. All (λ e. IsInnerCell (whole g.size) (line_cell e)) m.edges.items) ms
+  pub inner_edges : AreModules g lines → All (λ m. All (λ e. IsInnerCell (whole g.size) (line_cell e)) m.edges.items) ms
   inner_edges good k d lt =
       let m = get_or ms k d in
       all_unmapped (λ (e : BorderLine). IsInnerCell (whole g.size) e.cell) (border_line g.circuit) m.edges.items
@@ -92,8 +88,7 @@ module _ (g : Setting) (ms : List StoredModule) where
   none_placed lists few count empty = grind (arith, common_steps, cond-false, short)
 
   pub all_placed : (boxes : List Box2) (old new : List (List EdgePlace)) → 1 < g.size.steps →
-      boxes ≡ map (λ m. m.area) ms →
-      length old ≡ length ms → ((i : ℕ) → list_at_or_empty old i ≡ []) →
+      boxes ≡ map (λ m. m.area) ms → length old ≡ length ms → ((i : ℕ) → list_at_or_empty old i ≡ []) →
       AddsEdgePlacesInHalo ms boxes (flat_map (λ m. m.edges.items) ms) old new → HaveEdgePlacesFromModule g ms 0 new
   unfolding edge_lines_beside
   all_placed boxes old new many are count empty h = record {

@@ -6,9 +6,8 @@ pub use Rattle.bbm_rule.specs.declared.block.Cell.{Cell}
 pub use Rattle.certificate.specs.Grammars.{CertView, certificate_grammar}
 pub use Rattle.certificate.specs.GoodModules.{AreGoodModules, IsGoodModule, all_module_lines}
 pub use Rattle.certificate.specs.HaloPlaces.{AddsEdgePlacesInHalo, AreOwnersAndListsReady, HaveEdgePlacesFromModule}
-pub use Rattle.certificate.specs.HaloPlaces.{IsInnerCell}
-pub use Rattle.certificate.specs.HaloPlaces.{edge_lines_at}
-pub use Rattle.certificate.specs.HaloPlaces.{edge_lines_at_place, line_cell, list_at_or_empty}
+pub use Rattle.certificate.specs.HaloPlaces.{IsInnerCell, edge_lines_at, edge_lines_at_place, line_cell}
+pub use Rattle.certificate.specs.HaloPlaces.{list_at_or_empty}
 pub use Rattle.certificate.specs.Jobs.{IsJobOf, demand_outside_mirrors, event_if_timed, line_signals, signal_if_starred}
 pub use Rattle.certificate.specs.Jobs.{one_or_named_wire, stops_of_lines, wire_or_zero}
 unfoldable pub use Rattle.certificate.specs.Jobs.{end_demand, start_signal}
@@ -23,8 +22,7 @@ pub use Rattle.certificate.specs.Times.{all_stops, delay_and_meet_lines, delay_l
 pub use Rattle.certificate.specs.Times.{meet_line, stop_times_of_wire, time_lines_of_gates}
 unfoldable pub use Rattle.certificate.specs.Times.{lines_of_numbered_gates}
 pub use Rattle.certificate.specs.Timetables.{AreBorderLinesRising, AreSignalLists, HasLocalWire, one_or_wire}
-pub use Rattle.certificate.specs.Timetables.{stored_signals}
-pub use Rattle.certificate.specs.Timetables.{unnamed_line}
+pub use Rattle.certificate.specs.Timetables.{stored_signals, unnamed_line}
 pub use Rattle.certificate_lines.specs.BuilderView.{IsWithinMaxSize}
 pub use Rattle.certificate.specs.declared.neighbour_edges.EdgePlace.{EdgePlace}
 pub use Rattle.certificate.specs.declared.times.TimeLine.{TimeLine}
@@ -48,8 +46,7 @@ pub use Rattle.certificate_lines.proofs.Imports.{subst, suc, sym, take, take_all
 pub use Rattle.certificate_lines.proofs.Imports.{true≢false, used_gate_in, w32, whole, wire_of, zero, ℕ, ℤ, ◌&&◌, ◌++◌}
 pub use Rattle.certificate_lines.proofs.Imports.{◌+◌, ◌-◌, ◌<◌, ◌==◌, ◌||◌, ◌∙◌, ◌∷◌, ◌≡◌, ◌≤◌, ◌⊎◌}
 unfoldable pub use Rattle.certificate_lines.proofs.Imports.{AreLinesInOrder, StarsExcludeLaterTimes, add_line}
-unfoldable pub use Rattle.certificate_lines.proofs.Imports.{body_lines}
-unfoldable pub use Rattle.certificate_lines.proofs.Imports.{cell_cmp, cell_of, change_last, end_fault}
+unfoldable pub use Rattle.certificate_lines.proofs.Imports.{body_lines, cell_cmp, cell_of, change_last, end_fault}
 unfoldable pub use Rattle.certificate_lines.proofs.Imports.{has_nonlocal_port, in_box, in_halo, is_cut_line, last_of}
 unfoldable pub use Rattle.certificate_lines.proofs.Imports.{line_cmp, may_precede, modules_of, port_at, rank_of}
 unfoldable pub use Rattle.certificate_lines.proofs.Imports.{rectangle_cells, size_fault, sort_number_of}
@@ -71,9 +68,8 @@ pub use Rattle.certificate_lines.specs.Rules.{leaves_gap}
 unfoldable pub use Rattle.certificate_lines.specs.Rules.{entry_fault}
 pub use Rattle.certificate_lines.specs.Settings.{setting_of}
 pub use Rattle.certificate_lines.specs.StoredModules.{HasCircuitWire, HasCircuitWires, IsCircuitWire, body_lines_with}
-pub use Rattle.certificate_lines.specs.StoredModules.{border_line}
-pub use Rattle.certificate_lines.specs.StoredModules.{cell_at, lines_of_modules, module_lines, module_lines_with}
-pub use Rattle.certificate_lines.specs.StoredModules.{stop_line, wire_name}
+pub use Rattle.certificate_lines.specs.StoredModules.{border_line, cell_at, lines_of_modules, module_lines}
+pub use Rattle.certificate_lines.specs.StoredModules.{module_lines_with, stop_line, wire_name}
 pub use Rattle.certificate_lines.specs.Versions.{is_haloless_version}
 unfoldable pub use Rattle.certificate_lines.specs.Versions.{border_line_cmp, edge_lines_beside, is_halo_line}
 unfoldable pub use Rattle.certificate_lines.specs.Versions.{has_nonlocal_edge_wire_beside, modules_by_version}

@@ -13,7 +13,6 @@ within_512 g m s is limits h =
 
 -- where the box is, within the layout and within 4096 cells
 pub within_layout : (g : Setting) (m : ModuleLines) (s : LayoutHeader) → s ≡ g.size → size_fault s ≡ None →
-    IsModule g m →
-    ((m.area.x + m.area.w ≤ g.size.w) × (m.area.x + m.area.w ≤ max_side))
+    IsModule g m → ((m.area.x + m.area.w ≤ g.size.w) × (m.area.x + m.area.w ≤ max_side))
     × ((m.area.y + m.area.h ≤ g.size.h) × (m.area.y + m.area.h ≤ max_side))
 within_layout g m s is limits h = grind (arith, common_steps, within_512)

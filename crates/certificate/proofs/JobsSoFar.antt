@@ -1,19 +1,15 @@
 -- The halo lines of modules of version 2, and the jobs of the modules before a module
-use Rattle.certificate.proofs.Imports.{AreModules, Box2, Circuit, Cut, Edge, EdgePlace, Halo, HasLocalPortWires}
-use Rattle.certificate.proofs.Imports.{HaveEdgePlacesFromModule, IsJobOf, IsModule, JobView, Keep, List, ModuleLines}
-use Rattle.certificate.proofs.Imports.{Pattern}
-use Rattle.certificate.proofs.Imports.{Setting, Some, Stop, StoredBorder, StoredModule, Use, [], ap, append-nil}
-use Rattle.certificate.proofs.Imports.{append_assoc, arith, body_lines_with, border_line, common_steps, edge_lines_at}
-use Rattle.certificate.proofs.Imports.{edge_lines_beside, false, filter, get_or, has_nonlocal_edge_wire_beside, inl}
-use Rattle.certificate.proofs.Imports.{inr}
+use Rattle.certificate.proofs.Imports.{All, AreGoodModules, AreModules, Box2, Circuit, CircuitLine, Cut, Edge}
+use Rattle.certificate.proofs.Imports.{EdgePlace, Halo, HasCircuitWire, HasCircuitWires, HasLocalPortWires}
+use Rattle.certificate.proofs.Imports.{HaveEdgePlacesFromModule, IsGoodModule, IsJobOf, IsModule, JobView, Keep, List}
+use Rattle.certificate.proofs.Imports.{ModuleLines, Pattern, Setting, Some, Stop, StoredBorder, StoredModule, Use, []}
+use Rattle.certificate.proofs.Imports.{all_module_lines, ap, append-nil, append_assoc, arith, body_lines_with}
+use Rattle.certificate.proofs.Imports.{border_line, circuit_of, common_steps, edge_lines_at, edge_lines_beside, false}
+use Rattle.certificate.proofs.Imports.{filter, get_or, get_or_from_slice_get, has_nonlocal_edge_wire_beside, inl, inr}
 use Rattle.certificate.proofs.Imports.{length, length-map, list_at_or_empty, map, mapped_at, mapped_from, module_lines}
-use Rattle.certificate.proofs.Imports.{module_lines_with, precedes_halo_lines, refl, slice_get, slice_get_within}
-use Rattle.certificate.proofs.Imports.{some_is}
-use Rattle.certificate.proofs.Imports.{sorted_border_lines, stop_line, subst, sym, wire_name, with_halo_lines, ℕ, ◌++◌}
-use Rattle.certificate.proofs.Imports.{◌+◌}
-use Rattle.certificate.proofs.Imports.{◌<◌, ◌∙◌, ◌∷◌, ◌≡◌, ◌≤◌, All, AreGoodModules, CircuitLine, HasCircuitWire}
-use Rattle.certificate.proofs.Imports.{HasCircuitWires, IsGoodModule, circuit_of, get_or_from_slice_get, setting_of}
-use Rattle.certificate.proofs.Imports.{all_module_lines}
+use Rattle.certificate.proofs.Imports.{module_lines_with, precedes_halo_lines, refl, setting_of, slice_get}
+use Rattle.certificate.proofs.Imports.{slice_get_within, some_is, sorted_border_lines, stop_line, subst, sym, wire_name}
+use Rattle.certificate.proofs.Imports.{with_halo_lines, ℕ, ◌++◌, ◌+◌, ◌<◌, ◌∙◌, ◌∷◌, ◌≡◌, ◌≤◌}
 use Rattle.lemmas.proofs.Common.{Bool, filter-append, length_push, slice_get_read, true}
 use Rattle.module_box.proofs.Rising.{pushed}
 use Rattle.certificate.specs.Jobs.{AreJobsOf}
@@ -92,16 +88,14 @@ pub record IsFullModule (cs : List CircuitLine) (p : Pattern) (ms : List StoredM
   pub good : IsGoodModule cs p m hs
 
 -- by the places of these lines
-pub full_module : {cs : List CircuitLine} {p : Pattern} {ms : List StoredModule} {lists : List (List EdgePlace)}
-    {k : ℕ} {m : StoredModule} {places : List EdgePlace} {hs : List StoredBorder} →
-    AreGoodModules cs p ms → has_nonlocal_edge_wire_beside (setting_of cs p) (all_module_lines cs ms) ≡ false →
+pub full_module : {cs : List CircuitLine} {p : Pattern} {ms : List StoredModule} {lists : List (List EdgePlace)} {k : ℕ}
+    {m : StoredModule} {places : List EdgePlace} {hs : List StoredBorder} → AreGoodModules cs p ms →
+    has_nonlocal_edge_wire_beside (setting_of cs p) (all_module_lines cs ms) ≡ false →
     HaveEdgePlacesFromModule (setting_of cs p) ms k lists → slice_get ms k ≡ Some m →
     list_at_or_empty lists k ≡ places →
     ((g : Setting) (area : Box2) → AreModules g (map (module_lines g.circuit) ms) →
-    map (border_line g.circuit) (edge_lines_at ms places)
-    ≡ edge_lines_beside g (map (module_lines g.circuit) ms) area →
-    map (border_line g.circuit) hs
-    ≡ sorted_border_lines (edge_lines_beside g (map (module_lines g.circuit) ms) area)) →
+    map (border_line g.circuit) (edge_lines_at ms places) ≡ edge_lines_beside g (map (module_lines g.circuit) ms) area →
+    map (border_line g.circuit) hs ≡ sorted_border_lines (edge_lines_beside g (map (module_lines g.circuit) ms) area)) →
     All (HasCircuitWire (circuit_of cs)) hs → IsFullModule cs p ms m hs
 full_module {cs} {p} {ms} {lists} {k} {m} {places} {hs} good complete left at taken sorted own =
     let g = setting_of cs p in
@@ -138,8 +132,7 @@ module _ (c : Circuit) (p : Pattern) (f : ModuleLines → ModuleLines) (ms : Lis
     few = let w = slice_get_within ms done m at in omega (arith, w);
     each = λ i n k a e. elim (pushed js j i k e) [
       | inl before ↦ h.each i n k a before
-      | inr last ↦
-          grind (arith, common_steps, some_is)
+      | inr last ↦ grind (arith, common_steps, some_is)
     ];
   }
 

@@ -11,9 +11,8 @@ use Rattle.certificate_lines.proofs.StoredLemmas.{keeps_with}
 -- those among the first gates are found
 pub unkept_more : (all out new : List ℕ) (ms : List ModuleLines) (gs : List Gate) (n : ℕ) (g : Gate)
     (inverse kept : Bool) → n < length gs → slice_get gs n ≡ Some g → inverse ≡ is_inverse g.kind →
-    kept ≡ is_kept ms n →
-    new ≡ out ++ cond (inverse && not kept) (n ∷ []) [] → out ++ unkept_gates_from ms n (drop n gs) ≡ all →
-    new ++ unkept_gates_from ms (n + 1) (drop (n + 1) gs) ≡ all
+    kept ≡ is_kept ms n → new ≡ out ++ cond (inverse && not kept) (n ∷ []) [] →
+    out ++ unkept_gates_from ms n (drop n gs) ≡ all → new ++ unkept_gates_from ms (n + 1) (drop (n + 1) gs) ≡ all
 unfolding unkept_gates_from
 unkept_more all out new ms gs n g inverse kept within at is_inv is_kept more so_far =
     let here : get_or gs n g ≡ g = get_or_from_slice_get gs n g g at in

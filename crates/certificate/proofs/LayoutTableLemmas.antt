@@ -1,11 +1,10 @@
 -- The indexes of a layout's cells, and the ports in a module's box.
 use Rattle.certificate.proofs.Imports.{All, All-append, Bool, Box2, Cell, Circuit, CircuitLine, HasLocalPortWires}
-use Rattle.certificate.proofs.Imports.{IfSome}
-use Rattle.certificate.proofs.Imports.{IsTrue, LayoutHeader, List, ModuleLines, None, One, Option, Pattern, Some, Zero}
-use Rattle.certificate.proofs.Imports.{[], and_parts, ap, arith, balls_on_layout, cell_same, circuit_of, common_steps}
-use Rattle.certificate.proofs.Imports.{demand_outside_mirrors, end_demand, false, if◌then◌else◌, in_box, in_cells}
-use Rattle.certificate.proofs.Imports.{in_rectangles, is_among, is_cell_at, is_local, known, length, list_all, map}
-use Rattle.certificate.proofs.Imports.{option_map, or_parts, port_at, refl, setting_of, size_fault, size_sides}
+use Rattle.certificate.proofs.Imports.{IfSome, IsTrue, LayoutHeader, List, ModuleLines, None, One, Option, Pattern}
+use Rattle.certificate.proofs.Imports.{Some, Zero, [], and_parts, ap, arith, balls_on_layout, cell_same, circuit_of}
+use Rattle.certificate.proofs.Imports.{common_steps, demand_outside_mirrors, end_demand, false, if◌then◌else◌, in_box}
+use Rattle.certificate.proofs.Imports.{in_cells, in_rectangles, is_among, is_cell_at, is_local, known, length, list_all}
+use Rattle.certificate.proofs.Imports.{map, option_map, or_parts, port_at, refl, setting_of, size_fault, size_sides}
 use Rattle.certificate.proofs.Imports.{slice_get, slice_get-get_or, some_is, start_signal, subst, suc, sym, true}
 use Rattle.certificate.proofs.Imports.{wastes_on_layout, wire_of, wire_or_zero, zero, ℕ, ℤ, ◌++◌, ◌+◌, ◌||◌, ◌∙◌, ◌∷◌}
 use Rattle.certificate.proofs.Imports.{◌≡◌, ◌≤◌}
@@ -132,8 +131,7 @@ abbrev IsInLayout : LayoutHeader → Cell → Type 0
 IsInLayout s c = in_layout s c.x c.y ≡ true
 
 pub others_inside : (p : Pattern) (s : LayoutHeader) → s ≡ p.size → AreGoodAfter s [] (parts_of p) →
-    (cells : List Cell) →
-    cells ≡ ball_waste_and_port_cells p → AllInLayout s cells
+    (cells : List Cell) → cells ≡ ball_waste_and_port_cells p → AllInLayout s cells
 others_inside p s is good cells are =
     let ports = ports_on_layout p s is good in
     subst (AllInLayout s) (sym are)
@@ -147,8 +145,7 @@ apart : (xs ys : List Cell) (x y : ℤ) → in_cells (xs ++ ys) x y ≡ false �
 apart xs ys x y e = grind (arith, common_steps, or_parts, list_any-append)
 
 pub nothing_here : (p : Pattern) (x y : ℤ) →
-    (in_cells (ball_waste_and_port_cells p) x y || in_rectangles p.mirrors x y) ≡ false →
-    HasNothingAt p x y
+    (in_cells (ball_waste_and_port_cells p) x y || in_rectangles p.mirrors x y) ≡ false → HasNothingAt p x y
 nothing_here p x y e = grind (arith, common_steps, or_parts, apart, no_port)
 
 -- ---- the mirrors of a layout
@@ -156,8 +153,7 @@ nothing_here p x y e = grind (arith, common_steps, or_parts, apart, no_port)
 all_on_grid : (s : LayoutHeader) (b : Board) → (b.width ≡ s.w) × (b.height ≡ s.h) → s.w ≤ max_side → s.h ≤ max_side →
     (rs : List Box2) → list_all (λ r. is_inside s (Mirror r)) rs ≡ true → All (IsOnGrid b) rs
 all_on_grid s b size w h [] e k d lt = absurd (omega arith)
-all_on_grid s b size w h (r ∷ rs) e zero d lt =
-    grind (arith, common_steps, mirror_fits, and_parts)
+all_on_grid s b size w h (r ∷ rs) e zero d lt = grind (arith, common_steps, mirror_fits, and_parts)
 all_on_grid s b size w h (r ∷ rs) e (suc k) d lt =
     all_on_grid s b size w h rs (and_parts (is_inside s (Mirror r)) (list_all (λ r. is_inside s (Mirror r)) rs) e).1
     k d (omega arith)
@@ -175,9 +171,8 @@ mirrors_on_grid p s b mirrors is size limits good are =
 
 -- the ports in the box, where the module's wires have these numbers in the circuit
 pub locals_have_ports : (lines : List CircuitLine) (p : Pattern) (m : ModuleLines) →
-    HasLocalPortWires (setting_of lines p) m →
-    (local : List ℕ) → local ≡ known (circuit_of lines) m
-    → ArePortWiresLocalIn (circuit_of lines) local p.ins m.area
+    HasLocalPortWires (setting_of lines p) m → (local : List ℕ) → local ≡ known (circuit_of lines) m →
+    ArePortWiresLocalIn (circuit_of lines) local p.ins m.area
     × ArePortWiresLocalIn (circuit_of lines) local p.outs m.area
 locals_have_ports lines p m has local are =
     let both : List ℕ → Type 0 = λ ws.

@@ -1,12 +1,11 @@
 -- The signal of one line for its cell at its time
 use Rattle.certificate.proofs.Imports.{AllTimesSignal, Bool, BorderLine, Circuit, Each, Greater, In, Less, List, None}
 use Rattle.certificate.proofs.Imports.{Option, Ordering, Pairs, Rises, Signal, Some, StarsExcludeLaterTimes}
-use Rattle.certificate.proofs.Imports.{TimedSignal, Zero, [], all_times_at, ap, arith, signal_if_starred}
-use Rattle.certificate.proofs.Imports.{border_line_cmp, cases_Bool, cell_same, common_steps, cond-false, cond-true}
-use Rattle.certificate.proofs.Imports.{each_in, eqb-true, event_at, event_if_timed, false, flat_map, inl, inr}
-use Rattle.certificate.proofs.Imports.{is_cell_at}
-use Rattle.certificate.proofs.Imports.{line_signals, nat_cmp, not, one_or_named_wire, ordering_then, refl, signal_at}
-use Rattle.certificate.proofs.Imports.{subst, sym, true, unwrap_or, ℕ, ◌&&◌, ◌++◌, ◌+◌, ◌||◌, ◌∙◌, ◌∷◌, ◌≡◌}
+use Rattle.certificate.proofs.Imports.{TimedSignal, Zero, [], all_times_at, ap, arith, border_line_cmp, cases_Bool}
+use Rattle.certificate.proofs.Imports.{cell_same, common_steps, cond-false, cond-true, each_in, eqb-true, event_at}
+use Rattle.certificate.proofs.Imports.{event_if_timed, false, flat_map, inl, inr, is_cell_at, line_signals, nat_cmp}
+use Rattle.certificate.proofs.Imports.{not, one_or_named_wire, ordering_then, refl, signal_at, signal_if_starred, subst}
+use Rattle.certificate.proofs.Imports.{sym, true, unwrap_or, ℕ, ◌&&◌, ◌++◌, ◌+◌, ◌||◌, ◌∙◌, ◌∷◌, ◌≡◌}
 use Rattle.certificate_lines.specs.Rules.{is_star, is_starred_line_at, same_cell}
 use Rattle.certificate_lines.proofs.LineOrder.{not_itself}
 use Rattle.bbm_rule.proofs.SameCells.{cell_itself}
@@ -87,8 +86,7 @@ module _ (c : Circuit) where
   timed_itself e t et = ap (λ x. is_star x && same_cell e.cell e.cell) et
 
   none_after : (e : BorderLine) (t : ℕ) (es : List BorderLine) → e.time ≡ Some t →
-      Each (λ d. border_line_cmp e d ≡ Less) es →
-      all_times_at (all_times_of es) e.cell.x e.cell.y ≡ None
+      Each (λ d. border_line_cmp e d ≡ Less) es → all_times_at (all_times_of es) e.cell.x e.cell.y ≡ None
   unfolding Each all_times_at
   none_after e t [] et a = refl
   none_after e t (d ∷ es) et a =
@@ -96,9 +94,7 @@ module _ (c : Circuit) where
       ∙ none_after e t es et a.1
 
   none_all_times : (e : BorderLine) (t : ℕ) (es : List BorderLine) → e.time ≡ Some t → Rises es →
-      StarsExcludeLaterTimes es →
-      In e es →
-      all_times_at (all_times_of es) e.cell.x e.cell.y ≡ None
+      StarsExcludeLaterTimes es → In e es → all_times_at (all_times_of es) e.cell.x e.cell.y ≡ None
   unfolding Pairs In StarsExcludeLaterTimes
   none_all_times e t [] et r u i = absurd i
   none_all_times e t (d ∷ es) et r u (inl same) =
@@ -118,8 +114,7 @@ module _ (c : Circuit) where
   event_first e time t s rest h1 = grind (arith, common_steps, cond-true, cell_itself)
 
   event_skips : (d e : BorderLine) (time : Option ℕ) (t : ℕ) → d.time ≡ time → e.time ≡ Some t →
-      border_line_cmp d e ≡ Less →
-      (s : Signal) (rest : List TimedSignal) →
+      border_line_cmp d e ≡ Less → (s : Signal) (rest : List TimedSignal) →
       event_at (event_if_timed d time s ++ rest) t e.cell.x e.cell.y ≡ event_at rest t e.cell.x e.cell.y
   unfolding event_at
   event_skips d e time t h1 h2 h3 s rest =
@@ -128,8 +123,7 @@ module _ (c : Circuit) where
   -- ---- either
 
   said_by : (e : BorderLine) (time : Option ℕ) (t : ℕ) (es : List BorderLine) → e.time ≡ time → SaysAt t time →
-      Rises es →
-      StarsExcludeLaterTimes es → In e es →
+      Rises es → StarsExcludeLaterTimes es → In e es →
       signal_at (line_signals c es) t e.cell.x e.cell.y ≡ one_or_named_wire c e.signal
   unfolding signal_at
   said_by e None t es et says r u i =
@@ -148,7 +142,6 @@ module _ (c : Circuit) where
 
   -- a line of lines in order says the signal of its cell
   pub line_said : (e : BorderLine) (t : ℕ) (es : List BorderLine) → SaysAt t e.time → Rises es →
-      StarsExcludeLaterTimes es →
-      In e es →
+      StarsExcludeLaterTimes es → In e es →
       signal_at (line_signals c es) t e.cell.x e.cell.y ≡ one_or_named_wire c e.signal
   line_said e t es says r u i = said_by e e.time t es refl says r u i

@@ -4,14 +4,13 @@ use Rattle.certificate.proofs.Imports.{Edge, Halo, Keep, List, Module, ModuleLin
 use Rattle.certificate.proofs.Imports.{Use, [], add_line, and_parts, ap, append-nil, ap₂, areas, arith, both_none}
 use Rattle.certificate.proofs.Imports.{certificate_grammar, change_last, common_steps, cut_name_in, cuts, edge_in}
 use Rattle.certificate.proofs.Imports.{edge_lines_beside, edges, end_fault, entry_fault, false, filter, flat_map, fold}
-use Rattle.certificate.proofs.Imports.{gates, halos, has_nonlocal_port, is_halo_line, is_last_module_incomplete}
-use Rattle.certificate.proofs.Imports.{has_nonlocal_edge_wire_beside, is_nonlocal_signal, known, last_module, last_of}
-use Rattle.certificate.proofs.Imports.{length}
-use Rattle.certificate.proofs.Imports.{length-map, list_all, list_any, map, map-append, may_precede, module_with_line}
-use Rattle.certificate.proofs.Imports.{modules_by_version, modules_of, nat_le, nat_tests, no_code, option_map}
-use Rattle.certificate.proofs.Imports.{precedes_halo_lines, refl, stop_in, stops, sym, true, true_from_not}
-use Rattle.certificate.proofs.Imports.{used_gate_in}
-use Rattle.certificate.proofs.Imports.{with_halo_lines, without_halo_lines, ℕ, ◌++◌, ◌||◌, ◌∙◌, ◌∷◌, ◌≡◌, ◌≤◌, not}
+use Rattle.certificate.proofs.Imports.{gates, halos, has_nonlocal_edge_wire_beside, has_nonlocal_port, is_halo_line}
+use Rattle.certificate.proofs.Imports.{is_last_module_incomplete, is_nonlocal_signal, known, last_module, last_of}
+use Rattle.certificate.proofs.Imports.{length, length-map, list_all, list_any, map, map-append, may_precede}
+use Rattle.certificate.proofs.Imports.{module_with_line, modules_by_version, modules_of, nat_le, nat_tests, no_code}
+use Rattle.certificate.proofs.Imports.{not, option_map, precedes_halo_lines, refl, stop_in, stops, sym, true}
+use Rattle.certificate.proofs.Imports.{true_from_not, used_gate_in, with_halo_lines, without_halo_lines, ℕ, ◌++◌, ◌||◌}
+use Rattle.certificate.proofs.Imports.{◌∙◌, ◌∷◌, ◌≡◌, ◌≤◌}
 use Rattle.lemmas.proofs.Common.{filter-append}
 use Rattle.std.proofs.lemmas.Simd.{map-map}
 use Rattle.section_text.specs.Codes.{code_if}
@@ -151,8 +150,7 @@ unfolding border_or_stop_line_code
 border_less c n k local placed s le h = grind (arith, common_steps, both_none, none_both, coded, smaller, no_code)
 
 words_kept : (g : Setting) (m : ModuleLines) (i : CertificateLine) → is_halo_line i ≡ false →
-    code_but_for_order g m i ≡ None →
-    code_but_for_order g (haloless_module m) i ≡ None
+    code_but_for_order g m i ≡ None → code_but_for_order g (haloless_module m) i ≡ None
 unfolding is_halo_line haloless_module
 words_kept g m (Module b) o h = refl
 words_kept g m (Cut n) o h = ap₂ (λ cs ws. cut_line_code g.circuit (length cs) ws n) (cuts_kept g m) (known_kept g m)
@@ -170,8 +168,7 @@ unfolding haloless_module
 line_kept g m i o h = grind (arith, common_steps, both_none, none_both, follow_less, true_from_not, no_code, words_kept)
 
 inner_kept : (g : Setting) (p : Option ModuleLines) (i : CertificateLine) → is_halo_line i ≡ false →
-    body_line_code g p i ≡ None →
-    body_line_code g (option_map haloless_module p) i ≡ None
+    body_line_code g p i ≡ None → body_line_code g (option_map haloless_module p) i ≡ None
 inner_kept g p i h1 h2 = grind (arith, common_steps, line_kept)
 
 module _ (g : Setting) (before : List CertificateLine) where
@@ -215,8 +212,7 @@ unfolding is_halo_line without_halo_lines
 without_one before i h1 = grind (arith, common_steps, without_append)
 
 good_more : (g : Setting) (i : CertificateLine) (es before : List CertificateLine) → is_halo_line i ≡ false →
-    entry_fault g before i ≡ None →
-    AreGoodLines g (without_halo_lines (before ++ i ∷ [])) (without_halo_lines es) →
+    entry_fault g before i ≡ None → AreGoodLines g (without_halo_lines (before ++ i ∷ [])) (without_halo_lines es) →
     AreGoodLines g (without_halo_lines before) (i ∷ without_halo_lines es)
 good_more g i es before o good later = grind (arith, common_steps, entry_kept, without_one)
 
@@ -224,8 +220,7 @@ pub good_on : (g : Setting) (es before : List CertificateLine) → AreGoodLines 
     AreGoodLines g (without_halo_lines before) (without_halo_lines es)
 unfolding without_halo_lines is_halo_line
 good_on g [] before good = tt
-good_on g (Halo e ∷ es) before good =
-    grind (arith, common_steps, good_on g es (before ++ Halo e ∷ []) good.1)
+good_on g (Halo e ∷ es) before good = grind (arith, common_steps, good_on g es (before ++ Halo e ∷ []) good.1)
 good_on g (i ∷ es) before good = good_more g i es before refl good.0 (good_on g es (before ++ i ∷ []) good.1)
 
 pub good_without_halos : HalolessLinesStayGood
@@ -281,8 +276,7 @@ lacks_all : (g : Setting) (ms ns : List ModuleLines) →
     list_any (λ m. list_any (λ e. is_nonlocal_signal g.circuit (known g.circuit m) e.signal)
     (edge_lines_beside g (map haloless_module ms) m.area)) (map haloless_module ns)
     ≡ list_any (λ m. list_any (λ e. is_nonlocal_signal g.circuit (known g.circuit m) e.signal)
-    (edge_lines_beside g ms m.area))
-    ns
+    (edge_lines_beside g ms m.area)) ns
 lacks_all g ms [] = refl
 lacks_all g ms (n ∷ ns) = ap₂ (λ a b. a || b) (lacks_one g ms n) (lacks_all g ms ns)
 
@@ -316,8 +310,7 @@ unfolding module_limit_fault
 few_kept l g before i h1 = grind (arith, common_steps, modules_without, last_mapped, incomplete_kept, length-map)
 
 few_more : (l : Limits) (g : Setting) (i : CertificateLine) (es before : List CertificateLine) →
-    is_halo_line i ≡ false →
-    module_limit_fault l g before i ≡ None →
+    is_halo_line i ≡ false → module_limit_fault l g before i ≡ None →
     AreFewModules l g (without_halo_lines (before ++ i ∷ [])) (without_halo_lines es) →
     AreFewModules l g (without_halo_lines before) (i ∷ without_halo_lines es)
 few_more l g i es before o few later = grind (arith, common_steps, few_kept, without_one)
@@ -326,8 +319,7 @@ few_on : (l : Limits) (g : Setting) (es before : List CertificateLine) → AreFe
     AreFewModules l g (without_halo_lines before) (without_halo_lines es)
 unfolding without_halo_lines is_halo_line
 few_on l g [] before few = tt
-few_on l g (Halo e ∷ es) before few =
-    grind (arith, common_steps, few_on l g es (before ++ Halo e ∷ []) few.1)
+few_on l g (Halo e ∷ es) before few = grind (arith, common_steps, few_on l g es (before ++ Halo e ∷ []) few.1)
 few_on l g (i ∷ es) before few = few_more l g i es before refl few.0 (few_on l g es (before ++ i ∷ []) few.1)
 
 few_without : (l : Limits) (g : Setting) (es : List CertificateLine) → AreFewModules l g [] es →

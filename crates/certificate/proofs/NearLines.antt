@@ -63,8 +63,7 @@ low_all_times f bs s same all =
     (λ b low. all_times_low (unnamed_line b) b.time (one_or_wire b.wire) low) bs all))
 
 pub low_events : (f : ℕ → ℕ) (bs : List StoredBorder) (s : Signals) → renumber_signals f s ≡ stored_signals bs →
-    All (λ b. IsWithinMaxSize (unnamed_line b).cell) bs →
-    All (λ (h : TimedSignal). IsWithinMaxSize h.at.cell) s.events
+    All (λ b. IsWithinMaxSize (unnamed_line b).cell) bs → All (λ (h : TimedSignal). IsWithinMaxSize h.at.cell) s.events
 low_events f bs s same all =
     all_unmapped (λ (h : TimedSignal). IsWithinMaxSize h.at.cell) (renumber_event f) s.events
     (subst (λ (hs : List TimedSignal). All (λ (h : TimedSignal). IsWithinMaxSize h.at.cell) hs)

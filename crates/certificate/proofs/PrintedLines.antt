@@ -37,13 +37,11 @@ pub module_printed : {a b d e f g new cs us ks : List ℕ} {es : List StoredBord
     g ≡ f ++ flat_map (λ b. line_text (codes "halo") (border_words (border_line c b))) hs →
     new ≡ g ++ flat_map (λ s. line_text (codes "stop") (stop_words (stop_line c s))) ss → ss ≡ m.stops.items →
     new ≡ old ++ flat_map entry_text (Module m.area ∷ body_lines_with c m hs)
-module_printed c m hs old ia ib cuts id uses ie keeps ie' edges ig inew stops =
-    grind (arith, common_steps, module_text)
+module_printed c m hs old ia ib cuts id uses ie keeps ie' edges ig inew stops = grind (arith, common_steps, module_text)
 
 -- one module more
 pub module_more : (c : Circuit) (ms : List StoredModule) (i : ℕ) (m : StoredModule) → i < length ms →
-    m ≡ get_or ms i m →
-    flat_map entry_text (lines_of_modules c (take (i + 1) ms))
+    m ≡ get_or ms i m → flat_map entry_text (lines_of_modules c (take (i + 1) ms))
     ≡ flat_map entry_text (lines_of_modules c (take i ms))
     ++ flat_map entry_text (Module m.area ∷ body_lines_with c m m.halos.items)
 module_more c ms i m lt is = grind (arith, common_steps, flat_more, flat_map-append)

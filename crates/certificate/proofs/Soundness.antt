@@ -1,15 +1,13 @@
 -- Lines that are good one after the other make good modules.
 use Rattle.certificate.proofs.Imports.{All, AreFaultless, AreModules, Box2, CertificateLine, HasLocalPortWires}
-use Rattle.certificate.proofs.Imports.{IsFaultless}
-use Rattle.certificate.proofs.Imports.{List, Module, ModuleLines, None, PastLimit, Setting, Some, SomethingMissing}
-use Rattle.certificate.proofs.Imports.{Tile, [], add_line, any_at, append-nil, append_assoc, areas, arith, both_none}
-use Rattle.certificate.proofs.Imports.{certificate_grammar, common_steps, end_fault, entry_fault, eqb-true, false}
-use Rattle.certificate.proofs.Imports.{has_nonlocal_port, in_box, is_haloless_version, is_last_module_incomplete}
-use Rattle.certificate.proofs.Imports.{has_nonlocal_edge_wire_beside, last_module, last_of, leaves_gap, modules_of}
-use Rattle.certificate.proofs.Imports.{no_code}
-use Rattle.certificate.proofs.Imports.{or_parts, rectangle_cells, slice_get, slice_get-get_or, slice_get_within}
-use Rattle.certificate.proofs.Imports.{some_is, subst, sym, true, true_from_not, true≢false, whole, ℕ, ◌&&◌, ◌++◌, ◌+◌}
-use Rattle.certificate.proofs.Imports.{◌==◌, ◌||◌, ◌∙◌, ◌∷◌, ◌≡◌, ◌≤◌, mapped_from}
+use Rattle.certificate.proofs.Imports.{IsFaultless, List, Module, ModuleLines, None, PastLimit, Setting, Some}
+use Rattle.certificate.proofs.Imports.{SomethingMissing, Tile, [], add_line, any_at, append-nil, append_assoc, areas}
+use Rattle.certificate.proofs.Imports.{arith, both_none, certificate_grammar, common_steps, end_fault, entry_fault}
+use Rattle.certificate.proofs.Imports.{eqb-true, false, has_nonlocal_edge_wire_beside, has_nonlocal_port, in_box}
+use Rattle.certificate.proofs.Imports.{is_haloless_version, is_last_module_incomplete, last_module, last_of, leaves_gap}
+use Rattle.certificate.proofs.Imports.{mapped_from, modules_of, no_code, or_parts, rectangle_cells, slice_get}
+use Rattle.certificate.proofs.Imports.{slice_get-get_or, slice_get_within, some_is, subst, sym, true, true_from_not}
+use Rattle.certificate.proofs.Imports.{true≢false, whole, ℕ, ◌&&◌, ◌++◌, ◌+◌, ◌==◌, ◌||◌, ◌∙◌, ◌∷◌, ◌≡◌, ◌≤◌}
 use Rattle.lemmas.proofs.Common.{or_cases}
 use Rattle.section_text.specs.declared.limits.Limits.{Limits}
 use Rattle.module_box.specs.Tiling.{IsInside}
@@ -37,8 +35,7 @@ module _ (g : Setting) (es : List CertificateLine) (sound : AreGoodModulesSoFar 
 
   sound_push : (i : CertificateLine) → entry_fault g es i ≡ None → AreGoodModulesSoFar g (modules_of (es ++ i ∷ []))
   unfolding entry_fault add_line
-  sound_push (Module b) e =
-      grind (arith, common_steps, modules_push, module_sound, good_module)
+  sound_push (Module b) e = grind (arith, common_steps, modules_push, module_sound, good_module)
   sound_push i e = inner_sound i tt (good_line g es i e)
 
 -- a line without a fault passes the tests of a line, and that of the limits of its text
@@ -101,8 +98,7 @@ one_or_two v e = grind (arith, common_steps, or_cases, eqb-true)
 
 -- the version of what was read
 pub read_version : (l : Limits) (g : Setting) (v : ℕ) (es : List CertificateLine) →
-    IsFaultless (certificate_grammar l g) v es →
-    (1 ≤ v) × (v ≤ 2)
+    IsFaultless (certificate_grammar l g) v es → (1 ≤ v) × (v ≤ 2)
 read_version l g v es good = one_or_two v (true_from_not _ (no_code _ PastLimit good.header))
 
 -- and in version 2 each module knows the wires of the edge lines beside it
@@ -112,8 +108,7 @@ pub read_complete : (l : Limits) (g : Setting) (v : ℕ) (es : List CertificateL
 read_complete l g v es good = no_code _ SomethingMissing (both_none (end_fault g es) _ good.end).1
 
 pub faultless_modules : (l : Limits) (g : Setting) (v : ℕ) (es : List CertificateLine) →
-    IsFaultless (certificate_grammar l g) v es →
-    AreModules g (modules_of es)
+    IsFaultless (certificate_grammar l g) v es → AreModules g (modules_of es)
 unfolding end_fault
 faultless_modules l g v es good =
     let sound = sound_all l g v es [] (none_sound g) good.each in
@@ -123,8 +118,7 @@ faultless_modules l g v es good =
 
 -- and each has few lines
 pub faultless_lines : (l : Limits) (g : Setting) (v : ℕ) (es : List CertificateLine) →
-    IsFaultless (certificate_grammar l g) v es →
-    All IsWithinLineLimit (modules_of es)
+    IsFaultless (certificate_grammar l g) v es → All IsWithinLineLimit (modules_of es)
 faultless_lines l g v es good =
     let sound = sound_all l g v es [] (none_sound g) good.each in
     λ k d lt. (sound.each k _ (slice_get-get_or (modules_of es) k d lt)).few_borders

@@ -4,16 +4,14 @@ use Rattle.certificate.proofs.Imports.{Stop, StopLine, Use, [], arith, codes, co
 use Rattle.certificate.proofs.Imports.{length, same_Some, slice_get, subst, true, ℕ, ◌∷◌, Bool, if◌then◌else◌, ◌≡◌}
 use Rattle.pattern.specs.Forms.{cell_of_words_from}
 use Rattle.lemmas.proofs.Common.{decimal, option_and_then_some}
-use Rattle.section_text.specs.Words.{◌>>=◌, words_of, is_word_at, if_one_word, number_after_keyword}
-use Rattle.section_text.specs.Words.{name_at, number_at}
+use Rattle.section_text.specs.Words.{if_one_word, is_word_at, name_at, number_after_keyword, number_at, words_of, ◌>>=◌}
 use Rattle.section_text.specs.Section.{with_line_feed}
 use Rattle.section_text.specs.Spelling.{line_text}
 use Rattle.section_text.proofs.Spellings.{chosen, passed, number_at_spelled, one_word, two_words, five_words}
 use Rattle.section_text.proofs.WordPlaces.{is_at_is, name_at_is, line_from_words}
 use Rattle.pattern.specs.Text.{natural_or_zero, box_words}
-use Rattle.certificate_lines.specs.Forms.{CertificateForm, star_or_time_at_word, one_or_name_at_word}
-use Rattle.certificate_lines.specs.Forms.{border_of_five_words}
-use Rattle.certificate_lines.specs.Forms.{border_of, stop_of_five_words, stop_of, form_of}
+use Rattle.certificate_lines.specs.Forms.{CertificateForm, border_of, border_of_five_words, form_of}
+use Rattle.certificate_lines.specs.Forms.{one_or_name_at_word, star_or_time_at_word, stop_of, stop_of_five_words}
 use Rattle.pattern.proofs.Spelling.{cell_spelled, box_spelled}
 use Rattle.certificate.specs.Text.{star_or_time_word, one_or_name_word, border_words, stop_words}
 use Rattle.circuit.proofs.Spelling.{named_spelled}
@@ -61,8 +59,7 @@ stop_spelled ws v s at e =
     (is_at_is ws 0 v at) (number_at_spelled ws 1 t timed) (name_at_is ws 2 n named) place.column place.row))))
 
 number_spelled : (ws : List (List ℕ)) (v : List ℕ) (n : ℕ) → is_word_at ws 0 v ≡ true →
-    number_after_keyword ws ≡ Some n →
-    ws ≡ v ∷ decimal n ∷ []
+    number_after_keyword ws ≡ Some n → ws ≡ v ∷ decimal n ∷ []
 unfolding number_after_keyword
 number_spelled ws v n at e =
     let found = passed (eqb (length ws) 2) (number_at ws 1) n e in

@@ -1,10 +1,9 @@
 -- The stops of a module: what its lines give, and their order.
 use Rattle.certificate.proofs.Imports.{All, AreLinesInOrder, AreStopsOfLines, CertificateLine, Circuit, Each, IsRising}
-use Rattle.certificate.proofs.Imports.{Less, List}
-use Rattle.certificate.proofs.Imports.{LocalNet, Option, Pairs, Stop, StopLine, arith, cell_cmp, cell_of, circuit_wire}
-use Rattle.certificate.proofs.Imports.{common_steps, flat_map, is_cut_line, line_cmp, may_precede, moment_cmp, nat_cmp}
-use Rattle.certificate.proofs.Imports.{ordering_then, pairs_flat, rank_of, refl, rising_of, sort_number_of, stop_in}
-use Rattle.certificate.proofs.Imports.{subst, sym, true, wire_of, ℕ, ◌≡◌}
+use Rattle.certificate.proofs.Imports.{Less, List, LocalNet, Option, Pairs, Stop, StopLine, arith, cell_cmp, cell_of}
+use Rattle.certificate.proofs.Imports.{circuit_wire, common_steps, flat_map, is_cut_line, line_cmp, may_precede}
+use Rattle.certificate.proofs.Imports.{moment_cmp, nat_cmp, ordering_then, pairs_flat, rank_of, refl, rising_of}
+use Rattle.certificate.proofs.Imports.{sort_number_of, stop_in, subst, sym, true, wire_of, ℕ, ◌≡◌}
 use Rattle.lemmas.proofs.Common.{all_unmapped}
 use Rattle.certificate_lines.proofs.FlatParts.{flat_all}
 use Rattle.module_box.specs.declared.schedules.Moment.{Moment}
@@ -44,8 +43,7 @@ unfolding Each Pairs
 numbered_alone s o = grind (arith, common_steps)
 
 pub stops_rise : (c : Circuit) (l : LocalNet) (lines : List CertificateLine) (ss : List listed.Stop) →
-    AreLinesInOrder lines →
-    AreStopsOfLines c l (flat_map stop_in lines) ss → IsRising moment_cmp stop_moment ss
+    AreLinesInOrder lines → AreStopsOfLines c l (flat_map stop_in lines) ss → IsRising moment_cmp stop_moment ss
 stops_rise c l lines ss o are =
     rising_of moment_cmp stop_moment (renumber_stop (circuit_wire l)) (λ a. refl) ss _ are.same
     (pairs_flat StopBefore MomentBefore (λ s. stop_with_wire_number s (wire_of c s.wire))

@@ -1,17 +1,15 @@
 -- What the lines of a module that is kept ask for, by the numbers of its wires
 use Rattle.certificate.proofs.Imports.{All, All-head, All-tail, AreBorderLinesRising, AreLocalLines, BorderLine}
-use Rattle.certificate.proofs.Imports.{Circuit}
-use Rattle.certificate.proofs.Imports.{CircuitLine, HasCircuitWire, HasLocalWire, IfSome, IsCircuitWire, IsTrue, List}
-use Rattle.certificate.proofs.Imports.{LocalNet}
-use Rattle.certificate.proofs.Imports.{ModuleLines, None, Option, Pairs, Pattern, Setting, Signal, Some, StopLine}
-use Rattle.certificate.proofs.Imports.{StoredBorder, StoredModule, StoredStop, [], ap, ap₂, arith, signal_if_starred}
-use Rattle.certificate.proofs.Imports.{border_line, border_line_cmp, circuit_of, cuts, edges, event_if_timed, get_or}
+use Rattle.certificate.proofs.Imports.{Circuit, CircuitLine, HasCircuitWire, HasLocalWire, IfSome, IsCircuitWire}
+use Rattle.certificate.proofs.Imports.{IsGoodModule, IsTrue, IsWithinMaxSize, LayoutHeader, List, LocalNet, ModuleLines}
+use Rattle.certificate.proofs.Imports.{None, Option, Pairs, Pattern, Setting, Signal, Some, StopLine, StoredBorder}
+use Rattle.certificate.proofs.Imports.{StoredModule, StoredStop, [], ap, ap₂, arith, border_line, border_line_cmp}
+use Rattle.certificate.proofs.Imports.{cell_at, circuit_of, common_steps, cuts, edges, event_if_timed, flat_map, get_or}
 use Rattle.certificate.proofs.Imports.{halos, is_among, is_local, keeps, known, length, length-map, line_signals}
 use Rattle.certificate.proofs.Imports.{local_wires, map, mapped_at, module_lines_with, netlist_of, one_or_named_wire}
-use Rattle.certificate.proofs.Imports.{one_or_wire, option_map, refl, setting_of, stop_line, stops, stops_of_lines}
-use Rattle.certificate.proofs.Imports.{stored_signals, stored_stop, subst, sym, unnamed_line, wire_name, ℕ, ◌++◌, ◌<◌}
-use Rattle.certificate.proofs.Imports.{◌∙◌, ◌∷◌, ◌≡◌, IsGoodModule, IsWithinMaxSize, LayoutHeader, cell_at, size_fault}
-use Rattle.certificate.proofs.Imports.{suc, zero, ◌+◌, ◌≤◌, flat_map, common_steps}
+use Rattle.certificate.proofs.Imports.{one_or_wire, option_map, refl, setting_of, signal_if_starred, size_fault}
+use Rattle.certificate.proofs.Imports.{stop_line, stops, stops_of_lines, stored_signals, stored_stop, subst, suc, sym}
+use Rattle.certificate.proofs.Imports.{unnamed_line, wire_name, zero, ℕ, ◌++◌, ◌+◌, ◌<◌, ◌∙◌, ◌∷◌, ◌≡◌, ◌≤◌}
 use Rattle.lemmas.proofs.Common.{all_unmapped}
 use Rattle.certificate_lines.specs.Modules.{IsAllowedEdge, IsAllowedHalo, IsAllowedStop, MayGateBeKept}
 use Rattle.certificate_lines.proofs.Pairs.{pairs_at}

@@ -1,15 +1,13 @@
 -- Tables of times, line by line, and the lines of gates one after the other.
 use Rattle.certificate.proofs.Imports.{AreFaultless, CertificateLine, Circuit, Gate, IsFaultless, IsStopTimeTable, List}
-use Rattle.certificate.proofs.Imports.{Module, ModuleLines, Option, Setting, Some, StopLine, TimeLine, [], all_stops}
-use Rattle.certificate.proofs.Imports.{ap, arith, body_lines, certificate_grammar, common_steps, delay_and_meet_lines}
-use Rattle.certificate.proofs.Imports.{drop, drop_all, entry_fault, false, flat_map, get_or, is_module_line, last_of}
-use Rattle.certificate.proofs.Imports.{length}
-use Rattle.certificate.proofs.Imports.{lines_of_numbered_gates, modules_of, refl, same_Some, slice_get}
-use Rattle.certificate.proofs.Imports.{slice_get-get_or}
-use Rattle.certificate.proofs.Imports.{slice_get_within, split_module, split_other, stop_in, sym, time_in_table}
-use Rattle.certificate.proofs.Imports.{time_lines_of_gates, ℕ, ◌++◌, ◌+◌, ◌<◌, ◌∙◌, ◌∷◌, ◌≡◌, ◌≤◌, StoredModule}
-use Rattle.certificate.proofs.Imports.{StoredStop, append_assoc, map, map-append, module_lines, stop_line, stops, take}
-use Rattle.certificate.proofs.Imports.{take_more}
+use Rattle.certificate.proofs.Imports.{Module, ModuleLines, Option, Setting, Some, StopLine, StoredModule, StoredStop}
+use Rattle.certificate.proofs.Imports.{TimeLine, [], all_stops, ap, append_assoc, arith, body_lines}
+use Rattle.certificate.proofs.Imports.{certificate_grammar, common_steps, delay_and_meet_lines, drop, drop_all}
+use Rattle.certificate.proofs.Imports.{entry_fault, false, flat_map, get_or, is_module_line, last_of, length}
+use Rattle.certificate.proofs.Imports.{lines_of_numbered_gates, map, map-append, module_lines, modules_of, refl}
+use Rattle.certificate.proofs.Imports.{same_Some, slice_get, slice_get-get_or, slice_get_within, split_module}
+use Rattle.certificate.proofs.Imports.{split_other, stop_in, stop_line, stops, sym, take, take_more, time_in_table}
+use Rattle.certificate.proofs.Imports.{time_lines_of_gates, ℕ, ◌++◌, ◌+◌, ◌<◌, ◌∙◌, ◌∷◌, ◌≡◌, ◌≤◌}
 use Rattle.std.proofs.lemmas.List.Folds.{flat_map-map}
 use Rattle.section_text.specs.declared.limits.Limits.{Limits}
 use Rattle.certificate.proofs.Soundness.{passed_line}
@@ -43,16 +41,14 @@ splits (e ∷ es) = splits_step e es (splits es)
 
 -- and where the lines were read, they are those of all lines: the first is a module line
 starts_with_module : (l : Limits) (g : Setting) (v : ℕ) (es : List CertificateLine) →
-    AreFaultless (certificate_grammar l g) v [] es →
-    body_lines es ≡ []
+    AreFaultless (certificate_grammar l g) v [] es → body_lines es ≡ []
 unfolding body_lines entry_fault modules_of last_of
 starts_with_module l g v [] good = refl
 starts_with_module l g v (Module b ∷ es) good = refl
 starts_with_module l g v (i ∷ es) good = absurd (let first = (passed_line l g v [] i good.0).1 in cc)
 
 pub all_in_modules : (l : Limits) (g : Setting) (v : ℕ) (es : List CertificateLine) →
-    IsFaultless (certificate_grammar l g) v es →
-    all_stops (modules_of es) ≡ flat_map stop_in es
+    IsFaultless (certificate_grammar l g) v es → all_stops (modules_of es) ≡ flat_map stop_in es
 all_in_modules l g v es good = grind (arith, common_steps, splits, starts_with_module)
 
 -- ---- the lines of gates, one after the other
@@ -96,8 +92,7 @@ lines_told c ms ss firsts lasts f l ef el es hf hl i =
 -- ---- stops as they are kept
 
 -- the stops of one module more
-pub stops_more : (c : Circuit) (ms : List StoredModule) (i : ℕ) (m : StoredModule) → i < length ms →
-    m ≡ get_or ms i m →
+pub stops_more : (c : Circuit) (ms : List StoredModule) (i : ℕ) (m : StoredModule) → i < length ms → m ≡ get_or ms i m →
     all_stops (map (module_lines c) (take (i + 1) ms))
     ≡ all_stops (map (module_lines c) (take i ms)) ++ map (stop_line c) m.stops.items
 stops_more c ms i m lt is = grind (arith, common_steps, flat_map-map, flat_more, stops_with)

@@ -24,8 +24,7 @@ module _ (l : LocalNet) where
       new.all_times.items ≡ old.all_times.items ++ signal_if_starred (unnamed_line b) b.time s →
       new.events.items ≡ old.events.items ++ event_if_timed (unnamed_line b) b.time s →
       AreSignalLists l bs old → AreSignalLists l (bs ++ b ∷ []) new
-  with_border bs b s old new same own all_times events t =
-      grind (arith, common_steps, own_all_times)
+  with_border bs b s old new same own all_times events t = grind (arith, common_steps, own_all_times)
 
 -- ---- all lines
 

@@ -8,8 +8,7 @@ use Rattle.certificate_lines.specs.Forms.{form_of}
 use Rattle.certificate_lines.specs.Rules.{entry_fault, end_fault, module_limit_fault}
 use Rattle.section_text.specs.declared.limits.Limits.{Limits}
 use Rattle.certificate_lines.specs.Versions.{has_nonlocal_edge_wire_beside, is_halo_line, is_haloless_version}
-use Rattle.certificate_lines.specs.Versions.{modules_by_version}
-use Rattle.certificate_lines.specs.Versions.{without_halo_lines}
+use Rattle.certificate_lines.specs.Versions.{modules_by_version, without_halo_lines}
 use Rattle.certificate_lines.specs.declared.certificate_line.CertificateLine.{CertificateLine}
 use Rattle.certificate.specs.declared.version.Version.{Version}
 use Rattle.certificate.specs.declared.version.Version.TheVariants.{WithHalos, WithoutHalos}

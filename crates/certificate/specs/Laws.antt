@@ -19,15 +19,14 @@ use Rattle.certificate_lines.specs.Modules.{AreModules}
 use Rattle.certificate_lines.specs.Rules.{end_fault, entry_fault, is_bad_box_side, is_last_module_incomplete}
 use Rattle.certificate_lines.specs.Rules.{is_odd_corner_or_outside, overlaps_earlier_box}
 use Rattle.certificate_lines.specs.Versions.{is_halo_line}
-use Rattle.certificate_lines.specs.declared.certificate_line.CertificateLine.TheVariants.{Module}
 use Rattle.certificate_lines.specs.Versions.{AreGoodLines, has_nonlocal_edge_wire_beside, is_haloless_version}
 use Rattle.certificate_lines.specs.Versions.{modules_by_version, with_halo_lines, without_halo_lines}
+use Rattle.certificate_lines.specs.declared.certificate_line.CertificateLine.TheVariants.{Module}
 use Rattle.certificate_lines.specs.declared.certificate_line.CertificateLine.{CertificateLine}
 use Rattle.certificate.specs.Text.{certificate_text}
 use Rattle.certificate.specs.Arrivals.{AreOnTime, IsTimeLineTrue}
-use Rattle.certificate.specs.Times.{all_stops, are_all_timings_obeyed, first_seen_time, last_seen_time}
-use Rattle.certificate.specs.Times.{delay_and_meet_lines}
-use Rattle.certificate.specs.Times.{stop_times_of_wire}
+use Rattle.certificate.specs.Times.{all_stops, are_all_timings_obeyed, delay_and_meet_lines, first_seen_time}
+use Rattle.certificate.specs.Times.{last_seen_time, stop_times_of_wire}
 use Rattle.certificate_lines.specs.declared.certificate_line.StopLine.{StopLine}
 use Rattle.circuit.specs.Meaning.{Circuit}
 

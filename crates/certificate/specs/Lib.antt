@@ -2,6 +2,7 @@ pub mod Keeps
 pub mod Grammars
 pub mod GoodModules
 pub mod CertView
+pub mod ValidCertificates
 pub mod Text
 pub mod Jobs
 pub mod Timetables

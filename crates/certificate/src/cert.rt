@@ -1,16 +1,10 @@
 //! Certificates.
-ghost use Rattle.std.specs.Prelude.{◌≡◌, ◌<◌, ◌≤◌, [], length, map, slice_get, take, Some, None};
-ghost use Rattle.std.specs.List.{All};
-ghost use Rattle.circuit.specs.Entries.{defined};
+ghost use Rattle.std.specs.Prelude.{◌≡◌, ◌<◌, ◌≤◌, [], length, map, slice_get, Some, None};
 ghost use Rattle.pattern.specs.Layout.{parts_of};
-ghost use Rattle.circuit.specs.Bridge.{input_names, netlist_of};
-ghost use Rattle.circuit.specs.Meaning.{AreGatesOrdered};
 ghost use Rattle.pattern.specs.Lines.{AreGoodAfter, size_fault};
 ghost use Rattle.certificate_lines.specs.Entries.{areas, line_counts_of, modules_of};
 ghost use Rattle.certificate.specs.GoodModules.{IsLayoutOwnerTable};
-ghost use Rattle.certificate.specs.Grammars.{modules_in};
-ghost use Rattle.certificate_lines.specs.Settings.{setting_of};
-ghost use Rattle.certificate_lines.specs.Modules.{AreModules, IsWithinLineLimit};
+ghost use Rattle.certificate.specs.ValidCertificates.{IsValidCertificate};
 ghost use Rattle.certificate_lines.specs.Versions.{is_haloless_version};
 
 use crate::version::Version;
@@ -102,36 +96,18 @@ impl<'a> Cert<'a> {
     /// lines beside them mean.
     pub fn modules(&self) -> usize
         ensures count { result ≡ length (modules_of self.now.entries) }
-        ensures good { AreModules (setting_of self.now.circuit self.now.layout)
-            (modules_in self.now) }
-        ensures written { AreModules (setting_of self.now.circuit self.now.layout)
-            (modules_of self.now.entries) }
-        ensures lines { All IsWithinLineLimit (modules_of self.now.entries) }
-        ensures ordered { AreGatesOrdered (netlist_of self.now.circuit).given
-            (netlist_of self.now.circuit).gates }
-        ensures inputs { take (netlist_of self.now.circuit).given (defined self.now.circuit)
-            ≡ input_names self.now.circuit }
+        ensures valid { IsValidCertificate self.now }
     {
         self.circuit.prove_valid();
+        self.layout.prove_valid();
         self.modules.len()
     }
 
-    /// Shows what `size` and `modules` say of each certificate. It does nothing.
+    /// Shows that the certificate is valid. It does nothing.
     #[inline(always)]
     pub fn prove_valid(&self)
-        ensures limits { size_fault self.now.layout.size ≡ None }
-        ensures parts { AreGoodAfter self.now.layout.size [] (parts_of self.now.layout) }
-        ensures good { AreModules (setting_of self.now.circuit self.now.layout)
-            (modules_in self.now) }
-        ensures written { AreModules (setting_of self.now.circuit self.now.layout)
-            (modules_of self.now.entries) }
-        ensures lines { All IsWithinLineLimit (modules_of self.now.entries) }
-        ensures ordered { AreGatesOrdered (netlist_of self.now.circuit).given
-            (netlist_of self.now.circuit).gates }
-        ensures inputs { take (netlist_of self.now.circuit).given (defined self.now.circuit)
-            ≡ input_names self.now.circuit }
+        ensures { IsValidCertificate self.now }
     {
-        self.layout.prove_valid();
         self.modules();
     }
 

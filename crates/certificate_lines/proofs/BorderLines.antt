@@ -68,8 +68,7 @@ no_short_form ws k is a b c d e = grind (arith, common_steps, cond-false, other_
 short_is : (ws : List (List ℕ)) → border_of ws ≡ None → stop_of ws ≡ None → box_of ws ≡ None →
     form_of_not_five_words ws ≡ form_of ws
 unfolding form_of_not_five_words form_of
-short_is ws border stop area =
-    grind (arith, common_steps, cases_Bool, no_short_form, cond-true, cond-false)
+short_is ws border stop area = grind (arith, common_steps, cases_Bool, no_short_form, cond-true, cond-false)
 
 pub short_form_is : (ws : List (List ℕ)) → None ≡ words_of_five ws → form_of_not_five_words ws ≡ form_of ws
 unfolding words_of_five border_of stop_of box_of

@@ -64,8 +64,7 @@ number_time l o other is = ap (λ r. r >>= timed) is
 
 letters : (bs : List ℕ) → list_all is_name_byte bs ≡ true → words_of bs ≡ bs ∷ []
 letters [] e = refl
-letters (b ∷ bs) e =
-    grind (arith, common_steps, and_parts, slice_split-cons_no, letter_is_no_space, letters bs)
+letters (b ∷ bs) e = grind (arith, common_steps, and_parts, slice_split-cons_no, letter_is_no_space, letters bs)
 
 name_word : (w : List ℕ) → is_name w ≡ true → words_of w ≡ w ∷ []
 name_word [] e = absurd cc
@@ -123,8 +122,7 @@ steps k [] = refl
 steps k (a ∷ []) = refl
 steps k (a ∷ b ∷ []) = sym (grind (arith, common_steps, after_time))
 steps k (a ∷ b ∷ c ∷ []) = grind (arith, common_steps, after_time, after_column)
-steps k (a ∷ b ∷ c ∷ d ∷ []) =
-    grind (arith, common_steps, same_steps, after_time, after_column, after_row)
+steps k (a ∷ b ∷ c ∷ d ∷ []) = grind (arith, common_steps, same_steps, after_time, after_column, after_row)
 steps k (a ∷ b ∷ c ∷ d ∷ e ∷ ws) =
     grind (arith, common_steps, cond-false, not_five, after_time, after_column, after_row)
 

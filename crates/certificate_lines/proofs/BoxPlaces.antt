@@ -1,10 +1,9 @@
 -- The places of the cells of a box, row by row
 use Rattle.certificate_lines.proofs.Imports.{Box2, Cell, List, Some, [], ap, ap₂, arith, cell, cell_itself}
 use Rattle.certificate_lines.proofs.Imports.{common_steps, flat_map, in_box, in_box_nats, is_cell_at, length}
-use Rattle.certificate_lines.proofs.Imports.{length-map}
-use Rattle.certificate_lines.proofs.Imports.{map, place_in, pos, range_with_len, rectangle_cells, refl, row_cells}
-use Rattle.certificate_lines.proofs.Imports.{slice_get, suc, sym, true, zero, ℕ, ℤ, ◌*◌, ◌++◌, ◌+◌, ◌-◌, ◌<◌, ◌∙◌, ◌∷◌}
-use Rattle.certificate_lines.proofs.Imports.{◌≡◌, ◌≤◌}
+use Rattle.certificate_lines.proofs.Imports.{length-map, map, place_in, pos, range_with_len, rectangle_cells, refl}
+use Rattle.certificate_lines.proofs.Imports.{row_cells, slice_get, suc, sym, true, zero, ℕ, ℤ, ◌*◌, ◌++◌, ◌+◌, ◌-◌, ◌<◌}
+use Rattle.certificate_lines.proofs.Imports.{◌∙◌, ◌∷◌, ◌≡◌, ◌≤◌}
 use Rattle.lemmas.proofs.Common.{length-append, unwrap_or, mapped_at}
 use Rattle.certificate_lines.proofs.Lists.{kept, any_at, some_is}
 use Rattle.bbm_rule.proofs.RectangleLemmas.{in_box_cells}
@@ -84,8 +83,7 @@ mapped_from g (x ∷ xs) zero b other e = some_is (g x) b e
 mapped_from g (x ∷ xs) (suc i) b other e = mapped_from g xs i b other e
 
 pub same_count : {A B : Type 0} (g : A → B) (f : Cell → B) (b : Box2) (xs : List A) →
-    map g xs ≡ map f (rectangle_cells b) →
-    length xs ≡ b.w * b.h
+    map g xs ≡ map f (rectangle_cells b) → length xs ≡ b.w * b.h
 same_count g f b xs e = sym (length-map xs g) ∙ ap length e ∙ length-map (rectangle_cells b) f ∙ box_length b
 
 pub found_at : {A B : Type 0} (g : A → B) (f : Cell → B) (b : Box2) (xs : List A) (other : A) →

@@ -1,14 +1,13 @@
 -- The modules so far, after one more module and after one more line.
 use Rattle.certificate_lines.proofs.Imports.{AreBoxesDisjoint, AreGoodModulesSoFar, AreLinesInOrder}
-use Rattle.certificate_lines.proofs.Imports.{AreModulesWithOwners, Box2, Cell}
-use Rattle.certificate_lines.proofs.Imports.{CertificateLine, IsEvenBox, IsInside, IsModule, IsModuleInLimits}
-use Rattle.certificate_lines.proofs.Imports.{LayoutHeader, List, ModuleLines, None, Option, RefusalCode, Setting, Some}
-use Rattle.certificate_lines.proofs.Imports.{StarsExcludeLaterTimes, [], ap, areas, arith, module_box_code, change_last}
-use Rattle.certificate_lines.proofs.Imports.{common_steps, false, has_nonlocal_port, in_box, inl, inr}
+use Rattle.certificate_lines.proofs.Imports.{AreModulesWithOwners, Box2, Cell, CertificateLine, IsEvenBox, IsInside}
+use Rattle.certificate_lines.proofs.Imports.{IsModule, IsModuleInLimits, LayoutHeader, List, ModuleLines, None, Option}
+use Rattle.certificate_lines.proofs.Imports.{RefusalCode, Setting, Some, StarsExcludeLaterTimes, [], ap, areas, arith}
+use Rattle.certificate_lines.proofs.Imports.{change_last, common_steps, false, has_nonlocal_port, in_box, inl, inr}
 use Rattle.certificate_lines.proofs.Imports.{is_last_module_incomplete, last_of, length, length-map, length_push}
-use Rattle.certificate_lines.proofs.Imports.{map-append, module_line_code, module_with_line, nat_tests, none_at, pushed}
-use Rattle.certificate_lines.proofs.Imports.{rectangle_cells, refl, slice_get, slice_get_within, subst, sym, true}
-use Rattle.certificate_lines.proofs.Imports.{true≢false, ℕ, ℤ, ◌%◌, ◌++◌, ◌+◌, ◌-◌, ◌<◌, ◌∙◌, ◌∷◌, ◌≡◌, ◌≤◌}
+use Rattle.certificate_lines.proofs.Imports.{map-append, module_box_code, module_line_code, module_with_line, nat_tests}
+use Rattle.certificate_lines.proofs.Imports.{none_at, pushed, rectangle_cells, refl, slice_get, slice_get_within, subst}
+use Rattle.certificate_lines.proofs.Imports.{sym, true, true≢false, ℕ, ℤ, ◌%◌, ◌++◌, ◌+◌, ◌-◌, ◌<◌, ◌∙◌, ◌∷◌, ◌≡◌, ◌≤◌}
 use Rattle.lemmas.proofs.Common.{or_parts}
 use Rattle.certificate_lines.specs.Rules.{is_bad_box_side, overlaps_earlier_box, in_boxes}
 use Rattle.certificate_lines.proofs.Growing.{areas_changed, length_changed, changed_at, last_at, last_by_place}
@@ -45,8 +44,7 @@ pub record PassesAlone (g : Setting) (count : ℕ) (before : Option ModuleLines)
   pub box : IsGoodBox g.size b
 
 pub passes_alone : (g : Setting) (count : ℕ) (before : Option ModuleLines) (b : Box2) →
-    module_box_code g count before b ≡ None →
-    PassesAlone g count before b
+    module_box_code g count before b ≡ None → PassesAlone g count before b
 unfolding module_box_code
 passes_alone g count before b e = grind (arith, common_steps, both_none, or_parts, no_code, less)
 
@@ -123,8 +121,7 @@ module _ (g : Setting) (ms : List ModuleLines) where
   }
 
   pub module_built : (b : Box2) (old new : OwnersView) → AreModulesWithOwners g ms old →
-      IsGoodModule g ms (last_of ms) b →
-      (number : ℕ) → number ≡ length ms → PutsBox b number old new →
+      IsGoodModule g ms (last_of ms) b → (number : ℕ) → number ≡ length ms → PutsBox b number old new →
       AreModulesWithOwners g (ms ++ new_module b ∷ []) new
   module_built b old new built good number is puts = grind (arith, common_steps, module_sound, areas_push, length-map)
 

@@ -21,8 +21,7 @@ unfoldable pub use Rattle.certificate_lines.specs.Modules.{StarsExcludeLaterTime
 unfoldable pub use Rattle.certificate_lines.specs.Orders.{AreLinesInOrder, cell_of, is_cut_line, line_cmp, may_follow}
 unfoldable pub use Rattle.certificate_lines.specs.Orders.{may_precede, rank_of, sort_number_of}
 pub use Rattle.certificate_lines.specs.PortTables.{ArePortTableFields, ArePortsInLayout, AreRowsWithPortsNumbered}
-pub use Rattle.certificate_lines.specs.PortTables.{CircuitAndPorts}
-pub use Rattle.certificate_lines.specs.PortTables.{entry_place}
+pub use Rattle.certificate_lines.specs.PortTables.{CircuitAndPorts, entry_place}
 unfoldable pub use Rattle.certificate_lines.specs.PortTables.{entry_place_by_row_number, port_at, port_number_at}
 pub use Rattle.certificate_lines.specs.Rules.{body_line_code, code_but_for_order, is_last_module_incomplete, is_local}
 pub use Rattle.certificate_lines.specs.Rules.{is_local_wire, is_odd, is_star, is_starred_line_at, same_cell, whole}
@@ -48,16 +47,14 @@ pub use Rattle.lemmas.proofs.Common.{or_right, positive, replicate, take-suc, th
 pub use Rattle.module_box.proofs.BoxCells.{in_box_nats}
 pub use Rattle.module_box.proofs.FromCorner.{abs_from}
 pub use Rattle.module_box.proofs.Imports.{All, All-tail, Bool, Equal, Gate, Greater, IfSome, IsEvenBox, IsTrue, Less}
-pub use Rattle.module_box.proofs.Imports.{List}
-pub use Rattle.module_box.proofs.Imports.{Netlist, None, Option, Ordering, SFits, Some, [], and_from, and_parts, ap}
-pub use Rattle.module_box.proofs.Imports.{append_assoc, ap₂, arith, cases_Bool, common_steps, drop, eqb-true, false}
+pub use Rattle.module_box.proofs.Imports.{List, Netlist, None, Option, Ordering, SFits, Some, [], and_from, and_parts}
+pub use Rattle.module_box.proofs.Imports.{ap, append_assoc, ap₂, arith, cases_Bool, common_steps, drop, eqb-true, false}
 pub use Rattle.module_box.proofs.Imports.{false≢true, flat_map, get_or, get_or_default, get_or_from_slice_get, inl, inr}
 pub use Rattle.module_box.proofs.Imports.{ints, is_among, is_cell_at, is_some, length, length-map, length_push, map}
-pub use Rattle.module_box.proofs.Imports.{nat_eq}
-pub use Rattle.module_box.proofs.Imports.{ne_eqb, not, or_cases, pos, range_with_len, rectangle, refl, rules, slice_get}
-pub use Rattle.module_box.proofs.Imports.{slice_get-get_or, slice_get_within, span_from, subst, suc, sym, take}
-pub use Rattle.module_box.proofs.Imports.{take_more, true, true≢false, unsigned_abs, w32, zero, ℕ, ℤ, ◌%◌, ◌&&◌, ◌*◌}
-pub use Rattle.module_box.proofs.Imports.{◌++◌, ◌+◌, ◌-◌, ◌<◌, ◌==◌, ◌||◌, ◌∙◌, ◌∷◌, ◌≡◌, ◌≤◌, ◌⊎◌}
+pub use Rattle.module_box.proofs.Imports.{nat_eq, ne_eqb, not, or_cases, pos, range_with_len, rectangle, refl, rules}
+pub use Rattle.module_box.proofs.Imports.{slice_get, slice_get-get_or, slice_get_within, span_from, subst, suc, sym}
+pub use Rattle.module_box.proofs.Imports.{take, take_more, true, true≢false, unsigned_abs, w32, zero, ℕ, ℤ, ◌%◌, ◌&&◌}
+pub use Rattle.module_box.proofs.Imports.{◌*◌, ◌++◌, ◌+◌, ◌-◌, ◌<◌, ◌==◌, ◌||◌, ◌∙◌, ◌∷◌, ◌≡◌, ◌≤◌, ◌⊎◌}
 unfoldable pub use Rattle.module_box.proofs.Imports.{cell_cmp, in_box, in_halo, partner}
 pub use Rattle.bbm_rule.proofs.CellOrder.{cell_total}
 pub use Rattle.module_box.proofs.Rising.{pushed}

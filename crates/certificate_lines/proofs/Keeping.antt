@@ -1,22 +1,20 @@
 -- The tables of the lines after one more line.
 use Rattle.certificate_lines.proofs.Imports.{AreLinesInOrder, AreLocalWiresOfModules, AreModulesWithOwners, Bool}
-use Rattle.certificate_lines.proofs.Imports.{BorderLine, Box2, Cell}
-use Rattle.certificate_lines.proofs.Imports.{CertificateLine, Circuit, Cut, IsBodyLine, IsModule, IsModuleInLimits}
-use Rattle.certificate_lines.proofs.Imports.{LineKey, List, Module, ModuleLines, None, Option, OutOfOrder, Port}
-use Rattle.certificate_lines.proofs.Imports.{RefusalCode, Setting, Some, Use, [], add_line, ap, append-nil, arith}
-use Rattle.certificate_lines.proofs.Imports.{body_line_code, change_last, code_but_for_order, code_if, common_steps}
-use Rattle.certificate_lines.proofs.Imports.{edge_in}
-use Rattle.certificate_lines.proofs.Imports.{false, halo_in, has_nonlocal_port, in_box, is_last_module_incomplete}
-use Rattle.certificate_lines.proofs.Imports.{is_local, is_starred_line_at, key_of, key_or_first, known, last_body_line}
-use Rattle.certificate_lines.proofs.Imports.{last_module, last_of, list_any, may_follow, module_line_code}
-use Rattle.certificate_lines.proofs.Imports.{module_with_line, modules_of, not, IfSome, option_map, option_to_list}
-use Rattle.certificate_lines.proofs.Imports.{or_else, refl, same_cell, size_fault, size_sides, subst, sym, true}
-use Rattle.certificate_lines.proofs.Imports.{true_from_not, ℕ, ◌&&◌, ◌++◌, ◌+◌, ◌||◌, ◌∙◌, ◌∷◌, ◌≡◌, ◌≤◌, length}
+use Rattle.certificate_lines.proofs.Imports.{BorderLine, Box2, Cell, CertificateLine, Circuit, Cut, IfSome, IsBodyLine}
+use Rattle.certificate_lines.proofs.Imports.{IsModule, IsModuleInLimits, LineKey, List, Module, ModuleLines, None}
+use Rattle.certificate_lines.proofs.Imports.{Option, OutOfOrder, Port, RefusalCode, Setting, Some, Use, [], add_line}
+use Rattle.certificate_lines.proofs.Imports.{ap, append-nil, arith, body_line_code, change_last, code_but_for_order}
+use Rattle.certificate_lines.proofs.Imports.{code_if, common_steps, edge_in, false, halo_in, has_nonlocal_port, in_box}
+use Rattle.certificate_lines.proofs.Imports.{is_last_module_incomplete, is_local, is_starred_line_at, key_of}
+use Rattle.certificate_lines.proofs.Imports.{key_or_first, known, last_body_line, last_module, last_of, length}
+use Rattle.certificate_lines.proofs.Imports.{list_any, may_follow, module_line_code, module_with_line, modules_of, not}
+use Rattle.certificate_lines.proofs.Imports.{option_map, option_to_list, or_else, refl, same_cell, size_fault}
+use Rattle.certificate_lines.proofs.Imports.{size_sides, subst, sym, true, true_from_not, ℕ, ◌&&◌, ◌++◌, ◌+◌, ◌||◌, ◌∙◌}
+use Rattle.certificate_lines.proofs.Imports.{◌∷◌, ◌≡◌, ◌≤◌}
 use Rattle.certificate_lines.specs.Modules.{IsWithinLineLimit}
 use Rattle.certificate_lines.specs.Rules.{line_fault}
 use Rattle.certificate_lines.specs.BuilderView.{AreLinesAndWiresTracked, AreLinesTracked, IsEdgeHaloOrStopLine}
-use Rattle.certificate_lines.specs.BuilderView.{IsLastModuleTracked}
-use Rattle.certificate_lines.specs.BuilderView.{wires_made_local}
+use Rattle.certificate_lines.specs.BuilderView.{IsLastModuleTracked, wires_made_local}
 use Rattle.certificate_lines.proofs.BuiltLemmas.{module_built, line_built, good_module}
 use Rattle.certificate_lines.proofs.Growing.{modules_push, last_at, last_pushed, last_changed, body_step}
 use Rattle.certificate_lines.proofs.Lists.{some_is}
@@ -43,8 +41,7 @@ pub record IsGoodLine (g : Setting) (es : List CertificateLine) (i : Certificate
   pub words : code_but_for_order g module_lines i ≡ None
 
 good_by : (g : Setting) (es : List CertificateLine) (i : CertificateLine) (o : Option ModuleLines) →
-    last_module es ≡ o →
-    body_line_code g o i ≡ None → IsGoodLine g es i
+    last_module es ≡ o → body_line_code g o i ≡ None → IsGoodLine g es i
 good_by g es i None is e = absurd cc
 good_by g es i (Some m) is e = grind (arith, common_steps, both_none, true_from_not, no_code)
 
@@ -61,8 +58,7 @@ made_local g m is (Cut n) inner follows good =
     let words = (new_wire g.circuit _ _ n good).1 in
     known_cut g m is n follows words.wire words.named
     ∙ ap (λ o. known g.circuit m ++ option_to_list o) (sym words.named)
-made_local g m is (Use k) inner follows good =
-    grind (arith, common_steps, good_use)
+made_local g m is (Use k) inner follows good = grind (arith, common_steps, good_use)
 made_local g m is i inner follows good = known_same g m i refl refl ∙ sym (append-nil (known g.circuit m))
 
 -- a list of the cells of starred lines, after one more line
@@ -118,8 +114,7 @@ module _ (g : Setting) (es : List CertificateLine) (owners : OwnersView) (last :
 
   pub too_late : (m : ModuleLines) (i : CertificateLine) (b : Bool) → last_module es ≡ Some m →
       ((lines : List CertificateLine) → AreLinesInOrder lines → last_of lines ≡ last → b ≡ may_follow lines i) →
-      b ≡ false →
-      Some OutOfOrder ≡ body_line_code g (last_module es) i
+      b ≡ false → Some OutOfOrder ≡ body_line_code g (last_module es) i
   too_late m i b some f late =
       let not_after : may_follow m.lines i ≡ false = sym (follows_by m i b some f) ∙ late in
       ap (λ a. or_else (code_if (not a) OutOfOrder) (code_but_for_order g m i)) (sym not_after) ∙ inner_is m i some
@@ -177,10 +172,9 @@ module _ (g : Setting) (es : List CertificateLine) (owners : OwnersView) (last :
     unfolding begun_lines last_of
     begun_present = grind (arith, common_steps)
 
-    pub kept_module : module_line_code g (modules_of es) (last_module es) b ≡ None →
-        (number : ℕ) → number ≡ length (modules_of es) → PutsBox b number owners new_owners
-        → AreLinesTracked g (es ++ Module b ∷ []) new_owners
-        None [] [] []
+    pub kept_module : module_line_code g (modules_of es) (last_module es) b ≡ None → (number : ℕ) →
+        number ≡ length (modules_of es) → PutsBox b number owners new_owners →
+        AreLinesTracked g (es ++ Module b ∷ []) new_owners None [] [] []
     unfolding begun_lines add_line
     kept_module good number is puts =
         let more : modules_of (es ++ Module b ∷ []) ≡ modules_of es ++ begun_lines ∷ [] = modules_push es (Module b) in

@@ -1,12 +1,10 @@
 -- The wires that modules lack of the edge lines beside them, and the local wires of each module
 use Rattle.certificate_lines.proofs.Imports.{AreLinesInBox, AreLocalWiresOfModules, Bool, BorderLine, Box2, Circuit}
-use Rattle.certificate_lines.proofs.Imports.{IsModule, List, ModuleLines, Setting, Some, []}
-use Rattle.certificate_lines.proofs.Imports.{and_parts, ap, ap₂, arith, change_last, common_steps, cond-false}
-use Rattle.certificate_lines.proofs.Imports.{cond-true, edges, false, filter, flat_map, in_halo}
-use Rattle.certificate_lines.proofs.Imports.{is_nonlocal_signal, known, lacks_wire_of_some_edge, last_of, length}
-use Rattle.certificate_lines.proofs.Imports.{length-map}
-use Rattle.certificate_lines.proofs.Imports.{length_push, list_any, map, map-append, nat_lt, refl}
-use Rattle.certificate_lines.proofs.Imports.{slice_get, suc, sym, true, whole, zero, ℕ, ◌++◌, ◌+◌, ◌<◌}
+use Rattle.certificate_lines.proofs.Imports.{IsModule, List, ModuleLines, Setting, Some, [], and_parts, ap, ap₂, arith}
+use Rattle.certificate_lines.proofs.Imports.{change_last, common_steps, cond-false, cond-true, edges, false, filter}
+use Rattle.certificate_lines.proofs.Imports.{flat_map, in_halo, is_nonlocal_signal, known, lacks_wire_of_some_edge}
+use Rattle.certificate_lines.proofs.Imports.{last_of, length, length-map, length_push, list_any, map, map-append}
+use Rattle.certificate_lines.proofs.Imports.{nat_lt, refl, slice_get, suc, sym, true, whole, zero, ℕ, ◌++◌, ◌+◌, ◌<◌}
 use Rattle.certificate_lines.proofs.Imports.{◌||◌, ◌∙◌, ◌∷◌, ◌≡◌, ◌≤◌}
 use Rattle.lemmas.proofs.Common.{same_from_push}
 use Rattle.bbm_rule.specs.Boxes.{in_ring}

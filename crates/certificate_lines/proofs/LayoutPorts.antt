@@ -1,7 +1,6 @@
 -- The ports of a layout by their cells, and its parts, which lie inside it
 use Rattle.certificate_lines.proofs.Imports.{ArePortsInLayout, Bool, Cell, LayoutHeader, List, None, Option, Port, Some}
-use Rattle.certificate_lines.proofs.Imports.{[]}
-use Rattle.certificate_lines.proofs.Imports.{and_parts, ap, arith, common_steps, false, get_or, if◌then◌else◌}
+use Rattle.certificate_lines.proofs.Imports.{[], and_parts, ap, arith, common_steps, false, get_or, if◌then◌else◌}
 use Rattle.certificate_lines.proofs.Imports.{is_cell_at, length, list_all, list_all-append, port_at, refl, slice_get}
 use Rattle.certificate_lines.proofs.Imports.{subst, suc, sym, true, zero, ℕ, ℤ, ◌<◌, ◌∙◌, ◌∷◌, ◌≡◌}
 use Rattle.lemmas.proofs.Common.{list_all-map}
@@ -48,8 +47,7 @@ pub none_stands : (ports : List Port) (x y : ℤ) → port_at ports x y ≡ None
     slice_get ports i ≡ Some p → is_cell_at p.cell x y ≡ true → ⊥
 unfolding port_at
 none_stands [] x y e i p at h = cc
-none_stands (q ∷ ports) x y e zero p at h =
-    grind (arith, common_steps, absent_here)
+none_stands (q ∷ ports) x y e zero p at h = grind (arith, common_steps, absent_here)
 none_stands (q ∷ ports) x y e (suc i) p at h =
     none_stands ports x y (absent_here (is_cell_at q.cell x y) q.name (port_at ports x y) e).1 i p at h
 

@@ -65,8 +65,7 @@ flat_in f b (x ∷ xs) a (inr later) j = in_right b (f x) (flat_map f xs) (flat_
 pub in_filter : {A : Type 0} (test : A → Bool) (x : A) (xs : List A) → In x (filter test xs) → In x xs × (test x ≡ true)
 unfolding In
 in_filter test x [] i = absurd i
-in_filter test x (y ∷ ys) i =
-    grind (arith, common_steps, cases_Bool, cond-true, cond-false, in_filter test x ys)
+in_filter test x (y ∷ ys) i = grind (arith, common_steps, cases_Bool, cond-true, cond-false, in_filter test x ys)
 
 pub filter_in : {A : Type 0} (test : A → Bool) (x : A) (xs : List A) → In x xs → test x ≡ true → In x (filter test xs)
 unfolding In
@@ -144,8 +143,7 @@ pub put_rises : (d : BorderLine) (es : List BorderLine) → Rises es → Each (�
 unfolding insert_border_line Each Pairs
 put_rises d [] p n = (tt, tt)
 put_rises d (e ∷ es) p n = elim (cases_Bool (is_lt (border_line_cmp d e))) [
-  | inl holds ↦
-      grind (arith, common_steps, cond-true, each_map, line_total)
+  | inl holds ↦ grind (arith, common_steps, cond-true, each_map, line_total)
   | inr fails ↦
       grind (arith, common_steps, put_rises d es p.1 n.1, turned, after_line, cond-false, in_each, in_put, each_in)
 ]

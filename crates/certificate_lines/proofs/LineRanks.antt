@@ -1,8 +1,7 @@
 -- The ranks of lines: lines in order rise by rank, and the lines of one kind have one rank.
-use Rattle.certificate_lines.proofs.Imports.{CertificateLine, [], arith, common_steps, edge_in, false, halo_in}
-use Rattle.certificate_lines.proofs.Imports.{is_cut_line}
-use Rattle.certificate_lines.proofs.Imports.{kept_gate_in, line_cmp, may_precede, rank_of, stop_in, sym, true}
-use Rattle.certificate_lines.proofs.Imports.{used_gate_in, ◌&&◌, ◌==◌, ◌<◌, ◌≡◌, ◌≤◌, Greater, nat_tests}
+use Rattle.certificate_lines.proofs.Imports.{CertificateLine, Greater, [], arith, common_steps, edge_in, false, halo_in}
+use Rattle.certificate_lines.proofs.Imports.{is_cut_line, kept_gate_in, line_cmp, may_precede, nat_tests, rank_of}
+use Rattle.certificate_lines.proofs.Imports.{stop_in, sym, true, used_gate_in, ◌&&◌, ◌<◌, ◌==◌, ◌≡◌, ◌≤◌}
 use Rattle.lemmas.proofs.Common.{◌≢◌}
 use Rattle.std.specs.Cmp.{nat_cmp_is}
 use Rattle.bbm_rule.proofs.BitLemmas.{by_lt_or_le}

@@ -12,10 +12,7 @@ use Rattle.bbm_rule.proofs.RectangleLemmas.{in_box_cells}
 use Rattle.module_box.proofs.BoxCells.{owner_in_table}
 use Rattle.module_box.proofs.PartOwners.{corner_inside, has_block, named_cell, none_by_number, place_of, stays}
 use Rattle.module_box.specs.Tiling.{AreAllBlocksTaken, BoxHoldsCell, IsFreeBox, IsPartialOwnerTable, MayAddBox}
-use Rattle.module_box.specs.Tiling.{OwnersView}
-use Rattle.module_box.specs.Tiling.{block_corner_x}
-use Rattle.module_box.specs.Tiling.{block_corner_y}
-use Rattle.module_box.specs.Tiling.{no_owner, owner_of}
+use Rattle.module_box.specs.Tiling.{OwnersView, block_corner_x, block_corner_y, no_owner, owner_of}
 use Rattle.section_text.specs.declared.code.RefusalCode.TheVariants.{MisplacedBox}
 use Rattle.certificate_lines.specs.BuilderView.{IsModuleOwnerTable}
 use Rattle.certificate_lines.specs.Rules.{in_boxes, overlaps_earlier_box}

@@ -1,10 +1,9 @@
 -- A module after one more line.
 use Rattle.certificate_lines.proofs.Imports.{All-append, All-nil, AreLinesInOrder, Bool, CertificateLine, Equal, Less}
-use Rattle.certificate_lines.proofs.Imports.{List}
-use Rattle.certificate_lines.proofs.Imports.{Ordering, Use, [], and_parts, ap₂, cell_cmp, cell_of, common_steps, false}
-use Rattle.certificate_lines.proofs.Imports.{is_cut_line, line_cmp, list_all, list_all-append, may_follow, may_precede}
-use Rattle.certificate_lines.proofs.Imports.{rank_of, refl, sort_number_of, true, used_gate_in, ℕ, ◌++◌, ◌<◌, ◌||◌, ◌∙◌}
-use Rattle.certificate_lines.proofs.Imports.{◌∷◌, ◌≡◌}
+use Rattle.certificate_lines.proofs.Imports.{List, Ordering, Use, [], and_parts, ap₂, cell_cmp, cell_of, common_steps}
+use Rattle.certificate_lines.proofs.Imports.{false, is_cut_line, line_cmp, list_all, list_all-append, may_follow}
+use Rattle.certificate_lines.proofs.Imports.{may_precede, rank_of, refl, sort_number_of, true, used_gate_in, ℕ, ◌++◌}
+use Rattle.certificate_lines.proofs.Imports.{◌<◌, ◌||◌, ◌∙◌, ◌∷◌, ◌≡◌}
 use Rattle.lemmas.proofs.Common.{All-push, arith, ordering_then, nat_less, ◌≢◌}
 use Rattle.certificate_lines.proofs.LineRanks.{rank_rises}
 use Rattle.std.specs.List.{All, flat_map}
@@ -56,8 +55,7 @@ pub list_all_push : {A : Type 0} (test : A → Bool) (xs : List A) (x : A) → l
 list_all_push test xs x h k = list_all-append test xs (x ∷ []) ∙ rw (h, k) refl
 
 pub order_push : (lines : List CertificateLine) (j : CertificateLine) → AreLinesInOrder lines →
-    may_follow lines j ≡ true →
-    AreLinesInOrder (lines ++ j ∷ [])
+    may_follow lines j ≡ true → AreLinesInOrder (lines ++ j ∷ [])
 unfolding AreLinesInOrder may_follow
 order_push [] j order h = (refl, tt)
 order_push (i ∷ lines) j order h =

@@ -13,13 +13,11 @@ use Rattle.certificate_lines.proofs.Imports.{◌++◌, ◌<◌, ◌||◌, ◌∙
 use Rattle.certificate_lines.proofs.Imports.{code_but_for_order, ◌+◌, ◌≤◌}
 use Rattle.lemmas.proofs.Common.{nat_le, at_most_by_test, below_by_test, All-append, All-cons, ◌≢◌}
 use Rattle.certificate_lines.specs.Entries.{keeps, halos, stops, cut_wires}
-use Rattle.certificate_lines.specs.Rules.{cut_line_code, used_gate_fault, use_line_code, keep_line_code}
-use Rattle.certificate_lines.specs.Rules.{is_line_time_allowed, is_edge_place_and_time_allowed}
-use Rattle.certificate_lines.specs.Rules.{is_halo_place_and_time_allowed}
-use Rattle.certificate_lines.specs.Rules.{is_stop_place_and_time_allowed, signal_fault, wire_fault}
-use Rattle.certificate_lines.specs.Rules.{border_or_stop_line_code}
-use Rattle.certificate_lines.specs.Rules.{timed_line_count, timed_line_limit, edge_line_code, halo_line_code}
-use Rattle.certificate_lines.specs.Rules.{stop_line_code}
+use Rattle.certificate_lines.specs.Rules.{border_or_stop_line_code, cut_line_code, edge_line_code, halo_line_code}
+use Rattle.certificate_lines.specs.Rules.{is_edge_place_and_time_allowed, is_halo_place_and_time_allowed}
+use Rattle.certificate_lines.specs.Rules.{is_line_time_allowed, is_stop_place_and_time_allowed, keep_line_code}
+use Rattle.certificate_lines.specs.Rules.{signal_fault, stop_line_code, timed_line_count, timed_line_limit}
+use Rattle.certificate_lines.specs.Rules.{use_line_code, used_gate_fault, wire_fault}
 use Rattle.certificate_lines.specs.Modules.{IsAllowedEdge, IsAllowedHalo, IsAllowedStop, MayGateBeKept}
 use Rattle.std.proofs.Common.{length-append}
 pub use Rattle.pattern.proofs.Added.{no_code}
@@ -74,8 +72,7 @@ unfolding is_line_time_allowed
 free_time steps starred t h1 = grind (arith, common_steps, and_parts)
 
 free_of_star : (g : Setting) (area : Box2) (starred : Bool) (e : BorderLine) →
-    is_edge_place_and_time_allowed g.size area starred e ≡ true →
-    (is_star e.time || not starred) ≡ true
+    is_edge_place_and_time_allowed g.size area starred e ≡ true → (is_star e.time || not starred) ≡ true
 unfolding is_edge_place_and_time_allowed
 free_of_star g area starred e place = grind (arith, common_steps, free_time, and_parts)
 

@@ -2,8 +2,7 @@
 use Rattle.certificate_lines.proofs.Imports.{Box2, CertificateLine, List, Module, ModuleLines, [], add_line, ap}
 use Rattle.certificate_lines.proofs.Imports.{append-nil, append_assoc, arith, body_lines, change_last, common_steps}
 use Rattle.certificate_lines.proofs.Imports.{false, is_module_line, module_with_line, modules_of, refl, sym, true, ◌++◌}
-use Rattle.certificate_lines.proofs.Imports.{◌∙◌}
-use Rattle.certificate_lines.proofs.Imports.{◌∷◌, ◌≡◌}
+use Rattle.certificate_lines.proofs.Imports.{◌∙◌, ◌∷◌, ◌≡◌}
 use Rattle.lemmas.proofs.Common.{fold}
 
 pub inner_module : (e : CertificateLine) (es : List CertificateLine) → is_module_line e ≡ true →
@@ -70,8 +69,7 @@ abbrev Extends : List CertificateLine → Type 0
 Extends es = (m : ModuleLines) → onward (m ∷ []) es ≡ extended m (body_lines es) ∷ modules_of es
 
 extends_more : (m : ModuleLines) (e : CertificateLine) (es : List CertificateLine) → is_module_line e ≡ false →
-    Extends es →
-    onward (module_with_line e m ∷ []) es ≡ extended m (body_lines (e ∷ es)) ∷ modules_of (e ∷ es)
+    Extends es → onward (module_with_line e m ∷ []) es ≡ extended m (body_lines (e ∷ es)) ∷ modules_of (e ∷ es)
 extends_more m e es o h = grind (arith, common_steps, append_assoc, inner_other, extended, split_other)
 
 extends_none : Extends []

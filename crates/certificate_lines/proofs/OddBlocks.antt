@@ -1,15 +1,13 @@
 -- The modules beside the cell of an edge line, by the cells of its block at odd times
-use Rattle.certificate_lines.proofs.Imports.{AreBoxesDisjoint, Bool, BorderLine, Box2, Cell, Circuit, IsEvenBox}
-use Rattle.certificate_lines.proofs.Imports.{List, ModuleLines, None, Option, Some, [], and-false, ap, ap₂, areas}
-use Rattle.certificate_lines.proofs.Imports.{arith, cases_Bool, common_steps, cond-false, cond-true}
-use Rattle.certificate_lines.proofs.Imports.{does_neighbour_lack_wire, eqb-true, false, in_box, in_box_nats}
-use Rattle.certificate_lines.proofs.Imports.{in_halo, inl, inr, is_local_wire, is_nonlocal_signal}
-use Rattle.certificate_lines.proofs.Imports.{is_outside_and_nonlocal, known, lacks_wire_of_some_edge, list_any}
-use Rattle.certificate_lines.proofs.Imports.{mapped_from, ne_eqb, not, or-false, partner, pos}
-use Rattle.certificate_lines.proofs.Imports.{rectangle_of, refl, slice_get, slice_get_within, length, suc, sym, true}
-use Rattle.certificate_lines.proofs.Imports.{zero, ℕ, ℤ}
-use Rattle.certificate_lines.proofs.Imports.{◌%◌, ◌&&◌, ◌<◌, ◌||◌, ◌∙◌, ◌∷◌, ◌≡◌, ◌≤◌, ◌⊎◌}
-use Rattle.lemmas.proofs.Common.{eq-eqb, eqb-false, low_number, negsuc, ◌+ℤ◌, ◌-ℤ◌, ◌≤ℤ◌}
+use Rattle.certificate_lines.proofs.Imports.{AreBoxesDisjoint, Bool, BorderLine, Box2, Cell, Circuit, IsEvenBox, List}
+use Rattle.certificate_lines.proofs.Imports.{ModuleLines, None, Option, Some, [], and-false, ap, ap₂, areas, arith}
+use Rattle.certificate_lines.proofs.Imports.{cases_Bool, common_steps, cond-false, cond-true, does_neighbour_lack_wire}
+use Rattle.certificate_lines.proofs.Imports.{eqb-true, false, in_box, in_box_nats, in_halo, inl, inr, is_local_wire}
+use Rattle.certificate_lines.proofs.Imports.{is_nonlocal_signal, is_outside_and_nonlocal, known}
+use Rattle.certificate_lines.proofs.Imports.{lacks_wire_of_some_edge, length, list_any, mapped_from, ne_eqb, not}
+use Rattle.certificate_lines.proofs.Imports.{or-false, partner, pos, rectangle_of, refl, slice_get, slice_get_within}
+use Rattle.certificate_lines.proofs.Imports.{suc, sym, true, zero, ℕ, ℤ, ◌%◌, ◌&&◌, ◌<◌, ◌||◌, ◌∙◌, ◌∷◌, ◌≡◌, ◌≤◌, ◌⊎◌}
+use Rattle.lemmas.proofs.Common.{eq-eqb, eqb-false, low_number, mapped_at, negsuc, ◌+ℤ◌, ◌-ℤ◌, ◌≤ℤ◌}
 use Rattle.bbm_rule.specs.Plane.{parity}
 use Rattle.bbm_rule.specs.Spans.{in_span}
 use Rattle.bbm_rule.proofs.Spans.{even_span}
@@ -18,7 +16,6 @@ use Rattle.bbm_rule.proofs.RingTests.{halo_read}
 use Rattle.certificate_lines.specs.BuilderView.{is_nonlocal_in_neighbour}
 use Rattle.certificate_lines.proofs.AnyLines.{any_filter}
 use Rattle.certificate_lines.proofs.LackedWires.{any_either, any_same, any_swap, none_any}
-use Rattle.lemmas.proofs.Common.{mapped_at}
 use Rattle.certificate_lines.proofs.Lists.{some_is}
 use Rattle.lemmas.specs.Bounds.{last_column_or_row, max_side}
 
@@ -72,8 +69,7 @@ three_cells a a' b b' s = grind arith
 
 pub halo_either : (b : Box2) (x y : ℤ) → IsEvenBox b →
     (not (in_box b x y) && ((in_span b.x b.w x || in_span b.x b.w (partner 1 x))
-    && (in_span b.y b.h y || in_span b.y b.h (partner 1 y))))
-    ≡ in_halo b x y
+    && (in_span b.y b.h y || in_span b.y b.h (partner 1 y)))) ≡ in_halo b x y
 halo_either b x y even = grind (arith, common_steps, halo_read, near_either)
 
 -- a cell is in the halo of a box if it is outside, and the box has one of the other cells of its block

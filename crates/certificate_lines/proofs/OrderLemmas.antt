@@ -1,12 +1,11 @@
 -- Lines in order: what comes after the last comes after all.
 use Rattle.certificate_lines.proofs.Imports.{AreLinesInOrder, Bool, Box2, CertificateLine, Cut, IsBodyLine}
-use Rattle.certificate_lines.proofs.Imports.{IsTotalOrder}
-use Rattle.certificate_lines.proofs.Imports.{Less, LineKey, List, Module, None, Option, Some, [], and_parts, ap, arith}
-use Rattle.certificate_lines.proofs.Imports.{cell_cmp, cell_of, cell_total, common_steps, inl, inr, is_cut_line, is_lt}
-use Rattle.certificate_lines.proofs.Imports.{key_of, key_or_first, last_body_line, last_of, line_cmp, list_all}
-use Rattle.certificate_lines.proofs.Imports.{may_follow, may_precede, nat_cmp_total, ne_eqb, on_total, or-false}
-use Rattle.certificate_lines.proofs.Imports.{or_cases, or_right, rank_of, refl, sort_number_of, sym, then_total, true}
-use Rattle.certificate_lines.proofs.Imports.{◌&&◌, ◌++◌, ◌∙◌, ◌∷◌, ◌≡◌, ◌⊎◌}
+use Rattle.certificate_lines.proofs.Imports.{IsTotalOrder, Less, LineKey, List, Module, None, Option, Some, []}
+use Rattle.certificate_lines.proofs.Imports.{and_parts, ap, arith, cell_cmp, cell_of, cell_total, common_steps, inl}
+use Rattle.certificate_lines.proofs.Imports.{inr, is_cut_line, is_lt, key_of, key_or_first, last_body_line, last_of}
+use Rattle.certificate_lines.proofs.Imports.{line_cmp, list_all, may_follow, may_precede, nat_cmp_total, ne_eqb}
+use Rattle.certificate_lines.proofs.Imports.{on_total, or-false, or_cases, or_right, rank_of, refl, sort_number_of, sym}
+use Rattle.certificate_lines.proofs.Imports.{then_total, true, ◌&&◌, ◌++◌, ◌∙◌, ◌∷◌, ◌≡◌, ◌⊎◌}
 use Rattle.lemmas.proofs.Common.{nat_cmp, and-true}
 use Rattle.certificate_lines.specs.BuilderView.{body_line_or_none}
 use Rattle.certificate_lines.proofs.Growing.{last_pushed}
@@ -64,8 +63,7 @@ precede_trans i j k h h' = elim (precede_parts i j h) [
 ]
 
 last_passes : (p : CertificateLine → Bool) (i : CertificateLine) (lines : List CertificateLine) (l : CertificateLine) →
-    list_all p (i ∷ lines) ≡ true →
-    last_of (i ∷ lines) ≡ Some l → p l ≡ true
+    list_all p (i ∷ lines) ≡ true → last_of (i ∷ lines) ≡ Some l → p l ≡ true
 unfolding last_of
 last_passes p i [] l all last = grind (arith, common_steps, and_parts)
 last_passes p i (j ∷ lines) l all last = last_passes p j lines l (and_parts (p i) (list_all p (j ∷ lines)) all).1 last
@@ -74,11 +72,9 @@ and_same : (a b : Bool) → (b ≡ true → a ≡ true) → (a && b) ≡ b
 and_same a b h = grind arith
 
 follows : (x : CertificateLine) (lines : List CertificateLine) (l i : CertificateLine) → AreLinesInOrder (x ∷ lines) →
-    last_of (x ∷ lines) ≡ Some l →
-    may_follow (x ∷ lines) i ≡ may_precede l i
+    last_of (x ∷ lines) ≡ Some l → may_follow (x ∷ lines) i ≡ may_precede l i
 unfolding AreLinesInOrder may_follow last_of
-follows x [] l i order last =
-    grind (arith, common_steps, and-true)
+follows x [] l i order last = grind (arith, common_steps, and-true)
 follows x (y ∷ lines) l i order last =
     let rest : may_follow (y ∷ lines) i ≡ may_precede l i = follows y lines l i order.1 last in
     let first : may_precede x l ≡ true = last_passes (may_precede x) y lines l order.0 last in
@@ -86,8 +82,7 @@ follows x (y ∷ lines) l i order last =
     ∙ and_same (may_precede x i) (may_precede l i) (precede_trans x l i first)
 
 pub follows_last : (lines : List CertificateLine) (l i : CertificateLine) → AreLinesInOrder lines →
-    last_of lines ≡ Some l →
-    may_precede l i ≡ may_follow lines i
+    last_of lines ≡ Some l → may_precede l i ≡ may_follow lines i
 unfolding last_of
 follows_last [] l i order last = absurd cc
 follows_last (x ∷ lines) l i order last = sym (follows x lines l i order last)
@@ -116,9 +111,8 @@ follows_inner lines l i h1 h2 h3 = grind (arith, common_steps, module_first, fol
 
 -- whether a line may come after the others, by the key of the last
 pub follows_key : (o : Option CertificateLine) (k : LineKey) (i : CertificateLine) (b : Bool) → IsBodyLine i →
-    k ≡ key_or_first o → ((l : CertificateLine) → k ≡ key_of l → b ≡ may_precede l i) →
-    (lines : List CertificateLine) → AreLinesInOrder lines → last_of lines ≡ body_line_or_none o →
-    b ≡ may_follow lines i
+    k ≡ key_or_first o → ((l : CertificateLine) → k ≡ key_of l → b ≡ may_precede l i) → (lines : List CertificateLine) →
+    AreLinesInOrder lines → last_of lines ≡ body_line_or_none o → b ≡ may_follow lines i
 unfolding rank_of sort_number_of cell_of
 follows_key None k i b inner is may lines order last =
     let l : CertificateLine = Module (record { x = 0; y = 0; w = 0; h = 0 }) in

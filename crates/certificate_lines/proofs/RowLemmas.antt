@@ -1,7 +1,6 @@
 -- The numbers of the rows with a port, for the contracts of `entry_place` and `number_rows`.
 use Rattle.certificate_lines.proofs.Imports.{AreRowsWithPortsNumbered, Box2, Cell, List, None, Option, Port, Some, []}
-use Rattle.certificate_lines.proofs.Imports.{abs_from}
-use Rattle.certificate_lines.proofs.Imports.{and_from, and_parts, ap, ap₂, arith, common_steps, entry_place}
+use Rattle.certificate_lines.proofs.Imports.{abs_from, and_from, and_parts, ap, ap₂, arith, common_steps, entry_place}
 use Rattle.certificate_lines.proofs.Imports.{entry_place_by_row_number, get_or, get_or-set_same, get_or_default, in_box}
 use Rattle.certificate_lines.proofs.Imports.{inl, inr, length, length-replicate, length-set, option_map, place_in, pos}
 use Rattle.certificate_lines.proofs.Imports.{rectangle_cells, refl, replicate, set, slice_get, slice_get_within}
@@ -51,8 +50,7 @@ filled_less (suc n ∷ xs) (suc i) d lt e = let m = filled_less xs i d (omega ar
 -- ---- the rows of a box
 
 -- a cell of a box is in one of its rows and columns
-pub sides : (b : Box2) (x y : ℤ) → in_box b x y ≡ true →
-    (unsigned_abs x - b.x < b.w) × (unsigned_abs y - b.y < b.h)
+pub sides : (b : Box2) (x y : ℤ) → in_box b x y ≡ true → (unsigned_abs x - b.x < b.w) × (unsigned_abs y - b.y < b.h)
 sides b x y h = grind (arith, common_steps, abs_from, abs_within)
 
 -- an entry after one entry is set
@@ -70,8 +68,7 @@ pub record AreRowsSoFar (b : Box2) (ports : List Port) (k : ℕ) (rows : List �
   pub counted : filled rows ≡ count
   pub most : (row : ℕ) → get_or rows row 0 ≤ count
   pub own : (row other n : ℕ) → get_or rows row 0 ≡ suc n → get_or rows other 0 ≡ suc n → row ≡ other
-  pub each : (i : ℕ) (p : Port) → i < k → slice_get ports i ≡ Some p →
-      0 < get_or rows (unsigned_abs p.cell.y - b.y) 0
+  pub each : (i : ℕ) (p : Port) → i < k → slice_get ports i ≡ Some p → 0 < get_or rows (unsigned_abs p.cell.y - b.y) 0
 
 pub no_rows : (b : Box2) (ports : List Port) (n : ℕ) → n ≡ b.h → AreRowsSoFar b ports 0 (replicate n zero) 0
 no_rows b ports n is = grind (arith, common_steps, length-replicate, filled_none)
@@ -220,8 +217,7 @@ row_inside b x y k h l = grind (arith, common_steps, and_parts, span_parts, and_
 
 -- the entries of a row of a box
 pub row_entry : (b : Box2) (rows : List ℕ) (x y k : ℕ) (o : Option ℕ) → in_box b (pos x) (pos y) ≡ true →
-    entry_place b rows (pos x) (pos y) ≡ o →
-    entry_place b rows (pos (x + k)) (pos y) ≡ option_map (λ (p : ℕ). p + k) o
+    entry_place b rows (pos x) (pos y) ≡ o → entry_place b rows (pos (x + k)) (pos y) ≡ option_map (λ (p : ℕ). p + k) o
 row_entry b rows x y k o inside e =
     let low = (abs_from b (pos x) (pos y) inside).0 in
     let column : x + k - b.x ≡ x - b.x + k = omega (arith, low) in

@@ -2,9 +2,8 @@
 use Rattle.certificate_lines.proofs.Imports.{All, AreGoodModulesSoFar, AreLinesInBox, Bool, BorderLine, Circuit, IsTrue}
 use Rattle.certificate_lines.proofs.Imports.{List, Setting, [], ap, arith, common_steps, does_neighbour_lack_wire}
 use Rattle.certificate_lines.proofs.Imports.{edges, flat_map, get_or, in_box, lacks_wire_of_some_edge, length, list_any}
-use Rattle.certificate_lines.proofs.Imports.{map}
-use Rattle.certificate_lines.proofs.Imports.{modules_of, option_map, refl, slice_get, slice_get-get_or, slice_get-map}
-use Rattle.certificate_lines.proofs.Imports.{subst, sym, whole, ℕ, ◌<◌, ◌||◌, ◌∙◌, ◌∷◌, ◌≡◌}
+use Rattle.certificate_lines.proofs.Imports.{map, modules_of, option_map, refl, slice_get, slice_get-get_or}
+use Rattle.certificate_lines.proofs.Imports.{slice_get-map, subst, sym, whole, ℕ, ◌<◌, ◌||◌, ◌∙◌, ◌∷◌, ◌≡◌}
 use Rattle.lemmas.proofs.Common.{all_unmapped}
 use Rattle.certificate_lines.specs.StoredModules.{IsCellWithinLayout, border_line, lines_of_modules, module_lines}
 use Rattle.certificate_lines.specs.declared.stored_module.StoredModule.{StoredModule}
@@ -36,8 +35,7 @@ any_mapped test f (x ∷ xs) = ap (λ b. test (f x) || b) (any_mapped test f xs)
 
 pub lacked_stored : (c : Circuit) (ms : List StoredModule) →
     list_any (λ m. list_any (λ b. does_neighbour_lack_wire c (modules_of (lines_of_modules c ms)) (border_line c b))
-    m.edges.items) ms
-    ≡ list_any (lacks_wire_of_some_edge c (flat_map edges (modules_of (lines_of_modules c ms))))
+    m.edges.items) ms ≡ list_any (lacks_wire_of_some_edge c (flat_map edges (modules_of (lines_of_modules c ms))))
     (modules_of (lines_of_modules c ms))
 lacked_stored c ms =
     let ns = modules_of (lines_of_modules c ms) in

@@ -243,8 +243,7 @@ set_more c more (k ∷ l ∷ ms) m n last has =
     ∙ sym (append_assoc (Module k.area ∷ (module_lines c k).lines) (lines_of_modules c (l ∷ ms)) more)
 
 pub line_added : (c : Circuit) (i : CertificateLine) (ms : List StoredModule) (at : ℕ) (m n : StoredModule) →
-    at ≡ length ms - 1 → 0 < length ms → m ≡ get_or ms at m →
-    module_lines c n ≡ module_with_line i (module_lines c m) →
+    at ≡ length ms - 1 → 0 < length ms → m ≡ get_or ms at m → module_lines c n ≡ module_with_line i (module_lines c m) →
     lines_of_modules c (slice_set ms at n) ≡ lines_of_modules c ms ++ i ∷ []
 line_added c i ms at m n is some got has =
     ap (λ k. lines_of_modules c (slice_set ms k n)) is

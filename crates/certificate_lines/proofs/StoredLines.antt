@@ -1,14 +1,13 @@
 -- A good line is one that a module can store
-use Rattle.certificate_lines.proofs.Imports.{Box2, Cell, CertificateLine, Circuit, Cut, Edge, Gate, Halo, IfSome}
-use Rattle.certificate_lines.proofs.Imports.{IsBodyLine, IsModule, IsTrue, Keep, LayoutHeader, List, Module}
+use Rattle.certificate_lines.proofs.Imports.{All, Box2, Cell, CertificateLine, Circuit, Cut, Edge, Gate, Halo, IfSome}
+use Rattle.certificate_lines.proofs.Imports.{IsBodyLine, IsModule, IsTrue, Keep, LayoutHeader, LineKey, List, Module}
 use Rattle.certificate_lines.proofs.Imports.{ModuleLines, None, Option, Setting, Some, Stop, Use, [], arith}
-use Rattle.certificate_lines.proofs.Imports.{bytes_eq-Decides, code_but_for_order, common_steps, false≢true, gates}
-use Rattle.certificate_lines.proofs.Imports.{in_box}
-use Rattle.certificate_lines.proofs.Imports.{in_box_nats, is_local, is_local_wire, is_some, known, last_module, last_of}
-use Rattle.certificate_lines.proofs.Imports.{length, may_follow, option_map, refl, size_fault, size_sides, slice_get}
-use Rattle.certificate_lines.proofs.Imports.{slice_get_within, subst, sym, true, whole, wire_of, ℕ, ℤ, ◌<◌, ◌∙◌, ◌∷◌}
-use Rattle.certificate_lines.proofs.Imports.{◌≡◌, ◌≤◌, All, LineKey, edge_in, halo_in, key_of, last_body_line}
-use Rattle.certificate_lines.proofs.Imports.{flat_map-append, key_or_first, module_line_code, modules_of, ◌++◌}
+use Rattle.certificate_lines.proofs.Imports.{bytes_eq-Decides, code_but_for_order, common_steps, edge_in, false≢true}
+use Rattle.certificate_lines.proofs.Imports.{flat_map-append, gates, halo_in, in_box, in_box_nats, is_local}
+use Rattle.certificate_lines.proofs.Imports.{is_local_wire, is_some, key_of, key_or_first, known, last_body_line}
+use Rattle.certificate_lines.proofs.Imports.{last_module, last_of, length, may_follow, module_line_code, modules_of}
+use Rattle.certificate_lines.proofs.Imports.{option_map, refl, size_fault, size_sides, slice_get, slice_get_within}
+use Rattle.certificate_lines.proofs.Imports.{subst, sym, true, whole, wire_of, ℕ, ℤ, ◌++◌, ◌<◌, ◌∙◌, ◌∷◌, ◌≡◌, ◌≤◌}
 use Rattle.lemmas.proofs.Common.{All-push, low_number}
 use Rattle.std.specs.Option.{option_and_then}
 use Rattle.std.proofs.lemmas.List.Quantifiers.{position-Some}
@@ -84,12 +83,10 @@ gate_there gates k found h1 h2 = grind (arith, common_steps, false≢true, slice
 
 pub may_store : (g : Setting) (m : ModuleLines) (i : CertificateLine) (wire : Option ℕ) → IsModule g m →
     size_fault g.size ≡ None → length g.circuit.netlist.gates ≤ max_gates → IsBodyLine i →
-    code_but_for_order g m i ≡ None →
-    IsWireOfLine g.circuit i wire → MayBeStored i wire
+    code_but_for_order g m i ≡ None → IsWireOfLine g.circuit i wire → MayBeStored i wire
 may_store g m (Module b) wire is sized few body good own = absurd body
 may_store g m (Cut n) wire is sized few body good own = wire_there (wire_name g.circuit) wire n own.name
-may_store g m (Use k) wire is sized few body good own =
-    grind (arith, common_steps, good_use, slice_get_within)
+may_store g m (Use k) wire is sized few body good own = grind (arith, common_steps, good_use, slice_get_within)
 may_store g m (Keep k) wire is sized few body good own =
     let within = gate_there g.circuit.netlist.gates k _ refl (keep_good g (gates m) k good).inverse in
     omega (arith, within, few)

@@ -1,21 +1,18 @@
 -- The tables of ports, and the ports in a box.
 use Rattle.certificate_lines.proofs.Imports.{ArePortsInLayout, AreRowsWithPortsNumbered, Bool, Box2, Cell, Circuit}
-use Rattle.certificate_lines.proofs.Imports.{HaveDistinctCells}
-use Rattle.certificate_lines.proofs.Imports.{LayoutHeader, List, None, Option, Port, Some, [], and_parts, ap, arith}
-use Rattle.certificate_lines.proofs.Imports.{cell, cell_itself, cell_same, common_steps, drop, entry_place, eqb-true}
-use Rattle.certificate_lines.proofs.Imports.{false, flat_map, get_or, get_or-set_same, get_or_default}
-use Rattle.certificate_lines.proofs.Imports.{get_or_from_slice_get, if◌then◌else◌, in_box, is_cell_at, is_local}
-use Rattle.certificate_lines.proofs.Imports.{is_nonlocal_signal, length, length-replicate, length-set, list_all}
-use Rattle.certificate_lines.proofs.Imports.{list_any, list_any-append, map, nat_eq, not, nat_tests, port_number_at}
-use Rattle.certificate_lines.proofs.Imports.{option_map}
-use Rattle.certificate_lines.proofs.Imports.{or-false, port_at, pos, range_with_len, rectangle_cells, refl, replicate}
-use Rattle.certificate_lines.proofs.Imports.{row_cells, set, slice_get, slice_get-get_or, slice_get-map}
-use Rattle.certificate_lines.proofs.Imports.{slice_get_within, subst, suc, sym, take, take-suc, to_z, true, w32, whole}
-use Rattle.certificate_lines.proofs.Imports.{wire_of, zero, ℕ, ℤ, ◌&&◌, ◌*◌, ◌++◌, ◌+◌, ◌-◌, ◌<◌, ◌||◌, ◌∙◌, ◌∷◌, ◌≡◌}
-use Rattle.certificate_lines.proofs.Imports.{◌≤◌}
-use Rattle.lemmas.proofs.Common.{and_or_self, and_zero_l, bit_and, bit_or, cases_Bool, get_or-drop}
-use Rattle.lemmas.proofs.Common.{get_or-set_other, length-take-le, mul-le-mul_right, or_comm, or_zero_l}
-use Rattle.lemmas.proofs.Common.{list_all-append, same_truth}
+use Rattle.certificate_lines.proofs.Imports.{HaveDistinctCells, LayoutHeader, List, None, Option, Port, Some, []}
+use Rattle.certificate_lines.proofs.Imports.{and_parts, ap, arith, cell, cell_itself, cell_same, common_steps, drop}
+use Rattle.certificate_lines.proofs.Imports.{entry_place, eqb-true, false, flat_map, get_or, get_or-set_same}
+use Rattle.certificate_lines.proofs.Imports.{get_or_default, get_or_from_slice_get, if◌then◌else◌, in_box, is_cell_at}
+use Rattle.certificate_lines.proofs.Imports.{is_local, is_nonlocal_signal, length, length-replicate, length-set}
+use Rattle.certificate_lines.proofs.Imports.{list_all, list_any, list_any-append, map, nat_eq, nat_tests, not}
+use Rattle.certificate_lines.proofs.Imports.{option_map, or-false, port_at, port_number_at, pos, range_with_len}
+use Rattle.certificate_lines.proofs.Imports.{rectangle_cells, refl, replicate, row_cells, set, slice_get}
+use Rattle.certificate_lines.proofs.Imports.{slice_get-get_or, slice_get-map, slice_get_within, subst, suc, sym, take}
+use Rattle.certificate_lines.proofs.Imports.{take-suc, to_z, true, w32, whole, wire_of, zero, ℕ, ℤ, ◌&&◌, ◌*◌, ◌++◌}
+use Rattle.certificate_lines.proofs.Imports.{◌+◌, ◌-◌, ◌<◌, ◌||◌, ◌∙◌, ◌∷◌, ◌≡◌, ◌≤◌}
+use Rattle.lemmas.proofs.Common.{and_or_self, and_zero_l, bit_and, bit_or, cases_Bool, get_or-drop, get_or-set_other}
+use Rattle.lemmas.proofs.Common.{length-take-le, list_all-append, mul-le-mul_right, or_comm, or_zero_l, same_truth}
 use Rattle.bbm_rule.proofs.CellLists.{cast_cell, row_more, rows_found}
 use Rattle.certificate_lines.specs.PortTables.{ArePortsInBox, entry_or_zero, number_with_port_in_front}
 use Rattle.certificate_lines.proofs.RowLemmas.{entry_few, entry_own, filled, filled_less, filled_more, filled_none}
@@ -58,10 +55,8 @@ module _ (ports : List Port) (apart : HaveDistinctCells ports) (b : Box2) (c : C
       let r = cell_passed by_cell (rectangle_cells b) h in
       let n = passed_name c local (port_at ports r.0.x r.0.y) r.2 in
       let p = port_stands ports r.0.x r.0.y n.0 n.1 in
-      let inside : in_box b p.port.cell.x p.port.cell.y ≡ true =
-      grind (arith, common_steps, cell_same, in_box_cells) in
-      let named : not (is_local c local p.port.name) ≡ true =
-      ap (λ n. not (is_local c local n)) p.named ∙ n.2 in
+      let inside : in_box b p.port.cell.x p.port.cell.y ≡ true = grind (arith, common_steps, cell_same, in_box_cells) in
+      let named : not (is_local c local p.port.name) ≡ true = ap (λ n. not (is_local c local n)) p.named ∙ n.2 in
       any_at by_port ports p.number p.port p.numbered (rw (inside, named) refl)
 
   from_ports : list_any by_port ports ≡ true → list_any by_cell (rectangle_cells b) ≡ true
@@ -111,8 +106,7 @@ no_number b n h1 = grind (arith, common_steps)
 pub unnumbered : (ports : List Port) (x y : ℤ) → port_number_at ports x y ≡ 0 → port_at ports x y ≡ None
 unfolding port_number_at port_at
 unnumbered [] x y e = refl
-unnumbered (p ∷ ports) x y e =
-    grind (arith, common_steps, no_number, unnumbered ports x y)
+unnumbered (p ∷ ports) x y e = grind (arith, common_steps, no_number, unnumbered ports x y)
 
 -- the port of a number
 pub record IsNumbered (ports : List Port) (k : ℕ) (x y : ℤ) : Type 0 where
@@ -169,8 +163,7 @@ push_here : (ports : List Port) (p : Port) (x y : ℤ) → is_cell_at p.cell x y
     port_number_at (ports ++ p ∷ []) x y ≡ suc (length ports)
 unfolding port_number_at
 push_here [] p x y on none = rw on refl
-push_here (q ∷ ports) p x y on none =
-    grind (arith, common_steps, no_number, push_here ports p x y on)
+push_here (q ∷ ports) p x y on none = grind (arith, common_steps, no_number, push_here ports p x y on)
 
 none_there : (ports : List Port) (x y : ℤ) →
     ((i : ℕ) (q : Port) → slice_get ports i ≡ Some q → is_cell_at q.cell x y ≡ true → ⊥) → port_number_at ports x y ≡ 0

@@ -4,8 +4,7 @@ use Rattle.certificate_lines.proofs.Imports.{replicate, suc, sym, take, take_mor
 use Rattle.certificate_lines.proofs.Imports.{◌==◌, ◌||◌, ◌∙◌, ◌∷◌, ◌≡◌, ◌≤◌, false≢true}
 use Rattle.lemmas.proofs.Common.{◌/◌, eq_itself, or-true, false_from_ne_true, get_or_past}
 use Rattle.std.proofs.lemmas.List.{get_or-take, length-take-le}
-use Rattle.bbm_rule.specs.Rows.{SetsCellAtPlace}
-use Rattle.bbm_rule.specs.Rows.{cell_at}
+use Rattle.bbm_rule.specs.Rows.{SetsCellAtPlace, cell_at}
 use Rattle.bbm_rule.specs.Bits.{bit}
 use Rattle.bbm_rule.proofs.BitLemmas.{by_lt_or_le, bit-zero}
 

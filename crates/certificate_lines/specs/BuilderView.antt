@@ -8,11 +8,9 @@ use Rattle.bbm_rule.specs.declared.block.Cell.{Cell}
 use Rattle.bbm_rule.specs.Boxes.{in_box, in_halo}
 use Rattle.module_box.specs.Tiling.{IsPartialOwnerTable, OwnersView}
 use Rattle.bbm_rule.specs.declared.block.Box2.{Box2}
-use Rattle.certificate_lines.specs.Entries.{Setting, ModuleLines, modules_of, last_of, areas, known, edges}
+use Rattle.certificate_lines.specs.Entries.{ModuleLines, Setting, areas, edges, halos, known, last_of, modules_of}
 use Rattle.certificate_lines.specs.Entries.{wire_name_in_line}
-use Rattle.certificate_lines.specs.Entries.{halos}
-use Rattle.certificate_lines.specs.Rules.{is_local_wire, is_star, is_starred_line_at, same_cell}
-use Rattle.certificate_lines.specs.Rules.{has_nonlocal_port}
+use Rattle.certificate_lines.specs.Rules.{has_nonlocal_port, is_local_wire, is_star, is_starred_line_at, same_cell}
 use Rattle.certificate_lines.specs.LineKeys.{key_or_first}
 use Rattle.certificate_lines.specs.declared.order.LineKey.{LineKey}
 use Rattle.certificate_lines.specs.Modules.{IsWithinLineLimit, IsModule}

@@ -2,9 +2,8 @@
 use Rattle.check_main.proofs.Imports.{Check, CheckFault, Err, HoldsOfKnownInput, IsAccepted, IsNoSmallDesignText}
 use Rattle.check_main.proofs.Imports.{IsRightInFull, IsWrongIfPlain, Kinds, LinesHaveMeaning, List, Memory, No, Ok}
 use Rattle.check_main.proofs.Imports.{Outcome, RanCommand, Read, Refused, RelatesReadToWritten, Streams, Text, TooLong}
-use Rattle.check_main.proofs.Imports.{Write}
-use Rattle.check_main.proofs.Imports.{Yes, YesMeans, YesPromises, [], ap, arith, asked_by, bbmcheck, false, fault_of}
-use Rattle.check_main.proofs.Imports.{inl, inr, refl, status_for, sym, true, ℕ, ◌∙◌, ◌∷◌, ◌≡◌, ◌≢◌, ◌≤◌, ◌⊎◌}
+use Rattle.check_main.proofs.Imports.{Write, Yes, YesMeans, YesPromises, [], ap, arith, asked_by, bbmcheck_app, false}
+use Rattle.check_main.proofs.Imports.{fault_of, inl, inr, refl, status_for, sym, true, ℕ, ◌∙◌, ◌∷◌, ◌≡◌, ◌≢◌, ◌≤◌, ◌⊎◌}
 use Rattle.command_line.specs.CommandLine.{AsksForHelp, AsksOnlyForHelp}
 use Rattle.meaning.specs.Headline.{IsRight}
 use Rattle.headline.specs.Stops.{HasRightStops}
@@ -30,7 +29,7 @@ module _ {R W E : Type 0} {source : Source R} {sink : Sink W} {messages : Sink E
   -- a fact that holds in both cases
   either : {P : Type 0} → (RanCommand source sink messages (asked_by words) old new status → P) →
       (ExplainedWords sink messages words old new status → P) → P
-  either by_run by_words = split (fault_of bbmcheck words) (λ a. by_run (ran a)) (λ n. by_words (explained n))
+  either by_run by_words = split (fault_of bbmcheck_app words) (λ a. by_run (ran a)) (λ n. by_words (explained n))
 
   -- the answer that a run gave
   answered_as : (outcome : Outcome) (r : RanCommand source sink messages (asked_by words) old new status) →
@@ -44,10 +43,8 @@ module _ {R W E : Type 0} {source : Source R} {sink : Sink W} {messages : Sink E
 
   -- a run with this fault said it
   said_as : (fault : CheckFault) (r : RanCommand source sink messages (asked_by words) old new status) →
-      r.ended ≡ Err fault →
-      WritesFaultLine messages old.errors new.errors fault
-  said_as fault r is =
-      at_fault (WritesFaultLine messages old.errors new.errors) r.ended fault is r.said
+      r.ended ≡ Err fault → WritesFaultLine messages old.errors new.errors fault
+  said_as fault r is = at_fault (WritesFaultLine messages old.errors new.errors) r.ended fault is r.said
 
   -- and left the writer alone, if it is another than of the writer
   unwritten_as : (fault : CheckFault) (r : RanCommand source sink messages (asked_by words) old new status) →
@@ -94,7 +91,7 @@ module _ {R W E : Type 0} {source : Source R} {sink : Sink W} {messages : Sink E
 
   -- other words do not end with these statuses
   is_accepted : status ≢ 0 → status ≢ 2 → status ≢ 4 → status ≢ 5 → IsAccepted words
-  is_accepted zero two four five = split (fault_of bbmcheck words) (λ a. a)
+  is_accepted zero two four five = split (fault_of bbmcheck_app words) (λ a. a)
       (λ n. absurd (elim (explained n).by_status.range [
         | inl is ↦ zero is
         | inr (inl is) ↦ two is
@@ -128,11 +125,9 @@ module _ {R W E : Type 0} {source : Source R} {sink : Sink W} {messages : Sink E
   refused three = answered_as Refused (ran (accepted_at_three three)) three
 
   -- 4: the reader failed, or the writer, or the text is too long, and `errors` has the line for this
-  pub device : status ≡ 4 →
-      ((source.has_failed new.reader ≡ true)
+  pub device : status ≡ 4 → ((source.has_failed new.reader ≡ true)
       × WritesFaultLine messages old.errors new.errors Read)
-      ⊎ ((sink.has_failed new.writer ≡ true)
-      × WritesFaultLine messages old.errors new.errors Write)
+      ⊎ ((sink.has_failed new.writer ≡ true) × WritesFaultLine messages old.errors new.errors Write)
       ⊎ (GivesTooMuch (source.left old.reader) (source.left new.reader)
       × WritesFaultLine messages old.errors new.errors TooLong)
   device four = either

@@ -1,7 +1,6 @@
 -- The book of an audit.
 use Rattle.check_main.proofs.Imports.{AreJobsOfCertificate, CertView, List, [], ap, arith, certificate_text, false}
-use Rattle.check_main.proofs.Imports.{length, length-append, map, refl, subst, sym, ℕ, ◌++◌, ◌+◌, ◌∙◌, ◌∷◌}
-use Rattle.check_main.proofs.Imports.{◌≡◌, ◌≤◌}
+use Rattle.check_main.proofs.Imports.{length, length-append, map, refl, subst, sym, ℕ, ◌++◌, ◌+◌, ◌∙◌, ◌∷◌, ◌≡◌, ◌≤◌}
 use Rattle.sha2.specs.Sha256.{sha256}
 use Rattle.core_book.specs.Book.{BookView, IsHistoryReplayed, after_closing, held_finding_count, new_book}
 use Rattle.core_book.specs.Replay.{Replayed, accepted_after, after_entry, empty_replayed, has_closing, replay}

@@ -9,7 +9,7 @@ pub use Rattle.check_main.specs.declared.fault.CheckFault.TheVariants.{Memory, R
 pub use Rattle.check_main.specs.declared.front.Streams.{Streams}
 pub use Rattle.clap.specs.Walk.{Text}
 pub use Rattle.clap.specs.Words.{Kinds, fault_of}
-pub use Rattle.command_line.specs.CommandLine.{IsAccepted, asked_by, bbmcheck}
+pub use Rattle.command_line.specs.CommandLine.{IsAccepted, asked_by, bbmcheck_app}
 pub use Rattle.command_line.specs.declared.Request.TheVariants.{Check}
 pub use Rattle.core_book.specs.Concluding.{AreJobsOfCertificate}
 pub use Rattle.headline.proofs.Imports.{CertView, Err, List, None, Ok, Option, Result, Some, [], ap, arith, drop, false}

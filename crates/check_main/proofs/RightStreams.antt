@@ -32,9 +32,8 @@ taken_is (Some xs) (Some ys) before more taken e f appended =
     append_cancel_left before more taken (sym now ∙ appended ∙ ap (λ t. t ++ taken) own)
 
 -- the first bytes of an output were written, or all of them, and a yes of the output means P
-said_right : (P : List ℕ → Type 0)
-    (left left' written_bytes written_bytes' : Option (List ℕ)) (text output taken rest : List ℕ) →
-    (FourthLineSaysYes output → P text) → ReadsAll left left' text →
+said_right : (P : List ℕ → Type 0) (left left' written_bytes written_bytes' : Option (List ℕ))
+    (text output taken rest : List ℕ) → (FourthLineSaysYes output → P text) → ReadsAll left left' text →
     output ≡ taken ++ rest → Appends written_bytes written_bytes' taken → YesMeans P left written_bytes written_bytes'
 said_right P left left' written_bytes written_bytes' text output taken rest holds read whole appended
     before more f g line known e =
@@ -44,9 +43,8 @@ said_right P left left' written_bytes written_bytes' text output taken rest hold
     e
 
 -- all of it was
-all_said_right : (P : List ℕ → Type 0)
-    (left left' written_bytes written_bytes' : Option (List ℕ)) (text output : List ℕ) →
-    (FourthLineSaysYes output → P text) → ReadsAll left left' text →
+all_said_right : (P : List ℕ → Type 0) (left left' written_bytes written_bytes' : Option (List ℕ))
+    (text output : List ℕ) → (FourthLineSaysYes output → P text) → ReadsAll left left' text →
     Appends written_bytes written_bytes' output → YesMeans P left written_bytes written_bytes'
 all_said_right P left left' written_bytes written_bytes' text output holds read appended =
     said_right P left left' written_bytes written_bytes' text output output [] holds read (sym (append-nil output))
@@ -65,9 +63,8 @@ nothing_said P left written_bytes written_bytes' same before more f g line text 
     (append_cancel_left before more [] (own ∙ sym (append-nil before))) line))
 
 -- a writer was told the output, or its first bytes
-written_right : {E : Type 0} (P : List ℕ → Type 0)
-    (left left' written_bytes written_bytes' : Option (List ℕ)) (text output : List ℕ) →
-    (FourthLineSaysYes output → P text) → ReadsAll left left' text →
+written_right : {E : Type 0} (P : List ℕ → Type 0) (left left' written_bytes written_bytes' : Option (List ℕ))
+    (text output : List ℕ) → (FourthLineSaysYes output → P text) → ReadsAll left left' text →
     (result : Result Outcome E) → OnOk result (Appends written_bytes written_bytes' output) →
     IfErr result (λ e. AppendsProperPrefix written_bytes written_bytes' output) →
     YesMeans P left written_bytes written_bytes'
@@ -78,21 +75,19 @@ written_right P left left' written_bytes written_bytes' text output holds read (
     front.appended
 
 -- and it ended with the outcome of the answer, which means P if it is the one that is wanted
-pub outcome_means : {E : Type 0} (P : List ℕ → Type 0) (wanted : Outcome)
-    (left left' : Option (List ℕ)) (text : List ℕ) (outcome : Outcome) →
-    (outcome ≡ wanted → P text) → ReadsAll left left' text → (result : Result Outcome E) → result ≡ Ok wanted →
-    IfOk result (λ o. o ≡ outcome) → HoldsOfKnownInput P left
+pub outcome_means : {E : Type 0} (P : List ℕ → Type 0) (wanted : Outcome) (left left' : Option (List ℕ)) (text : List ℕ)
+    (outcome : Outcome) → (outcome ≡ wanted → P text) → ReadsAll left left' text → (result : Result Outcome E) →
+    result ≡ Ok wanted → IfOk result (λ o. o ≡ outcome) → HoldsOfKnownInput P left
 outcome_means P wanted left left' text outcome holds read (Ok o) is same =
     let wanted_is : o ≡ wanted = cc in
     given P left left' text read (holds (sym same ∙ wanted_is))
 outcome_means P wanted left left' text outcome holds read (Err e) is same = absurd cc
 
 -- the promise of a yes, if the output was written, or its first bytes
-pub yes_promised : {E : Type 0} (P : List ℕ → Type 0)
-    (left left' written_bytes written_bytes' : Option (List ℕ)) (text output : List ℕ) (outcome : Outcome) →
-    FourthLineSaysYes output ↔ (outcome ≡ Yes) → (outcome ≡ Yes → P text) → ReadsAll left left' text →
-    (result : Result Outcome E) →
-    IfOk result (λ o. o ≡ outcome) → OnOk result (Appends written_bytes written_bytes' output) →
+pub yes_promised : {E : Type 0} (P : List ℕ → Type 0) (left left' written_bytes written_bytes' : Option (List ℕ))
+    (text output : List ℕ) (outcome : Outcome) → FourthLineSaysYes output ↔ (outcome ≡ Yes) → (outcome ≡ Yes → P text) →
+    ReadsAll left left' text → (result : Result Outcome E) → IfOk result (λ o. o ≡ outcome) →
+    OnOk result (Appends written_bytes written_bytes' output) →
     IfErr result (λ e. AppendsProperPrefix written_bytes written_bytes' output) →
     YesPromises P (result ≡ Ok Yes) left written_bytes written_bytes'
 yes_promised P left left' written_bytes written_bytes' text output outcome line holds read result same all front =
@@ -114,8 +109,7 @@ nothing_promised P EndsAsYes left written_bytes written_bytes' unsaid same = rec
 -- and all of the output was written, which P relates to the text
 pub outcome_tells : {E : Type 0} (P : List ℕ → List ℕ → Type 0) (wanted : Outcome)
     (left left' written_bytes written_bytes' : Option (List ℕ)) (text output : List ℕ) (outcome : Outcome) →
-    (outcome ≡ wanted → P text output) → ReadsAll left left' text →
-    (result : Result Outcome E) → result ≡ Ok wanted →
+    (outcome ≡ wanted → P text output) → ReadsAll left left' text → (result : Result Outcome E) → result ≡ Ok wanted →
     IfOk result (λ o. o ≡ outcome) → OnOk result (Appends written_bytes written_bytes' output) →
     RelatesReadToWritten P left written_bytes written_bytes'
 outcome_tells P wanted left left' written_bytes written_bytes' text output outcome holds read (Ok o) is same all

@@ -1,7 +1,6 @@
 -- The bytes that a reader of the section took are the text of the certificate that it gave.
 use Rattle.check_main.proofs.Imports.{CertView, FeedView, List, None, Ok, Option, Result, Some, [], ap}
-use Rattle.check_main.proofs.Imports.{certificate_text}
-use Rattle.check_main.proofs.Imports.{drop, sym, take, ℕ, ◌++◌, ◌∙◌, ◌≡◌}
+use Rattle.check_main.proofs.Imports.{certificate_text, drop, sym, take, ℕ, ◌++◌, ◌∙◌, ◌≡◌}
 use Rattle.lemmas.proofs.Common.{append-nil, flat_map, take-append-drop}
 use Rattle.std.specs.Option.{IfSome}
 use Rattle.section_text.specs.Feeds.{ahead}

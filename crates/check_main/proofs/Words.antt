@@ -1,6 +1,7 @@
 -- The commands that one word asks for, and that a number of workers asks for.
-use Rattle.check_main.proofs.Imports.{Check, IsAccepted, List, Text, [], ap, arith, asked_by, bbmcheck, false, fault_of}
-use Rattle.check_main.proofs.Imports.{inl, inr, refl, suc, sym, true, zero, ℕ, ◌++◌, ◌+◌, ◌<◌, ◌∙◌, ◌∷◌, ◌≡◌, ◌≤◌}
+use Rattle.check_main.proofs.Imports.{Check, IsAccepted, List, Text, [], ap, arith, asked_by, bbmcheck_app, false}
+use Rattle.check_main.proofs.Imports.{fault_of, inl, inr, refl, suc, sym, true, zero, ℕ, ◌++◌, ◌+◌, ◌<◌, ◌∙◌, ◌∷◌, ◌≡◌}
+use Rattle.check_main.proofs.Imports.{◌≤◌}
 use Rattle.lemmas.proofs.Common.{◌%◌, ◌&&◌, ◌/◌, Bool, codes, cond, eqb, ltb, and_parts, cases_lt, cond-false}
 use Rattle.lemmas.proofs.Common.{cond-true, decimal, eqb-true, list_all, lt-ltb, range_with_len}
 use Rattle.std.proofs.lemmas.Fmt.{decimal_digit, decimal_step}
@@ -54,7 +55,7 @@ none_is [] h = refl
 none_is (x ∷ xs) h = cc
 
 abbrev passes : ℕ → Bool
-passes n = is_none (fault_of bbmcheck (spelled_words n)) && eqb (workers_asked (spelled_words n)) n
+passes n = is_none (fault_of bbmcheck_app (spelled_words n)) && eqb (workers_asked (spelled_words n)) n
 
 all_pass : list_all passes (range_with_len 1 64) ≡ true
 unfolding bundle_met defaults_fault flags_fault flags_pass walk_fault walk_passes walked
@@ -64,8 +65,7 @@ each_asks : (text : Text) → asked_by (codes "check" ∷ codes "--workers" ∷ 
 unfolding bundle_met defaults_fault flags_fault flags_pass walk_fault walk_passes walked
 each_asks text = refl
 
-in_range : (test : ℕ → Bool) (m a n : ℕ) → list_all test (range_with_len a m) ≡ true → a ≤ n → n < a + m →
-    test n ≡ true
+in_range : (test : ℕ → Bool) (m a n : ℕ) → list_all test (range_with_len a m) ≡ true → a ≤ n → n < a + m → test n ≡ true
 in_range test zero a n h low high = absurd (omega (arith, low, high))
 in_range test (suc m) a n h low high =
     let both = and_parts (test a) (list_all test (range_with_len (a + 1) m)) h in
@@ -77,12 +77,12 @@ in_range test (suc m) a n h low high =
 pub each_number_asks : EachWorkerCountIsAccepted
 each_number_asks n low high =
     let e : decimal n ≡ spelled n = decimal_spelled n (omega (arith, high)) in
-    let both = and_parts (is_none (fault_of bbmcheck (spelled_words n))) (eqb (workers_asked (spelled_words n)) n)
+    let both = and_parts (is_none (fault_of bbmcheck_app (spelled_words n))) (eqb (workers_asked (spelled_words n)) n)
     (in_range passes 64 1 n all_pass low (omega (arith, high))) in
     let as_spelled : words_with_workers n ≡ spelled_words n =
     ap (λ ds. codes "check" ∷ codes "--workers" ∷ ds ∷ []) e in (
       record {
-        accepted = ap (fault_of bbmcheck) as_spelled ∙ none_is (fault_of bbmcheck (spelled_words n)) both.0;
+        accepted = ap (fault_of bbmcheck_app) as_spelled ∙ none_is (fault_of bbmcheck_app (spelled_words n)) both.0;
         asked = each_asks (decimal n);
       },
       ap workers_asked as_spelled ∙ eqb-true (workers_asked (spelled_words n)) n both.1,

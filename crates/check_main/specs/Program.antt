@@ -1,7 +1,7 @@
 -- The effect of the program on its streams: a command ran, or words that are not accepted are explained.
 --
--- Read before: Stream.antt (`Serves`), Status.antt and Commands.antt; command_line/specs/CommandLine.antt (which words
--- are accepted); streams/src/streams.rt (the members of a source and of a sink).
+-- Read before: Stream.antt (`ServesCommand`), Status.antt and Commands.antt; command_line/specs/CommandLine.antt (which
+-- words are accepted); streams/src/streams.rt (the members of a source and of a sink).
 use Rattle.std.specs.Prelude.{◌≡◌, ◌⊎◌, ℕ, true, false, List, Option, Result, IfErr, OnOk}
 use Rattle.clap.specs.Walk.{Text}
 use Rattle.clap.specs.declared.error.kind.ErrorKind.{ErrorKind}

@@ -1,13 +1,11 @@
 -- The gates of good lines are ordered.
-use Rattle.circuit.proofs.Imports.{AreGatesOrdered, AreGoodAfter, AreGoodCircuitLines, Bool, CircuitLine, Gate}
-use Rattle.circuit.proofs.Imports.{GateKind}
-use Rattle.circuit.proofs.Imports.{CircuitLineKind, List, None, [], ap, append-nil, append_assoc, ap₂, arith}
-use Rattle.circuit.proofs.Imports.{limit_or_name_code}
-use Rattle.circuit.proofs.Imports.{cases_Bool, common_steps, cond, consume_fault, consumed, define_fault, defined}
-use Rattle.circuit.proofs.Imports.{false, flat_map-append, gate_count, gate_of_line_kind, gate_with_outs_from, gates_of}
-use Rattle.circuit.proofs.Imports.{has, input_count, is_gate, is_input, length, length-append, length-map, map, number}
-use Rattle.circuit.proofs.Imports.{range_with_len, refl, subst, sum_by-cons, sym, take, true≢false, ℕ, ◌++◌, ◌+◌, ◌<◌}
-use Rattle.circuit.proofs.Imports.{◌∙◌, ◌∷◌, ◌≡◌}
+use Rattle.circuit.proofs.Imports.{AreGatesOrdered, AreGoodAfter, AreGoodCircuitLines, Bool, CircuitLine}
+use Rattle.circuit.proofs.Imports.{CircuitLineKind, Gate, GateKind, List, None, [], ap, append-nil, append_assoc, ap₂}
+use Rattle.circuit.proofs.Imports.{arith, cases_Bool, common_steps, cond, consume_fault, consumed, define_fault}
+use Rattle.circuit.proofs.Imports.{defined, false, flat_map-append, gate_count, gate_of_line_kind, gate_with_outs_from}
+use Rattle.circuit.proofs.Imports.{gates_of, has, input_count, is_gate, is_input, length, length-append, length-map}
+use Rattle.circuit.proofs.Imports.{limit_or_name_code, map, number, range_with_len, refl, subst, sum_by-cons, sym, take}
+use Rattle.circuit.proofs.Imports.{true≢false, ℕ, ◌++◌, ◌+◌, ◌<◌, ◌∙◌, ◌∷◌, ◌≡◌}
 use Rattle.lemmas.proofs.Common.{count_by, sum_by-append}
 use Rattle.circuit.specs.Rules.{largest_limit_code, name_fault}
 use Rattle.circuit.specs.Bridge.{IsGoodAfter}
@@ -84,8 +82,7 @@ ordered_line names before rest (GateLine k) ins outs good later e f =
     ap (λ (names : List (List ℕ)). map (number names) ins) e
     ∙ numbers_left (defined before) (outs ++ defined rest) ins have in
     grind (arith, common_steps, numbers_below, length-map, numbers_new, length-append)
-ordered_line names before rest _ ins outs good later e f =
-    grind (arith, common_steps, length-append)
+ordered_line names before rest _ ins outs good later e f = grind (arith, common_steps, length-append)
 
 not_input : (r : CircuitLine) (rest : List CircuitLine) → input_count (r ∷ rest) ≡ 0 →
     (is_input r.kind ≡ false) × (input_count rest ≡ 0)
@@ -109,13 +106,6 @@ record Far (names : List (List ℕ)) (before : List CircuitLine) (rest : List Ci
   all : names ≡ defined (before ++ rest)
   no_gate : gate_count before ≡ 0
   only_inputs : length (defined before) ≡ input_count before
-
-far_next : (names : List (List ℕ)) (before rest : List CircuitLine) (kind : CircuitLineKind)
-    (ins outs : List (List ℕ)) →
-    Far names before (record { kind = kind; ins = ins; outs = outs } ∷ rest) → length outs ≡ cond (is_input kind) 1 0 →
-    is_gate kind ≡ false →
-    Far names (before ++ record { kind = kind; ins = ins; outs = outs } ∷ []) rest
-far_next names before rest kind ins outs far e f = grind (arith, common_steps, push_cons, count_append, defined_push)
 
 gate_first : (names : List (List ℕ)) (before rest : List CircuitLine) (k : GateKind) (ins outs : List (List ℕ)) →
     AreGoodAfter before (record { kind = GateLine k; ins = ins; outs = outs } ∷ rest) →
@@ -147,11 +137,10 @@ ordered_rest : (names : List (List ℕ)) (before rest : List CircuitLine) (kind 
     (gates_of names (record { kind = kind; ins = ins; outs = outs } ∷ rest))
 unfolding AreGoodAfter
 ordered_rest names before rest (GateLine k) ins outs good far later = gate_first names before rest k ins outs good far
-ordered_rest names before rest _ ins outs good far later = grind (arith, common_steps, push_cons, far_next)
+ordered_rest names before rest _ ins outs good far later = grind (arith, common_steps, push_cons)
 
 ordered_lines : (names : List (List ℕ)) (before rest : List CircuitLine) → AreGoodAfter before rest →
-    Far names before rest →
-    AreGatesOrdered (input_count (before ++ rest)) (gates_of names rest)
+    Far names before rest → AreGatesOrdered (input_count (before ++ rest)) (gates_of names rest)
 unfolding AreGatesOrdered
 ordered_lines names before [] good far = tt
 ordered_lines names before (r ∷ rest) good far =
@@ -163,8 +152,7 @@ gates_are_ordered entries good =
 
 -- ---- one more line
 pub good_push : (before rest : List CircuitLine) (r : CircuitLine) → AreGoodAfter before rest →
-    IsGoodAfter (before ++ rest) r →
-    AreGoodAfter before (rest ++ r ∷ [])
+    IsGoodAfter (before ++ rest) r → AreGoodAfter before (rest ++ r ∷ [])
 unfolding AreGoodAfter
 good_push before [] r good next = (subst (λ (l : List CircuitLine). IsGoodAfter l r) (append-nil before) next, tt)
 good_push before (a ∷ rest) r good next = (
@@ -222,8 +210,7 @@ line_added entries numbers (GateLine k) ins outs good same =
 line_added entries numbers _ ins outs good same = refl
 
 pub gates_push : (entries : List CircuitLine) (r : CircuitLine) (numbers : List ℕ) → AreGoodCircuitLines entries →
-    IsGoodAfter entries r →
-    take (length r.ins) numbers ≡ map (number (defined entries)) r.ins →
+    IsGoodAfter entries r → take (length r.ins) numbers ≡ map (number (defined entries)) r.ins →
     gates_of (defined (entries ++ r ∷ [])) (entries ++ r ∷ [])
     ≡ gates_of (defined entries) entries ++ gate_with_outs_from r.kind numbers (length (defined entries))
 gates_push entries r numbers good next same =

@@ -1,11 +1,9 @@
 -- A draft with one more line.
 use Rattle.circuit.proofs.Imports.{Bool, CircuitLine, HasNameCountOfKind, IsNoInputAfterGate, List, None, Some, []}
-use Rattle.circuit.proofs.Imports.{limit_or_name_code}
 use Rattle.circuit.proofs.Imports.{arith, bytes_eq, common_steps, cond, consume_fault, consumed, define_fault, defined}
 use Rattle.circuit.proofs.Imports.{exceeds_largest_limit, false, gate_count, gate_of, gate_with_outs_from, get_or, has}
-use Rattle.circuit.proofs.Imports.{is_gate}
-use Rattle.circuit.proofs.Imports.{length, map, number, position, take, true, with_marks_set, ℕ, ◌++◌, ◌+◌, ◌∷◌, ◌≡◌}
-use Rattle.circuit.proofs.Imports.{◌≤◌}
+use Rattle.circuit.proofs.Imports.{is_gate, length, limit_or_name_code, map, number, position, take, true}
+use Rattle.circuit.proofs.Imports.{with_marks_set, ℕ, ◌++◌, ◌+◌, ◌∷◌, ◌≡◌, ◌≤◌}
 use Rattle.lemmas.proofs.Common.{◌&&◌, nat_le, leb-false, ltb-false, or_parts}
 use Rattle.circuit.specs.declared.draft.Draft.TheInside.{Inside}
 use Rattle.circuit.specs.DraftView.{AreDraftFields}

@@ -1,12 +1,10 @@
 -- A line that is read has as many names as its kind.
 use Rattle.circuit.proofs.Imports.{CircuitLine, CircuitLineKind, HasNameCountOfKind, Header, Input, Item, Line, List}
-use Rattle.circuit.proofs.Imports.{None, Some}
-use Rattle.circuit.proofs.Imports.{[], ap}
-use Rattle.circuit.proofs.Imports.{arith, chosen, codes, common_steps, cond, cond_some, defines, entry, eqb, form_of}
-use Rattle.circuit.proofs.Imports.{gate_entry, gate_kind, gate_line_of_kind, if_one_word, inl, inr, is_gate, is_input}
-use Rattle.circuit.proofs.Imports.{is_word_at, length, names_at, option_and_then_some, passed, rank_of, refl, same_Some}
-use Rattle.circuit.proofs.Imports.{subst, suc, sym, true, uses, words_before_names, zero, ℕ, ◌+◌, ◌>>=◌, ◌∙◌, ◌∷◌, ◌≡◌}
-use Rattle.circuit.proofs.Imports.{◌≤◌}
+use Rattle.circuit.proofs.Imports.{None, Some, [], ap, arith, chosen, codes, common_steps, cond, cond_some, defines}
+use Rattle.circuit.proofs.Imports.{entry, eqb, form_of, gate_entry, gate_kind, gate_line_of_kind, if_one_word, inl, inr}
+use Rattle.circuit.proofs.Imports.{is_gate, is_input, is_word_at, length, names_at, option_and_then_some, passed}
+use Rattle.circuit.proofs.Imports.{rank_of, refl, same_Some, subst, suc, sym, true, uses, words_before_names, zero, ℕ}
+use Rattle.circuit.proofs.Imports.{◌+◌, ◌>>=◌, ◌∙◌, ◌∷◌, ◌≡◌, ◌≤◌}
 use Rattle.section_text.specs.Words.{name_at}
 use Rattle.circuit.specs.declared.circuit_line.CircuitLineKind.TheVariants.{Gate}
 

@@ -16,17 +16,13 @@ gate_of kind (Some names) = Some (entry (Gate kind) names.0 names.1)
 abbrev sides : Bool → Bool → Option (List (List ℕ)) → Option (List (List ℕ)) → Option Sides
 sides a b x y = if a then (if b then (x >>= λ ins. y >>= λ outs. Some (ins, outs)) else None) else None
 
-by_parts : (kind : GateKind) (a b : Bool) (x y : Option (List (List ℕ))) → gate_of kind (sides a b x y)
-    ≡ (if a then (if b then (x >>= λ ins. y >>= λ outs. Some (entry (Gate kind) ins outs)) else None) else None)
-by_parts kind a b x y = grind (arith, common_steps)
-
 module _ (ws : List (List ℕ)) (kind : GateKind) where
   gate_by_names : gate_of kind (names_beside_arrow ws (words_before_names kind) (uses kind) (defines kind))
       ≡ (if length ws == words_before_names kind + uses kind + 1 + defines kind then
       (if is_word_at ws (words_before_names kind + uses kind) (codes "->") then gate_line_of_kind ws kind else None)
       else None)
   unfolding names_beside_arrow gate_line_of_kind
-  gate_by_names = grind (arith, common_steps, by_parts)
+  gate_by_names = grind (arith, common_steps)
 
   -- the line of a gate, whose words before its names and whose numbers of names are those of its kind
   pub gate_entry_is : (before ins outs : ℕ) → before ≡ words_before_names kind → ins ≡ uses kind → outs ≡ defines kind →

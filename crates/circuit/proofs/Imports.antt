@@ -1,8 +1,7 @@
 -- The names from outside this folder that two or more proofs of this crate use, in one file to import them from.
 pub use Rattle.circuit.specs.Bridge.{AreGoodCircuitLines, AreWireValues, HasNameCountOfKind, IsNoInputAfterGate}
-pub use Rattle.circuit.specs.Bridge.{IsValuesFault}
-pub use Rattle.circuit.specs.Bridge.{as_values, gate_of_line_kind, gates_of, input_count, input_names, is_input}
-pub use Rattle.circuit.specs.Bridge.{netlist_of}
+pub use Rattle.circuit.specs.Bridge.{IsValuesFault, as_values, gate_of_line_kind, gates_of, input_count, input_names}
+pub use Rattle.circuit.specs.Bridge.{is_input, netlist_of}
 unfoldable pub use Rattle.circuit.specs.Bridge.{AreGoodAfter}
 pub use Rattle.circuit.specs.Entries.{defined, entry, rank_of}
 pub use Rattle.circuit.specs.Evaluate.{EvaluatesUpTo, IsGateEvaluationError}

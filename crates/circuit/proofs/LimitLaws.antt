@@ -1,17 +1,11 @@
 -- The first limits are those of old, and the second ones let in more.
-use Rattle.circuit.proofs.Imports.{Bool, None, Option, RefusalCode, arith, common_steps, false, limit_or_name_code}
+use Rattle.circuit.proofs.Imports.{Bool, None, Option, RefusalCode, arith, common_steps, limit_or_name_code}
 use Rattle.circuit.proofs.Imports.{or_else, true, ℕ, ◌≡◌}
-use Rattle.lemmas.proofs.Common.{false≢true, nat_le, nat_lt, ◌&&◌, ◌||◌}
+use Rattle.lemmas.proofs.Common.{nat_le, nat_lt, ◌&&◌, ◌||◌}
 use Rattle.section_text.specs.Codes.{code_if}
 use Rattle.section_text.specs.declared.code.RefusalCode.TheVariants.{PastLimit}
 use Rattle.circuit.specs.Laws.{FirstLimitsAreUnchanged, SecondLimitsAreWider}
 use Rattle.section_text.proofs.Codes.{no_code_second}
-
--- the code of two tests in a row, of which the first fails if the second does
-nested : (d a b : Bool) (rest : Option RefusalCode) → (b ≡ true → a ≡ true) →
-    or_else (code_if a PastLimit) (or_else (code_if (d || b) PastLimit) rest)
-    ≡ or_else (code_if (d || a) PastLimit) rest
-nested d a b rest h1 = grind (arith, common_steps, false≢true)
 
 -- what is past the second limits is past the first ones
 past_first : (g : Bool) (x y : ℕ) → (nat_lt 65000 x || (g && nat_le 16384 y)) ≡ true →
@@ -20,7 +14,7 @@ past_first g x y e = grind (arith, common_steps)
 
 pub first_limits_are_unchanged : FirstLimitsAreUnchanged
 unfolding limit_or_name_code
-first_limits_are_unchanged entries r = grind (arith, common_steps, nested, past_first)
+first_limits_are_unchanged entries r = grind (arith, common_steps, past_first)
 
 -- a test that is made twice
 twice : (d b : Bool) (rest : Option RefusalCode) → or_else (code_if (d || b) PastLimit) rest ≡ None →

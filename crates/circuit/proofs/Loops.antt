@@ -33,9 +33,8 @@ evaluate_more vs before after (f ∷ gs) g e h =
     (λ r later. evaluate_more (vs ++ r) before after gs g later h)
 
 pub values_more : (given before after : List Bool) (gs : List GateWires) (k : ℕ) (g : GateWires) → k < length gs →
-    g ≡ get_or gs k g →
-    option_map (λ (r : List Bool). before ++ r) (row (gate_of g).kind (map (as_values before) (gate_of g).ins))
-    ≡ Some after →
+    g ≡ get_or gs k g → option_map (λ (r : List Bool). before ++ r)
+    (row (gate_of g).kind (map (as_values before) (gate_of g).ins)) ≡ Some after →
     evaluate given (map gate_of (take k gs)) ≡ Some before → evaluate given (map gate_of (take (k + 1) gs)) ≡ Some after
 values_more given before after gs k g h is here so_far =
     ap (λ (l : List GateWires). evaluate given (map gate_of l))
@@ -50,10 +49,8 @@ map_take (g ∷ gs) (suc k) = ap (λ (l : List Gate). gate_of g ∷ l) (map_take
 
 -- a gate without a row
 pub values_stop : (given vs new : List Bool) (gs : List GateWires) (k : ℕ) (g : GateWires) → k < length gs →
-    g ≡ get_or gs k g → new ≡ vs →
-    row (gate_of g).kind (map (as_values vs) (gate_of g).ins) ≡ None →
-    evaluate given (map gate_of (take k gs)) ≡ Some vs →
-    EvaluatesUpTo given (map gate_of gs) k new
+    g ≡ get_or gs k g → new ≡ vs → row (gate_of g).kind (map (as_values vs) (gate_of g).ins) ≡ None →
+    evaluate given (map gate_of (take k gs)) ≡ Some vs → EvaluatesUpTo given (map gate_of gs) k new
 values_stop given vs new gs k g h is same none so_far =
     subst (EvaluatesUpTo given (map gate_of gs) k) (sym same) (record {
       gate = gate_of g;

@@ -1,12 +1,11 @@
 -- The names of wires.
-use Rattle.circuit.proofs.Imports.{AreGoodAfter, AreGoodCircuitLines, CircuitLine, CircuitLineKind, Gate}
-use Rattle.circuit.proofs.Imports.{HasNameCountOfKind}
-use Rattle.circuit.proofs.Imports.{List, None}
-use Rattle.circuit.proofs.Imports.{Some, [], append-nil, append_assoc, arith, bytes_eq, cases_Bool, cases_lt}
-use Rattle.circuit.proofs.Imports.{common_steps, cond, define_fault, defined, false, gate_count, gate_of_line_kind}
-use Rattle.circuit.proofs.Imports.{gates_of, has, inl, input_count, input_names, inr, is_gate, is_input, le-ltb, length}
-use Rattle.circuit.proofs.Imports.{list_any-append, number, position, refl, slice_get, subst, suc, sum_by-cons, sym}
-use Rattle.circuit.proofs.Imports.{take, true, wires_after, zero, ℕ, ◌++◌, ◌+◌, ◌<◌, ◌∙◌, ◌∷◌, ◌≡◌, ◌≤◌}
+use Rattle.circuit.proofs.Imports.{AreGoodAfter, AreGoodCircuitLines, CircuitLine, CircuitLineKind}
+use Rattle.circuit.proofs.Imports.{HasNameCountOfKind, List, None, Some, [], append-nil, append_assoc, arith, bytes_eq}
+use Rattle.circuit.proofs.Imports.{cases_Bool, cases_lt, common_steps, cond, define_fault, defined, false, gate_count}
+use Rattle.circuit.proofs.Imports.{gate_of_line_kind, gates_of, has, inl, input_count, input_names, inr}
+use Rattle.circuit.proofs.Imports.{is_input, le-ltb, length, list_any-append, number, position, refl, slice_get, subst}
+use Rattle.circuit.proofs.Imports.{suc, sum_by-cons, sym, take, true, wires_after, zero, ℕ, ◌++◌, ◌+◌, ◌<◌, ◌∙◌, ◌∷◌}
+use Rattle.circuit.proofs.Imports.{◌≡◌, ◌≤◌}
 use Rattle.lemmas.proofs.Common.{or-true}
 use Rattle.circuit.specs.Meaning.{place_of}
 use Rattle.circuit.specs.Laws.{WiresAreNamed, WireNamesAreDistinct, InputsAreFirst}
@@ -60,15 +59,10 @@ wires_are_named entries good = grind (arith, common_steps, wires_more)
 
 -- ---- each gate's line has a gate
 
-counted_line : (names : List (List ℕ)) (kind : CircuitLineKind) (ins outs : List (List ℕ)) (gates : List Gate) →
-    length (gate_of_line_kind names ins outs kind ++ gates) ≡ cond (is_gate kind) 1 0 + length gates
-counted_line names Input ins outs gates = omega arith
-counted_line names _ ins outs gates = omega arith
-
 pub gates_counted : (names : List (List ℕ)) (entries : List CircuitLine) →
     length (gates_of names entries) ≡ gate_count entries
 gates_counted names [] = refl
-gates_counted names (r ∷ entries) = grind (arith, common_steps, gates_counted names entries, sum_by-cons, counted_line)
+gates_counted names (r ∷ entries) = grind (arith, common_steps, gates_counted names entries, sum_by-cons)
 
 -- ---- the inputs are the first wires
 
@@ -117,8 +111,7 @@ own_push d n own new w m at = elim (cases_lt w (length d)) [
   | inl small ↦
       let o = own w m (sym (slice_left d (n ∷ []) w small) ∙ at) in
       (number_left d (n ∷ []) m o.1 ∙ o.0, has_left d (n ∷ []) m o.1)
-  | inr large ↦
-      grind (arith, common_steps, slice_last, number_new, bytes_same, list_any-append, or-true)
+  | inr large ↦ grind (arith, common_steps, slice_last, number_new, bytes_same, list_any-append, or-true)
 ]
 
 own_all : (d ns : List (List ℕ)) → AreOwn d → define_fault d ns ≡ None → AreOwn (d ++ ns)

@@ -1,7 +1,6 @@
 -- The first test that a line fails, from the tests of its order and of its names.
 use Rattle.circuit.proofs.Imports.{CircuitLine, List, Option, RefusalCode, [], le-ltb, limit_or_name_code, or_else}
-use Rattle.circuit.proofs.Imports.{rank_of}
-use Rattle.circuit.proofs.Imports.{refl, ◌++◌, ◌∷◌, ◌≡◌, ◌≤◌}
+use Rattle.circuit.proofs.Imports.{rank_of, refl, ◌++◌, ◌∷◌, ◌≡◌, ◌≤◌}
 use Rattle.circuit.specs.Rules.{order_fault, last_rank}
 
 pub in_order : (entries : List CircuitLine) (r : CircuitLine) (code : Option RefusalCode) →

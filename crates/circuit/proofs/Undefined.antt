@@ -32,8 +32,7 @@ total vs r d e = sym (length-append vs r ∙ ap (λ n. length vs + n) e)
 
 -- no gate: all gates were evaluated
 pub all_evaluated : (vs : List Bool) (gs : List Gate) → AreGatesOrdered (length vs) gs →
-    first_undefined_gate vs gs ≡ None →
-    (out : List Bool) × (evaluate vs gs ≡ Some out)
+    first_undefined_gate vs gs ≡ None → (out : List Bool) × (evaluate vs gs ≡ Some out)
 unfolding evaluate first_undefined_gate AreGatesOrdered
 all_evaluated vs [] ordered e = (vs, refl)
 all_evaluated vs (g ∷ gs) ordered e =
@@ -48,14 +47,12 @@ all_evaluated vs (g ∷ gs) ordered e =
 
 -- some gate: those before it were evaluated, and it has no row
 pub up_to : (vs : List Bool) (gs : List Gate) (k : ℕ) → AreGatesOrdered (length vs) gs →
-    first_undefined_gate vs gs ≡ Some k →
-    (before : List Bool) × EvaluatesUpTo vs gs k before
+    first_undefined_gate vs gs ≡ Some k → (before : List Bool) × EvaluatesUpTo vs gs k before
 unfolding evaluate first_undefined_gate AreGatesOrdered
 up_to vs [] k ordered e = absurd (clash k e)
 up_to vs (g ∷ gs) k ordered e =
     elim (row_cases g.kind (map (as_values vs) g.ins) (length-map g.ins (as_values vs) ∙ ordered.1)) [
-      | inl none ↦
-          grind (arith, common_steps, same_Some)
+      | inl none ↦ grind (arith, common_steps, same_Some)
       | inr s ↦
           let later = this_or_later_undefined-cases _ k
           (sym (ap (this_or_later_undefined (λ r. first_undefined_gate (vs ++ r) gs)) s.1) ∙ e) in
@@ -89,8 +86,7 @@ next vs g gs v ordered agree here =
 
 -- where they do up to a gate that has none, that is the first one
 pub undefined_from : (vs : List Bool) (gs : List Gate) (v : Valuation) (k : ℕ) (g : Gate) →
-    AreGatesOrdered (length vs) gs →
-    ((w : ℕ) → w < length vs → v w ≡ as_values vs w) → FirstGatesFollowRows k gs v →
+    AreGatesOrdered (length vs) gs → ((w : ℕ) → w < length vs → v w ≡ as_values vs w) → FirstGatesFollowRows k gs v →
     slice_get gs k ≡ Some g → row g.kind (map v g.ins) ≡ None → first_undefined_gate vs gs ≡ Some k
 unfolding first_undefined_gate AreGatesOrdered
 undefined_from vs [] v k g ordered agree rows at none = absurd (clash g at)
@@ -161,8 +157,7 @@ slice_get_take (g ∷ gs) (suc k) zero h = refl
 slice_get_take (g ∷ gs) (suc k) (suc j) h = slice_get_take gs k j (omega arith)
 
 pub row_at : (v : Valuation) (gates : List Gate) (k : ℕ) (g : Gate) → All (FollowsRow v) gates →
-    slice_get gates k ≡ Some g →
-    FollowsRow v g
+    slice_get gates k ≡ Some g → FollowsRow v g
 row_at v gates k g all e = subst (FollowsRow v) (get_or_from_slice_get gates k g g e)
     (all k g (slice_get_within gates k g e))
 
@@ -170,8 +165,7 @@ pub stopped : ValuesStopAtUndefinedGate
 stopped n a k vs s = grind (arith, common_steps, row_at, slice_get_take)
 
 pub stops : (n : Netlist) (a : Valuation) (given : List Bool) (k : ℕ) (vs : List Bool) →
-    AreGatesOrdered n.given n.gates →
-    length given ≡ n.given → ((i : ℕ) → i < n.given → as_values given i ≡ a i) →
+    AreGatesOrdered n.given n.gates → length given ≡ n.given → ((i : ℕ) → i < n.given → as_values given i ≡ a i) →
     EvaluatesUpTo given n.gates k vs → ValuesStopAt n a k vs
 stops n a given k vs ordered long same e = record {
   gate = e.gate;
@@ -181,8 +175,7 @@ stops n a given k vs ordered long same e = record {
 }
 
 pub fault_stops : (n : Netlist) (a : Valuation) (given : List Bool) (e : ValuesFault) →
-    AreGatesOrdered n.given n.gates →
-    length given ≡ n.given → ((i : ℕ) → i < n.given → as_values given i ≡ a i) →
+    AreGatesOrdered n.given n.gates → length given ≡ n.given → ((i : ℕ) → i < n.given → as_values given i ≡ a i) →
     IsGateEvaluationError given n.gates e → IsValuesFault n a e
 fault_stops n a given e h1 h2 h3 h4 = grind (arith, common_steps, stops)
 

@@ -1,13 +1,12 @@
 -- Gates that are ordered have at most one valuation, and what `evaluate` finds is one.
-use Rattle.circuit.proofs.Imports.{All, All-head, All-tail, AreGatesOrdered, AreWireValues, Bool, Cswap, Delay, Fredkin}
-use Rattle.circuit.proofs.Imports.{Gate}
-use Rattle.circuit.proofs.Imports.{FollowsRow, GateKind, Interact, List, Netlist, None, Option, Satisfies, Some, Source}
-use Rattle.circuit.proofs.Imports.{Switch, Uninteract, Unswitch, Valuation, [], ap, ap₂, arith, as_values, cases_lt}
-use Rattle.circuit.proofs.Imports.{common_steps, defines, evaluate, false, get_or, get_or-append-add}
-use Rattle.circuit.proofs.Imports.{get_or-map-range_with_len, get_or_append_left, inl, inr, is_inverse, length}
-use Rattle.circuit.proofs.Imports.{length-append, length-map, map, option_and_then, range_with_len, refl, row, subst}
-use Rattle.circuit.proofs.Imports.{suc, sym, true, true≢false, uses, wires, wires_after, zero, ℕ, ◌++◌, ◌+◌, ◌-◌, ◌<◌}
-use Rattle.circuit.proofs.Imports.{◌∙◌, ◌∷◌, ◌≡◌, ◌≤◌}
+use Rattle.circuit.proofs.Imports.{All, All-head, All-tail, AreGatesOrdered, AreWireValues, Bool, Cswap, Delay}
+use Rattle.circuit.proofs.Imports.{FollowsRow, Fredkin, Gate, GateKind, Interact, List, Netlist, None, Option}
+use Rattle.circuit.proofs.Imports.{Satisfies, Some, Source, Switch, Uninteract, Unswitch, Valuation, [], ap, ap₂, arith}
+use Rattle.circuit.proofs.Imports.{as_values, cases_lt, common_steps, defines, evaluate, false, get_or}
+use Rattle.circuit.proofs.Imports.{get_or-append-add, get_or-map-range_with_len, get_or_append_left, inl, inr}
+use Rattle.circuit.proofs.Imports.{is_inverse, length, length-append, length-map, map, option_and_then, range_with_len}
+use Rattle.circuit.proofs.Imports.{refl, row, subst, suc, sym, true, true≢false, uses, wires, wires_after, zero, ℕ}
+use Rattle.circuit.proofs.Imports.{◌++◌, ◌+◌, ◌-◌, ◌<◌, ◌∙◌, ◌∷◌, ◌≡◌, ◌≤◌}
 use Rattle.lemmas.proofs.Common.{◌⊎◌}
 use Rattle.circuit.specs.Laws.{HasAtMostOneValuation}
 use Rattle.circuit.proofs.Places.{all_cons}
@@ -138,8 +137,7 @@ found_from vs (g ∷ gs) out ordered e =
 
 -- ---- only one
 unique_after : (n : ℕ) (gs : List Gate) (v v' : Valuation) → AreGatesOrdered n gs → All (FollowsRow v) gs →
-    All (FollowsRow v') gs →
-    ((w : ℕ) → w < n → v w ≡ v' w) → (w : ℕ) → w < wires_after n gs → v w ≡ v' w
+    All (FollowsRow v') gs → ((w : ℕ) → w < n → v w ≡ v' w) → (w : ℕ) → w < wires_after n gs → v w ≡ v' w
 unfolding AreGatesOrdered wires_after
 unique_after n [] v v' ordered rows rows' same w h = same w h
 unique_after n (g ∷ gs) v v' ordered rows rows' same w h =

@@ -26,9 +26,8 @@ value_lines_more (m ∷ ns) (b ∷ vs) (suc k) n d h l is =
     one_more k = omega arith
 
 pub printed_more : (out before new : List ℕ) (ns : List (List ℕ)) (vs : List Bool) (k : ℕ) (n : List ℕ) (d : Bool) →
-    k < length ns → k < length vs → n ≡ get_or ns k n →
-    before ≡ out ++ value_lines (take k ns) (take k vs) → new ≡ before ++ value_line n (get_or vs k d) →
-    new ≡ out ++ value_lines (take (k + 1) ns) (take (k + 1) vs)
+    k < length ns → k < length vs → n ≡ get_or ns k n → before ≡ out ++ value_lines (take k ns) (take k vs) →
+    new ≡ before ++ value_line n (get_or vs k d) → new ≡ out ++ value_lines (take (k + 1) ns) (take (k + 1) vs)
 printed_more out before new ns vs k n d h l is so_far here = grind (arith, common_steps, value_lines_more)
 
 pub has_one_valuation : NoninverseHasOneValuation

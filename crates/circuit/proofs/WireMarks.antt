@@ -18,8 +18,7 @@ other_name n m e = elim (cases_Bool (bytes_eq m n)) [
   | inr h ↦ h
 ]
 
-has_other : (m n : List ℕ) (ms : List (List ℕ)) → has (m ∷ ms) n ≡ false →
-    (bytes_eq n m ≡ false) × (has ms n ≡ false)
+has_other : (m n : List ℕ) (ms : List (List ℕ)) → has (m ∷ ms) n ≡ false → (bytes_eq n m ≡ false) × (has ms n ≡ false)
 has_other m n ms h = grind (arith, common_steps, cases_Bool, has_front, true≢false)
 
 has_last : (c : List (List ℕ)) (m n : List ℕ) → bytes_eq n m ≡ false → has (c ++ m ∷ []) n ≡ has c n
@@ -77,9 +76,6 @@ others c (m ∷ d) n h =
     let new = has_other m n d h in
     ap₂ (λ (b : Bool) bs. b ∷ bs) (sym (has_last c n m (other_name n m new.0))) (others c d n new.1)
 
-has_new : (c : List (List ℕ)) (n : List ℕ) → has (c ++ n ∷ []) n ≡ true
-has_new c n = grind (arith, common_steps, list_any-append, bytes_same)
-
 mark_one : (c d : List (List ℕ)) (n : List ℕ) → Distinct d → has d n ≡ true →
     slice_set (map (has c) d) (number d n) true ≡ map (has (c ++ n ∷ [])) d
 unfolding number
@@ -87,7 +83,7 @@ mark_one c [] n is h = absurd (true≢false (sym h))
 mark_one c (m ∷ d) n is h = elim (cases_Bool (bytes_eq n m)) [
   | inl e ↦
       let same = same_bytes n m e in
-      rw e (grind (arith, common_steps, has_new, others))
+      rw e (grind (arith, common_steps, others))
   | inr e ↦
       let next : number d n + 1 ≡ suc (number d n) = omega arith in
       rw e (ap (λ k. slice_set (map (has c) (m ∷ d)) k true) next
@@ -220,9 +216,8 @@ pub consumed_next : (d c ns : List (List ℕ)) (p : ℕ) (n : List ℕ) (w : ℕ
     consume_fault d (c ++ take (p + 1) ns) (drop (p + 1) ns) ≡ consume_fault d c ns
 consumed_next d c ns p n w ws next free new = grind (arith, common_steps, earlier, take_more, front, list_any-append)
 
-pub wires_next : (d c ns : List (List ℕ)) (p : ℕ) (n : List ℕ) (w : ℕ) (ins : List ℕ) →
-    Next d c ns p n w (take p ins) → p < length ins →
-    take (p + 1) (slice_set ins p w) ≡ map (number d) (take (p + 1) ns)
+pub wires_next : (d c ns : List (List ℕ)) (p : ℕ) (n : List ℕ) (w : ℕ) (ins : List ℕ) → Next d c ns p n w (take p ins) →
+    p < length ins → take (p + 1) (slice_set ins p w) ≡ map (number d) (take (p + 1) ns)
 wires_next d c ns p n w ins next short = grind (arith, common_steps, take_more_set, map-append, take_more)
 
 -- each wire that is consumed has a mark

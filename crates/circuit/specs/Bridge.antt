@@ -4,8 +4,7 @@ use Rattle.std.specs.Prelude.{Some, ⊤, slice_get, slice_index_or}
 use Rattle.std.specs.List.{flat_map, count_by}
 use Rattle.circuit.specs.Entries.{defined}
 use Rattle.circuit.specs.declared.circuit_line.CircuitLineKind.{CircuitLineKind}
-use Rattle.circuit.specs.declared.circuit_line.CircuitLineKind.TheVariants.{Input, Output, Spill}
-use Rattle.circuit.specs.declared.circuit_line.CircuitLineKind.TheVariants.{Gate as GateLine}
+use Rattle.circuit.specs.declared.circuit_line.CircuitLineKind.TheVariants.{Gate as GateLine, Input, Output, Spill}
 use Rattle.circuit.specs.declared.circuit_line.CircuitLine.{CircuitLine}
 use Rattle.circuit.specs.declared.netlist.ValuesFault.{ValuesFault}
 use Rattle.circuit.specs.declared.netlist.ValuesFault.TheVariants.{OutOfDomain, Memory}

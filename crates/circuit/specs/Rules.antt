@@ -2,9 +2,8 @@
 use Rattle.std.specs.Prelude.{ℕ, ◌+◌, Bool, true, false, ◌&&◌, ◌||◌, List, [], ◌∷◌, ◌++◌, length, Option, Some, None}
 use Rattle.std.specs.Prelude.{nat_lt, nat_le, ◌==◌, if◌then◌else◌}
 use Rattle.std.specs.List.{flat_map, count_by}
-use Rattle.circuit.specs.declared.circuit_line.GateKind.TheVariants.{Source, Fredkin, Cswap, Interact, Switch, Delay}
-use Rattle.circuit.specs.declared.circuit_line.GateKind.TheVariants.{Unswitch}
-use Rattle.circuit.specs.declared.circuit_line.GateKind.TheVariants.{Uninteract}
+use Rattle.circuit.specs.declared.circuit_line.GateKind.TheVariants.{Cswap, Delay, Fredkin, Interact, Source, Switch}
+use Rattle.circuit.specs.declared.circuit_line.GateKind.TheVariants.{Uninteract, Unswitch}
 use Rattle.circuit.specs.declared.circuit_line.CircuitLineKind.{CircuitLineKind}
 use Rattle.circuit.specs.declared.circuit_line.CircuitLineKind.TheVariants.{Input, Gate, Output, Spill}
 use Rattle.circuit.specs.declared.circuit_line.CircuitLine.{CircuitLine}

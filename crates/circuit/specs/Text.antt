@@ -3,9 +3,8 @@ use Rattle.std.specs.Prelude.{ℕ, Bool, true, false, List, [], ◌∷◌, ◌++
 use Rattle.std.specs.List.{flat_map}
 use Rattle.std.specs.Fmt.{decimal}
 use Rattle.circuit.specs.declared.circuit_line.GateKind.{GateKind}
-use Rattle.circuit.specs.declared.circuit_line.GateKind.TheVariants.{Source, Fredkin, Cswap, Interact, Switch, Delay}
-use Rattle.circuit.specs.declared.circuit_line.GateKind.TheVariants.{Unswitch}
-use Rattle.circuit.specs.declared.circuit_line.GateKind.TheVariants.{Uninteract}
+use Rattle.circuit.specs.declared.circuit_line.GateKind.TheVariants.{Cswap, Delay, Fredkin, Interact, Source, Switch}
+use Rattle.circuit.specs.declared.circuit_line.GateKind.TheVariants.{Uninteract, Unswitch}
 use Rattle.circuit.specs.declared.circuit_line.CircuitLineKind.{CircuitLineKind}
 use Rattle.circuit.specs.declared.circuit_line.CircuitLineKind.TheVariants.{Input, Gate, Output, Spill}
 use Rattle.circuit.specs.declared.circuit_line.CircuitLine.{CircuitLine}

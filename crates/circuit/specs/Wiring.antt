@@ -2,8 +2,7 @@
 use Rattle.std.specs.Prelude.{ℕ, Bool, true, List, [], ◌∷◌, take, slice_set}
 use Rattle.std.specs.List.{range_with_len}
 use Rattle.circuit.specs.declared.circuit_line.CircuitLineKind.{CircuitLineKind}
-use Rattle.circuit.specs.declared.circuit_line.CircuitLineKind.TheVariants.{Input, Output, Spill}
-use Rattle.circuit.specs.declared.circuit_line.CircuitLineKind.TheVariants.{Gate as GateLine}
+use Rattle.circuit.specs.declared.circuit_line.CircuitLineKind.TheVariants.{Gate as GateLine, Input, Output, Spill}
 use Rattle.circuit.specs.declared.wiring.GateWires.{GateWires}
 use Rattle.circuit.specs.Gates.{uses, defines}
 use Rattle.circuit.specs.Meaning.{Gate}

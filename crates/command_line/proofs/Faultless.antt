@@ -31,19 +31,16 @@ module _ (s : Shape) (Good : List Row → Type 0)
   after_settling h none good = grind (arith, common_steps)
 
   after_reaction : (p : Rule → Bool) (a : Rule) (values : List Text) (h : Held) → find p s.rules ≡ Some a →
-      react_fault s.rules s.args_override_self a values h ≡ []
-      → Good h.rows → Good (reacted s.rules a values h).rows
+      react_fault s.rules s.args_override_self a values h ≡ [] → Good h.rows → Good (reacted s.rules a values h).rows
   after_reaction p a values h found none good = grind (arith, common_steps, both_none, after_settling)
 
   after_option : (p : Rule → Bool) (a : Rule) (v : Option Text) (h : Held) → find p s.rules ≡ Some a →
-      option_fault s.rules s.args_override_self a v h ≡ []
-      → Good h.rows → Good (option_met s.rules a v h).0.rows
+      option_fault s.rules s.args_override_self a v h ≡ [] → Good h.rows → Good (option_met s.rules a v h).0.rows
   after_option p a (Some v) h found none good = after_reaction p a (v ∷ []) h found none good
   after_option p a None h found none good = after_settling h none good
 
   after_long : (p : Rule → Bool) (o : Option Rule) (v : Option Text) (h : Held) → find p s.rules ≡ o →
-      long_fault s.rules s.args_override_self o v h ≡ []
-      → Good h.rows → Good (long_met s.rules o v h).0.rows
+      long_fault s.rules s.args_override_self o v h ≡ [] → Good h.rows → Good (long_met s.rules o v h).0.rows
   after_long p None v h found none good = cc
   after_long p (Some a) v h found none good = go (takes_values a) v none
     where
@@ -58,17 +55,15 @@ module _ (s : Shape) (Good : List Row → Type 0)
   -- ---- a bundle of flags
 
   after_short : (p : Rule → Bool) (o : Option Rule) (rest : Text) (h : Held) (onward : Held → Held × Outcome)
-      (below : Held → Kinds) → find p s.rules ≡ o
-      → ((g : Held) → below g ≡ [] → Good g.rows → Good (onward g).0.rows)
-      → short_fault s.rules s.args_override_self o rest h below ≡ [] → Good h.rows →
+      (below : Held → Kinds) → find p s.rules ≡ o → ((g : Held) → below g ≡ [] → Good g.rows → Good (onward g).0.rows) →
+      short_fault s.rules s.args_override_self o rest h below ≡ [] → Good h.rows →
       Good (short_met s.rules o rest h onward).0.rows
   after_short p None rest h onward below found more none good = cc
   after_short p (Some a) rest h onward below found more none good = go (takes_values a) none
     where
-      go : (b : Bool)
-          → cond b (option_fault s.rules s.args_override_self a (attached_value rest) h)
-          (or_else (react_fault s.rules s.args_override_self a [] h) (below (reacted s.rules a [] h))) ≡ []
-          → Good (cond b (option_met s.rules a (attached_value rest) h) (onward (reacted s.rules a [] h))).0.rows
+      go : (b : Bool) → cond b (option_fault s.rules s.args_override_self a (attached_value rest) h)
+          (or_else (react_fault s.rules s.args_override_self a [] h) (below (reacted s.rules a [] h))) ≡ [] →
+          Good (cond b (option_met s.rules a (attached_value rest) h) (onward (reacted s.rules a [] h))).0.rows
       go true none = after_option p a (attached_value rest) h found none good
       go false none =
           let steps = both_none (react_fault s.rules s.args_override_self a [] h) _ none in
@@ -85,11 +80,10 @@ module _ (s : Shape) (Good : List Row → Type 0)
     where
       go : (o : Option ℕ) (skip : ℕ) →
           bundle_step_fault s.rules s.args_override_self o flags skip h (flags_fault s.rules s.args_override_self k)
-          ≡ []
-          → ((rest : Text) (skip : ℕ) (so_far : Outcome) (g : Held) →
-          flags_fault s.rules s.args_override_self k rest skip g ≡ []
-          → Good g.rows → Good (bundle_met s.rules k rest skip so_far g).0.rows)
-          → Good (bundle_step s.rules o flags skip so_far h (bundle_met s.rules k)).0.rows
+          ≡ [] → ((rest : Text) (skip : ℕ) (so_far : Outcome) (g : Held) →
+          flags_fault s.rules s.args_override_self k rest skip g ≡ [] → Good g.rows →
+          Good (bundle_met s.rules k rest skip so_far g).0.rows) →
+          Good (bundle_step s.rules o flags skip so_far h (bundle_met s.rules k)).0.rows
       go None skip none onward = good
       go (Some x) zero none onward =
           let rest = drop (length (encode_utf8 x)) flags in
@@ -126,8 +120,7 @@ module _ (s : Shape) (Good : List Row → Type 0)
   after_flag_word waiting word (Some p) h none good = grind (arith, common_steps, after_outcome, after_long)
 
   after_other : (o : Option Text) (waiting : Waiting) (position : ℕ) (word : Text) (h : Held) →
-      other_fault s o word h ≡ []
-      → Good h.rows → Good (subcommand_or_other s.rules o waiting position word h).0.rows
+      other_fault s o word h ≡ [] → Good h.rows → Good (subcommand_or_other s.rules o waiting position word h).0.rows
   after_other (Some name) waiting position word h none good = good
   after_other None waiting position word h none good = grind (arith, common_steps, after_flag_word)
 

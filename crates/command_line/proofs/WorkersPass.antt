@@ -17,7 +17,7 @@ use Rattle.clap.specs.declared.builder.value_parser.ValueParser.TheVariants as v
 use Rattle.clap.specs.declared.parser.matches.ValueSource.{ValueSource}
 use Rattle.clap.specs.declared.parser.matches.ValueSource.TheVariants.{CommandLine, DefaultValue}
 use Rattle.clap.proofs.ValueTestLemmas.{accepts-Accepts}
-use Rattle.command_line.specs.CommandLine.{bbmcheck, check_app, workers_of, workers_rule, workers_text}
+use Rattle.command_line.specs.CommandLine.{bbmcheck_app, check_app, workers_of, workers_rule, workers_text}
 use Rattle.command_line.proofs.Faultless.{after_level, both_none}
 
 -- ---- searches
@@ -88,7 +88,7 @@ help = filled help_rule
 
 -- the command `check`, built
 abbrev check : Shape
-check = built_leaf (inherited (with_leaf_noted (marked_built bbmcheck.top)) check_app.top)
+check = built_leaf (inherited (with_leaf_noted (marked_built bbmcheck_app.top)) check_app.top)
 
 use_keeps : (values : List Text) (rows : List Row) → use_fault false option values rows ≡ [] → Each Passes rows →
     Each Passes (used option values rows)
@@ -163,7 +163,7 @@ PassesIfCheck s = s.name ≡ codes "check" → (words : List Text) → level_fau
 differ : (name other : Text) → bytes_eq name other ≡ false → name ≡ other → ⊥
 differ name other fails same = true≢false (sym ((bytes_eq-Decides name other).1 same) ∙ fails)
 
-commands_pass : Each PassesIfCheck (built bbmcheck).subs
+commands_pass : Each PassesIfCheck (built bbmcheck_app).subs
 commands_pass = (
   λ same. rows_pass,
   (
@@ -178,33 +178,36 @@ commands_pass = (
   ),
 )
 
-entered_passes : (stop : Option (Text × List Text)) (r : Text × List Row) → entered (built bbmcheck) stop ≡ Some r →
-    entered_fault (built bbmcheck) stop ≡ []
+entered_passes : (stop : Option (Text × List Text)) (r : Text × List Row) → entered (built bbmcheck_app) stop ≡ Some r →
+    entered_fault (built bbmcheck_app) stop ≡ []
     → r.0 ≡ codes "check" → Each Passes r.1
 entered_passes None r is none same = cc
-entered_passes (Some p) r is none same = go (find (λ s. answers_to p.0 (label_of s)) (built bbmcheck).subs) refl is none
+entered_passes (Some p) r is none same =
+    go (find (λ s. answers_to p.0 (label_of s)) (built bbmcheck_app).subs) refl is none
   where
-    go : (o : Option Shape) → find (λ s. answers_to p.0 (label_of s)) (built bbmcheck).subs ≡ o →
+    go : (o : Option Shape) → find (λ s. answers_to p.0 (label_of s)) (built bbmcheck_app).subs ≡ o →
         option_map (λ s. rows_at s p.1) o ≡ Some r
         → option_map_or (λ s. level_fault s [] nothing_held p.1 false []) o [] ≡ [] → Each Passes r.1
     go None found is none = cc
     go (Some s) found is none =
         let rows : rows_at s p.1 ≡ r = cc in
         let pass = (found_has PassesIfCheck (λ s. answers_to p.0 (label_of s))
-        (built bbmcheck).subs s commands_pass found).0 in
+        (built bbmcheck_app).subs s commands_pass found).0 in
         subst (λ rs. Each Passes rs) (ap (λ (q : Text × List Row). q.1) rows)
         (pass (ap (λ (q : Text × List Row). q.0) rows ∙ same) p.1 none)
 
 -- where the walk over the words meets a command, and the words after it
 abbrev met_in : List Text → Option (Text × List Text)
-met_in words = stop_after (built bbmcheck).top.rules (names_of (built bbmcheck)) (argument_words bbmcheck words)
+met_in words = stop_after (built bbmcheck_app).top.rules (names_of (built bbmcheck_app))
+    (argument_words bbmcheck_app words)
 
-pub workers_pass : (words : List Text) (t : Text) → fault_of bbmcheck words ≡ [] → workers_text words ≡ Some t →
+pub workers_pass : (words : List Text) (t : Text) → fault_of bbmcheck_app words ≡ [] → workers_text words ≡ Some t →
     IsUnsignedIn 1 64 t
 workers_pass words t none is =
-    let later = both_none (walk_fault (built bbmcheck).top (names_of (built bbmcheck)) (walk_from nothing_held)
-    (argument_words bbmcheck words)) _ none in
-    go (subcommand_of bbmcheck words) refl is (both_none (entered_fault (built bbmcheck) (met_in words)) _ later.1).0
+    let later = both_none (walk_fault (built bbmcheck_app).top (names_of (built bbmcheck_app)) (walk_from nothing_held)
+    (argument_words bbmcheck_app words)) _ none in
+    go (subcommand_of bbmcheck_app words) refl is
+    (both_none (entered_fault (built bbmcheck_app) (met_in words)) _ later.1).0
   where
     named : (b : Bool) (r : Text × List Row) → bytes_eq r.0 (codes "check") ≡ b →
         cond b (one_of (codes "workers") r.1) None ≡ Some t
@@ -212,9 +215,8 @@ workers_pass words t none is =
     named true r same is each = text_passes r.1 t (each ((bytes_eq-Decides r.0 (codes "check")).0 same)) is
     named false r other is each = cc
 
-    go : (o : Option (Text × List Row)) → subcommand_of bbmcheck words ≡ o
-        → option_and_then workers_of o ≡ Some t
-        → entered_fault (built bbmcheck) (met_in words) ≡ [] → IsUnsignedIn 1 64 t
+    go : (o : Option (Text × List Row)) → subcommand_of bbmcheck_app words ≡ o → option_and_then workers_of o ≡ Some t →
+        entered_fault (built bbmcheck_app) (met_in words) ≡ [] → IsUnsignedIn 1 64 t
     go None found is none = cc
     go (Some r) found is none = named (bytes_eq r.0 (codes "check")) r refl is
         (λ same. entered_passes (met_in words) r found none same)

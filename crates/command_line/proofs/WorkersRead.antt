@@ -6,11 +6,11 @@ use Rattle.clap.specs.Words.{IsUnsignedIn, ReadsOne, Row, Text, fault_of, one_of
 use Rattle.clap.specs.Words.{subcommand_rows_of}
 use Rattle.clap.specs.declared.parser.matches.ArgMatches.{ArgMatches}
 use Rattle.clap.specs.declared.parser.matches.ArgMatches.TheViews.{out-ArgMatches}
-use Rattle.command_line.specs.CommandLine.{bbmcheck, number_in, workers_asked, workers_text}
+use Rattle.command_line.specs.CommandLine.{bbmcheck_app, number_in, workers_asked, workers_text}
 use Rattle.command_line.proofs.WorkersPass.{workers_pass}
 
 -- the number that the words ask for is in the option's range
-pub asked_in_range : (words : List Text) → fault_of bbmcheck words ≡ [] →
+pub asked_in_range : (words : List Text) → fault_of bbmcheck_app words ≡ [] →
     (1 ≤ workers_asked words) × (workers_asked words ≤ 64)
 asked_in_range words none = go (workers_text words) refl
   where
@@ -30,10 +30,9 @@ reads_digits E gives only t pass None read = absurd (only t (Err read.0) read.1 
 
 -- and so what is read of the option's text is the number that the words ask for
 pub number_read : (E : Type 0) (gives : Text → Result ℕ E → Type 0) →
-    ((u : Text) (x : Result ℕ E) → gives u x → ParsesUnsigned 64 10 u x)
-    → (words : List Text) → fault_of bbmcheck words ≡ [] → (text : Option Text) → workers_text words ≡ text
-    → (r : Option ℕ) → (text ≡ None → r ≡ None) → ((t : Text) → text ≡ Some t → ReadsOne gives t r) →
-    unwrap_or r 1 ≡ workers_asked words
+    ((u : Text) (x : Result ℕ E) → gives u x → ParsesUnsigned 64 10 u x) → (words : List Text) →
+    fault_of bbmcheck_app words ≡ [] → (text : Option Text) → workers_text words ≡ text → (r : Option ℕ) →
+    (text ≡ None → r ≡ None) → ((t : Text) → text ≡ Some t → ReadsOne gives t r) → unwrap_or r 1 ≡ workers_asked words
 number_read E gives only words none None is r missing read = rw (missing refl, is) refl
 number_read E gives only words none (Some t) is r missing read =
     rw is (reads_digits E gives only t (workers_pass words t none is) r (read t refl))
@@ -51,14 +50,14 @@ name_by_rows m = map_twice _ (λ (p : Text × List Row). p.0) (out-ArgMatches m)
 
 -- where `check` was met, the text is that of its rows
 pub text_of_check : (words : List Text) (met : Option (Text × List Row)) (rows : List Row) →
-    met ≡ subcommand_of bbmcheck words
+    met ≡ subcommand_of bbmcheck_app words
     → option_map (λ p. p.0) met ≡ Some (codes "check") → option_map (λ p. p.1) met ≡ Some rows →
     workers_text words ≡ one_of (codes "workers") rows
 text_of_check words None rows is name own = cc
 text_of_check words (Some r) rows is name own = grind (arith, common_steps, bytes_eq-Decides)
 
 -- and where it was not, there is none
-pub no_text : (words : List Text) (met : Option (Text × List Row)) → met ≡ subcommand_of bbmcheck words
+pub no_text : (words : List Text) (met : Option (Text × List Row)) → met ≡ subcommand_of bbmcheck_app words
     → (option_map (λ p. p.0) met ≡ Some (codes "check") → ⊥) → workers_text words ≡ None
 no_text words None is other = rw (← is) refl
 no_text words (Some r) is other = grind (arith, common_steps, bytes_eq-Decides)

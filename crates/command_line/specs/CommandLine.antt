@@ -32,8 +32,8 @@ top_app = on_top (λ s. record s { no_binary_name = true; subcommand_required = 
     (new_app (codes "bbmcheck"))
 
 -- the commands, of which `check` has an option
-abbrev pub bbmcheck : App
-bbmcheck =
+abbrev pub bbmcheck_app : App
+bbmcheck_app =
     with_subcommand (with_subcommand (with_subcommand (with_subcommand (with_subcommand top_app
     check_app.top) (new_app (codes "run")).top) (new_app (codes "value")).top) (new_app (codes "modules")).top)
     (new_app (codes "migrate")).top
@@ -47,7 +47,7 @@ request_named name =
 
 -- the command that the words name
 abbrev pub asked_by : List Text → Request
-asked_by words = option_map_or (λ p. request_named p.0) (subcommand_of bbmcheck words) Run
+asked_by words = option_map_or (λ p. request_named p.0) (subcommand_of bbmcheck_app words) Run
 
 -- the text that a command reads for `--workers`, which `check` alone has: the one that the words give it, or else the
 -- default
@@ -56,7 +56,7 @@ workers_of command = if bytes_eq command.0 (codes "check") then one_of (codes "w
 
 -- the text for `--workers` of the command that the words name
 abbrev pub workers_text : List Text → Option Text
-workers_text words = option_and_then workers_of (subcommand_of bbmcheck words)
+workers_text words = option_and_then workers_of (subcommand_of bbmcheck_app words)
 
 -- the number that decimal digits write, which a plus may lead
 abbrev pub number_in : Text → ℕ
@@ -68,14 +68,14 @@ workers_asked words = option_map_or number_in (workers_text words) 1
 
 -- nothing is wrong with the words, and they ask for no help
 abbrev pub IsAccepted : List Text → Type 0
-IsAccepted words = fault_of bbmcheck words ≡ []
+IsAccepted words = fault_of bbmcheck_app words ≡ []
 
 -- what they may ask for is help, or the version
 abbrev pub AsksForHelp : List Text → Type 0
-AsksForHelp words = IsAmong kind.DisplayHelp (fault_of bbmcheck words)
-    ⊎ IsAmong kind.DisplayVersion (fault_of bbmcheck words)
+AsksForHelp words = IsAmong kind.DisplayHelp (fault_of bbmcheck_app words)
+    ⊎ IsAmong kind.DisplayVersion (fault_of bbmcheck_app words)
 
 -- and nothing else
 abbrev pub AsksOnlyForHelp : List Text → Type 0
-AsksOnlyForHelp words = (k : ErrorKind) → IsAmong k (fault_of bbmcheck words) →
+AsksOnlyForHelp words = (k : ErrorKind) → IsAmong k (fault_of bbmcheck_app words) →
     (k ≡ kind.DisplayHelp) ⊎ (k ≡ kind.DisplayVersion)

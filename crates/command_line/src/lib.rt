@@ -6,7 +6,7 @@ mod texts;
 ghost use Rattle.std.specs.Prelude.{◌≡◌, ◌≤◌, ◌⊎◌, IfOk, map, false};
 ghost use Rattle.clap.specs.Words.{FailsBy, app_of, fault_of, kind_of, new_app, rule_of};
 ghost use Rattle.clap.specs.declared.builder.command.Command.TheViews.{out-Command as fields_of};
-ghost use Rattle.command_line.specs.CommandLine.{asked_by, bbmcheck, check_app, top_app, workers_asked, workers_rule};
+ghost use Rattle.command_line.specs.CommandLine.{asked_by, bbmcheck_app, check_app, top_app, workers_asked, workers_rule};
 
 use clap::error::ErrorKind;
 use clap::{Arg, Command, Error, value_parser};
@@ -48,7 +48,7 @@ pub fn read_words<'a>(alloc: Global, words: &'a [&'a str]) -> Result<Asked, Erro
     ensures workers { IfOk result (λ asked. (1 ≤ asked.workers) × (asked.workers ≤ 64)) }
     ensures number { IfOk result (λ asked. asked.workers
         ≡ workers_asked (map (λ s. s.now) words.entry.now)) }
-    ensures fails { FailsBy (fault_of bbmcheck (map (λ s. s.now) words.entry.now)) result }
+    ensures fails { FailsBy (fault_of bbmcheck_app (map (λ s. s.now) words.entry.now)) result }
 {
     let matches = match command(alloc)?.try_get_matches_from(words) {
         Ok(matches) => matches,
@@ -90,7 +90,7 @@ fn worker_count_error(alloc: Global) -> Result<Error, AllocError>
 }
 
 fn command<'a>(alloc: Global) -> Result<Command<'a>, AllocError>
-    ensures { IfOk result (λ command. app_of command ≡ bbmcheck) }
+    ensures { IfOk result (λ command. app_of command ≡ bbmcheck_app) }
 {
     top_command_without_commands(alloc)?
         .subcommand(check_command(alloc)?)?

@@ -1,11 +1,10 @@
 -- The parts of a core that each event keeps
 use Rattle.core_book.proofs.Imports.{All, Bool, CoreView, Event, HasSeatBelow, IsCore, IsEachNumberDrawnOnce, JobView}
-use Rattle.core_book.proofs.Imports.{List, []}
-use Rattle.core_book.proofs.Imports.{after_claim, after_event, after_events, ap, arith, common_steps, draws_after_claim}
-use Rattle.core_book.proofs.Imports.{draws_of, false, get_or, if◌then◌else◌, is_seat_finished, job_count_of, length}
-use Rattle.core_book.proofs.Imports.{length-replicate, length-set, map, nat_tests, new_core, next_unless_seat_finished}
-use Rattle.core_book.proofs.Imports.{refl}
-use Rattle.core_book.proofs.Imports.{set, subst, suc, sym, total, true, zero, ℕ, ◌++◌, ◌+◌, ◌<◌, ◌∙◌, ◌∷◌, ◌≡◌, ◌≤◌}
+use Rattle.core_book.proofs.Imports.{List, [], after_claim, after_event, after_events, ap, arith, common_steps}
+use Rattle.core_book.proofs.Imports.{draws_after_claim, draws_of, false, get_or, if◌then◌else◌, is_seat_finished}
+use Rattle.core_book.proofs.Imports.{job_count_of, length, length-replicate, length-set, map, nat_tests, new_core}
+use Rattle.core_book.proofs.Imports.{next_unless_seat_finished, refl, set, subst, suc, sym, total, true, zero, ℕ, ◌++◌}
+use Rattle.core_book.proofs.Imports.{◌+◌, ◌<◌, ◌∙◌, ◌∷◌, ◌≡◌, ◌≤◌}
 use Rattle.lemmas.proofs.Common.{All-head, All-tail}
 use Rattle.core_book.specs.Core.{one_if_seat_finished}
 use Rattle.core_book.proofs.Counting.{drawn-none, drawn-push, is_seat_finished-push, total-le, total-set}
@@ -77,8 +76,7 @@ new-core digest jobs seats = record {
   replayed = IsHistoryReplayed-new digest jobs;
 }
 
-pub length-new : (digest : List ℕ) (jobs : List JobView) (seats : ℕ) →
-    length (new_core digest jobs seats).draws ≡ seats
+pub length-new : (digest : List ℕ) (jobs : List JobView) (seats : ℕ) → length (new_core digest jobs seats).draws ≡ seats
 unfolding new_core
 length-new digest jobs seats = length-replicate seats []
 

@@ -39,8 +39,7 @@ past_last-push [] x = refl
 past_last-push (y ∷ []) x = refl
 past_last-push (y ∷ z ∷ zs) x = past_last-push (z ∷ zs) x
 
-pub is_seat_finished-push : (n : ℕ) (xs : List ℕ) (x : ℕ) →
-    is_seat_finished n (xs ++ x ∷ []) ≡ nat_lt n (x + 1)
+pub is_seat_finished-push : (n : ℕ) (xs : List ℕ) (x : ℕ) → is_seat_finished n (xs ++ x ∷ []) ≡ nat_lt n (x + 1)
 is_seat_finished-push n xs x = ap (nat_lt n) (past_last-push xs x)
 
 pub drawn-push : (counter : ℕ) (lists : List (List ℕ)) (seat : ℕ) → seat < length lists →

@@ -1,22 +1,20 @@
 -- The laws of the core
 use Rattle.core_book.proofs.Imports.{Accepted, All, Bool, Closed, CoreView, Double, Event, Finding, HasSeatBelow}
 use Rattle.core_book.proofs.Imports.{IsBook, IsCore, IsEachNumberDrawnOnce, IsHistoryReplayed, JobView, List, None}
-use Rattle.core_book.proofs.Imports.{Option, Reply, Some}
-use Rattle.core_book.proofs.Imports.{Stranger, [], after_claim, after_event, after_events, after_filing, ap, arith}
-use Rattle.core_book.proofs.Imports.{common_steps, cond, draws_of, eqb_tells, false, get_or, held_finding}
-use Rattle.core_book.proofs.Imports.{if◌then◌else◌}
-use Rattle.core_book.proofs.Imports.{inl, inr, is_seat_finished, is_some, job_count_of, length, nat_lt, nat_tests}
-use Rattle.core_book.proofs.Imports.{new_core, number_of, occurrences, refl, reply_to, same_Some, subst, sum_by, sym}
-use Rattle.core_book.proofs.Imports.{total, true, ℕ, ◌+◌, ◌<◌, ◌==◌, ◌∙◌, ◌∷◌, ◌≡◌, ◌≢◌, ◌≤◌}
+use Rattle.core_book.proofs.Imports.{Option, Reply, Some, Stranger, [], after_claim, after_event, after_events}
+use Rattle.core_book.proofs.Imports.{after_filing, ap, arith, common_steps, cond, draws_of, eqb_tells, false, get_or}
+use Rattle.core_book.proofs.Imports.{held_finding, if◌then◌else◌, inl, inr, is_seat_finished, is_some, job_count_of}
+use Rattle.core_book.proofs.Imports.{length, nat_lt, nat_tests, new_core, number_of, occurrences, refl, reply_to}
+use Rattle.core_book.proofs.Imports.{same_Some, subst, sum_by, sym, total, true, ℕ, ◌+◌, ◌<◌, ◌==◌, ◌∙◌, ◌∷◌, ◌≡◌, ◌≢◌}
+use Rattle.core_book.proofs.Imports.{◌≤◌}
 use Rattle.lemmas.proofs.Common.{◌⊎◌, Contains, Contains-append_cases, Contains-append_left, Contains-append_right}
 use Rattle.lemmas.proofs.Common.{Contains-push, sum_by-append, nothing_in, one_in}
 use Rattle.core_book.specs.Claims.{claim_answer_of_draw}
 use Rattle.core_book.specs.Core.{answer_of_claim, answer_to}
 use Rattle.core_book.specs.CoreLaws.{AcceptsAtMostOnePerNumber, AreAllNumbersDrawn, DrawsEachNumberOnce}
-use Rattle.core_book.specs.CoreLaws.{EmptyOnlyIfAllAreDrawn}
-use Rattle.core_book.specs.CoreLaws.{EventsKeepHeldFindings, HistoryReplaysAfterEvents, HeldFindingsAreBooksAndLeast}
-use Rattle.core_book.specs.CoreLaws.{HoldsAcceptedFindings, OnlyAcceptedChangesFindings, findings_accepted_in}
-use Rattle.core_book.specs.CoreLaws.{findings_accepted_by, finding_if_accepted, core_after}
+use Rattle.core_book.specs.CoreLaws.{EmptyOnlyIfAllAreDrawn, EventsKeepHeldFindings, HeldFindingsAreBooksAndLeast}
+use Rattle.core_book.specs.CoreLaws.{HistoryReplaysAfterEvents, HoldsAcceptedFindings, OnlyAcceptedChangesFindings}
+use Rattle.core_book.specs.CoreLaws.{core_after, finding_if_accepted, findings_accepted_by, findings_accepted_in}
 use Rattle.core_book.proofs.BookLaws.{held-elsewhere, holds-nothing_else, holds-what_is_accepted, keeps-what_is_held}
 use Rattle.core_book.proofs.CoreSteps.{claim-core, events-core, length-events, length-new, new-core}
 use Rattle.core_book.proofs.Counting.{one_if_seat_finished-all}
@@ -37,8 +35,7 @@ draws-each-once digest jobs seats es seated = (all-core digest jobs seats es sea
 
 -- where a claim answers `Empty`, the next number after it is past the numbers
 empty-past : (n next : ℕ) (lists : List (List ℕ)) (seat : ℕ) → seat < length lists → IsEachNumberDrawnOnce next lists →
-    (has : Bool) →
-    is_seat_finished n (get_or lists seat []) ≡ has →
+    (has : Bool) → is_seat_finished n (get_or lists seat []) ≡ has →
     answer_of_claim (if has then Claimed.Empty else claim_answer_of_draw n next) ≡ Answered.Empty →
     n ≤ (if has then next else next + 1)
 empty-past n next lists seat inside is true e h = let past = one_if_seat_finished-all n next lists seat inside e is in

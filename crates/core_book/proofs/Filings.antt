@@ -1,14 +1,13 @@
 -- Replies, and what filing keeps
-use Rattle.core_book.proofs.Imports.{Accepted, BookView, Bool, Closed, Content, Digest, Double, Filed, Filing, Finding}
-use Rattle.core_book.proofs.Imports.{BelongsToBook, IsBook, JobView, List, LogEntry, None, Number, Option, Reply, Some}
-use Rattle.core_book.proofs.Imports.{Stranger, [], after_closing, after_filing, ap, arith, common_steps}
-use Rattle.core_book.proofs.Imports.{held_finding_count}
-use Rattle.core_book.proofs.Imports.{cond, digest_of, eqb_tells, false, filing_of, findings_after, get_or, held_finding}
-use Rattle.core_book.proofs.Imports.{get_or-set_other, get_or-set_same, if◌then◌else◌, is_job_of, is_some, job_of}
-use Rattle.core_book.proofs.Imports.{jobs_decide, length, length-set, map, nat_eq, nat_lt, nat_tests, not, number_of}
-use Rattle.core_book.proofs.Imports.{option_eq, option_map, pointwise, refl, reply_to, same_job, set, slice_get}
-use Rattle.core_book.proofs.Imports.{slice_get-map, slice_get_read, suc, sum_by, sym, true, zero, ℕ, ◌++◌, ◌+◌, ◌<◌}
-use Rattle.core_book.proofs.Imports.{◌∙◌, ◌∷◌, ◌≡◌, ◌≢◌, ◌≤◌}
+use Rattle.core_book.proofs.Imports.{Accepted, BelongsToBook, BookView, Bool, Closed, Content, Digest, Double, Filed}
+use Rattle.core_book.proofs.Imports.{Filing, Finding, IsBook, JobView, List, LogEntry, None, Number, Option, Reply}
+use Rattle.core_book.proofs.Imports.{Some, Stranger, [], after_closing, after_filing, ap, arith, common_steps, cond}
+use Rattle.core_book.proofs.Imports.{digest_of, eqb_tells, false, filing_of, findings_after, get_or, get_or-set_other}
+use Rattle.core_book.proofs.Imports.{get_or-set_same, held_finding, held_finding_count, if◌then◌else◌, is_job_of}
+use Rattle.core_book.proofs.Imports.{is_some, job_of, jobs_decide, length, length-set, map, nat_eq, nat_lt, nat_tests}
+use Rattle.core_book.proofs.Imports.{not, number_of, option_eq, option_map, pointwise, refl, reply_to, same_job, set}
+use Rattle.core_book.proofs.Imports.{slice_get, slice_get-map, slice_get_read, suc, sum_by, sym, true, zero, ℕ, ◌++◌}
+use Rattle.core_book.proofs.Imports.{◌+◌, ◌<◌, ◌∙◌, ◌∷◌, ◌≡◌, ◌≢◌, ◌≤◌}
 use Rattle.lemmas.proofs.Common.{same_text, sum_by-set, false_from_not, true_from_not}
 use Rattle.core_book.specs.Book.{accepted_count_after}
 
@@ -171,8 +170,7 @@ own-moved : (b c : BookView) (n : ℕ) (f : Finding) → b.digest ≡ c.digest �
 own-moved b c n f digest jobs p = grind (arith, common_steps, slice_get)
 
 own-set : (b : BookView) (n : ℕ) (f : Finding) → n < length b.findings → BelongsToBook b n f → IsBook b →
-    (k : ℕ) (g : Finding) →
-    get_or (set b.findings n (Some f)) k None ≡ Some g → BelongsToBook b k g
+    (k : ℕ) (g : Finding) → get_or (set b.findings n (Some f)) k None ≡ Some g → BelongsToBook b k g
 own-set b n f inside own is k g e = grind (arith, common_steps, eqb_tells, get_or-set_same, get_or-set_other)
 
 -- a book that holds what another one held after a filing

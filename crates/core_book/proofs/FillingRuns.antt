@@ -1,11 +1,9 @@
 -- While a book is filled up, one job of each shape is run at most
 use Rattle.core_book.proofs.Imports.{AreGroups, BookView, Bool, Finding, HoldsFindingOfSameShape, IsSome, JobView, List}
-use Rattle.core_book.proofs.Imports.{None}
-use Rattle.core_book.proofs.Imports.{Option, Some, ap, arith, common_steps, false, get_or, group_count_below}
-use Rattle.core_book.proofs.Imports.{held_finding}
-use Rattle.core_book.proofs.Imports.{if◌then◌else◌, inl, inr, job_of, length, nat_tests, option_map, refl, same_Some}
-use Rattle.core_book.proofs.Imports.{shape_of, shapes_of, slice_get, slice_get-map, subst, suc, sym, true, zero, ℕ, ◌+◌}
-use Rattle.core_book.proofs.Imports.{◌<◌, ◌==◌, ◌∙◌, ◌≡◌, ◌≢◌, ◌≤◌}
+use Rattle.core_book.proofs.Imports.{None, Option, Some, ap, arith, common_steps, false, get_or, group_count_below}
+use Rattle.core_book.proofs.Imports.{held_finding, if◌then◌else◌, inl, inr, job_of, length, nat_tests, option_map, refl}
+use Rattle.core_book.proofs.Imports.{same_Some, shape_of, shapes_of, slice_get, slice_get-map, subst, suc, sym, true}
+use Rattle.core_book.proofs.Imports.{zero, ℕ, ◌+◌, ◌<◌, ◌==◌, ◌∙◌, ◌≡◌, ◌≢◌, ◌≤◌}
 use Rattle.lemmas.proofs.Common.{slice_index, cases_order, get_or_default}
 use Rattle.module_job.specs.Groups.{IsFirstEqualElement}
 use Rattle.module_job.specs.Shapes.{ShapeView}

@@ -1,14 +1,11 @@
 -- Books that are filled up
-use Rattle.core_book.proofs.Imports.{Accepted, BookView, Bool, Filed, Finding, IsBook, IsFindingHeldOrFiled, IsOpenFor}
-use Rattle.core_book.proofs.Imports.{IsBookFilledSoFar, IsHistoryReplayed, IsSome, JobView, List, None, Option, Some}
-use Rattle.core_book.proofs.Imports.{[]}
-use Rattle.core_book.proofs.Imports.{after_filing, ap, append-nil, append_assoc, arith, common_steps, cond}
-use Rattle.core_book.proofs.Imports.{held_finding_count}
-use Rattle.core_book.proofs.Imports.{digest_of, eqb_tells, false, filing_of, get_or, held_finding, if◌then◌else◌, inl}
-use Rattle.core_book.proofs.Imports.{inr}
-use Rattle.core_book.proofs.Imports.{is_some, job_of, jobs_decide, length, map, new_book, number_of, pointwise, refl}
-use Rattle.core_book.proofs.Imports.{reply_to, same_job, slice_get, subst, suc, sym, true, ℕ, ◌++◌, ◌+◌, ◌<◌, ◌∙◌, ◌∷◌}
-use Rattle.core_book.proofs.Imports.{◌≡◌, ◌≢◌, ◌≤◌}
+use Rattle.core_book.proofs.Imports.{Accepted, BookView, Bool, Filed, Finding, IsBook, IsBookFilledSoFar}
+use Rattle.core_book.proofs.Imports.{IsFindingHeldOrFiled, IsHistoryReplayed, IsOpenFor, IsSome, JobView, List, None}
+use Rattle.core_book.proofs.Imports.{Option, Some, [], after_filing, ap, append-nil, append_assoc, arith, common_steps}
+use Rattle.core_book.proofs.Imports.{cond, digest_of, eqb_tells, false, filing_of, get_or, held_finding}
+use Rattle.core_book.proofs.Imports.{held_finding_count, if◌then◌else◌, inl, inr, is_some, job_of, jobs_decide, length}
+use Rattle.core_book.proofs.Imports.{map, new_book, number_of, pointwise, refl, reply_to, same_job, slice_get, subst}
+use Rattle.core_book.proofs.Imports.{suc, sym, true, ℕ, ◌++◌, ◌+◌, ◌<◌, ◌∙◌, ◌∷◌, ◌≡◌, ◌≢◌, ◌≤◌}
 use Rattle.lemmas.proofs.Common.{AllZip, Decides, map-append, slice_eq-Decides}
 use Rattle.std.specs.List.{count_by}
 use Rattle.std.specs.Cmp.Derive.Mapped.{pointwise-map}

@@ -1,9 +1,7 @@
 -- Books that hold a finding for each job
 use Rattle.core_book.proofs.Imports.{BookView, Finding, IsBook, IsFindingHeld, JobView, List, None, Option, Some, []}
-use Rattle.core_book.proofs.Imports.{arith}
-use Rattle.core_book.proofs.Imports.{common_steps, cond, count_by, get_or, held_finding, is_some, length, refl}
-use Rattle.core_book.proofs.Imports.{same_Some}
-use Rattle.core_book.proofs.Imports.{slice_get, suc, sym, true, zero, ℕ, ◌+◌, ◌<◌, ◌∙◌, ◌∷◌, ◌≡◌}
+use Rattle.core_book.proofs.Imports.{arith, common_steps, cond, count_by, get_or, held_finding, is_some, length, refl}
+use Rattle.core_book.proofs.Imports.{same_Some, slice_get, suc, sym, true, zero, ℕ, ◌+◌, ◌<◌, ◌∙◌, ◌∷◌, ◌≡◌}
 use Rattle.lemmas.proofs.Common.{count_by-le-length, sum_by-cons}
 use Rattle.core_book.specs.Laws.{FullBookHoldsAll}
 

@@ -1,11 +1,9 @@
 -- Jobs for which a finding is held, and their least faults
 use Rattle.core_book.proofs.Imports.{AreLeastFaultsOfJob, BookView, Bool, Finding, IsFindingHeld, JobView, LeastFaults}
-use Rattle.core_book.proofs.Imports.{List}
-use Rattle.core_book.proofs.Imports.{Some, [], ap, arith, common_steps, eqb_tells, false, get_or, held_finding, inl}
-use Rattle.core_book.proofs.Imports.{inr}
-use Rattle.core_book.proofs.Imports.{job_of, jobs_decide, length, length-append, map, same_Some, same_job, slice_get}
-use Rattle.core_book.proofs.Imports.{slice_get-map, slice_get_read, subst, sym, true, ℕ, ◌++◌, ◌+◌, ◌<◌, ◌∙◌, ◌∷◌, ◌≡◌}
-use Rattle.core_book.proofs.Imports.{◌≢◌}
+use Rattle.core_book.proofs.Imports.{List, Some, [], ap, arith, common_steps, eqb_tells, false, get_or, held_finding}
+use Rattle.core_book.proofs.Imports.{inl, inr, job_of, jobs_decide, length, length-append, map, same_Some, same_job}
+use Rattle.core_book.proofs.Imports.{slice_get, slice_get-map, slice_get_read, subst, sym, true, ℕ, ◌++◌, ◌+◌, ◌<◌, ◌∙◌}
+use Rattle.core_book.proofs.Imports.{◌∷◌, ◌≡◌, ◌≢◌}
 use Rattle.module_box.proofs.Rising.{pushed}
 use Rattle.core_book.specs.Verdicts.{AreFindingsHeldBelow, IsFirstMissingFinding}
 
@@ -45,11 +43,10 @@ held_more b jobs n j at below now k i less there =
     ]
 
 each_more : (jobs : List JobView) (fs : List LeastFaults) (n : ℕ) (j : JobView) (g : LeastFaults) → length fs ≡ n →
-    slice_get jobs n ≡ Some j → AreLeastFaultsOfJob j g
-    → ((k : ℕ) (i : JobView) (f : LeastFaults) → slice_get jobs k ≡ Some i → slice_get fs k ≡ Some f →
-    AreLeastFaultsOfJob i f)
-    → (k : ℕ) (i : JobView) (f : LeastFaults) → slice_get jobs k ≡ Some i → slice_get (fs ++ g ∷ []) k ≡ Some f →
-    AreLeastFaultsOfJob i f
+    slice_get jobs n ≡ Some j → AreLeastFaultsOfJob j g →
+    ((k : ℕ) (i : JobView) (f : LeastFaults) → slice_get jobs k ≡ Some i → slice_get fs k ≡ Some f →
+    AreLeastFaultsOfJob i f) → (k : ℕ) (i : JobView) (f : LeastFaults) → slice_get jobs k ≡ Some i →
+    slice_get (fs ++ g ∷ []) k ≡ Some f → AreLeastFaultsOfJob i f
 each_more jobs fs n j g count at least each k i f there got =
     elim (pushed fs g k f got) [
       | inl old ↦ each k i f there old
@@ -60,8 +57,7 @@ each_more jobs fs n j g count at least each k i f there got =
 
 pub one-more : (b : BookView) (jobs : List JobView) (n : ℕ) (fs : List LeastFaults) (j : JobView) (f : Finding)
     (r : LeastFaults) → AreFaultsBelow b jobs n fs → slice_get jobs n ≡ Some j → held_finding b n ≡ Some f →
-    job_of f ≡ j →
-    AreLeastFaultsOfJob (job_of f) r → AreFaultsBelow b jobs (n + 1) (fs ++ r ∷ [])
+    job_of f ≡ j → AreLeastFaultsOfJob (job_of f) r → AreFaultsBelow b jobs (n + 1) (fs ++ r ∷ [])
 one-more b jobs n fs j f r below at held whole told = record {
   held = held_more b jobs n j at below.held (record { finding = f; held = held; whole = whole });
   count_is = length-append fs (r ∷ []) ∙ ap (λ (m : ℕ). m + 1) below.count_is;

@@ -11,8 +11,7 @@ pub use Rattle.certificate.proofs.Imports.{append-nil, append_assoc, delay_and_m
 pub use Rattle.certificate_lines.proofs.Imports.{get_or-set_same, is_some, length-replicate, length-set, nat_eq, set}
 pub use Rattle.circuit.proofs.Imports.{slice_get_read}
 pub use Rattle.core_book.specs.Book.{BelongsToBook, BookView, IsBook, IsHistoryReplayed, after_closing, after_filing}
-pub use Rattle.core_book.specs.Book.{held_finding_count}
-pub use Rattle.core_book.specs.Book.{filing_of, held_finding}
+pub use Rattle.core_book.specs.Book.{filing_of, held_finding, held_finding_count}
 unfoldable pub use Rattle.core_book.specs.Book.{findings_after, is_job_of, new_book, reply_to}
 pub use Rattle.core_book.specs.BookView.{book_view}
 pub use Rattle.core_book.specs.Claims.{draws_after_claim, is_seat_finished, next_unless_seat_finished}
@@ -22,8 +21,7 @@ unfoldable pub use Rattle.core_book.specs.Core.{new_core}
 pub use Rattle.core_book.specs.CoreView.{core_view, lists_of}
 pub use Rattle.core_book.specs.Draws.{IsEachNumberDrawnOnce, occurrences, total}
 pub use Rattle.core_book.specs.Filling.{HoldsFindingOfSameShape, IsBookFilledSoFar, IsFindingHeldOrFiled, IsOpenFor}
-pub use Rattle.core_book.specs.Filling.{group_count_below}
-pub use Rattle.core_book.specs.Filling.{shapes_of}
+pub use Rattle.core_book.specs.Filling.{group_count_below, shapes_of}
 pub use Rattle.core_book.specs.Verdicts.{AreLeastFaults, AreLeastFaultsOfJob, IsFindingHeld, unkept_lines}
 unfoldable pub use Rattle.core_book.specs.Verdicts.{report_lines_from}
 pub use Rattle.core_book.specs.declared.log_entry.Filing.{Filing}

@@ -1,19 +1,17 @@
 -- The history of a book replays to it
 use Rattle.core_book.proofs.Imports.{Accepted, BookView, Bool, Filed, Filing, Finding, IsBook, IsHistoryReplayed}
-use Rattle.core_book.proofs.Imports.{JobView}
-use Rattle.core_book.proofs.Imports.{List, LogEntry, None, Option, Reply, Some, [], after_closing, held_finding_count}
+use Rattle.core_book.proofs.Imports.{JobView, List, LogEntry, None, Option, Reply, Some, [], after_closing}
 use Rattle.core_book.proofs.Imports.{after_filing, ap, arith, common_steps, count_by, eqb_tells, false, filing_of}
 use Rattle.core_book.proofs.Imports.{findings_after, get_or, get_or-set_other, get_or-set_same, held_finding}
-use Rattle.core_book.proofs.Imports.{if◌then◌else◌}
-use Rattle.core_book.proofs.Imports.{is_some, length, length-append, length-replicate, new_book, number_of, refl}
-use Rattle.core_book.proofs.Imports.{replicate, reply_to, set, suc, sym, true, zero, ℕ, ◌++◌, ◌+◌, ◌<◌, ◌∙◌, ◌∷◌, ◌≡◌}
+use Rattle.core_book.proofs.Imports.{held_finding_count, if◌then◌else◌, is_some, length, length-append}
+use Rattle.core_book.proofs.Imports.{length-replicate, new_book, number_of, refl, replicate, reply_to, set, suc, sym}
+use Rattle.core_book.proofs.Imports.{true, zero, ℕ, ◌++◌, ◌+◌, ◌<◌, ◌∙◌, ◌∷◌, ◌≡◌}
 use Rattle.lemmas.proofs.Common.{list_any-append}
 use Rattle.core_book.specs.Replay.{Replayed, AreRepliesByRule, IsReplyByRule, accepted_after, after_entry}
 use Rattle.core_book.specs.Replay.{empty_replayed, has_closing, has_number, replay, replay_from}
 use Rattle.core_book.specs.declared.log_entry.LogEntry.TheVariants.{Closing}
-use Rattle.core_book.proofs.Filings.{accepted-inside, findings_after-accepted, held_finding_count-accepted}
-use Rattle.core_book.proofs.Filings.{held_finding_count-other}
-use Rattle.core_book.proofs.Filings.{findings_after-other}
+use Rattle.core_book.proofs.Filings.{accepted-inside, findings_after-accepted, findings_after-other}
+use Rattle.core_book.proofs.Filings.{held_finding_count-accepted, held_finding_count-other}
 
 -- ---- one entry more
 
@@ -46,9 +44,8 @@ number-more ks held n f inside h k =
 -- the book after a filing, by the numbers that were accepted then and what is held then
 by-reply : (b : BookView) (f : Finding) (ks : List ℕ) (held : List (Option Finding)) → IsHistoryReplayed b →
     accepted_after (replay b.history).accepted (number_of f) (reply_to b f) ≡ ks →
-    findings_after b.findings f (reply_to b f) ≡ held →
-    length ks ≡ held_finding_count (after_filing b f) → ((k : ℕ) → has_number ks k ≡ is_some (get_or held k None)) →
-    IsHistoryReplayed (after_filing b f)
+    findings_after b.findings f (reply_to b f) ≡ held → length ks ≡ held_finding_count (after_filing b f) →
+    ((k : ℕ) → has_number ks k ≡ is_some (get_or held k None)) → IsHistoryReplayed (after_filing b f)
 by-reply b f ks held is numbers same count each =
     let e : LogEntry = Filed (filing_of b f) in
     let push = replay_from-push empty_replayed b.history e in

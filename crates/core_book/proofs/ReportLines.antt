@@ -127,8 +127,7 @@ from_none k = omega arith
 pub accepted : (g : Setting) (ms : List ModuleLines) (jobs : List JobView) (fs : List LeastFaults)
     (bs : List (Option BorderFault)) → AreLeastFaults jobs fs → AreBorderFaultsOf g ms bs → length fs ≡ length bs →
     report_lines_from 0 fs bs ++ unkept_lines g ms ≡ [] →
-    are_all_timings_obeyed (delay_and_meet_lines g.circuit ms) ≡ true →
-    Accepts g ms jobs
+    are_all_timings_obeyed (delay_and_meet_lines g.circuit ms) ≡ true → Accepts g ms jobs
 accepted g ms jobs fs bs least borders len e rules = record {
   no_fault = λ k j f at.
       let t = told k j at in
@@ -200,8 +199,7 @@ accepted-no_lines g ms jobs fs bs least borders is = ap₂ (λ (x y : List Repor
 -- ---- module by module
 
 report_lines_from-step : (n : ℕ) (fs : List LeastFaults) (bs : List (Option BorderFault)) (d : LeastFaults) →
-    n < length fs →
-    n < length bs →
+    n < length fs → n < length bs →
     report_lines_from n (drop n fs) (drop n bs)
     ≡ option_to_list (local_line n (get_or fs n d).fault) ++ option_to_list (keep_line n (get_or fs n d).keep)
     ++ option_to_list (border_line n (get_or bs n None))
@@ -212,11 +210,10 @@ report_lines_from-step n fs bs d inside inside_too = grind (arith, common_steps,
 -- the lines so far, with those on a module more
 pub one_module_more : (all lines with_local with_keep with_all : List ReportLine) (n : ℕ) (fs : List LeastFaults)
     (bs : List (Option BorderFault)) (d : LeastFaults) (x z y : Option ReportLine) → n < length fs →
-    length fs ≡ length bs
-    → x ≡ local_line n (get_or fs n d).fault → z ≡ keep_line n (get_or fs n d).keep →
+    length fs ≡ length bs → x ≡ local_line n (get_or fs n d).fault → z ≡ keep_line n (get_or fs n d).keep →
     y ≡ border_line n (get_or bs n None) → with_local ≡ lines ++ option_to_list x →
-    with_keep ≡ with_local ++ option_to_list z → with_all ≡ with_keep ++ option_to_list y
-    → lines ++ report_lines_from n (drop n fs) (drop n bs) ≡ all →
+    with_keep ≡ with_local ++ option_to_list z → with_all ≡ with_keep ++ option_to_list y →
+    lines ++ report_lines_from n (drop n fs) (drop n bs) ≡ all →
     with_all ++ report_lines_from (n + 1) (drop (n + 1) fs) (drop (n + 1) bs) ≡ all
 one_module_more all lines with_local with_keep with_all n fs bs d x z y inside len x_is z_is y_is first second third
     so_far = grind (arith, common_steps, append_assoc, report_lines_from-step)

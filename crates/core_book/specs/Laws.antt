@@ -3,8 +3,7 @@ use Rattle.std.specs.Prelude.{◌≡◌, ◌≢◌, ◌↔◌, ℕ, length, None
 use Rattle.local_run.specs.Shown.{number_of, fault_of, keep_fault_of}
 use Rattle.local_run.specs.declared.finding.Finding.{Finding}
 use Rattle.core_book.specs.Book.{BelongsToBook, BookView, IsBook, IsHistoryReplayed, after_closing, after_filing}
-use Rattle.core_book.specs.Book.{held_finding_count}
-use Rattle.core_book.specs.Book.{held_finding, reply_to}
+use Rattle.core_book.specs.Book.{held_finding, held_finding_count, reply_to}
 use Rattle.core_book.specs.Verdicts.{AreFindingsHeldBelow}
 use Rattle.core_book.specs.Replay.{has_closing}
 use Rattle.core_book.specs.declared.reply.Mismatch.{Mismatch}

@@ -3,16 +3,15 @@
 -- One is of four modules around a gate, with stops and a delay, and one of a switch and its inverse gate. Two are plain
 -- texts of two balls that meet, the second of them with a wrong layout.
 use Rattle.lemmas.proofs.Common.{common_steps}
-use Rattle.headline.proofs.Imports.{All, All-head, All-tail, Bundle, Cell, CircuitLine, Cut, Gate, HasNoDelay, Input}
-use Rattle.headline.proofs.Imports.{Interact, IsCorrect, IsDesign, IsInputName, IsPlainModule, IsReportOf}
-use Rattle.headline.proofs.Imports.{IsSmallDesign}
-use Rattle.headline.proofs.Imports.{List, Meet, Module, ModuleLines, No, Ok, Outcome, Output, Pattern, Refused, Some}
-use Rattle.headline.proofs.Imports.{Stop, StopHolds, StopLine, Switch, TouchesRim, Unswitch, Use, Yes, [], arith, bit}
-use Rattle.headline.proofs.Imports.{bundle_of, bundle_with_limits, cell, circuit_of, codes, cuts, design_text, evaluate}
-use Rattle.headline.proofs.Imports.{fault_cmp, flat_map, in_span, job_demand, job_start, local_run, modules_of}
-use Rattle.headline.proofs.Imports.{netlist_of, numbered_all_times, numbered_event, numbered_signals, partner, parts_of}
-use Rattle.headline.proofs.Imports.{plain_lines, refl, row, slice_get, step, subst, suc, true, turned, whole, zero, ℕ}
-use Rattle.headline.proofs.Imports.{◌∷◌, ◌≡◌, ◌≢◌, Err, ◌++◌}
+use Rattle.headline.proofs.Imports.{All, All-head, All-tail, Bundle, Cell, CircuitLine, Cut, Err, Gate, HasNoDelay}
+use Rattle.headline.proofs.Imports.{Input, Interact, IsCorrect, IsDesign, IsInputName, IsPlainModule, IsReportOf}
+use Rattle.headline.proofs.Imports.{IsSmallDesign, List, Meet, Module, ModuleLines, No, Ok, Outcome, Output, Pattern}
+use Rattle.headline.proofs.Imports.{Refused, Some, Stop, StopHolds, StopLine, Switch, TouchesRim, Unswitch, Use, Yes}
+use Rattle.headline.proofs.Imports.{[], arith, bit, bundle_of, bundle_with_limits, cell, circuit_of, codes, cuts}
+use Rattle.headline.proofs.Imports.{design_text, evaluate, fault_cmp, flat_map, in_span, job_demand, job_start}
+use Rattle.headline.proofs.Imports.{local_run, modules_of, netlist_of, numbered_all_times, numbered_event}
+use Rattle.headline.proofs.Imports.{numbered_signals, partner, parts_of, plain_lines, refl, row, slice_get, step, subst}
+use Rattle.headline.proofs.Imports.{suc, true, turned, whole, zero, ℕ, ◌++◌, ◌∷◌, ◌≡◌, ◌≢◌}
 use Rattle.circuit.specs.Gates.{is_inverse}
 use Rattle.bbm_rule.specs.CellOrder.{cell_cmp}
 use Rattle.module_box.specs.Schedules.{all_times_at, event_at, signal_at}
@@ -24,9 +23,8 @@ use Rattle.soundness.proofs.SomeJobs.{demanded, placed_gate, placed_gates, place
 use Rattle.meaning.specs.Design.{front_text}
 use Rattle.section_text.specs.declared.limits.Limits.TheVariants.{Second}
 use Rattle.headline.specs.Fronts.{WideTextIsAccepted, WideTextIsRefused, wide_text}
-use Rattle.headline.specs.Witnesses.{ThereAndBackTextIsAccepted, TimedModulesTextIsAccepted}
 use Rattle.headline.specs.Witnesses.{PlainNoTextIsRefuted, PlainYesTextIsAccepted, SmallDesignIsAccepted}
-use Rattle.headline.specs.Witnesses.{SmallDesignIsRefuted}
+use Rattle.headline.specs.Witnesses.{SmallDesignIsRefuted, ThereAndBackTextIsAccepted, TimedModulesTextIsAccepted}
 use Rattle.headline.specs.PlainLaws.{ThereAndBackTextIsPlain, ThereAndBackTextIsSmall}
 use Rattle.headline.specs.PlainNo.{plain_no_text}
 use Rattle.headline.specs.PlainYes.{plain_yes_text}

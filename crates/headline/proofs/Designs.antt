@@ -14,11 +14,9 @@ use Rattle.meaning.specs.Design.{section_lines}
 -- ---- the two sections of a design
 
 pub design_said : (l : Limits) (from : ℕ) (text : List ℕ) (circuit : List CircuitLine) (named : Option PortNameLists)
-    (n : ℕ) (layout : Pattern)
-    → section_of (circuit_grammar l) from (section_lines text) ≡ Ok (tt, circuit)
-    → section_of (layout_grammar l named) n (drop (length circuit + 2) (section_lines text))
-    ≡ Ok (layout_section layout)
-    → SaysDesign text circuit layout
+    (n : ℕ) (layout : Pattern) → section_of (circuit_grammar l) from (section_lines text) ≡ Ok (tt, circuit) →
+    section_of (layout_grammar l named) n (drop (length circuit + 2) (section_lines text))
+    ≡ Ok (layout_section layout) → SaysDesign text circuit layout
 design_said l from text circuit named n layout first second =
     let k = length circuit + 2 in
     let later = drop k (section_lines text) in
@@ -35,15 +33,13 @@ design_said l from text circuit named n layout first second =
 
 -- and the section after them
 pub bundle_said : (l : Limits) (from : ℕ) (text : List ℕ) (circuit : List CircuitLine) (named : Option PortNameLists)
-    (n : ℕ) (layout : Pattern)
-    (g : Setting)
-    (m version : ℕ) (lines : List CertificateLine)
-    → section_of (circuit_grammar l) from (section_lines text) ≡ Ok (tt, circuit)
-    → section_of (layout_grammar l named) n (drop (length circuit + 2) (section_lines text))
-    ≡ Ok (layout_section layout)
-    → section_of (certificate_grammar l g) m
-    (drop (length (layout_section layout).1 + 2) (drop (length circuit + 2) (section_lines text))) ≡ Ok (version, lines)
-    → SaysBundle text circuit layout lines
+    (n : ℕ) (layout : Pattern) (g : Setting) (m version : ℕ) (lines : List CertificateLine) →
+    section_of (circuit_grammar l) from (section_lines text) ≡ Ok (tt, circuit) →
+    section_of (layout_grammar l named) n (drop (length circuit + 2) (section_lines text))
+    ≡ Ok (layout_section layout) →
+    section_of (certificate_grammar l g) m
+    (drop (length (layout_section layout).1 + 2) (drop (length circuit + 2) (section_lines text)))
+    ≡ Ok (version, lines) → SaysBundle text circuit layout lines
 unfolding design_said
 bundle_said l from text circuit named n layout g m version lines first second third =
     let d = design_said l from text circuit named n layout first second in

@@ -251,8 +251,7 @@ module _ (text : List ℕ) (b : Bundle) (e : bundle_of text ≡ Ok b) (p : Patte
       are_least = record { count = refl; each = told_at };
       borders = None ∷ [];
       are_border_faults = record { count = refl; each = none_at };
-      lines_are = vec.items
-          ∙ ap₂ (λ u t. (Local 0 f ∷ []) ++ u ++ t) (sym fails.unkept) (sym fails.on_times);
+      lines_are = vec.items ∙ ap₂ (λ u t. (Local 0 f ∷ []) ++ u ++ t) (sym fails.unkept) (sym fails.on_times);
     },
   )
 

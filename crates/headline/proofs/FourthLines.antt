@@ -5,9 +5,8 @@ use Rattle.headline.proofs.Imports.{codes, common_steps, cond, decimal, ended-co
 use Rattle.headline.proofs.Imports.{line_text, lines_of, list_all, not, refl, refusal_line, report_line_text}
 use Rattle.headline.proofs.Imports.{report_text, slice_get, slice_split_at, some_part, space_and_word, suc, sym}
 use Rattle.headline.proofs.Imports.{timing_report_line, true, zero, ℕ, ◌%◌, ◌&&◌, ◌++◌, ◌<◌, ◌∙◌, ◌∷◌, ◌≡◌}
-use Rattle.lemmas.proofs.Common.{◌/◌, get_or, digit_glyph, digits_onto, list_all-append, onto_first}
-use Rattle.lemmas.proofs.Common.{slice_split}
-use Rattle.lemmas.proofs.Common.{false_from_not}
+use Rattle.lemmas.proofs.Common.{digit_glyph, digits_onto, false_from_not, get_or, list_all-append, onto_first}
+use Rattle.lemmas.proofs.Common.{slice_split, ◌/◌}
 use Rattle.std.specs.Fmt.{digits}
 use Rattle.hex.specs.Hex.{encode_lower, encode_with, lower_digits}
 use Rattle.section_text.specs.Words.{ended_parts, is_line_feed}

@@ -10,8 +10,7 @@ use Rattle.pattern.specs.declared.layout_line.LayoutHeader.{LayoutHeader}
 use Rattle.pattern.specs.declared.layout_line.LayoutLine.{LayoutLine}
 use Rattle.section_text.specs.Limits.{limits_line_count}
 use Rattle.section_text.specs.Section.{Grammar, refused_if_code, result_after_header, result_after_line}
-use Rattle.section_text.specs.Section.{section_body_of}
-use Rattle.section_text.specs.Section.{section_of}
+use Rattle.section_text.specs.Section.{section_body_of, section_of}
 use Rattle.section_text.specs.Sections.{continue_after_section, section_then, value_if_at_end}
 use Rattle.section_text.specs.Words.{bytes_after_last_line_feed, words_of}
 use Rattle.section_text.specs.declared.code.RefusalCode.{RefusalCode}
@@ -78,8 +77,7 @@ module _ {H I : Type 0} (g g' : Grammar H I) (wider : IsWider g g') where
   pub then_wider : {B : Type 0} (n m : ℕ) (ls : List (List ℕ))
       (next next' : H → List I → ℕ → List (List ℕ) → Result B Refusal) (b : B) → section_then g n ls next ≡ Ok b →
       ((h : H) (items : List I) (rest : List (List ℕ)) → next h items (n + (length items + 2)) rest ≡ Ok b →
-      next' h items (m + (length items + 2)) rest ≡ Ok b) →
-      section_then g' m ls next' ≡ Ok b
+      next' h items (m + (length items + 2)) rest ≡ Ok b) → section_then g' m ls next' ≡ Ok b
   then_wider n m ls next next' b e rec =
       let read = then_ok (section_of g n ls) (λ h items. next h items (n + (length items + 2))
       (drop (length items + 2) ls)) b e in

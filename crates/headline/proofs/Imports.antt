@@ -21,8 +21,7 @@ pub use Rattle.certificate.proofs.Imports.{AreFaultless, CertView, IsFaultless, 
 pub use Rattle.certificate.proofs.Imports.{drop, edge_in, filter, flat_map-append, is_haloless_version, is_module_line}
 pub use Rattle.certificate.proofs.Imports.{map-append, stop_in}
 unfoldable pub use Rattle.certificate.proofs.Imports.{add_line, certificate_text, has_nonlocal_edge_wire_beside}
-unfoldable pub use Rattle.certificate.proofs.Imports.{modules_of}
-unfoldable pub use Rattle.certificate.proofs.Imports.{with_halo_lines, without_halo_lines}
+unfoldable pub use Rattle.certificate.proofs.Imports.{modules_of, with_halo_lines, without_halo_lines}
 pub use Rattle.certificate.proofs.MeantLines.{stops_meant}
 pub use Rattle.certificate.proofs.Soundness.{faultless_modules, read_complete}
 pub use Rattle.certificate.proofs.TimeLemmas.{all_in_modules}
@@ -36,9 +35,8 @@ pub use Rattle.certificate_lines.specs.declared.certificate_line.CertificateLine
 pub use Rattle.certificate_lines.specs.declared.certificate_line.StopLine.{StopLine}
 pub use Rattle.circuit.proofs.Bridging.{gates_are_ordered, names_pass, push_cons}
 pub use Rattle.circuit.proofs.Imports.{AreGoodCircuitLines, HasNameCountOfKind, cond_some, consumed, entry}
-unfoldable pub use Rattle.circuit.proofs.Imports.{AreGoodAfter, form_of, gate_entry, gate_line_of_kind}
-unfoldable pub use Rattle.circuit.proofs.Imports.{limit_or_name_code}
-unfoldable pub use Rattle.circuit.proofs.Imports.{if_one_word, name_after_keyword, names_at, row, value_lines}
+unfoldable pub use Rattle.circuit.proofs.Imports.{AreGoodAfter, form_of, gate_entry, gate_line_of_kind, if_one_word}
+unfoldable pub use Rattle.circuit.proofs.Imports.{limit_or_name_code, name_after_keyword, names_at, row, value_lines}
 pub use Rattle.circuit.proofs.Naming.{inputs_are_first}
 pub use Rattle.circuit.proofs.Places.{Have, bytes_same, consume_have}
 pub use Rattle.circuit.specs.Grammars.{circuit_grammar, unconsumed_wire_code}
@@ -59,8 +57,7 @@ pub use Rattle.headline.specs.Plain.{HasRimTouch, SaysPlainCertificate}
 pub use Rattle.headline.specs.ReportLines.{SaysNoWith}
 pub use Rattle.headline.specs.RightInFull.{IsGoodDesign}
 pub use Rattle.headline.specs.SmallDesigns.{AreLinesInOrder, HasNoDelay, IsDesign, IsPlainText, IsSmallDesign}
-pub use Rattle.headline.specs.SmallDesigns.{design_text}
-pub use Rattle.headline.specs.SmallDesigns.{gate_numbers, plain_lines}
+pub use Rattle.headline.specs.SmallDesigns.{design_text, gate_numbers, plain_lines}
 pub use Rattle.headline.specs.Stops.{HasRightStops, SaysBundle}
 pub use Rattle.lemmas.proofs.Common.{All-from_recursion, slice_split_at}
 pub use Rattle.local_run.proofs.Imports.{in_span-negsuc, negsuc, span_from, span_parts, ◌-ℤ◌, ◌^◌}
@@ -76,8 +73,7 @@ pub use Rattle.module_box.proofs.Imports.{take-append-drop}
 pub use Rattle.pattern.proofs.Imports.{AllByRecursion, IsDeadOutside, in_layout, is_layout_side, layout_grammar}
 pub use Rattle.pattern.proofs.Imports.{line_text}
 unfoldable pub use Rattle.pattern.proofs.Imports.{box_of, cells_taken_at_start, largest_limit_code, layout_text}
-unfoldable pub use Rattle.pattern.proofs.Imports.{line_fault}
-unfoldable pub use Rattle.pattern.proofs.Imports.{name_at, number_at}
+unfoldable pub use Rattle.pattern.proofs.Imports.{line_fault, name_at, number_at}
 pub use Rattle.pattern.proofs.Named.{faultless_named}
 unfoldable pub use Rattle.pattern.specs.Forms.{corner_and_sides}
 pub use Rattle.pattern.specs.FromLines.{layout_of}

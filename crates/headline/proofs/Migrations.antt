@@ -1,19 +1,17 @@
 -- The output of `migrate` says what was read, in version 2.
-use Rattle.headline.proofs.Imports.{AreFaultless, AreLines, Bool, Bundle, CertificateLine}
-use Rattle.headline.proofs.Imports.{CircuitLine, End, Grammar, Header, IsFaultless, IsMigrationOf, IsSection, Item}
-use Rattle.headline.proofs.Imports.{LayoutHeader, LayoutLine, List, None, Ok, Option, Pattern, Refusal, RefusalCode}
-use Rattle.headline.proofs.Imports.{Result, SaysBundle, SaysDesign, Setting, Some, Yes, [], ap}
-use Rattle.headline.proofs.Imports.{append-nil, append_assoc, ap₂, arith, bundle_of, bundle_with_limits, bundle_text}
-use Rattle.headline.proofs.Imports.{bytes_after_last_line_feed, certificate_grammar, certificate_section_text}
-use Rattle.headline.proofs.Imports.{circuit_grammar, clean_both, code_if, codes, common_steps, false, flat_map}
-use Rattle.headline.proofs.Imports.{flat_map-append, if◌then◌else◌, is_word_at, layout_grammar, layout_of}
-use Rattle.headline.proofs.Imports.{layout_section_text, length, length-append, length-map, lines_again, lines_of}
-use Rattle.headline.proofs.Imports.{migrate_of, migrated_bundle, nothing_follows, number_after_keyword, number_at}
-use Rattle.headline.proofs.Imports.{number_of, one_line, one_section, or_else, parts_of, port_names_of, read_faultless}
-use Rattle.headline.proofs.Imports.{refl, section_made, section_said, setting_of, subst, sym, take, take-append-drop}
-use Rattle.headline.proofs.Imports.{text_said, true, value_if_at_end, with_line_feed, without_halo_lines, words_of, ℕ}
-use Rattle.headline.proofs.Imports.{◌++◌}
-use Rattle.headline.proofs.Imports.{◌+◌, ◌∙◌, ◌∷◌, ◌≡◌}
+use Rattle.headline.proofs.Imports.{AreFaultless, AreLines, Bool, Bundle, CertificateLine, CircuitLine, End, Grammar}
+use Rattle.headline.proofs.Imports.{Header, IsFaultless, IsMigrationOf, IsSection, Item, LayoutHeader, LayoutLine, List}
+use Rattle.headline.proofs.Imports.{None, Ok, Option, Pattern, Refusal, RefusalCode, Result, SaysBundle, SaysDesign}
+use Rattle.headline.proofs.Imports.{Setting, Some, Yes, [], ap, append-nil, append_assoc, ap₂, arith, bundle_of}
+use Rattle.headline.proofs.Imports.{bundle_text, bundle_with_limits, bytes_after_last_line_feed, certificate_grammar}
+use Rattle.headline.proofs.Imports.{certificate_section_text, circuit_grammar, clean_both, code_if, codes, common_steps}
+use Rattle.headline.proofs.Imports.{false, flat_map, flat_map-append, if◌then◌else◌, is_word_at, layout_grammar}
+use Rattle.headline.proofs.Imports.{layout_of, layout_section_text, length, length-append, length-map, lines_again}
+use Rattle.headline.proofs.Imports.{lines_of, migrate_of, migrated_bundle, nothing_follows, number_after_keyword}
+use Rattle.headline.proofs.Imports.{number_at, number_of, one_line, one_section, or_else, parts_of, port_names_of}
+use Rattle.headline.proofs.Imports.{read_faultless, refl, section_made, section_said, setting_of, subst, sym, take}
+use Rattle.headline.proofs.Imports.{take-append-drop, text_said, true, value_if_at_end, with_line_feed}
+use Rattle.headline.proofs.Imports.{without_halo_lines, words_of, ℕ, ◌++◌, ◌+◌, ◌∙◌, ◌∷◌, ◌≡◌}
 use Rattle.lemmas.proofs.Common.{drop-append_seam}
 use Rattle.section_text.specs.Sections.{section_then}
 use Rattle.section_text.proofs.Again.{drop_clean, lines_clean}
@@ -101,9 +99,8 @@ section_length : {H I : Type 0} (g : Grammar H I) (ls : List (List ℕ)) (h : H)
 section_length {H = H} {I = I} g ls h items e = grind (arith, common_steps, length-map, length-append)
 
 then_made : {H I B : Type 0} (g : Grammar H I) (n : ℕ) (ls others lines : List (List ℕ)) (h : H) (items : List I)
-    (next : H → List I → ℕ → List (List ℕ) → Result B Refusal) → lines ≡ ls ++ others
-    → IsSection g.form ls h items → IsFaultless g h items →
-    section_then g n lines next ≡ next h items (n + (length items + 2)) others
+    (next : H → List I → ℕ → List (List ℕ) → Result B Refusal) → lines ≡ ls ++ others → IsSection g.form ls h items →
+    IsFaultless g h items → section_then g n lines next ≡ next h items (n + (length items + 2)) others
 then_made g n ls others lines h items next e is good = grind (arith, section_made, section_length, drop-append_seam)
 
 module _ (l : Limits) (text : List ℕ) where
@@ -166,8 +163,7 @@ pub record IsSaid (b : Bundle) (circuit : List CircuitLine) (layout : Pattern) (
   pub entries_are : b.entries ≡ certificate
 
 pub said_so : (text : List ℕ) (b : Bundle) (circuit : List CircuitLine) (layout : Pattern)
-    (certificate : List CertificateLine) →
-    HasSections text b → (says : SaysBundle text circuit layout certificate) →
+    (certificate : List CertificateLine) → HasSections text b → (says : SaysBundle text circuit layout certificate) →
     IsSaid b circuit layout says.version certificate
 said_so text b circuit layout certificate s says =
     let d = says.design in
@@ -204,8 +200,7 @@ sections_text b first second third c l k =
     ∙ ap₂ (λ a t. a ++ t) (ap₂ (λ a t. a ++ t) one two) three
 
 -- a text that has only these sections is spelled in the one way
-pub text_is : (text : List ℕ) (b : Bundle) → HasSections text b →
-    text ≡ front_text (text_limits text) ++ bundle_text b
+pub text_is : (text : List ℕ) (b : Bundle) → HasSections text b → text ≡ front_text (text_limits text) ++ bundle_text b
 text_is text b s =
     front_and_lines text ∙ ap (λ t. front_text (text_limits text) ++ t)
     (grind (arith, common_steps, append-nil, sections_text))
@@ -227,8 +222,7 @@ keep i items line false e is clean more = record {
 }
 
 kept : (items : List CertificateLine) (ls : List (List ℕ)) →
-    forms certificate_form ls ≡ items_said certificate_form items →
-    AreLines ls → Kept items
+    forms certificate_form ls ≡ items_said certificate_form items → AreLines ls → Kept items
 unfolding without_halo_lines
 kept [] ls e clean = record { lines = ls; said = e; clean = clean }
 kept (i ∷ items) ls e clean =
@@ -309,13 +303,11 @@ migrates_once text output again first second =
 
 -- ---- version 2 has no halo lines
 
-no_code : (b : Bool) (code : RefusalCode) (more : Option RefusalCode) → or_else (code_if b code) more ≡ None →
-    b ≡ false
+no_code : (b : Bool) (code : RefusalCode) (more : Option RefusalCode) → or_else (code_if b code) more ≡ None → b ≡ false
 no_code b code more h1 = grind (arith, common_steps)
 
 no_halos : (l : Limits) (g : Setting) (before es : List CertificateLine) →
-    AreFaultless (certificate_grammar l g) 2 before es →
-    without_halo_lines es ≡ es
+    AreFaultless (certificate_grammar l g) 2 before es → without_halo_lines es ≡ es
 unfolding without_halo_lines
 no_halos l g before [] good = refl
 no_halos l g before (i ∷ es) good = grind (arith, with_other, no_code, (no_halos l g (before ++ i ∷ []) es good.1))

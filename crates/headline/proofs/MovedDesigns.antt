@@ -1,8 +1,7 @@
 -- A small design that computes its circuit gets a yes after it is moved
 use Rattle.headline.proofs.Imports.{CircuitLine, HasRoomToMove, IsCorrect, IsDesign, IsReportOf, IsSmallDesign, IsTrue}
-use Rattle.headline.proofs.Imports.{List}
-use Rattle.headline.proofs.Imports.{Outcome, Pattern, TouchesRim, Yes, arith, circuit_of, common_steps, design_text}
-use Rattle.headline.proofs.Imports.{enlarged, in_ring, moved, run_under, subst, whole, ℕ, ◌≡◌}
+use Rattle.headline.proofs.Imports.{List, Outcome, Pattern, TouchesRim, Yes, arith, circuit_of, common_steps}
+use Rattle.headline.proofs.Imports.{design_text, enlarged, in_ring, moved, run_under, subst, whole, ℕ, ◌≡◌}
 use Rattle.headline.specs.MovedDesigns.{EachMovedCorrectDesignGetsYes}
 use Rattle.headline.proofs.MovedLines.{enlarged_good, moved_good}
 use Rattle.headline.proofs.MovedPlanes.{by_moved}

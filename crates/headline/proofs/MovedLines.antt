@@ -2,12 +2,10 @@
 use Rattle.headline.proofs.Imports.{Ball, In, LayoutHeader, LayoutLine, List, Mirror, None, Out, Pattern, Waste, []}
 use Rattle.headline.proofs.Imports.{and_parts, ap₂, arith, cell_fault, cells_of, cells_taken_at_start, common_steps}
 use Rattle.headline.proofs.Imports.{enlarged, flat_map, has_taken_cell, in_layout, in_span, in_span-negsuc, ints}
-use Rattle.headline.proofs.Imports.{is_inside}
-use Rattle.headline.proofs.Imports.{largest_limit_code, map, map-append, moved, moved_by_two, negsuc, parts_of}
-use Rattle.headline.proofs.Imports.{port_moved_by_two, pos, range_with_len, rectangle_cells, rectangle_moved_by_two}
-use Rattle.headline.proofs.Imports.{refl, size_fault, span_from, span_parts, suc, sym, takes_cells_at_start, true, zero}
-use Rattle.headline.proofs.Imports.{ℕ, ℤ}
-use Rattle.headline.proofs.Imports.{◌++◌, ◌+ℤ◌, ◌+◌, ◌∙◌, ◌∷◌, ◌≡◌, ◌≤◌, no_code}
+use Rattle.headline.proofs.Imports.{is_inside, largest_limit_code, map, map-append, moved, moved_by_two, negsuc}
+use Rattle.headline.proofs.Imports.{no_code, parts_of, port_moved_by_two, pos, range_with_len, rectangle_cells}
+use Rattle.headline.proofs.Imports.{rectangle_moved_by_two, refl, size_fault, span_from, span_parts, suc, sym}
+use Rattle.headline.proofs.Imports.{takes_cells_at_start, true, zero, ℕ, ℤ, ◌++◌, ◌+ℤ◌, ◌+◌, ◌∙◌, ◌∷◌, ◌≡◌, ◌≤◌}
 use Rattle.bbm_rule.specs.CellLists.{row_cells}
 use Rattle.pattern.specs.Lines.{AreGoodAfter, cells_taken_at_end, takes_cells_at_end, holds}
 use Rattle.headline.proofs.MovedPlanes.{any_map, cells_moved}

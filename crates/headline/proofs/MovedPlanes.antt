@@ -25,8 +25,7 @@ by_moved P h x y =
 eq_moved : (a b : ℤ) → int_eq (a +ℤ pos 2) (b +ℤ pos 2) ≡ int_eq a b
 eq_moved a b = grind (arith, ints)
 
-area_moved : (r : Box2) (x y : ℤ) →
-    in_box (rectangle_moved_by_two r) (x +ℤ pos 2) (y +ℤ pos 2) ≡ in_box r x y
+area_moved : (r : Box2) (x y : ℤ) → in_box (rectangle_moved_by_two r) (x +ℤ pos 2) (y +ℤ pos 2) ≡ in_box r x y
 unfolding in_box
 area_moved r x y = grind (arith, common_steps, span_moved)
 

@@ -1,11 +1,10 @@
 -- A layout that computes a circuit does so after it is moved
-use Rattle.lemmas.proofs.Common.{arith, common_steps}
+use Rattle.lemmas.proofs.Common.{IsFalse, arith, common_steps}
 use Rattle.headline.proofs.Imports.{Bool, Circuit, CircuitLine, HaveNames, IsCorrect, IsDeadOutside, IsNamed, IsTrue}
 use Rattle.headline.proofs.Imports.{List, LooksAsAsked, Pattern, Port, Some, State, Valuation, [], ap, circuit_of}
 use Rattle.headline.proofs.Imports.{enlarged, has, in_cells, in_layout, in_rectangles, input_names, map, moved}
 use Rattle.headline.proofs.Imports.{output_names, port_moved_by_two, pos, refl, run_under, slice_get}
 use Rattle.headline.proofs.Imports.{slice_get-map, subst, sym, true, ℕ, ℤ, ◌+ℤ◌, ◌∙◌, ◌∷◌, ◌≡◌}
-use Rattle.lemmas.proofs.Common.{IsFalse}
 use Rattle.circuit.specs.Meaning.{values_by_name}
 use Rattle.meaning.specs.Implements.{Computes, Implements, in_ports}
 use Rattle.headline.proofs.MovedLines.{layout_enlarged}

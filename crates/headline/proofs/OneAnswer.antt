@@ -1,9 +1,8 @@
 -- A text has one answer.
 use Rattle.headline.proofs.Imports.{AnswersOrRefuses, Err, HasAtMostOneAnswerToEachText, IsDeadOutside, IsLiveOutside}
 use Rattle.headline.proofs.Imports.{IsRunAnswerOf, LayoutHeader, LayoutLine, List, Ok, Outcome, Pattern, Refusal}
-use Rattle.headline.proofs.Imports.{Result}
-use Rattle.headline.proofs.Imports.{RunQuestion, SaysRunEnd, State, ap, arith, common_steps, layout_of, layout_section}
-use Rattle.headline.proofs.Imports.{parts_of, sym, true≢false, ℕ, ◌∙◌, ◌≡◌}
+use Rattle.headline.proofs.Imports.{Result, RunQuestion, SaysRunEnd, State, ap, arith, common_steps, layout_of}
+use Rattle.headline.proofs.Imports.{layout_section, parts_of, sym, true≢false, ℕ, ◌∙◌, ◌≡◌}
 use Rattle.answers.proofs.Bundles.{layout_again}
 
 -- a layout is what its lines make, so they are those of one layout
@@ -20,8 +19,7 @@ clash : (s : LayoutHeader) (state : State) → IsDeadOutside s state → IsLiveO
 clash s state stays goes = true≢false (sym (stays goes.x goes.y goes.lives) ∙ goes.outside)
 
 one_run : (asked : RunQuestion) (output output' : List ℕ) (outcome outcome' : Outcome) →
-    SaysRunEnd asked output outcome →
-    SaysRunEnd asked output' outcome' → (output ≡ output') × (outcome ≡ outcome')
+    SaysRunEnd asked output outcome → SaysRunEnd asked output' outcome' → (output ≡ output') × (outcome ≡ outcome')
 one_run asked output output' outcome outcome' h h' = grind (arith, common_steps, one_layout)
 
 -- a command that has one answer to what is asked has one to each text

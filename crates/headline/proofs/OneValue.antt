@@ -24,13 +24,11 @@ one_list n a vs us h h' = same_bits vs us (h.all ∙ sym h'.all)
 
 -- values and a gate without a row exclude each other, and there is one such gate
 never_both : (n : Netlist) (a : Valuation) (k : ℕ) (vs us : List Bool) → AreGatesOrdered n.given n.gates →
-    AreWireValues n a vs →
-    ValuesStopAt n a k us → ⊥
+    AreWireValues n a vs → ValuesStopAt n a k us → ⊥
 never_both n a k vs us ordered v s = undefined_has_none n a (as_values vs) k ordered (stopped n a k us s) v.satisfies
 
 one_stop : (n : Netlist) (a : Valuation) (k m : ℕ) (vs us : List Bool) → AreGatesOrdered n.given n.gates →
-    ValuesStopAt n a k vs →
-    ValuesStopAt n a m us → (k ≡ m) × (vs ≡ us)
+    ValuesStopAt n a k vs → ValuesStopAt n a m us → (k ≡ m) × (vs ≡ us)
 one_stop n a k m vs us ordered s t =
     let same : k ≡ m = undefined_is_one n a k m ordered (stopped n a k vs s) (stopped n a m us t) in
     let before : AreWireValues (first_gates k n) a us =

@@ -2,14 +2,12 @@
 use Rattle.headline.proofs.Imports.{All, All-cons, All-nil, AreGoodCircuitLines, Bool, Box2, CertificateLine}
 use Rattle.headline.proofs.Imports.{CircuitLine, Cut, IsGoodDesign, IsInputName, IsPlaced, IsPlainModule, Keep, List}
 use Rattle.headline.proofs.Imports.{ModuleLines, Pattern, SaysPlainCertificate, Some, Use, [], add_line, and_parts}
-use Rattle.headline.proofs.Imports.{any_at, ap}
-use Rattle.headline.proofs.Imports.{append-nil, append_assoc, ap₂, arith, bytes_same, cases_Bool, common_steps, cuts}
-use Rattle.headline.proofs.Imports.{defined, edges, eq-eqb, eqb, eqb-true, false, filter, flat_map, gate_numbers, has}
-use Rattle.headline.proofs.Imports.{input_names, inputs_are_first, is_among, is_inverse_gate, is_module_line, list_all}
-use Rattle.headline.proofs.Imports.{map}
-use Rattle.headline.proofs.Imports.{modules_of, netlist_of, not, placed, plain_lines, range_with_len, refl, slice_get}
-use Rattle.headline.proofs.Imports.{slice_get_within, subst, suc, sym, true, whole, zero, ℕ, ◌&&◌, ◌++◌, ◌+◌, ◌<◌, ◌∙◌}
-use Rattle.headline.proofs.Imports.{◌∷◌, ◌≡◌, ◌≤◌}
+use Rattle.headline.proofs.Imports.{any_at, ap, append-nil, append_assoc, ap₂, arith, bytes_same, cases_Bool}
+use Rattle.headline.proofs.Imports.{common_steps, cuts, defined, edges, eq-eqb, eqb, eqb-true, false, filter, flat_map}
+use Rattle.headline.proofs.Imports.{gate_numbers, has, input_names, inputs_are_first, is_among, is_inverse_gate}
+use Rattle.headline.proofs.Imports.{is_module_line, list_all, map, modules_of, netlist_of, not, placed, plain_lines}
+use Rattle.headline.proofs.Imports.{range_with_len, refl, slice_get, slice_get_within, subst, suc, sym, true, whole}
+use Rattle.headline.proofs.Imports.{zero, ℕ, ◌&&◌, ◌++◌, ◌+◌, ◌<◌, ◌∙◌, ◌∷◌, ◌≡◌, ◌≤◌}
 use Rattle.lemmas.proofs.Common.{fold, false_from_not}
 use Rattle.certificate_lines.specs.Entries.{change_last, keeps}
 use Rattle.headline.specs.PlainLaws.{PlainLinesTextIsDecided}

@@ -2,16 +2,15 @@
 use Rattle.headline.proofs.Imports.{Accepts, All, AnswersOrRefuses, AreOnTime, BelongTogether, Bundle, CertView}
 use Rattle.headline.proofs.Imports.{CertificateLine, Circuit, CircuitLine, Err, Fault, HasRightStops, HasRimTouch}
 use Rattle.headline.proofs.Imports.{IsCorrect, IsInputName, IsPlainModule, IsRead, IsRight, IsVerdict, LineMeans, List}
-use Rattle.headline.proofs.Imports.{Local}
-use Rattle.headline.proofs.Imports.{Meet, ModuleLines, No, Ok, Outcome, Pattern, Refusal, Refused, ReportLine, Result}
-use Rattle.headline.proofs.Imports.{Satisfies, SaysBundle, SaysDesign, SaysNoWith, SaysPlainCertificate, SaysReport}
-use Rattle.headline.proofs.Imports.{Setting, Some}
-use Rattle.headline.proofs.Imports.{StopHolds, TouchesRim, Valuation, Verdict, Yes, [], all_in_modules, all_stops, ap}
-use Rattle.headline.proofs.Imports.{arith, bundle_of, cases_Bool, certificate_text, circuit_of, common_steps}
-use Rattle.headline.proofs.Imports.{cut_name_in, cuts, edge_in, edges, flat_map, inl, inr, is_haloless_version, length}
-use Rattle.headline.proofs.Imports.{map, meant_old, modules_in, modules_of, netlist_of, option_map, read_layout-names}
-use Rattle.headline.proofs.Imports.{refl, report_text, setting_of, sha256, slice_get, slice_get-map, stop_in}
-use Rattle.headline.proofs.Imports.{stops_meant, subst, sym, verdict_outcome, with_halo_lines, ℕ, ◌∙◌, ◌∷◌, ◌≡◌}
+use Rattle.headline.proofs.Imports.{Local, Meet, ModuleLines, No, Ok, Outcome, Pattern, Refusal, Refused, ReportLine}
+use Rattle.headline.proofs.Imports.{Result, Satisfies, SaysBundle, SaysDesign, SaysNoWith, SaysPlainCertificate}
+use Rattle.headline.proofs.Imports.{SaysReport, Setting, Some, StopHolds, TouchesRim, Valuation, Verdict, Yes, []}
+use Rattle.headline.proofs.Imports.{all_in_modules, all_stops, ap, arith, bundle_of, cases_Bool, certificate_text}
+use Rattle.headline.proofs.Imports.{circuit_of, common_steps, cut_name_in, cuts, edge_in, edges, flat_map, inl, inr}
+use Rattle.headline.proofs.Imports.{is_haloless_version, length, map, meant_old, modules_in, modules_of, netlist_of}
+use Rattle.headline.proofs.Imports.{option_map, read_layout-names, refl, report_text, setting_of, sha256, slice_get}
+use Rattle.headline.proofs.Imports.{slice_get-map, stop_in, stops_meant, subst, sym, verdict_outcome, with_halo_lines}
+use Rattle.headline.proofs.Imports.{ℕ, ◌∙◌, ◌∷◌, ◌≡◌}
 use Rattle.lemmas.proofs.Common.{Global, Vec}
 use Rattle.certificate_lines.specs.Entries.{stops}
 use Rattle.certificate_lines.specs.Versions.{edge_lines_beside, sorted_border_lines, modules_by_version}

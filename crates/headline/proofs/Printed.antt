@@ -1,18 +1,15 @@
 -- A text that begins with a design says it, and the printing is the text of the sections.
 use Rattle.headline.proofs.Imports.{All, All-head, All-tail, AllByRecursion, AreLines, Ball, Cell, CircuitLine, End}
 use Rattle.headline.proofs.Imports.{HasNameCountOfKind, Header, In, IsForm, IsLine, IsTrue, Item, LayoutLine, List}
-use Rattle.headline.proofs.Imports.{Mirror, None}
-use Rattle.headline.proofs.Imports.{Out, Pattern, Waste, [], ap, append-nil, append_assoc, ap₂, arith, circuit_grammar}
-use Rattle.headline.proofs.Imports.{clean_both, codes, common_steps, ended-cons, entry, flat_map, flat_map-append}
-use Rattle.headline.proofs.Imports.{is_name, layout_grammar, length, line_text, lines_of, map, part_form, parts_of, pos}
-use Rattle.headline.proofs.Imports.{refl, slice_split_at, some_part, sym, text_said, true, with_line_feed, ℕ, ℤ, ◌&&◌}
-use Rattle.headline.proofs.Imports.{◌++◌, ◌<◌, ◌^◌, ◌∙◌, ◌∷◌, ◌≡◌}
-use Rattle.lemmas.proofs.Common.{signed_decimal}
-use Rattle.lemmas.proofs.Common.{inl, inr}
+use Rattle.headline.proofs.Imports.{Mirror, None, Out, Pattern, Waste, [], ap, append-nil, append_assoc, ap₂, arith}
+use Rattle.headline.proofs.Imports.{circuit_grammar, clean_both, codes, common_steps, ended-cons, entry, flat_map}
+use Rattle.headline.proofs.Imports.{flat_map-append, is_name, layout_grammar, length, line_text, lines_of, map}
+use Rattle.headline.proofs.Imports.{part_form, parts_of, pos, refl, slice_split_at, some_part, sym, text_said, true}
+use Rattle.headline.proofs.Imports.{with_line_feed, ℕ, ℤ, ◌&&◌, ◌++◌, ◌<◌, ◌^◌, ◌∙◌, ◌∷◌, ◌≡◌}
+use Rattle.lemmas.proofs.Common.{inl, inr, signed_decimal}
 use Rattle.circuit.specs.Bridge.{kind_in_count, kind_out_count}
 use Rattle.circuit.specs.declared.circuit_line.CircuitLineKind.{CircuitLineKind}
-use Rattle.meaning.specs.Printed.{circuit_printed, form, layout_printed, line_words, printed}
-use Rattle.meaning.specs.Printed.{IsFront}
+use Rattle.meaning.specs.Printed.{IsFront, circuit_printed, form, layout_printed, line_words, printed}
 use Rattle.headline.specs.Laws.{BeginsWithOneDesign, PrintedDesignIsRead}
 use Rattle.headline.proofs.Designs.{one_design}
 use Rattle.headline.proofs.Written.{HasLine, HasSection, has_section}

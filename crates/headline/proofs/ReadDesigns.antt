@@ -1,15 +1,14 @@
 -- What a text says that is not refused keeps the rules of a design
 use Rattle.headline.proofs.Imports.{All-from_recursion, AllByRecursion, AnswersOrRefuses, AreFaultless, AreLinesInOrder}
-use Rattle.headline.proofs.Imports.{Bundle, CircuitLine, End, Err, Form, Header, IsDesign, IsFaultless}
-use Rattle.headline.proofs.Imports.{IsSection, IsTrue, Item, LayoutHeader, LayoutLine, List, Ok}
-use Rattle.headline.proofs.Imports.{Pattern, Refusal, Result, SaysReport, Some, [], and_parts}
-use Rattle.headline.proofs.Imports.{ap₂, arith, bundle_of, circuit_grammar, common_steps, cond_some}
-use Rattle.headline.proofs.Imports.{consumed, defined, eqb, faultless_named, no_code_first, form_of, gate_entry}
-use Rattle.headline.proofs.Imports.{gate_line_of_kind, if_one_word, is_name, layout_grammar}
-use Rattle.headline.proofs.Imports.{layout_section, length, list_all, map, name_after_keyword, name_at, name_of}
-use Rattle.headline.proofs.Imports.{names_at, one_line, parts_of, port_names_of, read_layout-is_named}
-use Rattle.headline.proofs.Imports.{refl, same_Some, section_made, slice_get, subst, suc, sym, true}
-use Rattle.headline.proofs.Imports.{words_of, zero, ℕ, ◌&&◌, ◌++◌, ◌+◌, ◌>>=◌, ◌∷◌, ◌≡◌}
+use Rattle.headline.proofs.Imports.{Bundle, CircuitLine, End, Err, Form, Header, IsDesign, IsFaultless, IsSection}
+use Rattle.headline.proofs.Imports.{IsTrue, Item, LayoutHeader, LayoutLine, List, Ok, Pattern, Refusal, Result}
+use Rattle.headline.proofs.Imports.{SaysReport, Some, [], and_parts, ap₂, arith, bundle_of, circuit_grammar}
+use Rattle.headline.proofs.Imports.{common_steps, cond_some, consumed, defined, eqb, faultless_named, form_of}
+use Rattle.headline.proofs.Imports.{gate_entry, gate_line_of_kind, if_one_word, is_name, layout_grammar, layout_section}
+use Rattle.headline.proofs.Imports.{length, list_all, map, name_after_keyword, name_at, name_of, names_at}
+use Rattle.headline.proofs.Imports.{no_code_first, one_line, parts_of, port_names_of, read_layout-is_named, refl}
+use Rattle.headline.proofs.Imports.{same_Some, section_made, slice_get, subst, suc, sym, true, words_of, zero, ℕ, ◌&&◌}
+use Rattle.headline.proofs.Imports.{◌++◌, ◌+◌, ◌>>=◌, ◌∷◌, ◌≡◌}
 use Rattle.lemmas.proofs.Common.{option_and_then_some}
 use Rattle.section_text.proofs.Spellings.{chosen, passed}
 use Rattle.circuit.specs.Rules.{first_unconsumed}
@@ -95,8 +94,7 @@ in_order l before (r ∷ rest) good =
     grind (arith, common_steps, no_code_first, (in_order l (before ++ r ∷ []) rest good.1))
 
 pub design_by : (l : Limits) (circuit : List CircuitLine) (p : Pattern) (ls : List (List ℕ)) →
-    IsSection form_of ls tt circuit →
-    IsFaultless (circuit_grammar l) tt circuit →
+    IsSection form_of ls tt circuit → IsFaultless (circuit_grammar l) tt circuit →
     IsFaultless (layout_grammar l (Some (port_names_of circuit))) p.size (parts_of p) → IsDesign circuit p
 design_by l circuit p ls is good layout =
     let ports = Some (port_names_of circuit) in

@@ -19,9 +19,8 @@ use Rattle.headline.proofs.Imports.{read_layout-is_named, read_layout-names, ref
 use Rattle.headline.proofs.Imports.{setting_of, size_fault, slice_get, slice_get-map, slice_get_within, subst, suc, sym}
 use Rattle.headline.proofs.Imports.{take, take-append-drop, true, true≢false, verdict_outcome, whole, zero, ℕ, ◌&&◌}
 use Rattle.headline.proofs.Imports.{◌++◌, ◌+◌, ◌<◌, ◌||◌, ◌∙◌, ◌∷◌, ◌≡◌, ◌≢◌, ◌≤◌}
-use Rattle.lemmas.proofs.Common.{is_lt, option_to_list, All-append, and-false, list_any-append, or-true, ordering_then}
-use Rattle.lemmas.proofs.Common.{take-length, less_nat, not_le_test}
-use Rattle.lemmas.proofs.Common.{length-range_with_len, list_all-append}
+use Rattle.lemmas.proofs.Common.{All-append, and-false, is_lt, length-range_with_len, less_nat, list_all-append}
+use Rattle.lemmas.proofs.Common.{list_any-append, not_le_test, option_to_list, or-true, ordering_then, take-length}
 use Rattle.circuit.specs.Meaning.{Gate, place_of, wire_of, wires, wires_after}
 use Rattle.circuit.specs.Rules.{define_fault}
 use Rattle.circuit.proofs.Bridging.{define_first, defined_push, numbers_new}
@@ -29,11 +28,10 @@ use Rattle.circuit.proofs.Naming.{wires_are_named}
 use Rattle.module_box.specs.Locals.{local_wires}
 use Rattle.certificate_lines.specs.Entries.{gates, last_of, areas}
 use Rattle.certificate_lines.specs.Orders.{is_cut_line, line_cmp, may_follow, may_precede, sort_number_of, rank_of}
-use Rattle.certificate_lines.specs.Rules.{are_new_and_distinct, cut_line_code, entry_fault, used_gate_fault}
-use Rattle.certificate_lines.specs.Rules.{keep_line_code, line_fault, use_line_code, code_but_for_order}
-use Rattle.certificate_lines.specs.Rules.{module_box_code}
-use Rattle.certificate_lines.specs.Rules.{end_fault, is_last_module_incomplete, is_local, is_local_wire}
-use Rattle.certificate_lines.specs.Rules.{has_nonlocal_port, leaves_gap, module_line_code, module_limit_fault}
+use Rattle.certificate_lines.specs.Rules.{are_new_and_distinct, code_but_for_order, cut_line_code, end_fault}
+use Rattle.certificate_lines.specs.Rules.{entry_fault, has_nonlocal_port, is_last_module_incomplete, is_local}
+use Rattle.certificate_lines.specs.Rules.{is_local_wire, keep_line_code, leaves_gap, line_fault, module_box_code}
+use Rattle.certificate_lines.specs.Rules.{module_limit_fault, module_line_code, use_line_code, used_gate_fault}
 use Rattle.certificate_lines.proofs.LocalLemmas.{local_more}
 use Rattle.pattern.specs.Lines.{ArePortsNamed}
 use Rattle.certificate_lines.proofs.BoxPlaces.{cells_inside}
@@ -151,8 +149,7 @@ unfolding modules_of last_of add_line
 present_one b ms inner = ap last_of (all_inner b [] ms inner)
 
 all_push : (ms : List CertificateLine) (i : CertificateLine) → list_all (λ i. not (is_module_line i)) ms ≡ true →
-    is_module_line i ≡ false →
-    list_all (λ i. not (is_module_line i)) (ms ++ i ∷ []) ≡ true
+    is_module_line i ≡ false → list_all (λ i. not (is_module_line i)) (ms ++ i ∷ []) ≡ true
 all_push ms i h k = list_all-append (λ i. not (is_module_line i)) ms (i ∷ []) ∙ rw (h, k) refl
 
 -- only a line of a module is one too many
@@ -183,8 +180,7 @@ inner_faultless l g b ms (i ∷ ls) all h =
 -- ---- the order of lines
 
 follow_mapped : {X : Type 0} (mk : X → CertificateLine) (j : CertificateLine) (P : X → Type 0) (xs : List X) →
-    All P xs →
-    ((x : X) → P x → may_precede (mk x) j ≡ true) → list_all (λ i. may_precede i j) (map mk xs) ≡ true
+    All P xs → ((x : X) → P x → may_precede (mk x) j ≡ true) → list_all (λ i. may_precede i j) (map mk xs) ≡ true
 follow_mapped mk j P [] all h = refl
 follow_mapped mk j P (x ∷ xs) all h =
     ap₂ (λ a b. a && b) (h x (All-head P x xs all)) (follow_mapped mk j P xs (All-tail P x xs all) h)
@@ -218,8 +214,7 @@ unfolding may_precede is_cut_line line_cmp rank_of sort_number_of
 keep_keep j k lt = grind (arith, common_steps, ordering_then, less_nat)
 
 follow_by : (g : Setting) (m : ModuleLines) (i : CertificateLine) → may_follow m.lines i ≡ true →
-    code_but_for_order g m i ≡ None →
-    line_fault g m i ≡ None
+    code_but_for_order g m i ≡ None → line_fault g m i ≡ None
 follow_by g m i f w = ap₂ or_else (ap (λ b. code_if (not b) OutOfOrder) f) w
 
 all_below : (n a b : ℕ) → a + n ≤ b → All (λ j. j < b) (range_with_len a n)
@@ -235,8 +230,7 @@ cut_ok c count local n w few e fresh = grind (arith, common_steps, not_le_test)
 
 use_ok : (c : Circuit) (count : ℕ) (local : List ℕ) (k : ℕ) (x : Gate) → count < 64 →
     slice_get c.netlist.gates k ≡ Some x → list_all (is_among local) x.ins ≡ true →
-    are_new_and_distinct local x.outs ≡ true →
-    use_line_code c count local k ≡ None
+    are_new_and_distinct local x.outs ≡ true → use_line_code c count local k ≡ None
 unfolding use_line_code used_gate_fault
 use_ok c count local k x few at ins new = grind (arith, common_steps, not_le_test)
 
@@ -415,8 +409,7 @@ module _ (circuit : List CircuitLine) (good : AreGoodCircuitLines circuit) (p : 
       by_test : (t : Bool) → is_inverse_number a ≡ t →
           Inner g b (uses ++ map Keep done) (map Keep (filter is_inverse_number (range_with_len (a + 1) n))) →
           Inner g b (uses ++ map Keep (done ++ a ∷ [])) (map Keep (filter is_inverse_number (range_with_len (a + 1) n)))
-          →
-          Inner g b (uses ++ map Keep done) (map Keep (filter is_inverse_number (a ∷ range_with_len (a + 1) n)))
+          → Inner g b (uses ++ map Keep done) (map Keep (filter is_inverse_number (a ∷ range_with_len (a + 1) n)))
       by_test false t without with = rw t without
       by_test true t without with = rw t (
         refl,

@@ -1,15 +1,13 @@
 -- `modules`, `migrate` and `value` have an answer to each text
 use Rattle.headline.proofs.Imports.{AnswersOrRefuses, AreGatesOrdered, CircuitLine, Err, HasAnAnswerToEachText}
 use Rattle.headline.proofs.Imports.{IsMigrationOf, IsModulesAnswerOf, IsValueAnswerOf, List, No, Ok, Outcome, Refusal}
-use Rattle.headline.proofs.Imports.{Refused}
-use Rattle.headline.proofs.Imports.{Result, SaysMigration, SaysModules, SaysValues, ValueQuestion, Yes, [], arith}
-use Rattle.headline.proofs.Imports.{bundle_of, circuit_grammar, codes, common_steps, decimal, defined}
+use Rattle.headline.proofs.Imports.{Refused, Result, SaysMigration, SaysModules, SaysValues, ValueQuestion, Yes, []}
+use Rattle.headline.proofs.Imports.{arith, bundle_of, circuit_grammar, codes, common_steps, decimal, defined}
 use Rattle.headline.proofs.Imports.{gates_are_ordered, inl, inr, line_text, netlist_of, pair_with_result, refl}
 use Rattle.headline.proofs.Imports.{refusal_line, section_of, subst, value_lines, value_sections_of, ℕ, ◌++◌, ◌∷◌, ◌≡◌}
 use Rattle.headline.proofs.Imports.{◌⊎◌}
 use Rattle.soundness.proofs.SomeValues.{HasStop, HasValues, values_or_stop}
-use Rattle.answers.specs.ValueText.{assigned_inputs}
-use Rattle.answers.specs.ValueText.{value_sections_with_limits}
+use Rattle.answers.specs.ValueText.{assigned_inputs, value_sections_with_limits}
 use Rattle.headline.proofs.YesIsRight.{circuit_good, went_on}
 use Rattle.section_text.specs.declared.limits.Limits.{Limits}
 use Rattle.section_text.specs.Limits.{limits_line_count}

@@ -43,8 +43,7 @@ unfolding layout_line_fault line_fault
 follows ports s before part e = no_code_first (order_fault before part) _ (no_code_first _ _ e)
 
 more_parts : (l : Limits) (ports : Option PortNameLists) (s : LayoutHeader) (before parts : List LayoutLine) →
-    HasLines s before →
-    AreFaultless (layout_grammar l ports) s before parts → HasLines s (before ++ parts)
+    HasLines s before → AreFaultless (layout_grammar l ports) s before parts → HasLines s (before ++ parts)
 unfolding HasLines
 more_parts l ports s before [] has good = subst (HasLines s) (sym (append-nil before)) has
 more_parts l ports s before (part ∷ parts) has good =
@@ -60,8 +59,7 @@ more_parts l ports s before (part ∷ parts) has good =
         (one.0, one.1 ∙ ap (λ (v : LayoutHeader × List LayoutLine). (v.0, v.1 ++ part ∷ [])) same)
 
 pub some_layout : (l : Limits) (ports : Option PortNameLists) (s : LayoutHeader) (parts : List LayoutLine) →
-    IsFaultless (layout_grammar l ports) s parts →
-    (p : Pattern) × (layout_section p ≡ (s, parts))
+    IsFaultless (layout_grammar l ports) s parts → (p : Pattern) × (layout_section p ≡ (s, parts))
 unfolding HasLines
 some_layout l ports s parts good =
     let empty : Pattern = record { size = s; mirrors = []; balls = []; ins = []; outs = []; wastes = [] } in

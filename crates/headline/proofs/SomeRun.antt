@@ -17,8 +17,7 @@ use Rattle.certificate_lines.proofs.LineOrder.{In, flat_in}
 use Rattle.certificate_lines.proofs.InList.{placed}
 use Rattle.certificate.proofs.FullModules.{stands}
 use Rattle.soundness.proofs.SomeLeast.{Decided, HasOne, both_decided, bools_decided, some_decided, true_decided}
-use Rattle.answers.specs.RunText.{run_sections_of}
-use Rattle.answers.specs.RunText.{run_sections_with_limits}
+use Rattle.answers.specs.RunText.{run_sections_of, run_sections_with_limits}
 use Rattle.headline.proofs.SomeAnswer.{SaysSomething, answered_always}
 use Rattle.headline.proofs.SomeReport.{some_layout}
 use Rattle.headline.proofs.YesIsRight.{laid_out, went_on}
@@ -156,8 +155,7 @@ record IsAskedLayout (l : Limits) (asked : RunQuestion) : Type 0 where
   pub good : IsFaultless (layout_grammar l None) size parts
   pub same : (size, parts) ≡ asked.0
 
-asked_first : (lines : LayoutHeader × List LayoutLine) (read : Result (List (List ℕ)) Refusal)
-    (asked : RunQuestion) →
+asked_first : (lines : LayoutHeader × List LayoutLine) (read : Result (List (List ℕ)) Refusal) (asked : RunQuestion) →
     pair_with_result lines read ≡ Ok asked → lines ≡ asked.0
 asked_first lines read asked h1 = grind (arith, common_steps)
 

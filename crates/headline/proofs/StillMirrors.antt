@@ -1,14 +1,13 @@
 -- A mirror that touches the rim of its rectangle: its layout computes a circuit, and gets a yes after it is moved
-use Rattle.headline.proofs.Imports.{Bool, CircuitLine, Gate, HasNoDelay, HasRoomToMove, IsCorrect}
-use Rattle.headline.proofs.Imports.{IsDesign, IsReportOf, IsSmallDesign, List, LooksAsAsked, No, None, Pattern}
-use Rattle.headline.proofs.Imports.{Satisfies, Source, Spill, State, TouchesRim, Valuation, [], limit_or_name_code}
-use Rattle.headline.proofs.Imports.{ap, arith, cell_fault, cells_of, cells_taken_at_start, codes, common_steps}
-use Rattle.headline.proofs.Imports.{design_text, false, in_box, in_layout, in_ring, in_span, in_span-negsuc, inl, inr}
-use Rattle.headline.proofs.Imports.{has_taken_cell, ints, is_inside, largest_limit_code, negsuc, number, partner}
-use Rattle.headline.proofs.Imports.{parts_of, plane_at, pos, rectangle_cells, refl, row, run, run_under, size_fault}
-use Rattle.headline.proofs.Imports.{span_from, span_parts, start, step, subst, suc, sym, takes_cells_at_start, true}
-use Rattle.headline.proofs.Imports.{turned}
-use Rattle.headline.proofs.Imports.{zero, ℕ, ℤ, ◌&&◌, ◌+ℤ◌, ◌+◌, ◌-ℤ◌, ◌∙◌, ◌∷◌, ◌≡◌, ◌≤◌}
+use Rattle.headline.proofs.Imports.{Bool, CircuitLine, Gate, HasNoDelay, HasRoomToMove, IsCorrect, IsDesign, IsReportOf}
+use Rattle.headline.proofs.Imports.{IsSmallDesign, List, LooksAsAsked, No, None, Pattern, Satisfies, Source, Spill}
+use Rattle.headline.proofs.Imports.{State, TouchesRim, Valuation, [], ap, arith, cell_fault, cells_of}
+use Rattle.headline.proofs.Imports.{cells_taken_at_start, codes, common_steps, design_text, false, has_taken_cell}
+use Rattle.headline.proofs.Imports.{in_box, in_layout, in_ring, in_span, in_span-negsuc, inl, inr, ints, is_inside}
+use Rattle.headline.proofs.Imports.{largest_limit_code, limit_or_name_code, negsuc, number, partner, parts_of, plane_at}
+use Rattle.headline.proofs.Imports.{pos, rectangle_cells, refl, row, run, run_under, size_fault, span_from, span_parts}
+use Rattle.headline.proofs.Imports.{start, step, subst, suc, sym, takes_cells_at_start, true, turned, zero, ℕ, ℤ, ◌&&◌}
+use Rattle.headline.proofs.Imports.{◌+ℤ◌, ◌+◌, ◌-ℤ◌, ◌∙◌, ◌∷◌, ◌≡◌, ◌≤◌}
 use Rattle.lemmas.proofs.Common.{next_neg}
 use Rattle.bbm_rule.specs.Spans.{in_area}
 use Rattle.bbm_rule.proofs.Spans.{even_span, in_span-pos, partner_near}

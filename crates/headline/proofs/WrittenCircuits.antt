@@ -1,14 +1,13 @@
 -- The lines of a good circuit can be written, if its wires have names
-use Rattle.headline.proofs.Imports.{AllByRecursion, AreGoodAfter, CircuitLine, Delay, End, HasNameCountOfKind}
-use Rattle.headline.proofs.Imports.{Gate, GateKind, Have, Header, Input, Item, List, None, Output, Some}
-use Rattle.headline.proofs.Imports.{Source, Spill, [], and_parts, ap, limit_or_name_code}
-use Rattle.headline.proofs.Imports.{ap₂, arith, bytes_eq, bytes_eq-Decides, cases_Bool, codes}
+use Rattle.headline.proofs.Imports.{AllByRecursion, AreGoodAfter, CircuitLine, Delay, End, Gate, GateKind}
+use Rattle.headline.proofs.Imports.{HasNameCountOfKind, Have, Header, Input, Item, List, None, Output, Some, Source}
+use Rattle.headline.proofs.Imports.{Spill, [], and_parts, ap, ap₂, arith, bytes_eq, bytes_eq-Decides, cases_Bool, codes}
 use Rattle.headline.proofs.Imports.{common_steps, cond, cond_some, consume_have, consumed, decimal, defined, defines}
-use Rattle.headline.proofs.Imports.{entry, false, false≢true, no_code_first, form_of, gate_entry}
-use Rattle.headline.proofs.Imports.{gate_line_of_kind, has, if_one_word, inl, inr, is_name, is_word_at, length}
-use Rattle.headline.proofs.Imports.{list_all, name_after_keyword, name_at, name_of, names_at, names_pass}
-use Rattle.headline.proofs.Imports.{nat_tests, number_at, number_of, number_written, refl, slice_get, subst, sym, true}
-use Rattle.headline.proofs.Imports.{ℕ, ◌&&◌, ◌++◌, ◌+◌, ◌<◌, ◌==◌, ◌>>=◌, ◌^◌, ◌||◌, ◌∙◌, ◌∷◌, ◌≡◌}
+use Rattle.headline.proofs.Imports.{entry, false, false≢true, form_of, gate_entry, gate_line_of_kind, has, if_one_word}
+use Rattle.headline.proofs.Imports.{inl, inr, is_name, is_word_at, length, limit_or_name_code, list_all}
+use Rattle.headline.proofs.Imports.{name_after_keyword, name_at, name_of, names_at, names_pass, nat_tests}
+use Rattle.headline.proofs.Imports.{no_code_first, number_at, number_of, number_written, refl, slice_get, subst, sym}
+use Rattle.headline.proofs.Imports.{true, ℕ, ◌&&◌, ◌++◌, ◌+◌, ◌<◌, ◌==◌, ◌>>=◌, ◌^◌, ◌||◌, ◌∙◌, ◌∷◌, ◌≡◌}
 use Rattle.lemmas.proofs.Common.{left_is_false}
 use Rattle.section_text.specs.Words.{is_number}
 use Rattle.circuit.specs.Forms.{bit_at, gate_kind, words_before_names}
@@ -111,8 +110,7 @@ gate_form : (k : GateKind) (rest : List (List ℕ)) →
 unfolding form_of is_word_at
 gate_form k rest = grind (arith, common_steps)
 
-head_words : (k : GateKind) → IsShort (Gate k) →
-    IsWord (gate_word k) × AllByRecursion IsWord (gate_parameter_words k)
+head_words : (k : GateKind) → IsShort (Gate k) → IsWord (gate_word k) × AllByRecursion IsWord (gate_parameter_words k)
 head_words (Source true) h = (refl, (refl, tt))
 head_words (Source false) h = (refl, (refl, tt))
 head_words (Delay n) h = (refl, (decimal_word n (h n refl), tt))
@@ -167,9 +165,7 @@ first_of : (n : List ℕ) (ns : List (List ℕ)) → AreNames (n ∷ ns) → is_
 first_of n ns h = (and_parts (is_name n) (list_all is_name ns) h).0
 
 pub line_of : (kind : CircuitLineKind) (ins outs : List (List ℕ)) → HasNameCountOfKind (entry kind ins outs) →
-    AreNames ins →
-    AreNames outs →
-    IsShort kind → HasLine form_of (Item (entry kind ins outs))
+    AreNames ins → AreNames outs → IsShort kind → HasLine form_of (Item (entry kind ins outs))
 unfolding form_of is_word_at name_after_keyword name_at
 line_of (Gate k) ins outs fits i o right = gate_line k ins outs fits i o right
 line_of Input [] (n ∷ []) fits i o right = lone_line (codes "input") n _ refl (first_of n [] o)

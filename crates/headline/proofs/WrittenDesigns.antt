@@ -1,35 +1,30 @@
 -- Each small design has a plain text, and `check` decides the design by it
-use Rattle.headline.proofs.Imports.{All, All-nil, AllByRecursion, AreFaultless, AreGoodAfter}
-use Rattle.headline.proofs.Imports.{AreLines, AreLinesInOrder, AreOnTime, Bool, Bundle, CertificateLine, CircuitLine}
-use Rattle.headline.proofs.Imports.{Cut}
-use Rattle.headline.proofs.Imports.{End, HasNoDelay, HasRightStops, HasRimTouch, Header, IsCorrect, IsDesign}
-use Rattle.headline.proofs.Imports.{IsFaultless, IsPlainText, IsRight, IsSmallDesign, Item, Keep}
-use Rattle.headline.proofs.Imports.{List, Module, Pattern, SaysBundle, SaysDesign, Some, StopHolds, TouchesRim, Use}
-use Rattle.headline.proofs.Imports.{[], and_parts, ap, append-nil, append_assoc, arith, box_of, bundle_text}
-use Rattle.headline.proofs.Imports.{certificate_section_text, certificate_text, circuit_grammar, circuit_of}
-use Rattle.headline.proofs.Imports.{circuit_text, clean_both, codes, common_steps, cond, corner_and_sides, decimal}
-use Rattle.headline.proofs.Imports.{defined, design_text, false, filter, flat_map, flat_map-append, if_one_word}
-use Rattle.headline.proofs.Imports.{input_names, is_name, is_word_at, layout_grammar, layout_section_text, layout_text}
-use Rattle.headline.proofs.Imports.{lines_again, list_all, map, name_after_keyword, name_at, nothing_follows}
-use Rattle.headline.proofs.Imports.{number_after_keyword, number_at, number_written, output_names, parts_of}
-use Rattle.headline.proofs.Imports.{plain_lines, port_names_of, range_with_len, refl, stop_in}
-use Rattle.headline.proofs.Imports.{subst, suc, sym, true, with_line_feed, zero, ℕ, ◌++◌}
+use Rattle.headline.proofs.Imports.{All, All-nil, AllByRecursion, AreFaultless, AreGoodAfter, AreLines, AreLinesInOrder}
+use Rattle.headline.proofs.Imports.{AreOnTime, Bool, Bundle, CertificateLine, CircuitLine, Cut, End, HasNoDelay}
+use Rattle.headline.proofs.Imports.{HasRightStops, HasRimTouch, Header, IsCorrect, IsDesign, IsFaultless, IsPlainText}
+use Rattle.headline.proofs.Imports.{IsRight, IsSmallDesign, Item, Keep, List, Module, Pattern, SaysBundle, SaysDesign}
+use Rattle.headline.proofs.Imports.{Some, StopHolds, TouchesRim, Use, [], and_parts, ap, append-nil, append_assoc, ap₂}
+use Rattle.headline.proofs.Imports.{arith, box_of, bundle_text, certificate_section_text, certificate_text}
+use Rattle.headline.proofs.Imports.{circuit_grammar, circuit_of, circuit_text, clean_both, codes, common_steps, cond}
+use Rattle.headline.proofs.Imports.{corner_and_sides, decimal, defined, design_text, false, filter, flat_map}
+use Rattle.headline.proofs.Imports.{flat_map-append, if_one_word, input_names, is_name, is_word_at, layout_grammar}
+use Rattle.headline.proofs.Imports.{layout_section_text, layout_text, length, length-append, lines_again, list_all, map}
+use Rattle.headline.proofs.Imports.{name_after_keyword, name_at, nat_tests, nothing_follows, number_after_keyword}
+use Rattle.headline.proofs.Imports.{number_at, number_written, output_names, parts_of, plain_lines, port_names_of}
+use Rattle.headline.proofs.Imports.{range_with_len, refl, stop_in, subst, suc, sym, true, with_line_feed, zero, ℕ, ◌++◌}
 use Rattle.headline.proofs.Imports.{◌+◌, ◌<◌, ◌>>=◌, ◌^◌, ◌∙◌, ◌∷◌, ◌≡◌, ◌≤◌}
-use Rattle.headline.proofs.Imports.{ap₂, length, length-append, nat_tests}
 use Rattle.certificate_lines.specs.Forms.{form_of}
 use Rattle.headline.specs.PlainLaws.{EachSmallDesignHasPlainText, EachSmallDesignIsDecided}
 use Rattle.headline.proofs.Designs.{one_certificate, one_design}
 use Rattle.headline.proofs.Migrations.{HasSections, text_is}
 use Rattle.headline.proofs.PlainLines.{none_of}
 use Rattle.headline.proofs.Printed.{are_names, printed_is_read}
-use Rattle.headline.proofs.SmallDesigns.{read_alone, small_is_decided}
-use Rattle.headline.proofs.SmallDesigns.{its_given}
+use Rattle.headline.proofs.SmallDesigns.{its_given, read_alone, small_is_decided}
 use Rattle.headline.proofs.WrittenNames.{input_named, outs_named}
 use Rattle.headline.proofs.YesIsPrinted.{design_printed}
 use Rattle.headline.proofs.Written.{HasLine, HasSection, has_section, line_by, name_word}
 use Rattle.headline.proofs.WrittenCircuits.{AreNames, circuit_written, decimal_word, named}
-use Rattle.headline.proofs.WrittenLayouts.{layout_faultless, layout_written}
-use Rattle.headline.proofs.WrittenLayouts.{IsWithin}
+use Rattle.headline.proofs.WrittenLayouts.{IsWithin, layout_faultless, layout_written}
 use Rattle.circuit.specs.Forms.{form_of as circuit_form}
 use Rattle.pattern.specs.Forms.{form_of as layout_form}
 use Rattle.section_text.specs.declared.limits.Limits.TheVariants.{First}

@@ -11,15 +11,12 @@ use Rattle.headline.proofs.Imports.{no_code, not}
 use Rattle.headline.proofs.Imports.{number_at, number_written, option_map, or_else, output_names, parts_of}
 use Rattle.headline.proofs.Imports.{port_names_of, refl, size_fault, slice_get, slice_get-map, subst, suc, sym, true}
 use Rattle.headline.proofs.Imports.{whole, ℕ, ◌&&◌, ◌++◌, ◌+◌, ◌<◌, ◌>>=◌, ◌^◌, ◌||◌, ◌∙◌, ◌∷◌, ◌≡◌, ◌≤◌}
-use Rattle.lemmas.proofs.Common.{at_most_by_test}
-use Rattle.lemmas.proofs.Common.{not_lt_test}
+use Rattle.lemmas.proofs.Common.{at_most_by_test, not_lt_test}
 use Rattle.module_box.proofs.BoxCells.{in_box_nats}
 use Rattle.pattern.specs.Forms.{cell_of_words_from, form_of, cell_after_keyword, port_after_keyword, port_of}
 use Rattle.pattern.specs.Forms.{sides_and_steps, size_of}
-use Rattle.pattern.specs.Lines.{AreGoodAfter, is_input_cell_named, has_later_kind_before, is_output_cell_named}
-use Rattle.pattern.specs.Lines.{missing_port_fault}
-use Rattle.pattern.specs.Lines.{name_fault, order_fault, rank_of}
-use Rattle.pattern.specs.Lines.{text_limit_fault, text_size_fault}
+use Rattle.pattern.specs.Lines.{AreGoodAfter, has_later_kind_before, is_input_cell_named, is_output_cell_named}
+use Rattle.pattern.specs.Lines.{missing_port_fault, name_fault, order_fault, rank_of, text_limit_fault, text_size_fault}
 use Rattle.soundness.proofs.PortNames.{in_lines, out_lines}
 use Rattle.headline.proofs.Written.{HasLine, HasSection, has_section, line_by, name_word}
 use Rattle.headline.proofs.WrittenCircuits.{AreNames, decimal_word, has_name, named}
@@ -240,9 +237,8 @@ mirror_within k s before (Mirror r) within good = grind (arith, common_steps, na
 mirror_within k s before part within good = refl
 
 faultless_on : (k : Limits) (s : LayoutHeader) (l : HasLimits s) (names : PortNameLists)
-    (before parts : List LayoutLine) →
-    IsWithin k s → InOrder before parts → AreGoodAfter s before parts → AllByRecursion (IsPortName s l names) parts →
-    AreFaultless (layout_grammar k (Some names)) s before parts
+    (before parts : List LayoutLine) → IsWithin k s → InOrder before parts → AreGoodAfter s before parts →
+    AllByRecursion (IsPortName s l names) parts → AreFaultless (layout_grammar k (Some names)) s before parts
 unfolding layout_line_fault line_fault
 faultless_on k s l names before [] within order good n = tt
 faultless_on k s l names before (part ∷ parts) within order good n = (

@@ -109,9 +109,8 @@ is_front : (l : Limits) → IsFront (front_text l)
 is_front l = grind (arith, common_steps)
 
 -- a text that begins with the sections of a design, in their one spelling, begins with the design
-pub design_printed : (l : Limits) (text rest : List ℕ) (circuit : List CircuitLine) (p : Pattern) →
-    IsDesign circuit p → text ≡ front_text l ++ (circuit_text circuit ++ (layout_text p ++ rest)) →
-    BeginsWithDesign text circuit p
+pub design_printed : (l : Limits) (text rest : List ℕ) (circuit : List CircuitLine) (p : Pattern) → IsDesign circuit p →
+    text ≡ front_text l ++ (circuit_text circuit ++ (layout_text p ++ rest)) → BeginsWithDesign text circuit p
 design_printed l text rest circuit p design e =
     let ls = all_lines circuit p design in
     let fs = all_forms circuit p design in

@@ -5,24 +5,22 @@ use Rattle.headline.proofs.Imports.{HasRightStops, Header, IsCorrect, IsFaultles
 use Rattle.headline.proofs.Imports.{IsVerdict, Item, JobView, LayoutHeader, LayoutLine, List, None, Ok, Option}
 use Rattle.headline.proofs.Imports.{OutOfOrder, Outcome, Pattern, PortNameLists, Refusal, RefusalCode, Refused, Result}
 use Rattle.headline.proofs.Imports.{SaysBundle, SaysDesign, SaysReport, Some, StopHolds, StopLine, Verdict, Yes, []}
-use Rattle.headline.proofs.Imports.{all_in_modules, all_stops, ap, append-nil, append_assoc, ap₂, limit_or_name_code}
-use Rattle.headline.proofs.Imports.{arith, bundle_of, bundle_with_limits, bytes_after_last_line_feed}
-use Rattle.headline.proofs.Imports.{certificate_grammar}
+use Rattle.headline.proofs.Imports.{all_in_modules, all_stops, ap, append-nil, append_assoc, ap₂, arith, bundle_of}
+use Rattle.headline.proofs.Imports.{bundle_with_limits, bytes_after_last_line_feed, certificate_grammar}
 use Rattle.headline.proofs.Imports.{circuit_grammar, circuit_of, circuit_text, common_steps, cond, consumed, defined}
-use Rattle.headline.proofs.Imports.{drop, eqb, faultless_named, flat_map, unconsumed_wire_code, flat_map-append}
-use Rattle.headline.proofs.Imports.{form_of, gates_are_ordered, inputs_are_first, layout_grammar, layout_of}
-use Rattle.headline.proofs.Imports.{layout_section, layout_text, length, lines_of, modules_in, modules_of, nat_lt}
-use Rattle.headline.proofs.Imports.{netlist_of, or_else, order_fault, parts_of, port_names_of, read_faultless, refl}
-use Rattle.headline.proofs.Imports.{report_text, section_of, setting_of, stop_in, stops_meant, subst, sym, take}
-use Rattle.headline.proofs.Imports.{take-append-drop, verdict_outcome, with_line_feed, words_of, ℕ, ◌++◌, ◌+◌, ◌∙◌, ◌∷◌}
-use Rattle.headline.proofs.Imports.{◌≡◌, ◌≢◌, ◌≤◌}
+use Rattle.headline.proofs.Imports.{drop, eqb, faultless_named, flat_map, flat_map-append, form_of, gates_are_ordered}
+use Rattle.headline.proofs.Imports.{inputs_are_first, layout_grammar, layout_of, layout_section, layout_text, length}
+use Rattle.headline.proofs.Imports.{limit_or_name_code, lines_of, modules_in, modules_of, nat_lt, netlist_of, or_else}
+use Rattle.headline.proofs.Imports.{order_fault, parts_of, port_names_of, read_faultless, refl, report_text, section_of}
+use Rattle.headline.proofs.Imports.{setting_of, stop_in, stops_meant, subst, sym, take, take-append-drop}
+use Rattle.headline.proofs.Imports.{unconsumed_wire_code, verdict_outcome, with_line_feed, words_of, ℕ, ◌++◌, ◌+◌, ◌∙◌}
+use Rattle.headline.proofs.Imports.{◌∷◌, ◌≡◌, ◌≢◌, ◌≤◌}
 use Rattle.lemmas.proofs.Common.{ltb-false}
 use Rattle.section_text.specs.Section.{refused_if_code, result_after_line, result_after_header, section_body_of}
 use Rattle.circuit.specs.Text.{Line}
 use Rattle.section_text.specs.Sections.{continue_after_section}
 use Rattle.circuit.specs.Entries.{rank_of}
-use Rattle.circuit.specs.Rules.{first_unconsumed, gate_count, last_rank}
-use Rattle.circuit.specs.Rules.{exceeds_text_limit}
+use Rattle.circuit.specs.Rules.{exceeds_text_limit, first_unconsumed, gate_count, last_rank}
 use Rattle.circuit.proofs.Valuations.{at_most_one}
 use Rattle.circuit.proofs.Bridging.{count_append}
 use Rattle.circuit.proofs.Fitting.{entry_fits, no_gate_still, no_gate_yet}
@@ -68,16 +66,12 @@ unless_ok : (n : ℕ) (o : Option RefusalCode) (r : Result (Unit {0} × List Cir
 unless_ok n o r y h1 = grind (arith, common_steps)
 
 line_good : (l : Limits) (words : List (List ℕ)) (ls : List (List ℕ)) (before : List CircuitLine) (n : ℕ)
-    (rows : List CircuitLine)
-    (o : Option Line) → form_of words ≡ o → HasNoGateYet before
-    → result_after_line (circuit_grammar l) tt before n
-    (λ i. section_body_of (circuit_grammar l) tt (before ++ i ∷ []) (n + 1) ls) o
-    ≡ Ok (tt, rows)
-    → ((i : CircuitLine) → HasNoGateYet (before ++ i ∷ []) →
+    (rows : List CircuitLine) (o : Option Line) → form_of words ≡ o → HasNoGateYet before →
+    result_after_line (circuit_grammar l) tt before n
+    (λ i. section_body_of (circuit_grammar l) tt (before ++ i ∷ []) (n + 1) ls) o ≡ Ok (tt, rows) →
+    ((i : CircuitLine) → HasNoGateYet (before ++ i ∷ []) →
     section_body_of (circuit_grammar l) tt (before ++ i ∷ []) (n + 1) ls ≡ Ok (tt, rows) →
-    MoreGood (before ++ i ∷ []) rows)
-    →
-    MoreGood before rows
+    MoreGood (before ++ i ∷ []) rows) → MoreGood before rows
 unfolding AreGoodAfter
 line_good l words ls before n rows (Some (Item r)) f none e rec =
     let passed = unless_ok n (or_else (order_fault before r)
@@ -104,8 +98,7 @@ line_good l words ls before n rows (Some End) f none e rec = grind (arith, commo
 line_good l words ls before n rows _ f none e rec = absurd cc
 
 body_good : (l : Limits) (ls : List (List ℕ)) (before : List CircuitLine) (n : ℕ) (rows : List CircuitLine) →
-    HasNoGateYet before →
-    section_body_of (circuit_grammar l) tt before n ls ≡ Ok (tt, rows) → MoreGood before rows
+    HasNoGateYet before → section_body_of (circuit_grammar l) tt before n ls ≡ Ok (tt, rows) → MoreGood before rows
 unfolding section_body_of
 body_good l [] before n rows none e = absurd cc
 body_good l (line ∷ ls) before n rows none e =
@@ -114,8 +107,7 @@ body_good l (line ∷ ls) before n rows none e =
 
 header_good : (l : Limits) (ls : List (List ℕ)) (n : ℕ) (rows : List CircuitLine) (o : Option Line) →
     result_after_header (circuit_grammar l) n (λ k. section_body_of (circuit_grammar l) k [] (n + 1) ls) o
-    ≡ Ok (tt, rows) →
-    AreGoodCircuitLines rows
+    ≡ Ok (tt, rows) → AreGoodCircuitLines rows
 header_good l ls n rows (Some (Header k)) e =
     let t = body_good l ls [] (n + 1) rows refl
     (unless_ok n None (section_body_of (circuit_grammar l) tt [] (n + 1) ls) (tt, rows) e).1 in
@@ -202,11 +194,9 @@ past_layout text b = drop (length b.parts + 2) (past_circuit text b)
 -- the three sections of a text are read one after the other, and no byte follows them
 pub record AreSections (text : List ℕ) (b : Bundle) : Type 0 where
   pub circuit : section_of (circuit_grammar (text_limits text)) (limits_line_count (text_limits text))
-      (section_lines text)
-      ≡ Ok (tt, b.circuit)
+      (section_lines text) ≡ Ok (tt, b.circuit)
   pub layout : section_of (layout_grammar (text_limits text) (Some (port_names_of b.circuit)))
-      (limits_line_count (text_limits text) + (length b.circuit + 2))
-      (past_circuit text b) ≡ Ok (b.size, b.parts)
+      (limits_line_count (text_limits text) + (length b.circuit + 2)) (past_circuit text b) ≡ Ok (b.size, b.parts)
   pub certificate : section_of (certificate_grammar (text_limits text)
       (setting_of b.circuit (layout_of b.size b.parts)))
       (limits_line_count (text_limits text) + (length b.circuit + 2) + (length b.parts + 2)) (past_layout text b)
@@ -273,8 +263,7 @@ own_design text b output outcome circuit layout reads says said =
 
 by_read : (text output : List ℕ) (outcome : Outcome) (circuit : List CircuitLine) (layout : Pattern)
     (read : Result Bundle Refusal) → bundle_of text ≡ read → AnswersOrRefuses SaysReport read output outcome →
-    outcome ≢ Refused →
-    SaysDesign text circuit layout → IsGoodDesign text circuit layout
+    outcome ≢ Refused → SaysDesign text circuit layout → IsGoodDesign text circuit layout
 by_read text output outcome circuit layout (Ok b) e says some said =
     own_design text b output outcome circuit layout e says said
 by_read text output outcome circuit layout (Err refusal) e told some said = absurd (some told.1)

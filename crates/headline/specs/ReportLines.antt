@@ -2,7 +2,7 @@
 --
 -- Read before: Plain.antt; report/specs/ReportText.antt up to `lines_before_verdict` (how a line is spelled);
 -- soundness/specs/FirstFaults.antt from `IsCellAsCertified` on, without the laws;
--- soundness/specs/PlainCertificates.antt from `Shows` to `LineMeans`.
+-- soundness/specs/PlainCertificates.antt from `LocalLineMeans` to `LineMeans`.
 use Rattle.std.specs.Prelude.{◌≡◌, ℕ, List, [], ◌∷◌, ◌++◌, slice_get, Some, Option, codes}
 use Rattle.std.specs.List.{All, flat_map}
 use Rattle.circuit.specs.Bridge.{netlist_of, circuit_of}

@@ -37,8 +37,7 @@ module _ {X : Type 0} (P : X → Type 0) where
 
 -- one element moves from the front of one list to the end of another, which is seen by f there and by g here
 pub moved : {X Y Z : Type 0} (f : X → Z) (g : Y → Z) (done now : List X) (x : X) (rest : List Y) (y : Y) (left : List Y)
-    (all : List Z)
-    → now ≡ done ++ x ∷ [] → rest ≡ y ∷ left → g y ≡ f x → map f done ++ map g rest ≡ all →
+    (all : List Z) → now ≡ done ++ x ∷ [] → rest ≡ y ∷ left → g y ≡ f x → map f done ++ map g rest ≡ all →
     map f now ++ map g left ≡ all
 moved f g done now x rest y left all is was same h = grind (arith, common_steps, map-append)
 

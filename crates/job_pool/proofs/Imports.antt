@@ -3,10 +3,9 @@ pub use Rattle.atomic_table.proofs.Lists.{at_map}
 pub use Rattle.border_match.proofs.Imports.{take, vec_len, ◌-◌}
 pub use Rattle.certificate.proofs.Imports.{drop, map-append}
 pub use Rattle.core_book.proofs.Imports.{All, IsEachNumberDrawnOnce, List, [], ap, append-nil, append_assoc, arc_value}
-pub use Rattle.core_book.proofs.Imports.{arith, false}
-pub use Rattle.core_book.proofs.Imports.{get_or, if◌then◌else◌, job_of, length, length-map, map, nat_tests, occurrences}
-pub use Rattle.core_book.proofs.Imports.{refl, rules, set, shape_of, shapes_of, subst, suc, sym, total, zero, ℕ, ◌++◌}
-pub use Rattle.core_book.proofs.Imports.{◌+◌, ◌<◌, ◌==◌, ◌∙◌, ◌∷◌, ◌≡◌, ◌≢◌, ◌≤◌}
+pub use Rattle.core_book.proofs.Imports.{arith, false, get_or, if◌then◌else◌, job_of, length, length-map, map}
+pub use Rattle.core_book.proofs.Imports.{nat_tests, occurrences, refl, rules, set, shape_of, shapes_of, subst, suc, sym}
+pub use Rattle.core_book.proofs.Imports.{total, zero, ℕ, ◌++◌, ◌+◌, ◌<◌, ◌==◌, ◌∙◌, ◌∷◌, ◌≡◌, ◌≢◌, ◌≤◌}
 pub use Rattle.core_book.specs.Draws.{past_last}
 pub use Rattle.job_pool.specs.Lists.{all_but_last, count_at_least, joined, past_greatest}
 pub use Rattle.job_pool.specs.Rule.{AreNumbersDealt, HasAllPlaces, seat_view}

@@ -1,7 +1,6 @@
 -- Links of the members of groups, made from the last number down, and followed from the first one up
 use Rattle.std.proofs.lemmas.List.{get_or-set_other, get_or-set_same}
-use Rattle.job_pool.proofs.Imports.{List, ap, arith, get_or, if◌then◌else◌, length, nat_tests, occurrences, refl}
-use Rattle.job_pool.proofs.Imports.{suc}
+use Rattle.job_pool.proofs.Imports.{List, ap, arith, get_or, if◌then◌else◌, length, nat_tests, occurrences, refl, suc}
 use Rattle.job_pool.proofs.Imports.{sym, take, zero, ℕ, ◌+◌, ◌-◌, ◌<◌, ◌==◌, ◌∙◌, ◌≡◌, ◌≢◌, ◌≤◌}
 use Rattle.lemmas.proofs.Common.{cases_lt, inl, inr, length-set, set, slice_index, subst, ◌⊎◌}
 use Rattle.module_job.specs.Groups.{AreGroups}
@@ -48,8 +47,7 @@ kept xs i j y other lt =
 pub record AreLinkedFrom (gs links nearest : List ℕ) (low : ℕ) : Type 0 where
   pub count : length links ≡ length gs
   pub groups : length nearest ≡ length gs
-  pub linked : (i : ℕ) → low ≤ i → i < length gs →
-      IsNextOfGroup gs (slice_index gs i) (i + 1) (slice_index links i)
+  pub linked : (i : ℕ) → low ≤ i → i < length gs → IsNextOfGroup gs (slice_index gs i) (i + 1) (slice_index links i)
   pub near : (g : ℕ) → g < length gs → IsNextOfGroup gs g low (slice_index nearest g)
 
 -- the number before them is done too
@@ -132,8 +130,7 @@ one_if : (a x : ℕ) → a ≡ x → ◌≡◌ {A = ℕ} (if a == x then 1 else 
 one_if a x e = grind (arith, nat_tests)
 
 -- what none of some numbers is in adds none of its occurrences
-skipped : (x : ℕ) (gs : List ℕ) (a n : ℕ) → a + n ≤ length gs →
-    ((k : ℕ) → a ≤ k → k < a + n → slice_index gs k ≢ x) →
+skipped : (x : ℕ) (gs : List ℕ) (a n : ℕ) → a + n ≤ length gs → ((k : ℕ) → a ≤ k → k < a + n → slice_index gs k ≢ x) →
     occurrences x (take (a + n) gs) ≡ occurrences x (take a gs)
 skipped x gs a zero fits none = ap (λ z. occurrences x (take z gs)) (omega arith)
 skipped x gs a (suc n) fits none =

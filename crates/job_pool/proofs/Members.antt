@@ -1,10 +1,8 @@
 -- Groups of jobs, and the findings that are due for draws.
 use Rattle.std.proofs.lemmas.Grind.{common_steps}
 use Rattle.job_pool.proofs.Imports.{All, IsEachNumberDrawnOnce, List, [], ap, arith, due_finding_count, get_or}
-use Rattle.job_pool.proofs.Imports.{if◌then◌else◌, length}
-use Rattle.job_pool.proofs.Imports.{map}
-use Rattle.job_pool.proofs.Imports.{nat_tests, occurrences, refl, shape_of, shapes_of, suc, sym, take, total}
-use Rattle.job_pool.proofs.Imports.{zero, ℕ, ◌++◌, ◌+◌, ◌<◌, ◌==◌, ◌∙◌, ◌∷◌, ◌≡◌, ◌≢◌, ◌≤◌}
+use Rattle.job_pool.proofs.Imports.{if◌then◌else◌, length, map, nat_tests, occurrences, refl, shape_of, shapes_of, suc}
+use Rattle.job_pool.proofs.Imports.{sym, take, total, zero, ℕ, ◌++◌, ◌+◌, ◌<◌, ◌==◌, ◌∙◌, ◌∷◌, ◌≡◌, ◌≢◌, ◌≤◌}
 use Rattle.lemmas.proofs.Common.{Some, option_map, slice_get, slice_index, All-head, All-tail}
 use Rattle.lemmas.proofs.Common.{slice_get-map, slice_get_within, take_more}
 use Rattle.module_job.specs.Groups.{AreGroups}
@@ -46,8 +44,7 @@ not_first shapes groups number h other = grind (arith, common_steps, times_absen
 -- a member has the shape of the first
 pub member_shape : (jobs : List JobView) (groups : List ℕ) (number member : ℕ) (j k : JobView) →
     AreGroups (shapes_of jobs) groups → member < length (shapes_of jobs) → slice_get jobs number ≡ Some j →
-    slice_get jobs member ≡ Some k →
-    slice_index groups member ≡ number → shape_of j ≡ shape_of k
+    slice_get jobs member ≡ Some k → slice_index groups member ≡ number → shape_of j ≡ shape_of k
 member_shape jobs groups number member j k h lt first own is =
     let same : slice_get (map shape_of jobs) number ≡ slice_get (map shape_of jobs) member =
     ap (slice_get (map shape_of jobs)) (sym is) ∙ (h.each member lt).same in
@@ -84,8 +81,7 @@ due_cons g gs (y ∷ ys) = let h = due_cons g gs ys in let t = one_test g y in o
 
 -- where all numbers of groups were drawn, each member's finding was due once
 pub due_in_all : (counter n : ℕ) (lists : List (List ℕ)) → IsEachNumberDrawnOnce counter lists → n ≤ counter →
-    (gs : List ℕ) →
-    All (λ g. g < n) gs → total (due_finding_count gs) lists ≡ length gs
+    (gs : List ℕ) → All (λ g. g < n) gs → total (due_finding_count gs) lists ≡ length gs
 due_in_all counter n lists r le [] all = total_same (due_finding_count []) (λ _. 0) lists due_none ∙ nothing lists
 due_in_all counter n lists r le (g ∷ gs) all =
     let h = due_in_all counter n lists r le gs (All-tail (λ g. g < n) g gs all) in

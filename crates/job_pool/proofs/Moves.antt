@@ -9,9 +9,8 @@ use Rattle.std.proofs.Math.ListN.{length-set}
 use Rattle.atomic_table.specs.Table.{State, Me, keeps, step, Allows, Splits, Joins}
 use Rattle.atomic_table.proofs.Lists.{at_set, at_snoc, set_else, set_again}
 use Rattle.job_pool.specs.declared.rule.DeskSize.{DeskSize}
-use Rattle.job_pool.specs.Rule.{FitsDeskRule, MeetsDeskRule, lists_of, view_after_claim, view_after_look, IsAfterClaim}
-use Rattle.job_pool.specs.Rule.{IsAfterLook}
-use Rattle.job_pool.specs.Rule.{view_after_split, split_off_view, joined_view, spent_view}
+use Rattle.job_pool.specs.Rule.{FitsDeskRule, IsAfterClaim, IsAfterLook, MeetsDeskRule, joined_view, lists_of}
+use Rattle.job_pool.specs.Rule.{spent_view, split_off_view, view_after_claim, view_after_look, view_after_split}
 use Rattle.job_pool.proofs.Sums.{total_set, total_snoc, total-map, total_le, at_le, count_at_least-append}
 use Rattle.job_pool.proofs.Sums.{past_greatest-append, front-snoc, late_in_all, draw_keeps, merge_keeps, empty_keeps}
 use mathlib.Core.Option.{some, none}
@@ -30,8 +29,7 @@ bound n seats word views r =
 -- one view changed: the others still fit, since the word never falls
 fits_set : (n word now id : ℕ) (views : List View) (w : View) → word ≤ now →
     ((j : ℕ) (v : View) → get_elem? views j ≡ some v → FitsDeskRule n word v) → FitsDeskRule n now w →
-    (j : ℕ) (v : View) →
-    get_elem? (set views id w) j ≡ some v → FitsDeskRule n now v
+    (j : ℕ) (v : View) → get_elem? (set views id w) j ≡ some v → FitsDeskRule n now v
 fits_set n word now id views w le others mine j v at =
     ⊎_elim
     (λ (x : (j ≡ id) × (w ≡ v)). subst (FitsDeskRule n now) x.1 mine)
@@ -158,8 +156,7 @@ fits_new n word places = record {
 
 fits_more : (n word : ℕ) (views : List View) (w : View) →
     ((j : ℕ) (v : View) → get_elem? views j ≡ some v → FitsDeskRule n word v) → FitsDeskRule n word w →
-    (j : ℕ) (v : View) →
-    get_elem? (views ++ w ∷ []) j ≡ some v → FitsDeskRule n word v
+    (j : ℕ) (v : View) → get_elem? (views ++ w ∷ []) j ≡ some v → FitsDeskRule n word v
 fits_more n word views w others mine j v at =
     ⊎_elim (λ (x : get_elem? views j ≡ some v). others j v x) (λ (x : w ≡ v). subst (FitsDeskRule n word) x mine)
     (at_snoc views w v j at)

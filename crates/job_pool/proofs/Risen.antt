@@ -1,9 +1,8 @@
 -- Shares count more and more.
 use Rattle.std.proofs.lemmas.Grind.{common_steps}
 use Rattle.job_pool.proofs.Imports.{AreCountsNotLess, Counts, Desk, HasWorked, List, Worker, [], ap, arith, drop}
-use Rattle.job_pool.proofs.Imports.{get_or}
-use Rattle.job_pool.proofs.Imports.{length, length-map, shares_of, subst, suc, sym, take, zero, ℕ, ◌++◌, ◌<◌, ◌∙◌, ◌∷◌}
-use Rattle.job_pool.proofs.Imports.{◌≡◌, ◌≤◌}
+use Rattle.job_pool.proofs.Imports.{get_or, length, length-map, shares_of, subst, suc, sym, take, zero, ℕ, ◌++◌, ◌<◌}
+use Rattle.job_pool.proofs.Imports.{◌∙◌, ◌∷◌, ◌≡◌, ◌≤◌}
 use Rattle.core_book.specs.Book.{accepted_count_after}
 use Rattle.core_book.specs.declared.reply.Reply.{Reply}
 use Rattle.core_book.specs.declared.reply.Reply.TheVariants.{Accepted}

@@ -66,9 +66,8 @@ past_last-last (y ∷ z ∷ zs) (suc n) d e = past_last-last (z ∷ zs) n d (ome
 
 -- one more draw, which is above all that there were
 pub pushed : (xs ys : List ℕ) (x n : ℕ) → ys ≡ xs ++ x ∷ [] → past_greatest xs ≤ x → length xs ≤ past_greatest xs →
-    past_greatest xs ≤ n
-    → (past_greatest ys ≡ x + 1) × (length ys ≤ past_greatest ys) × (past_greatest ys ≡ past_last ys)
-    × (past_greatest (all_but_last ys) ≤ n)
+    past_greatest xs ≤ n → (past_greatest ys ≡ x + 1) × (length ys ≤ past_greatest ys)
+    × (past_greatest ys ≡ past_last ys) × (past_greatest (all_but_last ys) ≤ n)
 pushed xs ys x n is above rising below = grind (arith, common_steps, past_greatest-append, past_last-push, front-snoc)
 
 pub none_late : (n : ℕ) (xs : List ℕ) → past_greatest xs ≤ n → count_at_least n xs ≡ 0

@@ -1,13 +1,10 @@
 -- Which blocks are still known to stay, after cells or marks changed
 use Rattle.lanes.proofs.Imports.{AreCellNumbers, AreUnmarkedBlocksStable, BlockMarks, BlockPlaces, Bool}
-use Rattle.lanes.proofs.Imports.{IsAntiDiagonalStable}
-use Rattle.lanes.proofs.Imports.{ChangesOnlyDiagonals, Even, HasWordsStrideRows, IsBlockStable, IsNotRowEndBlock}
-use Rattle.lanes.proofs.Imports.{IsSameOutsidePart}
-use Rattle.lanes.proofs.Imports.{IsBlockWordSame, IsMainDiagonalStable, List, Odd, Partition, Planes, TurnsBlock, ap}
-use Rattle.lanes.proofs.Imports.{arith, block_at}
-use Rattle.lanes.proofs.Imports.{block_number_count, by_eq_or_not, by_lt_or_le, common_steps, false, false≢true, get_or}
-use Rattle.lanes.proofs.Imports.{inl}
-use Rattle.lanes.proofs.Imports.{inr, mul-le-mul_left, sym, true, ℕ, ◌*◌, ◌+◌, ◌-◌, ◌<◌, ◌≡◌, ◌≢◌, ◌≤◌}
+use Rattle.lanes.proofs.Imports.{ChangesOnlyDiagonals, Even, HasWordsStrideRows, IsAntiDiagonalStable, IsBlockStable}
+use Rattle.lanes.proofs.Imports.{IsBlockWordSame, IsMainDiagonalStable, IsNotRowEndBlock, IsSameOutsidePart, List, Odd}
+use Rattle.lanes.proofs.Imports.{Partition, Planes, TurnsBlock, ap, arith, block_at, block_number_count, by_eq_or_not}
+use Rattle.lanes.proofs.Imports.{by_lt_or_le, common_steps, false, false≢true, get_or, inl, inr, mul-le-mul_left, sym}
+use Rattle.lanes.proofs.Imports.{true, ℕ, ◌*◌, ◌+◌, ◌-◌, ◌<◌, ◌≡◌, ◌≢◌, ◌≤◌}
 use Rattle.lemmas.proofs.Common.{cases_Bool}
 use Rattle.lanes.specs.Calm.{MarksBlocksSharingCell, UnmarksAtMostBlock}
 use Rattle.lanes.proofs.TurnLemmas.{anti_words, main_words}
@@ -32,8 +29,7 @@ AreRangeCellNumbers b n p = (b.odd + n ≤ p.stride * p.rows) × (b.right + n �
     × (b.down + n ≤ p.stride * p.rows) × (b.even + n ≤ p.stride * p.rows)
 
 pub range_cell_numbers : (part : Partition) (p : Planes) (first end : ℕ) → first < end →
-    end ≤ block_number_count part p →
-    AreRangeCellNumbers (block_at part p.stride first) (end - first) p
+    end ≤ block_number_count part p → AreRangeCellNumbers (block_at part p.stride first) (end - first) p
 range_cell_numbers part p first end h1 h2 = grind (arith, common_steps)
 
 pub count_below : (part : Partition) (p : Planes) (u : ℕ) → u < block_number_count part p → u < p.stride * p.rows
@@ -50,10 +46,6 @@ pub record AreApart (b c : BlockPlaces) : Type 0 where
   pub right : b.right ≢ c.right
   pub down : b.down ≢ c.down
   pub even : b.even ≢ c.even
-
-pub others_apart : (part : Partition) (s n m : ℕ) → n ≢ m → AreApart (block_at part s n) (block_at part s m)
-others_apart Odd s n m ne = record { odd = ne; right = ne; down = ne; even = ne }
-others_apart Even s n m ne = grind (arith, common_steps)
 
 -- ---- cells that a turned part leaves
 pub other_cell : (w c u k : ℕ) (xs ys : List ℕ) → IsSameOutsidePart (w * c) w xs ys → k < w → u ≢ c →
@@ -85,8 +77,7 @@ block_cells main anti b p q main_stays anti_stays part = record {
 -- the blocks without a mark are not those with a cell that changed
 pub still_stable : (main anti : Bool) (b : BlockPlaces) (m m' : BlockMarks) (p q : Planes) →
     HasWordsStrideRows p.words p.stride p.rows q → ChangesOnlyDiagonals main anti b p q →
-    MarksBlocksSharingCell main anti p.stride b m m' →
-    AreUnmarkedBlocksStable m p → AreUnmarkedBlocksStable m' q
+    MarksBlocksSharingCell main anti p.stride b m m' → AreUnmarkedBlocksStable m p → AreUnmarkedBlocksStable m' q
 still_stable main anti b m m' p q size ch marks calm part u is free =
     let count = rw (same_count part p q size) at is.0 in
     let inside = rw size.1 at is.1 in

@@ -1,36 +1,27 @@
 -- Steps that pass over the blocks that stay
 use Rattle.lanes.proofs.Imports.{AreAllUnmarkedCellsDead, AreBlockCellsUnmarked, AreUnmarkedBlocksStable, BlockMarks}
-use Rattle.lanes.proofs.Imports.{BlockPlaces, Even, HasWordsStrideRows, IsBlockStable, IsNotRowEndBlock, IsPassedBlock}
-use Rattle.lanes.proofs.Imports.{IsNumberUnmarked}
-use Rattle.lanes.proofs.Imports.{IsBlockWordSame, IsBlockWordTurned, LiveMarks, Odd, Partition, Planes, TurnsBlock}
-use Rattle.lanes.proofs.Imports.{TurnsBlocksSatisfying, TurnsNumberedBlocksBetween, ap, arith, bit, bit-zero, block_at}
-use Rattle.lanes.proofs.Imports.{block_number_count}
-use Rattle.lanes.proofs.Imports.{by_eq_or_not, by_lt_or_le, common_steps, div-add-mod, false, false≢true, inl, inr}
-use Rattle.lanes.proofs.Imports.{marks_of, mod-lt, mul-le-mul_left, subst, sym, true, ℕ, ◌%◌, ◌*◌, ◌+◌, ◌/◌, ◌<◌, ◌∙◌}
-use Rattle.lanes.proofs.Imports.{◌≡◌, ◌≢◌, ◌≤◌, ◌⊎◌}
+use Rattle.lanes.proofs.Imports.{BlockPlaces, Even, HasWordsStrideRows, IsBlockStable, IsBlockWordSame}
+use Rattle.lanes.proofs.Imports.{IsBlockWordTurned, IsNotRowEndBlock, IsNumberUnmarked, IsPassedBlock, LiveMarks, Odd}
+use Rattle.lanes.proofs.Imports.{Partition, Planes, TurnsBlock, TurnsBlocksSatisfying, TurnsNumberedBlocksBetween, ap}
+use Rattle.lanes.proofs.Imports.{arith, bit, bit-zero, block_at, block_number_count, by_eq_or_not, by_lt_or_le}
+use Rattle.lanes.proofs.Imports.{common_steps, div-add-mod, false, false≢true, inl, inr, marks_of, mod-lt}
+use Rattle.lanes.proofs.Imports.{mul-le-mul_left, subst, sym, true, ℕ, ◌%◌, ◌*◌, ◌+◌, ◌/◌, ◌<◌, ◌∙◌, ◌≡◌, ◌≢◌, ◌≤◌, ◌⊎◌}
 use Rattle.lanes.specs.Sweeps.{IsInRangeNotInWordRest, TurnsOnlyNamedBlocks}
 use Rattle.lanes.specs.Lanes.{TurnsCellsOfPartition}
 use Rattle.lanes.proofs.TurnLemmas.{calm_turned, half_turned}
-use Rattle.lanes.proofs.CalmLemmas.{cells_of, odd_even, other_cell, others_apart}
+use Rattle.lanes.proofs.CalmLemmas.{cells_of, odd_even, other_cell}
 use Rattle.lanes.proofs.LiveLemmas.{dead_block}
 use Rattle.lanes.proofs.InsideLemmas.{next_in_row}
 use Rattle.lanes.proofs.LaneLemmas.{inner_lane, odd_lane}
 
 -- ---- words that are turned once, and stay before or after
 pub turned_before : (w : ℕ) (b : BlockPlaces) (k : ℕ) (p q r : Planes) → IsBlockWordSame w b k p q →
-    IsBlockWordTurned w b k q r →
-    IsBlockWordTurned w b k p r
+    IsBlockWordTurned w b k q r → IsBlockWordTurned w b k p r
 turned_before w b k p q r e t = rw (e.odd, e.right, e.down, e.even) at t
 
 pub turned_after : (w : ℕ) (b : BlockPlaces) (k : ℕ) (p q r : Planes) → IsBlockWordSame w b k q r →
-    IsBlockWordTurned w b k p q →
-    IsBlockWordTurned w b k p r
+    IsBlockWordTurned w b k p q → IsBlockWordTurned w b k p r
 turned_after w b k p q r e t = rw (e.odd, e.right, e.down, e.even) t
-
-pub same_twice : (w : ℕ) (b : BlockPlaces) (k : ℕ) (p q r : Planes) → IsBlockWordSame w b k p q →
-    IsBlockWordSame w b k q r →
-    IsBlockWordSame w b k p r
-same_twice w b k p q r e f = grind (arith, common_steps)
 
 -- ---- named blocks
 -- nothing changes where the named blocks stay
@@ -57,13 +48,13 @@ named_join w s part P Q R p q r apart of_r r_of_p r_of_q first second = record {
     | inl a ↦ turned_after w _ k p q r (second.same n k (λ b. apart n a b) l) (first.turned n k a l)
     | inr b ↦ turned_before w _ k p q r (first.same n k (λ a. apart n a b) l) (second.turned n k b l)
   ];
-  same = grind (arith, common_steps, same_twice);
+  same = grind (arith, common_steps);
 }
 
 -- one block is turned
 pub one_named : (part : Partition) (p q : Planes) (u : ℕ) → TurnsBlock (block_at part p.stride u) p q →
     TurnsBlocksSatisfying part (λ n. n ≡ u) p q
-one_named part p q u t = grind (arith, common_steps, others_apart, other_cell)
+one_named part p q u t = grind (arith, common_steps, other_cell)
 
 -- ---- blocks whose marks are in one word, and those whose marks are not among the rest of the word
 -- where the mark of block u is cleared, this block is one of them too

@@ -1,15 +1,12 @@
 -- Blocks that no step changes
 use Rattle.lanes.proofs.Imports.{AreAllUnmarkedCellsDead, AreMarkedBlocksStable, ArePlaneWordsInRange}
-use Rattle.lanes.proofs.Imports.{AreUnmarkedBlocksStable, BlockMarks}
-use Rattle.lanes.proofs.Imports.{BlockPlaces, Bool, ChangesOnlyDiagonals, Even, HasRoomForAllBlockMarks}
-use Rattle.lanes.proofs.Imports.{HasValueUnderEachAssignment}
-use Rattle.lanes.proofs.Imports.{HasWordsStrideRows, IsBlockHeld, IsBlockHeldAndEmpty, IsBlockWordSame, IsDeadCell}
-use Rattle.lanes.proofs.Imports.{IsNumberUnmarked}
-use Rattle.lanes.proofs.Imports.{IsBlockWordTurned, KeepsCellsOutsideBlocks, List, LiveMarks, Odd, Partition, Planes}
-use Rattle.lanes.proofs.Imports.{TurnsBlock, TurnsNumberedBlocksBetween, ap, arith, bit, block_at, block_number_count}
-use Rattle.lanes.proofs.Imports.{by_eq_or_not}
+use Rattle.lanes.proofs.Imports.{AreUnmarkedBlocksStable, BlockMarks, BlockPlaces, Bool, ChangesOnlyDiagonals, Even}
+use Rattle.lanes.proofs.Imports.{HasRoomForAllBlockMarks, HasValueUnderEachAssignment, HasWordsStrideRows, IsBlockHeld}
+use Rattle.lanes.proofs.Imports.{IsBlockHeldAndEmpty, IsBlockWordSame, IsBlockWordTurned, IsDeadCell, IsNumberUnmarked}
+use Rattle.lanes.proofs.Imports.{KeepsCellsOutsideBlocks, List, LiveMarks, Odd, Partition, Planes, TurnsBlock}
+use Rattle.lanes.proofs.Imports.{TurnsNumberedBlocksBetween, ap, arith, bit, block_at, block_number_count, by_eq_or_not}
 use Rattle.lanes.proofs.Imports.{by_lt_or_le, cell_at, cell_word_bit, common_steps, false, false≢true, get_or, inl, inr}
-use Rattle.lanes.proofs.Imports.{marks_of, subst, true, ℕ, ◌*◌, ◌+◌, ◌-◌, ◌<◌, ◌^◌, ◌≡◌, ◌≢◌, ◌≤◌, ◌⊎◌}
+use Rattle.lanes.proofs.Imports.{marks_of, subst, true, ℕ, ◌*◌, ◌+◌, ◌-◌, ◌<◌, ◌^◌, ◌≡◌, ◌≢◌, ◌⊎◌}
 use Rattle.lemmas.proofs.Common.{props, ∥∥₁_elim, ∥∥₁_map}
 use Rattle.lanes.specs.Blocks.{IsNumberOfBlock}
 use Rattle.lanes.specs.Calm.{AreBlocksMarkedUnlessIn, AreFirstBlocksMarked}
@@ -18,7 +15,7 @@ use Rattle.lanes.specs.Live.{AreAllUnmarkedCellsDead-prop, AreCellsMarkedUnlessI
 use Rattle.lanes.specs.declared.frozen.FrozenBlocks.{FrozenBlocks}
 use Rattle.lanes.proofs.CalmLemmas.{count_below, same_count}
 use Rattle.lanes.proofs.FieldLemmas.{by_row_end, one_named}
-use Rattle.lanes.proofs.HeldLemmas.{BlockStays, StaysBits, TurnsBits, held_stable, held_stays, still_empty, still_held}
+use Rattle.lanes.proofs.HeldLemmas.{BlockStays, StaysBits, TurnsBits, held_stable, held_stays}
 use Rattle.lanes.proofs.MarkFlips.{zero_word}
 use Rattle.lanes.proofs.RunLemmas.{first_part}
 
@@ -82,8 +79,7 @@ all_may_turn part p q t first = record {
 
 -- ---- frozen blocks after a step
 same_room : (b : FrozenBlocks) (p q : Planes) → HasWordsStrideRows p.words p.stride p.rows q →
-    HasRoomForAllBlockMarks b p →
-    HasRoomForAllBlockMarks b q
+    HasRoomForAllBlockMarks b p → HasRoomForAllBlockMarks b q
 same_room b p q size room = grind (arith, common_steps)
 
 -- a cell is before those of the first block, or has a block
@@ -93,12 +89,9 @@ record HasBlock (part : Partition) (s u : ℕ) : Type 0 where
   down : (u < (block_at part s 0).down) ⊎ ((block_at part s (u - (block_at part s 0).down)).down ≡ u)
   even : (u < (block_at part s 0).even) ⊎ ((block_at part s (u - (block_at part s 0).even)).even ≡ u)
 
-before_or_at : (u d v : ℕ) → (d ≤ u → v ≡ u) → (u < d) ⊎ (v ≡ u)
-before_or_at u d v h = by_lt_or_le u d (λ l. inl l) (λ g. inr (h g))
-
 has_block : (part : Partition) (s u : ℕ) → HasBlock part s u
 has_block Odd s u = grind (arith, common_steps)
-has_block Even s u = grind (arith, common_steps, before_or_at)
+has_block Even s u = grind (arith, common_steps)
 
 -- the cells whose blocks of a partition have marks stay, where these blocks and the cells in none stay
 record CellsStay (part : Partition) (marks : List ℕ) (p q : Planes) : Type 0 where
@@ -115,8 +108,7 @@ abbrev MarkedStay : Partition → List ℕ → Planes → Planes → Type 0
 MarkedStay part marks p q = (n : ℕ) → cell_at marks n ≡ true → BlockSame (block_at part p.stride n) p q
 
 cells_stay : (part : Partition) (marks : List ℕ) (p q : Planes) → MarkedStay part marks p q →
-    KeepsCellsOutsideBlocks part p q →
-    CellsStay part marks p q
+    KeepsCellsOutsideBlocks part p q → CellsStay part marks p q
 cells_stay part marks p q stay first = record {
   odd = λ u marked. elim (has_block part p.stride u).odd [
     | inl h ↦ same_bits p.words u _ _ (λ k l. first.odd u k h l)
@@ -145,18 +137,16 @@ held_on : (part other : Partition) (b : FrozenBlocks) (p q : Planes) (u : ℕ) �
     HasWordsStrideRows p.words p.stride p.rows q → MarkedStay part (marks_of part b.marks) p q →
     CellsStay part (marks_of part b.marks) p q → cell_at (marks_of other b.marks) u ≡ true →
     IsBlockHeld other b.marks p u → IsBlockHeld other b.marks q u
-held_on Odd Odd b p q u size stay cells m h = let s = stay u m in grind (arith, common_steps, still_held)
-held_on Odd Even b p q u size stay cells m h = grind (arith, common_steps, still_held)
-held_on Even Odd b p q u size stay cells m h = grind (arith, common_steps, still_held)
-held_on Even Even b p q u size stay cells m h = let s = stay u m in grind (arith, common_steps, still_held)
+held_on Odd Odd b p q u size stay cells m h = let s = stay u m in grind (arith, common_steps)
+held_on Odd Even b p q u size stay cells m h = grind (arith, common_steps)
+held_on Even Odd b p q u size stay cells m h = grind (arith, common_steps)
+held_on Even Even b p q u size stay cells m h = let s = stay u m in grind (arith, common_steps)
 
-empty_on : (part : Partition) (b : FrozenBlocks) (p q : Planes) (u : ℕ) →
-    HasWordsStrideRows p.words p.stride p.rows q → MarkedStay part (marks_of part b.marks) p q →
-    CellsStay part (marks_of part b.marks) p q → cell_at b.marks.odd.items u ≡ true →
-    IsBlockHeldAndEmpty Odd b.marks p u →
-    IsBlockHeldAndEmpty Odd b.marks q u
-empty_on Odd b p q u size stay cells m h = let s = stay u m in grind (arith, common_steps, still_empty)
-empty_on Even b p q u size stay cells m h = grind (arith, common_steps, still_empty)
+empty_on : (part : Partition) (b : FrozenBlocks) (p q : Planes) (u : ℕ) → HasWordsStrideRows p.words p.stride p.rows q →
+    MarkedStay part (marks_of part b.marks) p q → CellsStay part (marks_of part b.marks) p q →
+    cell_at b.marks.odd.items u ≡ true → IsBlockHeldAndEmpty Odd b.marks p u → IsBlockHeldAndEmpty Odd b.marks q u
+empty_on Odd b p q u size stay cells m h = let s = stay u m in grind (arith, common_steps)
+empty_on Even b p q u size stay cells m h = grind (arith, common_steps)
 
 frozen_on : (part : Partition) (b : FrozenBlocks) (p q : Planes) → HasWordsStrideRows p.words p.stride p.rows q →
     MarkedStay part (marks_of part b.marks) p q → KeepsCellsOutsideBlocks part p q → AreMarkedBlocksFrozen b p →
@@ -180,9 +170,8 @@ frozen_on part b p q size stay first f = record {
     cells = cells_stay part (marks_of part b.marks) p q stay first
 
 -- ---- frozen blocks, if they were found
-pub still_frozen : (part : Partition) (b : FrozenBlocks) (p q : Planes) →
-    HasWordsStrideRows p.words p.stride p.rows q → MayTurnBlocks part p q → AreBlocksFrozenIfFound b p →
-    AreBlocksFrozenIfFound b q
+pub still_frozen : (part : Partition) (b : FrozenBlocks) (p q : Planes) → HasWordsStrideRows p.words p.stride p.rows q →
+    MayTurnBlocks part p q → AreBlocksFrozenIfFound b p → AreBlocksFrozenIfFound b q
 still_frozen part b p q size may frozen = ∥∥₁_map frozen (λ h e. frozen_on part b p q size (stay (h e)) may.first (h e))
   where
     stay : AreMarkedBlocksFrozen b p → MarkedStay part (marks_of part b.marks) p q
@@ -195,8 +184,7 @@ stable_prop : (part : Partition) (marks : List ℕ) (p : Planes) → IsProp (Are
 stable_prop part marks p = Prim.hlevel props
 
 pub found_stable : (part : Partition) (b : FrozenBlocks) (p : Planes) → ArePlaneWordsInRange p →
-    AreBlocksFrozenIfFound b p →
-    b.is_found ≡ true → AreMarkedBlocksStable part (marks_of part b.marks) p
+    AreBlocksFrozenIfFound b p → b.is_found ≡ true → AreMarkedBlocksStable part (marks_of part b.marks) p
 found_stable part b p words frozen e = ∥∥₁_elim frozen (stable_prop part (marks_of part b.marks) p) (λ h. record {
   calm = λ u is m. held_stable (block_at part p.stride u) p _ _ _ _ words (((h e).blocks part).held u is m);
   last = ((h e).blocks part).last;

@@ -1,13 +1,11 @@
 -- Blocks that some of their cells hold
 use Rattle.lanes.proofs.Imports.{ArePlaneWordsInRange, BlockPlaces, Bool, HasValueUnderEachAssignment, IsBlockStable}
-use Rattle.lanes.proofs.Imports.{List, Planes, ap, arith, bit}
-use Rattle.lanes.proofs.Imports.{bit-zero, bit_ones, by_lt_or_le, cell_word_bit, common_steps, false, false≢true}
-use Rattle.lanes.proofs.Imports.{get_or, inl, inr, mul-le-mul_left, true, turned, ℕ, ◌*◌, ◌+◌, ◌<◌, ◌||◌, ◌∙◌, ◌≡◌, ◌≤◌}
-use Rattle.lanes.proofs.Imports.{◌⊎◌}
-use Rattle.lemmas.proofs.Common.{or_left, or_right}
+use Rattle.lanes.proofs.Imports.{List, Planes, ap, arith, bit, bit-zero, bit_ones, by_lt_or_le, cell_word_bit}
+use Rattle.lanes.proofs.Imports.{common_steps, false, false≢true, get_or, inl, inr, mul-le-mul_left, true, turned, ℕ}
+use Rattle.lanes.proofs.Imports.{◌*◌, ◌+◌, ◌<◌, ◌||◌, ◌∙◌, ◌≡◌, ◌≤◌, ◌⊎◌}
 use Rattle.bbm_rule.proofs.BitLemmas.{bit_above}
 use Rattle.bbm_rule.proofs.PlaneLemmas.{dead_block}
-use Rattle.lanes.specs.Held.{HasLiveCellOnEachDiagonal, IsEmptyBlock, IsBlockHeldByCorners}
+use Rattle.lanes.specs.Held.{HasLiveCellOnEachDiagonal, IsBlockHeldByCorners}
 
 -- ---- cells whose words are the same
 pub room_of : (w u n long : ℕ) → u < n → long ≡ w * n → w * u + w ≤ long
@@ -16,8 +14,7 @@ room_of w u n long l e = let m : w * (u + 1) ≤ w * n = mul-le-mul_left w (omeg
 pub run_room : (w at n cells long : ℕ) → at + n ≤ cells → long ≡ w * cells → w * at + w * n ≤ long
 run_room w at n cells long l e = let m : w * (at + n) ≤ w * cells = mul-le-mul_left w l in omega (arith, m, e)
 
-pub all_live : (w at : ℕ) (cells : List ℕ) →
-    ((k : ℕ) → k < w → get_or cells (w * at + k) 0 ≡ 18446744073709551615) →
+pub all_live : (w at : ℕ) (cells : List ℕ) → ((k : ℕ) → k < w → get_or cells (w * at + k) 0 ≡ 18446744073709551615) →
     HasValueUnderEachAssignment true w (cell_word_bit w cells at)
 all_live w at cells same k j lk lj = ap (λ (n : ℕ). bit n j) (same k lk) ∙ bit_ones j lj
 
@@ -29,9 +26,6 @@ all_dead w at cells same k j lk lj = ap (λ (n : ℕ). bit n j) (same k lk) ∙ 
 both_live : (a d b c : Bool) → (a || d) ≡ true → (b || c) ≡ true → turned a d b c ≡ a
 unfolding turned
 both_live a d b c h1 h2 = grind (arith, common_steps, false≢true)
-
-swap_live : (a d : Bool) → (a || d) ≡ true → (d || a) ≡ true
-swap_live a d h1 = grind (arith, common_steps, or_right)
 
 -- what a turn makes of four cells
 pub record TurnsBits (w : ℕ) (a b c d a' b' c' d' : ℕ → ℕ → Bool) : Type 0 where
@@ -63,20 +57,14 @@ record IsCalmAt (a b c d : Bool) : Type 0 where
   lower_right : turned d a c b ≡ d
 
 calm_live : (a b c d : Bool) → (a || d) ≡ true → (b || c) ≡ true → IsCalmAt a b c d
-calm_live a b c d main anti = grind (arith, common_steps, both_live, swap_live)
+calm_live a b c d main anti = grind (arith, common_steps, both_live)
 
 calm_dead : (a b c d : Bool) → a ≡ false → b ≡ false → c ≡ false → d ≡ false → IsCalmAt a b c d
 calm_dead a b c d ea eb ec ed = grind (arith, common_steps, dead_block)
 
-one_live : (w : ℕ) (A D : Type 0) (a d : ℕ → ℕ → Bool) →
-    (A × HasValueUnderEachAssignment true w a) ⊎ (D × HasValueUnderEachAssignment true w d) → (k j : ℕ) →
-    k < w → j < 64 → (a k j || d k j) ≡ true
-one_live w A D a d h1 k j h2 h3 = grind (arith, common_steps, or_left, or_right)
-
 held_calm : (w : ℕ) (A B C D : Type 0) (a b c d : ℕ → ℕ → Bool) → IsBlockHeldByCorners w A B C D a b c d → (k j : ℕ) →
-    k < w →
-    j < 64 → IsCalmAt (a k j) (b k j) (c k j) (d k j)
-held_calm w A B C D a b c d (inl h) k j lk lj = grind (arith, common_steps, calm_live, one_live)
+    k < w → j < 64 → IsCalmAt (a k j) (b k j) (c k j) (d k j)
+held_calm w A B C D a b c d (inl h) k j lk lj = grind (arith, common_steps, calm_live)
 held_calm w A B C D a b c d (inr h) k j lk lj = grind (arith, common_steps, calm_dead)
 
 -- a block of words that is held
@@ -96,8 +84,7 @@ held_stable b p A B C D words held = (grind (arith, common_steps, calm))
 
 -- a block that is held stays
 pub held_stays : (w : ℕ) (A B C D : Type 0) (a b c d a' b' c' d' : ℕ → ℕ → Bool) →
-    IsBlockHeldByCorners w A B C D a b c d →
-    MayTurn w a b c d a' b' c' d' → BlockStays w a b c d a' b' c' d'
+    IsBlockHeldByCorners w A B C D a b c d → MayTurn w a b c d a' b' c' d' → BlockStays w a b c d a' b' c' d'
 held_stays w A B C D a b c d a' b' c' d' h (inl t) = record {
   upper_left = λ k j lk lj. t.upper_left k j lk lj ∙ (held_calm w A B C D a b c d h k j lk lj).upper_left;
   upper_right = λ k j lk lj. t.upper_right k j lk lj ∙ (held_calm w A B C D a b c d h k j lk lj).upper_right;
@@ -105,28 +92,6 @@ held_stays w A B C D a b c d a' b' c' d' h (inl t) = record {
   lower_right = λ k j lk lj. t.lower_right k j lk lj ∙ (held_calm w A B C D a b c d h k j lk lj).lower_right;
 }
 held_stays w A B C D a b c d a' b' c' d' h (inr s) = s
-
-still_all : (w : ℕ) (value : Bool) (a a' : ℕ → ℕ → Bool) → StaysBits w a a' → HasValueUnderEachAssignment value w a →
-    HasValueUnderEachAssignment value w a'
-still_all w value a a' same all k j lk lj = same k j lk lj ∙ all k j lk lj
-
-one_still : (w : ℕ) (A D : Type 0) (a d a' d' : ℕ → ℕ → Bool) → (A → StaysBits w a a') → (D → StaysBits w d d') →
-    (A × HasValueUnderEachAssignment true w a) ⊎ (D × HasValueUnderEachAssignment true w d) →
-    (A × HasValueUnderEachAssignment true w a') ⊎ (D × HasValueUnderEachAssignment true w d')
-one_still w A D a d a' d' h1 h2 h3 = grind (arith, common_steps, still_all)
-
--- an empty block is one still, if the cells that meet their conditions stay
-pub still_empty : (w : ℕ) (A B C D : Type 0) (a b c d a' b' c' d' : ℕ → ℕ → Bool) → (A → StaysBits w a a') →
-    (B → StaysBits w b b') → (C → StaysBits w c c') → (D → StaysBits w d d') → IsEmptyBlock w A B C D a b c d →
-    IsEmptyBlock w A B C D a' b' c' d'
-still_empty w A B C D a b c d a' b' c' d' sa sb sc sd h = grind (arith, common_steps, still_all)
-
--- and a block that is held is held still
-pub still_held : (w : ℕ) (A B C D : Type 0) (a b c d a' b' c' d' : ℕ → ℕ → Bool) → (A → StaysBits w a a') →
-    (B → StaysBits w b b') → (C → StaysBits w c c') → (D → StaysBits w d d') → IsBlockHeldByCorners w A B C D a b c d →
-    IsBlockHeldByCorners w A B C D a' b' c' d'
-still_held w A B C D a b c d a' b' c' d' sa sb sc sd (inl h) = grind (arith, common_steps, one_still)
-still_held w A B C D a b c d a' b' c' d' sa sb sc sd (inr h) = grind (arith, common_steps, still_empty)
 
 -- each diagonal has a live cell that meets another condition, where that follows
 pub live_if : (w : ℕ) (A B C D A' B' C' D' : Type 0) (a b c d : ℕ → ℕ → Bool) → (A → A') → (B → B') → (C → C') →

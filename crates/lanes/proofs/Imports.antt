@@ -12,8 +12,7 @@ pub use Rattle.lanes.specs.Blocks.{marks_of}
 pub use Rattle.lanes.specs.Borders.{AreBorderNumbersMarked}
 pub use Rattle.lanes.specs.Calm.{AreNumberedCellsDead, AreUnmarkedBlocksStable, ChangesOnlyDiagonals}
 pub use Rattle.lanes.specs.Frozen.{AreMarkedBlocksStable, ArePlaneWordsInRange, HasRoomForAllBlockMarks, IsBlockHeld}
-pub use Rattle.lanes.specs.Frozen.{IsBlockHeldAndEmpty}
-pub use Rattle.lanes.specs.Frozen.{KeepsCellsOutsideBlocks}
+pub use Rattle.lanes.specs.Frozen.{IsBlockHeldAndEmpty, KeepsCellsOutsideBlocks}
 pub use Rattle.lanes.specs.Held.{HasValueUnderEachAssignment, cell_word_bit}
 pub use Rattle.lanes.specs.Lanes.{HasWordsStrideRows}
 unfoldable pub use Rattle.lanes.specs.Lanes.{lane, plane_of}
@@ -22,8 +21,7 @@ pub use Rattle.lanes.specs.Live.{TakesMarkOfOther}
 pub use Rattle.lanes.specs.Sweeps.{IsBlockWordSame, IsBlockWordTurned, IsPassedBlock, TurnsBlocksSatisfying}
 pub use Rattle.lanes.specs.Sweeps.{TurnsNumberedBlocksBetween}
 pub use Rattle.lanes.specs.Turns.{IsAntiDiagonalStable, IsBlockStable, IsDiagonalStable, IsMainDiagonalStable}
-pub use Rattle.lanes.specs.Turns.{IsSameOutsidePart, SwapsPart}
-pub use Rattle.lanes.specs.Turns.{TurnsBlock, TurnsPart}
+pub use Rattle.lanes.specs.Turns.{IsSameOutsidePart, SwapsPart, TurnsBlock, TurnsPart}
 pub use Rattle.lanes.specs.declared.block_marks.BlockMarks.{BlockMarks}
 pub use Rattle.lanes.specs.declared.blocks.BlockPlaces.{BlockPlaces}
 pub use Rattle.lanes.specs.declared.blocks.Partition.{Partition}

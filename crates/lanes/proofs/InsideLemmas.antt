@@ -12,13 +12,11 @@ next_in_row s j i l = let e : s * j + i + 1 ≡ s * j + (i + 1) = omega arith in
 
 -- a number without a mark of ring and halo is not the last of its row
 pub not_last : (s r u : ℕ) (marks : List ℕ) → 0 < s → AreBorderNumbersMarked s r marks → u < s * r →
-    IsNumberUnmarked marks u →
-    (u + 1) % s ≢ 0
+    IsNumberUnmarked marks u → (u + 1) % s ≢ 0
 not_last s r u marks ls box_coord lu free last =
     let at : s * (u / s) + u % s ≡ u = div-add-mod u s in
     let row : u / s < r = by_lt_or_le (u / s) r (λ h. h)
     (λ h. let m : s * r ≤ s * (u / s) = mul-le-mul_left s h in absurd (omega arith)) in
     let is = box_coord (u % s) (u / s) (mod-lt u ls) row (subst (IsNumberUnmarked marks) (sym at) free) in
-    let next : (u + 1) % s ≡ u % s + 1 =
-    ap (λ n. (n + 1) % s) (sym at) ∙ next_in_row s (u / s) (u % s) is.1 in
+    let next : (u + 1) % s ≡ u % s + 1 = ap (λ n. (n + 1) % s) (sym at) ∙ next_in_row s (u / s) (u % s) is.1 in
     absurd (omega (arith, next, last))

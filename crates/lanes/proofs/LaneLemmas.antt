@@ -1,9 +1,8 @@
 -- The cells of planes, by assignment.
-use Rattle.lanes.proofs.Imports.{AreCornerWordsTurned, AreCornerWordsTurnedAt, HasWordsStrideRows, List, Planes, ap}
-use Rattle.lanes.proofs.Imports.{arith, bit, by_eq_or_not}
-use Rattle.lanes.proofs.Imports.{common_steps, get_or, get_or-drop, get_or-take, lane, length, mul-le-mul_left}
-use Rattle.lanes.proofs.Imports.{plane_of, refl, turned, ℕ, ◌%◌, ◌*◌, ◌+◌, ◌/◌, ◌<◌, ◌∙◌, ◌≡◌, ◌≤◌}
-use Rattle.lanes.proofs.Imports.{Bool, inl, inr, ◌⊎◌}
+use Rattle.lanes.proofs.Imports.{AreCornerWordsTurned, AreCornerWordsTurnedAt, Bool, HasWordsStrideRows, List, Planes}
+use Rattle.lanes.proofs.Imports.{ap, arith, bit, by_eq_or_not, common_steps, get_or, get_or-drop, get_or-take, inl, inr}
+use Rattle.lanes.proofs.Imports.{lane, length, mul-le-mul_left, plane_of, refl, turned, ℕ, ◌%◌, ◌*◌, ◌+◌, ◌/◌, ◌<◌, ◌∙◌}
+use Rattle.lanes.proofs.Imports.{◌≡◌, ◌≤◌, ◌⊎◌}
 use Rattle.lemmas.proofs.Common.{drop, length-take-le, get_or-append_right, get_or_append_left}
 use Rattle.lanes.specs.Across.{TurnsBlocksAcrossLists}
 use Rattle.bbm_rule.specs.Rows.{paired_place}
@@ -55,8 +54,7 @@ place_below w s r i j k li lj lk = grind (arith, common_steps, mul-le-mul_left)
 -- a cell is turned in its block where the block's words are turned
 pub block_lane : (p q : Planes) (a x y : ℕ) → HasWordsStrideRows p.words p.stride p.rows q →
     AreCornerWordsTurnedAt (place p (x / 2) (y / 2) (a / 64)) p.odd.items p.right.items p.down.items p.even.items
-    q.odd.items
-    q.right.items q.down.items q.even.items →
+    q.odd.items q.right.items q.down.items q.even.items →
     lane q a x y ≡ turned (lane p a x y) (lane p a (paired_place x) (paired_place y)) (lane p a (paired_place x) y)
     (lane p a x (paired_place y))
 block_lane p q a x y size turns =
@@ -150,12 +148,11 @@ inner_lane p q size turns a x y la lx ly =
 -- where the words of all blocks are turned, one after another
 pub even_lane : (p q : Planes) → HasWordsStrideRows p.words p.stride p.rows q →
     p.words * (p.stride * p.rows) ≡ length p.even.items →
-    TurnsBlocksAcrossLists p.words (p.words * p.stride) p.even.items p.down.items p.right.items p.odd.items q.even.items
-    q.down.items q.right.items q.odd.items → (a x y : ℕ) → a < 64 * p.words → x + 2 < 2 * p.stride →
-    y + 2 < 2 * p.rows → lane q a (1 + x) (1 + y)
-    ≡ turned (lane p a (1 + x) (1 + y)) (lane p a (1 + paired_place x) (1 + paired_place y))
-    (lane p a (1 + paired_place x) (1 + y))
-    (lane p a (1 + x) (1 + paired_place y))
+    TurnsBlocksAcrossLists p.words
+    (p.words * p.stride) p.even.items p.down.items p.right.items p.odd.items q.even.items q.down.items q.right.items
+    q.odd.items → (a x y : ℕ) → a < 64 * p.words → x + 2 < 2 * p.stride → y + 2 < 2 * p.rows →
+    lane q a (1 + x) (1 + y) ≡ turned (lane p a (1 + x) (1 + y)) (lane p a (1 + paired_place x) (1 + paired_place y))
+    (lane p a (1 + paired_place x) (1 + y)) (lane p a (1 + x) (1 + paired_place y))
 even_lane p q size total turns = inner_lane p q size turned_at
   where
     right_place : (i j k : ℕ) → place p (1 + i) j k ≡ place p i j k + p.words

@@ -1,20 +1,15 @@
 -- Cells that are known to be dead, and blocks of which one cell at most is live
-use Rattle.lanes.proofs.Imports.{AreAllUnmarkedCellsDead, AreBlockCellsUnmarked, AreCellNumbers, AreNumberedCellsDead}
-use Rattle.lanes.proofs.Imports.{IsAntiDiagonalStable}
-use Rattle.lanes.proofs.Imports.{AreCornerWordsTurned, AreNumberCellsUnmarked, AreUnmarkedBlocksStable, BlockMarks}
-use Rattle.lanes.proofs.Imports.{BlockPlaces}
-use Rattle.lanes.proofs.Imports.{Bool, ChangesOnlyDiagonals, HasWordsStrideRows, IsDeadCell, IsDiagonalStable}
-use Rattle.lanes.proofs.Imports.{IsSameOutsidePart}
-use Rattle.lanes.proofs.Imports.{IsBlockStable, IsMainDiagonalStable, IsNumberUnmarked, List, LiveMarks, Planes}
-use Rattle.lanes.proofs.Imports.{SwapsPart, TakesMarkOfOther}
-use Rattle.lanes.proofs.Imports.{TurnsBlock, TurnsPart, ap, arith, bit, bit-zero, block_at, by_lt_or_le, common_steps}
-use Rattle.lanes.proofs.Imports.{false, get_or, get_or-set_other, get_or-set_same, is_main_diagonal, length, not, set}
-use Rattle.lanes.proofs.Imports.{sym, true}
-use Rattle.lanes.proofs.Imports.{turned, ℕ, ◌*◌, ◌+◌, ◌-◌, ◌<◌, ◌∙◌, ◌≡◌, ◌≢◌, ◌≤◌, ◌⊎◌}
+use Rattle.lanes.proofs.Imports.{AreAllUnmarkedCellsDead, AreBlockCellsUnmarked, AreCellNumbers, AreCornerWordsTurned}
+use Rattle.lanes.proofs.Imports.{AreNumberCellsUnmarked, AreNumberedCellsDead, AreUnmarkedBlocksStable, BlockMarks}
+use Rattle.lanes.proofs.Imports.{BlockPlaces, Bool, ChangesOnlyDiagonals, HasWordsStrideRows, IsAntiDiagonalStable}
+use Rattle.lanes.proofs.Imports.{IsBlockStable, IsDeadCell, IsDiagonalStable, IsMainDiagonalStable, IsNumberUnmarked}
+use Rattle.lanes.proofs.Imports.{IsSameOutsidePart, List, LiveMarks, Planes, SwapsPart, TakesMarkOfOther, TurnsBlock}
+use Rattle.lanes.proofs.Imports.{TurnsPart, ap, arith, bit, bit-zero, block_at, by_lt_or_le, common_steps, false}
+use Rattle.lanes.proofs.Imports.{get_or, get_or-set_other, get_or-set_same, is_main_diagonal, length, not, set, sym}
+use Rattle.lanes.proofs.Imports.{turned, ℕ, ◌*◌, ◌+◌, ◌-◌, ◌<◌, ◌∙◌, ◌≡◌, ◌≤◌, ◌⊎◌}
 use Rattle.lanes.specs.Calm.{AreAllCellsDead}
-use Rattle.lanes.specs.Live.{AreFirstCellsMarked, AreUnmarkedCellsDead, HasAtMostOneDiagonalMark, MarksCellIf}
-use Rattle.lanes.specs.Live.{MarksChangedCells, SwapsDiagonalMarks}
-use Rattle.lanes.specs.Live.{UnmarksOnlyDeadCells, UnmarksOnlyIfDead}
+use Rattle.lanes.specs.Live.{AreFirstCellsMarked, AreUnmarkedCellsDead, HasAtMostOneDiagonalMark}
+use Rattle.lanes.specs.Live.{MarksChangedCells, SwapsDiagonalMarks, UnmarksOnlyDeadCells, UnmarksOnlyIfDead}
 use Rattle.lanes.specs.Turns.{SwapsDiagonal}
 use Rattle.lanes.specs.declared.blocks.Diagonal.{Diagonal}
 use Rattle.lanes.specs.declared.blocks.Diagonal.TheVariants.{Anti, Main}
@@ -23,10 +18,6 @@ use Rattle.lanes.proofs.TurnLemmas.{same_beside}
 use Rattle.bbm_rule.proofs.PlaneLemmas.{dead_block as none_turned}
 
 -- ---- words that change places, one after another
-beside_more : (a k m : ℕ) (xs xs' xs'' : List ℕ) → IsSameOutsidePart a k xs xs' → IsSameOutsidePart (a + k) m xs' xs'' →
-    IsSameOutsidePart a (k + m) xs xs''
-beside_more a k m xs xs' xs'' s t = grind (arith, common_steps)
-
 swapped_more : (a b k m : ℕ) (ys xs' ys' xs'' : List ℕ) →
     ((j : ℕ) → j < k → get_or xs' (a + j) 0 ≡ get_or ys (b + j) 0) →
     IsSameOutsidePart b k ys ys' → ((j : ℕ) → j < m → get_or xs'' (a + k + j) 0 ≡ get_or ys' (b + k + j) 0) →
@@ -40,7 +31,7 @@ swapped_more a b k m ys xs' ys' xs'' first beside second later j l = by_lt_or_le
 
 pub swaps_more : (a b k m : ℕ) (xs ys xs' ys' xs'' ys'' : List ℕ) → SwapsPart a b k xs ys xs' ys' →
     SwapsPart (a + k) (b + k) m xs' ys' xs'' ys'' → SwapsPart a b (k + m) xs ys xs'' ys''
-swaps_more a b k m xs ys xs' ys' xs'' ys'' s t = grind (arith, common_steps, swapped_more, beside_more)
+swaps_more a b k m xs ys xs' ys' xs'' ys'' s t = grind (arith, common_steps, swapped_more)
 
 -- ---- blocks of which no cell is live
 none_stays : (a b c d : ℕ) → a ≡ 0 → b ≡ 0 → c ≡ 0 → d ≡ 0 → IsDiagonalStable a b c d
@@ -85,8 +76,7 @@ either_dead : (w n a b : ℕ) (m o xs ys : List ℕ) → a < n → b < n → Are
 either_dead w n a b m o xs ys h1 h2 h3 h4 h5 = grind (arith, common_steps)
 
 pub lone_turned : (d : Diagonal) (b : BlockPlaces) (l : LiveMarks) (p q : Planes) → AreCellNumbers b p →
-    HasAtMostOneDiagonalMark d l b →
-    AreAllUnmarkedCellsDead l p → SwapsDiagonal d b p q → TurnsBlock b p q
+    HasAtMostOneDiagonalMark d l b → AreAllUnmarkedCellsDead l p → SwapsDiagonal d b p q → TurnsBlock b p q
 lone_turned Main b l p q in_planes lone dead swap =
     grind (arith, common_steps, main_moved, one_word, same_beside, either_dead)
 lone_turned Anti b l p q in_planes lone dead swap =
@@ -101,16 +91,14 @@ swapped_cells Anti b p q swap = grind (arith, common_steps, other_cell)
 -- ---- which cells are dead afterwards
 -- those whose marks and words changed places
 swap_dead : (w n a b : ℕ) (m o m' xs ys xs' : List ℕ) → b < n → AreUnmarkedCellsDead w n m xs →
-    AreUnmarkedCellsDead w n o ys →
-    TakesMarkOfOther a b m o m' → IsSameOutsidePart (w * a) w xs xs' →
+    AreUnmarkedCellsDead w n o ys → TakesMarkOfOther a b m o m' → IsSameOutsidePart (w * a) w xs xs' →
     ((k : ℕ) → k < w → get_or xs' (w * a + k) 0 ≡ get_or ys (w * b + k) 0) → AreUnmarkedCellsDead w n m' xs'
 swap_dead w n a b m o m' xs ys xs' lb dead others takes beside moved v l free k h =
     grind (arith, common_steps, other_cell)
 
 pub swapped_dead : (d : Diagonal) (b : BlockPlaces) (l l' : LiveMarks) (p q : Planes) →
     HasWordsStrideRows p.words p.stride p.rows q → AreCellNumbers b p → SwapsDiagonal d b p q →
-    SwapsDiagonalMarks d b l l' →
-    AreAllUnmarkedCellsDead l p → AreAllUnmarkedCellsDead l' q
+    SwapsDiagonalMarks d b l l' → AreAllUnmarkedCellsDead l p → AreAllUnmarkedCellsDead l' q
 swapped_dead Main b l l' p q size room s m dead =
     rw (size.0, size.1, size.2, s.1, s.2, m.2, m.3) (
       swap_dead p.words (p.stride * p.rows) b.odd b.even _ _ _ _ _ _ room.3 dead.0 dead.3 m.0 s.0.first_beside
@@ -130,17 +118,10 @@ swapped_dead Anti b l l' p q size room s m dead =
       dead.3,
     )
 
--- those of a block that was turned, where the cells that may have changed have marks
-kept_dead : (changes : Bool) (w n c : ℕ) (m m' xs ys : List ℕ) → MarksCellIf changes c m m' →
-    ((u k : ℕ) → k < w → (changes ≡ true → u ≢ c) → get_or ys (w * u + k) 0 ≡ get_or xs (w * u + k) 0) →
-    AreUnmarkedCellsDead w n m xs → AreUnmarkedCellsDead w n m' ys
-kept_dead changes w n c m m' xs ys marks same dead u l free k h = grind (arith, common_steps)
-
 pub cells_dead : (main anti : Bool) (b : BlockPlaces) (l l' : LiveMarks) (p q : Planes) →
     HasWordsStrideRows p.words p.stride p.rows q → ChangesOnlyDiagonals main anti b p q →
-    MarksChangedCells main anti b l l' →
-    AreAllUnmarkedCellsDead l p → AreAllUnmarkedCellsDead l' q
-cells_dead main anti b l l' p q size ch marks dead = grind (arith, common_steps, kept_dead)
+    MarksChangedCells main anti b l l' → AreAllUnmarkedCellsDead l p → AreAllUnmarkedCellsDead l' q
+cells_dead main anti b l l' p q size ch marks dead = grind (arith, common_steps)
 
 -- those without a mark, after marks were taken off dead ones
 unmark_dead_cells : (w n c : ℕ) (m m' xs : List ℕ) → UnmarksOnlyIfDead w c xs m m' → AreUnmarkedCellsDead w n m xs →
@@ -148,8 +129,7 @@ unmark_dead_cells : (w n c : ℕ) (m m' xs : List ℕ) → UnmarksOnlyIfDead w c
 unmark_dead_cells w n c m m' xs drops dead u l free k h = grind (arith, common_steps)
 
 pub drops_dead : (b : BlockPlaces) (l l' : LiveMarks) (p : Planes) → UnmarksOnlyDeadCells p b l l' →
-    AreAllUnmarkedCellsDead l p →
-    AreAllUnmarkedCellsDead l' p
+    AreAllUnmarkedCellsDead l p → AreAllUnmarkedCellsDead l' p
 drops_dead b l l' p drops dead = grind (arith, common_steps, unmark_dead_cells)
 
 -- none, where all have marks

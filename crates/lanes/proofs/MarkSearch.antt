@@ -1,8 +1,7 @@
 -- Words of marks: numbers that have a mark in one list, and one in another
 use Rattle.lanes.proofs.Imports.{AreNumberCellsUnmarked, Bool, IsNumberUnmarked, List, LiveMarks, ap, arith, bit}
-use Rattle.lanes.proofs.Imports.{bit-and}
-use Rattle.lanes.proofs.Imports.{bit-zero, bit_and, bit_or, cell_at, common_steps, false, get_or, refl, ℕ, ◌%◌, ◌&&◌}
-use Rattle.lanes.proofs.Imports.{◌/◌, ◌||◌, ◌∙◌, ◌≡◌, ◌⊎◌}
+use Rattle.lanes.proofs.Imports.{bit-and, bit-zero, bit_and, bit_or, cell_at, common_steps, false, get_or, refl, ℕ, ◌%◌}
+use Rattle.lanes.proofs.Imports.{◌&&◌, ◌/◌, ◌||◌, ◌∙◌, ◌≡◌, ◌⊎◌}
 use Rattle.lemmas.proofs.Common.{or_parts}
 use Rattle.bbm_rule.proofs.BitLemmas.{bit-or}
 
@@ -43,12 +42,9 @@ pub lacks_in_three : (word : ℕ) (a c d : List ℕ) (q u : ℕ) → u / 64 ≡ 
     (bit word (u % 64) ≡ false) ⊎ (IsNumberUnmarked a u × IsNumberUnmarked c u × IsNumberUnmarked d u)
 lacks_in_three word a c d q u e none = grind (arith, common_steps, bit-and, bit-or, parts, or_parts, cell_is)
 
-and_lacks : (a b : Bool) → (a && b) ≡ false → (a ≡ false) ⊎ (b ≡ false)
-and_lacks a b h1 = grind (arith, common_steps)
-
 pub lacks_live : (a : List ℕ) (l : LiveMarks) (w q u : ℕ) → IsWordOf l q w → u / 64 ≡ q →
     bit (bit_and (get_or a q 0) w) (u % 64) ≡ false → IsNumberUnmarked a u ⊎ AreNumberCellsUnmarked l u
-lacks_live a l w q u says e word = grind (arith, common_steps, bit-and, and_lacks, cell_is)
+lacks_live a l w q u says e word = grind (arith, common_steps, bit-and, cell_is)
 
 pub lacks_own : (a : List ℕ) (q u : ℕ) → u / 64 ≡ q → bit (get_or a q 0) (u % 64) ≡ false → IsNumberUnmarked a u
 lacks_own a q u e word = cell_is a q u e ∙ word

@@ -1,9 +1,8 @@
 -- Words of cells in their planes, and cells that are dead
 use Rattle.lanes.proofs.Imports.{AreAllUnmarkedCellsDead, AreNumberedCellsDead, IsNumberUnmarked, List, LiveMarks}
-use Rattle.lanes.proofs.Imports.{Planes, ap, arith, bit}
-use Rattle.lanes.proofs.Imports.{bit-zero, by_eq_or_not, by_lt_or_le, common_steps, false, get_or, get_or-set_other}
-use Rattle.lanes.proofs.Imports.{get_or-set_same, lane, length, mul-le-mul_left, plane_of, refl, set, sym, ℕ, ◌%◌, ◌*◌}
-use Rattle.lanes.proofs.Imports.{◌+◌, ◌/◌, ◌<◌, ◌∙◌, ◌≡◌, ◌≢◌, ◌≤◌}
+use Rattle.lanes.proofs.Imports.{Planes, ap, arith, bit, bit-zero, by_eq_or_not, by_lt_or_le, common_steps, false}
+use Rattle.lanes.proofs.Imports.{get_or, get_or-set_other, get_or-set_same, lane, length, mul-le-mul_left, plane_of}
+use Rattle.lanes.proofs.Imports.{refl, set, sym, ℕ, ◌%◌, ◌*◌, ◌+◌, ◌/◌, ◌<◌, ◌∙◌, ◌≡◌, ◌≢◌, ◌≤◌}
 use Rattle.lemmas.proofs.Common.{[], ◌∷◌, suc, zero}
 use Rattle.lanes.specs.Lanes.{SetsCellWord}
 
@@ -45,10 +44,7 @@ plane_even p x y ex ey = rw (ex, ey) refl
 pub unique_place : (w c c' r r' : ℕ) → r < w → r' < w → w * c + r ≡ w * c' + r' → (c ≡ c') × (r ≡ r')
 unique_place w c c' r r' l l' e = by_lt_or_le c c'
     (λ h. let m : w * (c + 1) ≤ w * c' = mul-le-mul_left w (omega arith) in absurd (omega arith))
-    (grind (arith, common_steps, mul-le-mul_left, by_sum))
-  where
-    by_sum : c ≡ c' → r ≡ r'
-    by_sum q = let m : w * c ≡ w * c' = ap (λ n. w * n) q in omega arith
+    (grind (arith, common_steps, mul-le-mul_left))
 
 -- the words of another cell are as before
 pub other_word : (w u k v l word : ℕ) (xs : List ℕ) → k < w → l < w → v ≢ u →
@@ -62,8 +58,7 @@ unfolding lane
 lane_at q a x y w st s ew es e = grind (arith, common_steps)
 
 pub sets_word : (p q : Planes) (x y k word : ℕ) → q.words ≡ p.words → q.stride ≡ p.stride → x / 2 < p.stride →
-    k < p.words →
-    p.words * (p.stride * (y / 2) + x / 2) + k < length (plane_of p x y) →
+    k < p.words → p.words * (p.stride * (y / 2) + x / 2) + k < length (plane_of p x y) →
     ((x' y' : ℕ) → x' % 2 ≡ x % 2 → y' % 2 ≡ y % 2 →
     plane_of q x' y' ≡ set (plane_of p x y) (p.words * (p.stride * (y / 2) + x / 2) + k) word) →
     ((x' y' : ℕ) → x' % 2 ≡ x % 2 → y' % 2 ≡ y % 2 → plane_of p x' y' ≡ plane_of p x y) →
@@ -101,10 +96,9 @@ sets_word p q x y k word ew es lx lk room same old other = record {
         differ (omega arith, omega arith, first.1)
 
 pub sets_odd : (p q : Planes) (x y k word : ℕ) → q.words ≡ p.words → q.stride ≡ p.stride → x / 2 < p.stride →
-    k < p.words → p.words * (p.stride * (y / 2) + x / 2) + k < length p.odd.items →
-    x % 2 ≡ 0 → y % 2 ≡ 0 → q.odd.items ≡ set p.odd.items (p.words * (p.stride * (y / 2) + x / 2) + k) word →
-    q.right.items ≡ p.right.items → q.down.items ≡ p.down.items → q.even.items ≡ p.even.items →
-    SetsCellWord x y k word p q
+    k < p.words → p.words * (p.stride * (y / 2) + x / 2) + k < length p.odd.items → x % 2 ≡ 0 → y % 2 ≡ 0 →
+    q.odd.items ≡ set p.odd.items (p.words * (p.stride * (y / 2) + x / 2) + k) word → q.right.items ≡ p.right.items →
+    q.down.items ≡ p.down.items → q.even.items ≡ p.even.items → SetsCellWord x y k word p q
 sets_odd p q x y k word ew es lx lk room px py e_odd e_right e_down e_even =
     grind (arith, common_steps, sets_word, plane_odd, by_eq_or_not, plane_down, plane_right, plane_even)
 
@@ -117,10 +111,9 @@ sets_down p q x y k word ew es lx lk room px py e_odd e_right e_down e_even =
     grind (arith, common_steps, sets_word, plane_down, by_eq_or_not, plane_odd, plane_right, plane_even)
 
 pub sets_right : (p q : Planes) (x y k word : ℕ) → q.words ≡ p.words → q.stride ≡ p.stride → x / 2 < p.stride →
-    k < p.words → p.words * (p.stride * (y / 2) + x / 2) + k < length p.right.items →
-    x % 2 ≡ 1 → y % 2 ≡ 0 → q.odd.items ≡ p.odd.items →
-    q.right.items ≡ set p.right.items (p.words * (p.stride * (y / 2) + x / 2) + k) word → q.down.items ≡ p.down.items →
-    q.even.items ≡ p.even.items → SetsCellWord x y k word p q
+    k < p.words → p.words * (p.stride * (y / 2) + x / 2) + k < length p.right.items → x % 2 ≡ 1 → y % 2 ≡ 0 →
+    q.odd.items ≡ p.odd.items → q.right.items ≡ set p.right.items (p.words * (p.stride * (y / 2) + x / 2) + k) word →
+    q.down.items ≡ p.down.items → q.even.items ≡ p.even.items → SetsCellWord x y k word p q
 sets_right p q x y k word ew es lx lk room px py e_odd e_right e_down e_even =
     grind (arith, common_steps, sets_word, plane_right, by_eq_or_not, plane_odd, plane_down, plane_even)
 

@@ -1,9 +1,8 @@
 -- A cell that is set, and its mark
 use Rattle.lanes.proofs.Imports.{AreAllUnmarkedCellsDead, ArePlaneWordsInRange, Bool, IsDeadCell, IsNumberUnmarked}
-use Rattle.lanes.proofs.Imports.{List, LiveMarks, Planes, ap}
-use Rattle.lanes.proofs.Imports.{arith, bit, bit-zero, by_eq_or_not, common_steps, div-add-mod, false, get_or, lane}
-use Rattle.lanes.proofs.Imports.{mod-lt, mul-le-mul_left, plane_of, refl, sym, ℕ, ◌%◌, ◌*◌, ◌+◌, ◌/◌, ◌<◌, ◌^◌, ◌∙◌}
-use Rattle.lanes.proofs.Imports.{◌≡◌, ◌≤◌}
+use Rattle.lanes.proofs.Imports.{List, LiveMarks, Planes, ap, arith, bit, bit-zero, by_eq_or_not, common_steps}
+use Rattle.lanes.proofs.Imports.{div-add-mod, false, get_or, lane, mod-lt, mul-le-mul_left, plane_of, refl, sym, ℕ, ◌%◌}
+use Rattle.lanes.proofs.Imports.{◌*◌, ◌+◌, ◌/◌, ◌<◌, ◌^◌, ◌∙◌, ◌≡◌}
 use Rattle.bbm_rule.specs.Rows.{SetsCellAtPlace}
 use Rattle.lanes.specs.Lanes.{SetsCell, word_of_source}
 use Rattle.lanes.specs.Live.{SetsCellMark}
@@ -14,18 +13,6 @@ use Rattle.lanes.proofs.PlaneWords.{lane_at, plane_down, plane_even, plane_odd, 
 use Rattle.lanes.proofs.PlaneWords.{unique_place}
 
 -- ---- the mark of one cell
-same_plane : (l : LiveMarks) (x y x' y' : ℕ) → x' % 2 ≡ x % 2 → y' % 2 ≡ y % 2 →
-    plane_marks_at l x' y' ≡ plane_marks_at l x y
-unfolding plane_marks_at
-same_plane l x y x' y' ex ey = rw (ex, ey) refl
-
--- the marks of one plane change, and there only that of one number
-sets_mark : (l l' : LiveMarks) (x y u : ℕ) (value : Bool) →
-    SetsCellAtPlace u value (plane_marks_at l x y) (plane_marks_at l' x y) →
-    ((x' y' : ℕ) → ((x' % 2 ≡ x % 2) × (y' % 2 ≡ y % 2) → ⊥) → plane_marks_at l' x' y' ≡ plane_marks_at l x' y') →
-    SetsCellMark x y u value l l'
-sets_mark l l' x y u value sets others = grind (arith, common_steps, same_plane)
-
 marks_odd : (l : LiveMarks) (x y : ℕ) → x % 2 ≡ 0 → y % 2 ≡ 0 → plane_marks_at l x y ≡ l.odd.items
 unfolding plane_marks_at
 marks_odd l x y ex ey = rw (ex, ey) refl
@@ -46,35 +33,31 @@ pub sets_odd_mark : (l l' : LiveMarks) (x y u : ℕ) (value : Bool) → x % 2 �
     SetsCellAtPlace u value l.odd.items l'.odd.items → l'.right.items ≡ l.right.items → l'.down.items ≡ l.down.items →
     l'.even.items ≡ l.even.items → SetsCellMark x y u value l l'
 sets_odd_mark l l' x y u value px py sets right down even =
-    grind (arith, common_steps, sets_mark, by_eq_or_not, marks_odd, marks_down, marks_right, marks_even)
+    grind (arith, common_steps, by_eq_or_not, marks_odd, marks_down, marks_right, marks_even)
 
 pub sets_down_mark : (l l' : LiveMarks) (x y u : ℕ) (value : Bool) → x % 2 ≡ 0 → y % 2 ≡ 1 →
     SetsCellAtPlace u value l.down.items l'.down.items → l'.odd.items ≡ l.odd.items → l'.right.items ≡ l.right.items →
     l'.even.items ≡ l.even.items → SetsCellMark x y u value l l'
 sets_down_mark l l' x y u value px py sets odd right even =
-    grind (arith, common_steps, sets_mark, by_eq_or_not, marks_odd, marks_down, marks_right, marks_even)
+    grind (arith, common_steps, by_eq_or_not, marks_odd, marks_down, marks_right, marks_even)
 
 pub sets_right_mark : (l l' : LiveMarks) (x y u : ℕ) (value : Bool) → x % 2 ≡ 1 → y % 2 ≡ 0 →
     SetsCellAtPlace u value l.right.items l'.right.items → l'.odd.items ≡ l.odd.items → l'.down.items ≡ l.down.items →
     l'.even.items ≡ l.even.items → SetsCellMark x y u value l l'
 sets_right_mark l l' x y u value px py sets odd down even =
-    grind (arith, common_steps, sets_mark, by_eq_or_not, marks_odd, marks_down, marks_right, marks_even)
+    grind (arith, common_steps, by_eq_or_not, marks_odd, marks_down, marks_right, marks_even)
 
 pub sets_even_mark : (l l' : LiveMarks) (x y u : ℕ) (value : Bool) → x % 2 ≡ 1 → y % 2 ≡ 1 →
     SetsCellAtPlace u value l.even.items l'.even.items → l'.odd.items ≡ l.odd.items → l'.right.items ≡ l.right.items →
     l'.down.items ≡ l.down.items → SetsCellMark x y u value l l'
 sets_even_mark l l' x y u value px py sets odd right down =
-    grind (arith, common_steps, sets_mark, by_eq_or_not, marks_odd, marks_down, marks_right, marks_even)
+    grind (arith, common_steps, by_eq_or_not, marks_odd, marks_down, marks_right, marks_even)
 
 -- ---- dead cells, by column and row
 -- each cell without a mark is dead
 abbrev AreCellsDead : ℕ → ℕ → ℕ → LiveMarks → Planes → Type 0
 AreCellsDead w s r l p = (x y : ℕ) → x / 2 < s → y / 2 < r →
-    IsNumberUnmarked (plane_marks_at l x y) (s * (y / 2) + x / 2) →
-    IsDeadCell w (s * (y / 2) + x / 2) (plane_of p x y)
-
-number_in_plane : (s r i j : ℕ) → i < s → j < r → s * j + i < s * r
-number_in_plane s r i j li lj = let m : s * (j + 1) ≤ s * r = mul-le-mul_left s (omega arith) in omega arith
+    IsNumberUnmarked (plane_marks_at l x y) (s * (y / 2) + x / 2) → IsDeadCell w (s * (y / 2) + x / 2) (plane_of p x y)
 
 -- if the cells without a mark are dead by plane and number, they are by column and row
 cells_of_planes : (l : LiveMarks) (p : Planes) → AreAllUnmarkedCellsDead l p → AreCellsDead p.words p.stride p.rows l p
@@ -82,7 +65,6 @@ cells_of_planes l p dead x y lx ly free = grind (
   arith,
   common_steps,
   by_eq_or_not,
-  number_in_plane,
   marks_odd,
   marks_down,
   marks_right,
@@ -96,8 +78,7 @@ cells_of_planes l p dead x y lx ly free = grind (
 -- the cell with a number, in one plane
 at_cell : (w s r x y i j : ℕ) (l : LiveMarks) (p : Planes) (m xs : List ℕ) → x / 2 ≡ i → y / 2 ≡ j →
     plane_marks_at l x y ≡ m → plane_of p x y ≡ xs → i < s → j < r → AreCellsDead w s r l p →
-    IsNumberUnmarked m (s * j + i) →
-    IsDeadCell w (s * j + i) xs
+    IsNumberUnmarked m (s * j + i) → IsDeadCell w (s * j + i) xs
 at_cell w s r x y i j l p m xs ei ej em exs li lj dead = grind (arith, common_steps)
 
 -- the four cells with a number
@@ -136,8 +117,7 @@ plane_small : (q : Planes) (x y k : ℕ) → ArePlaneWordsInRange q → get_or (
 plane_small q x y k words = grind (arith, common_steps, plane_odd, plane_down, plane_right, plane_even)
 
 zero_by_lanes : (w s x y k : ℕ) (q : Planes) → q.words ≡ w → q.stride ≡ s → ArePlaneWordsInRange q →
-    ((b : ℕ) → b < 64 → lane q (64 * k + b) x y ≡ false) →
-    get_or (plane_of q x y) (w * (s * (y / 2) + x / 2) + k) 0 ≡ 0
+    ((b : ℕ) → b < 64 → lane q (64 * k + b) x y ≡ false) → get_or (plane_of q x y) (w * (s * (y / 2) + x / 2) + k) 0 ≡ 0
 zero_by_lanes w s x y k q ew es words dead = zero_word _ (plane_small q x y _ words) (λ b l.
     let e = sym (lane_at q (64 * k + b) x y w s (plane_of q x y) ew es refl) ∙ dead b l in
     rw (quotient k b l, remainder k b l) at e)

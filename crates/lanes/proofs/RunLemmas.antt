@@ -1,10 +1,9 @@
 -- Steps that turn runs of blocks, and pass over the blocks between them
 use Rattle.lanes.proofs.Imports.{AreCornerWordsTurned, AreMarkedBlocksStable, BlockPlaces, Even, HasWordsStrideRows}
-use Rattle.lanes.proofs.Imports.{IsNotRowEndBlock}
-use Rattle.lanes.proofs.Imports.{IsSameOutsidePart, KeepsCellsOutsideBlocks, List, Odd, Partition, Planes}
-use Rattle.lanes.proofs.Imports.{TurnsNumberedBlocksBetween, arith, block_at, block_number_count, by_lt_or_le, cell_at}
-use Rattle.lanes.proofs.Imports.{common_steps}
-use Rattle.lanes.proofs.Imports.{get_or, inl, inr, mul-le-mul_left, true, ℕ, ◌*◌, ◌+◌, ◌-◌, ◌<◌, ◌≡◌, ◌≤◌}
+use Rattle.lanes.proofs.Imports.{IsNotRowEndBlock, IsSameOutsidePart, KeepsCellsOutsideBlocks, List, Odd, Partition}
+use Rattle.lanes.proofs.Imports.{Planes, TurnsNumberedBlocksBetween, arith, block_at, block_number_count, by_lt_or_le}
+use Rattle.lanes.proofs.Imports.{cell_at, common_steps, get_or, inl, inr, mul-le-mul_left, true, ℕ, ◌*◌, ◌+◌, ◌-◌, ◌<◌}
+use Rattle.lanes.proofs.Imports.{◌≡◌, ◌≤◌}
 use Rattle.lanes.specs.Turns.{TurnsWordsFrom}
 use Rattle.lanes.proofs.FieldLemmas.{named_join, named_stay}
 use Rattle.lemmas.proofs.Common.{place_within}
@@ -23,11 +22,9 @@ beside_run w first len n k xs ys same l out = by_lt_or_le n first
 -- words by other places that are the same
 placed : (ul ur ll lr ul' ur' ll' lr' : List ℕ) (a b c d a' b' c' d' : ℕ) → a ≡ a' → b ≡ b' → c ≡ c' → d ≡ d' →
     AreCornerWordsTurned (get_or ul a 0) (get_or ur b 0) (get_or ll c 0) (get_or lr d 0) (get_or ul' a 0)
-    (get_or ur' b 0)
-    (get_or ll' c 0) (get_or lr' d 0) →
+    (get_or ur' b 0) (get_or ll' c 0) (get_or lr' d 0) →
     AreCornerWordsTurned (get_or ul a' 0) (get_or ur b' 0) (get_or ll c' 0) (get_or lr d' 0) (get_or ul' a' 0)
-    (get_or ur' b' 0)
-    (get_or ll' c' 0) (get_or lr' d' 0)
+    (get_or ur' b' 0) (get_or ll' c' 0) (get_or lr' d' 0)
 placed ul ur ll lr ul' ur' ll' lr' a b c d a' b' c' d' ea eb ec ed t = rw (ea, eb, ec, ed) at t
 
 -- ---- the blocks of a partition

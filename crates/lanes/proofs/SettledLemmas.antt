@@ -1,9 +1,8 @@
 -- Numbers whose cells have not changed since the last odd step
 use Rattle.lanes.proofs.Imports.{AreUnmarkedBlocksStable, BlockMarks, BlockPlaces, Bool, ChangesOnlyDiagonals, Even}
-use Rattle.lanes.proofs.Imports.{HasWordsStrideRows, IsBlockStable, IsNumberUnmarked, Odd, Partition, Planes, inl, inr}
-use Rattle.lanes.proofs.Imports.{arith}
-use Rattle.lanes.proofs.Imports.{block_at, by_eq_or_not, common_steps, lane, mul-le-mul_left, refl, turned, ℕ, ◌*◌, ◌+◌}
-use Rattle.lanes.proofs.Imports.{◌/◌, ◌<◌, ◌∙◌, ◌≡◌}
+use Rattle.lanes.proofs.Imports.{HasWordsStrideRows, IsBlockStable, IsNumberUnmarked, Odd, Partition, Planes, arith}
+use Rattle.lanes.proofs.Imports.{block_at, by_eq_or_not, common_steps, inl, inr, lane, mul-le-mul_left, refl, turned, ℕ}
+use Rattle.lanes.proofs.Imports.{◌*◌, ◌+◌, ◌/◌, ◌<◌, ◌∙◌, ◌≡◌}
 use Rattle.bbm_rule.proofs.BlockRuns.{mate_lt}
 use Rattle.bbm_rule.proofs.PlaneLemmas.{mate_twice, turned_twice}
 use Rattle.bbm_rule.specs.Rows.{paired_place}
@@ -79,8 +78,7 @@ row_below s r i y u at within = grind (arith, common_steps, mul-le-mul_left)
 -- a block that stays after all were turned did not change, since a turn undoes itself
 pub same_after_turn : (m : BlockMarks) (p q : Planes) (u : ℕ) → HasWordsStrideRows p.words p.stride p.rows q →
     TurnsCellsOfPartition Odd p q → AreUnmarkedBlocksStable m q → u < p.stride * p.rows →
-    IsNumberUnmarked m.odd.items u →
-    AreCellsSameAtNumber u p q
+    IsNumberUnmarked m.odd.items u → AreCellsSameAtNumber u p q
 same_after_turn m p q u size turns calm within free = grind (arith, common_steps, same)
   where
     stable : IsBlockStable (block_at Odd q.stride u) q

@@ -1,9 +1,9 @@
 -- Parts of lists whose blocks are turned, and blocks that stay
 use Rattle.lanes.proofs.Imports.{AreCornerWordsTurned, AreCornerWordsTurnedAt, BlockPlaces, IsBlockStable}
 use Rattle.lanes.proofs.Imports.{IsDiagonalStable, IsSameOutsidePart, List}
-use Rattle.lanes.proofs.Imports.{Planes, TurnsBlock, TurnsPart, ap, arith, bit, bit-is, bit-xor, bit-zero, bit_and}
+use Rattle.lanes.proofs.Imports.{Planes, TurnsBlock, TurnsPart, ap, arith, bit, bit-is, bit_and}
 use Rattle.lanes.proofs.Imports.{bit_at, bit_or, bit_xor, common_steps, false, false≢true, get_or-drop, get_or-take}
-use Rattle.lanes.proofs.Imports.{length, not, not-false, refl, sym, xor, ℕ, ◌+◌, ◌<◌, ◌∙◌, ◌≡◌, ◌≤◌}
+use Rattle.lanes.proofs.Imports.{length, not, not-false, refl, sym, ℕ, ◌+◌, ◌<◌, ◌∙◌, ◌≡◌, ◌≤◌}
 use Rattle.lemmas.proofs.Common.{◌↔◌, nat_eq, and_or_self, and_zero_l, bit_at-lt, eqb-true, or_comm, same_from_bits}
 use Rattle.lemmas.proofs.Common.{xor_assoc, xor_self, xor_zero_l, xor_zero_r}
 use Rattle.std.proofs.lemmas.Slice.{take-put_mid_below, drop-put_mid}
@@ -34,12 +34,11 @@ beside : (a k long : ℕ) (xs ys : List ℕ) → k ≡ long → a + long ≤ len
 beside a k long xs ys e room l = grind (arith, common_steps, get_or-take, take-put_mid_below, get_or-drop, drop-put_mid)
 
 pub part_turned : (a b c d ka kb kc kd long : ℕ) (ul ur ll lr p q r s : List ℕ) → ka ≡ long → kb ≡ long → kc ≡ long →
-    kd ≡ long →
-    a + long ≤ length ul → b + long ≤ length ur → c + long ≤ length ll → d + long ≤ length lr → length p ≡ long →
-    length q ≡ long → length r ≡ long → length s ≡ long →
+    kd ≡ long → a + long ≤ length ul → b + long ≤ length ur → c + long ≤ length ll → d + long ≤ length lr →
+    length p ≡ long → length q ≡ long → length r ≡ long → length s ≡ long →
     ((k : ℕ) → k < long → AreCornerWordsTurnedAt k (mid_of a ka ul) (mid_of b kb ur) (mid_of c kc ll)
-    (mid_of d kd lr) p q r s) →
-    TurnsPart a b c d long ul ur ll lr (put_mid a ka ul p) (put_mid b kb ur q) (put_mid c kc ll r) (put_mid d kd lr s)
+    (mid_of d kd lr) p q r s) → TurnsPart a b c d long ul ur ll lr (put_mid a ka ul p) (put_mid b kb ur q)
+    (put_mid c kc ll r) (put_mid d kd lr s)
 part_turned a b c d ka kb kc kd long ul ur ll lr p q r s ea eb ec ed ra rb rc rd lp lq lr' ls turns = record {
   turned = λ k l.
       let h = turns k l in
@@ -65,16 +64,13 @@ pub same_beside : (a n : ℕ) (xs : List ℕ) → IsSameOutsidePart a n xs xs
 same_beside a n xs = record { below = λ k l. refl; above = λ k l. refl }
 
 -- ---- blocks that stay
-flips_none : (a f j : ℕ) → f ≡ 0 → bit (bit_xor a f) j ≡ bit a j
-flips_none a f j e = grind (arith, common_steps, bit-xor, bit-zero, xor)
-
 pub main_stays : (ul ur ll lr : ℕ) → main_flips_of ul ur ll lr ≡ 0 → IsDiagonalStable ul lr ur ll
 main_stays ul ur ll lr e j =
-    let t = words_turned ul ur ll lr in grind (arith, common_steps, flips_none, main_flips_of)
+    let t = words_turned ul ur ll lr in grind (arith, common_steps, main_flips_of)
 
 pub anti_stays : (ul ur ll lr : ℕ) → anti_flips_of ul ur ll lr ≡ 0 → IsDiagonalStable ur ll ul lr
 anti_stays ul ur ll lr e j =
-    let t = words_turned ul ur ll lr in grind (arith, common_steps, flips_none, anti_flips_of)
+    let t = words_turned ul ur ll lr in grind (arith, common_steps, anti_flips_of)
 
 pub calm_turned : (ul ur ll lr : ℕ) → IsDiagonalStable ul lr ur ll → IsDiagonalStable ur ll ul lr →
     AreCornerWordsTurned ul ur ll lr ul ur ll lr
@@ -92,14 +88,12 @@ word_of_bits a b same = same_from_bits a b (λ j. at_place j (same j))
 
 -- the words of a diagonal that stays are as they were
 pub main_words : (ul ur ll lr ul' ur' ll' lr' : ℕ) → IsDiagonalStable ul lr ur ll →
-    AreCornerWordsTurned ul ur ll lr ul' ur' ll' lr' →
-    (ul' ≡ ul) × (lr' ≡ lr)
+    AreCornerWordsTurned ul ur ll lr ul' ur' ll' lr' → (ul' ≡ ul) × (lr' ≡ lr)
 main_words ul ur ll lr ul' ur' ll' lr' stays t =
     (word_of_bits ul' ul (λ j. t.upper_left j ∙ (stays j).0), word_of_bits lr' lr (λ j. t.lower_right j ∙ (stays j).1))
 
 pub anti_words : (ul ur ll lr ul' ur' ll' lr' : ℕ) → IsDiagonalStable ur ll ul lr →
-    AreCornerWordsTurned ul ur ll lr ul' ur' ll' lr' →
-    (ur' ≡ ur) × (ll' ≡ ll)
+    AreCornerWordsTurned ul ur ll lr ul' ur' ll' lr' → (ur' ≡ ur) × (ll' ≡ ll)
 anti_words ul ur ll lr ul' ur' ll' lr' stays t =
     (word_of_bits ur' ur (λ j. t.upper_right j ∙ (stays j).0), word_of_bits ll' ll (λ j. t.lower_left j ∙ (stays j).1))
 

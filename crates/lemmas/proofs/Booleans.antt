@@ -1,6 +1,5 @@
 -- Truth values: what a test tells of its parts.
-use Rattle.std.proofs.Common.{Bool, true, false, not, ◌&&◌, ◌||◌, ◌≡◌, sym, refl, if◌then◌else◌, Some, None}
-use Rattle.std.proofs.Common.{arith}
+use Rattle.std.proofs.Common.{Bool, None, Some, arith, false, if◌then◌else◌, not, refl, sym, true, ◌&&◌, ◌||◌, ◌≡◌}
 use Rattle.std.proofs.lemmas.Option.{same_Some}
 
 pub true_from_not : (x : Bool) → not x ≡ false → x ≡ true

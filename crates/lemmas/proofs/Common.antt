@@ -26,8 +26,7 @@ pub use Rattle.std.proofs.lemmas.Bool.{OnTrue_from, and_from, and_parts, cases_B
 pub use Rattle.std.proofs.lemmas.Bool.{cond-false, cond-true, eqb-false, eqb-true, false_from_ne_true, false≢true}
 pub use Rattle.std.proofs.lemmas.Bool.{le-leb, le-ltb, leb-false, leb-true, lt-ltb, ltb-false, ltb-true, not-false}
 pub use Rattle.std.proofs.lemmas.Bool.{not-true, not_from_false, or_cases, or_left, or_parts, or_right}
-pub use Rattle.std.proofs.lemmas.Bool.Decides.{Decides-eqb, eqb_tells, leb_tells, nat_tests}
-pub use Rattle.std.proofs.lemmas.Bool.Decides.{same_from_decides}
+pub use Rattle.std.proofs.lemmas.Bool.Decides.{Decides-eqb, eqb_tells, leb_tells, nat_tests, same_from_decides}
 pub use Rattle.std.proofs.lemmas.Cmp.{int_cmp_total, nat_cmp_total, on_total, then_total, tied_itself, upto}
 pub use Rattle.std.proofs.lemmas.Grind.{common_steps, flat_map-append}
 pub use Rattle.std.proofs.lemmas.Int.{ints}
@@ -46,8 +45,7 @@ pub use Rattle.std.proofs.lemmas.List.Elements.{filter-append}
 pub use Rattle.std.proofs.lemmas.List.Folds.{flat_map-map, list_all-append, list_all-map, list_any-append, list_any_at}
 pub use Rattle.std.proofs.lemmas.List.FromFn.{filter_of_map_range_with_len_more, get_or-map-range_with_len}
 pub use Rattle.std.proofs.lemmas.List.FromFn.{get_or-range_with_len, length-range_with_len, map-range_with_len_more}
-pub use Rattle.std.proofs.lemmas.List.Sorted.{All-permutation}
-pub use Rattle.std.proofs.lemmas.List.Sorted.{IsPermutation-sym, answers_always, ranks_by, sorted_far}
+pub use Rattle.std.proofs.lemmas.List.Sorted.{All-permutation, IsPermutation-sym, answers_always, ranks_by, sorted_far}
 pub use Rattle.std.proofs.lemmas.List.Splits.{join_with_byte-slice_split, length-slice_split, slice_split-cons_no}
 pub use Rattle.std.proofs.lemmas.List.Splits.{slice_split-cons_yes, slice_split_at, slice_split_first, slice_split_none}
 pub use Rattle.std.proofs.lemmas.List.Sums.{count_by-le-length, fails_before_first, fold_push}
@@ -81,19 +79,17 @@ pub use Rattle.std.specs.List.{range_with_len, slice_split}
 pub use Rattle.std.specs.List.Sorted.{IsPermutation, IsSortedBy}
 pub use Rattle.std.specs.Option.{option_eq, option_map_or}
 pub use Rattle.std.specs.Ordering.{on, ordering_reverse, ordering_then}
-pub use Rattle.std.specs.Prelude.{int_le, int_lt, ⊤}
+pub use Rattle.std.specs.Prelude.{int_lt, ⊤}
 pub use Rattle.std.specs.Result.{is_err}
 pub use Rattle.std.specs.Str.{bytes_eq, chars}
 pub use Rattle.std.specs.Vec.{with_items}
 pub use Rattle.std.specs.Vec.Iter.{into_iter_items, into_iter_len}
 pub use Rattle.lemmas.proofs.Booleans.{true_from_not, false_from_not, left_is_false, or_last, left_is_true}
 pub use Rattle.lemmas.proofs.Booleans.{right_is_true, same_truth, test_failed, tested_value}
-pub use Rattle.lemmas.proofs.Numbers.{below_or_from, below_or_same, same_or_higher, three_ways, positive}
-pub use Rattle.lemmas.proofs.Numbers.{at_most_by_test, below_by_test, not_below_by_test, lt_test, not_lt_test}
-pub use Rattle.lemmas.proofs.Numbers.{not_le_test, eq_itself, eq_sym, eq_test, nat_less, nat_equal, less_nat, int_less}
-pub use Rattle.lemmas.proofs.Numbers.{int_equal, pred_pos, next_neg, up_moved, down_moved}
-pub use Rattle.lemmas.proofs.Lists.{mapped_at, mapped_from, none_at, some_at, same_head, same_tail, nothing_in, one_in}
-pub use Rattle.lemmas.proofs.Lists.{all_unmapped, nothing_prop}
+pub use Rattle.lemmas.proofs.Numbers.{at_most_by_test, below_by_test, below_or_from, below_or_same, down_moved}
+pub use Rattle.lemmas.proofs.Numbers.{eq_itself, eq_sym, eq_test, int_equal, int_less, less_nat, low_number, lt_test}
+pub use Rattle.lemmas.proofs.Numbers.{nat_equal, nat_less, next_neg, not_below_by_test, not_le_test, not_lt_test}
+pub use Rattle.lemmas.proofs.Numbers.{place_within, positive, pred_pos, same_or_higher, three_ways, up_moved}
+pub use Rattle.lemmas.proofs.Lists.{all_unmapped, begins_with, mapped_at, mapped_from, none_at, nothing_in}
+pub use Rattle.lemmas.proofs.Lists.{nothing_prop, one_in, same_bytes, same_head, same_tail, some_at}
 pub use Rattle.lemmas.proofs.Orders.{both_ways, then_less}
-pub use Rattle.lemmas.proofs.Numbers.{low_number, place_within}
-pub use Rattle.lemmas.proofs.Lists.{same_bytes, begins_with}

@@ -1,9 +1,8 @@
 -- Lists: their items, their maps, and what holds of each item.
-use Rattle.std.proofs.Common.{List, [], ◌∷◌, ℕ, zero, suc, ◌<◌, ◌≡◌, ◌∙◌, Some, map, option_map, length}
-use Rattle.std.proofs.Common.{slice_get, Contains, All, refl, ap, arith}
+use Rattle.std.proofs.Common.{All, Contains, List, Some, [], ap, arith, drop, length, map, option_map, refl, slice_get}
+use Rattle.std.proofs.Common.{suc, sym, take, take-append-drop, true, zero, ℕ, ◌++◌, ◌<◌, ◌∙◌, ◌∷◌, ◌≡◌}
 use Rattle.std.proofs.lemmas.Option.{slice_get-map, same_Some}
 use Rattle.std.proofs.lemmas.List.Elements.{All-nil, All-cons, All-head, All-tail}
-use Rattle.std.proofs.Common.{◌++◌, drop, sym, take, take-append-drop, true}
 use Rattle.std.proofs.Props.{props}
 use Rattle.std.proofs.lemmas.Slice.Eq.{bytes_eq-Decides}
 use Rattle.std.specs.Str.{bytes_eq}

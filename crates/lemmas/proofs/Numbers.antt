@@ -1,7 +1,6 @@
 -- Numbers: their order, and what tests and comparisons tell of it.
-use Rattle.std.proofs.Common.{ℕ, ℤ, zero, suc, pos, negsuc, ◌<◌, ◌≤◌, ◌+◌, ◌≡◌, ◌⊎◌, ◌==◌, ◌+ℤ◌, ◌-ℤ◌, ◌<ℤ◌, ◌≤ℤ◌, ◌*◌}
-use Rattle.std.proofs.Common.{nat_lt}
-use Rattle.std.proofs.Common.{nat_le, nat_cmp, int_cmp, Less, Equal, true, false, refl, arith, rules}
+use Rattle.std.proofs.Common.{Equal, Less, arith, false, int_cmp, nat_cmp, nat_le, nat_lt, negsuc, pos, refl, rules}
+use Rattle.std.proofs.Common.{suc, true, zero, ℕ, ℤ, ◌*◌, ◌+ℤ◌, ◌+◌, ◌-ℤ◌, ◌<ℤ◌, ◌<◌, ◌==◌, ◌≡◌, ◌≤ℤ◌, ◌≤◌, ◌⊎◌}
 use Rattle.std.proofs.Math.Nat.{mul-le-mul_left}
 use Rattle.std.proofs.lemmas.Int.{ints}
 use Rattle.std.proofs.lemmas.Bool.Decides.{nat_tests}

@@ -23,8 +23,8 @@ abbrev pub max_blocks_in_layout : ℕ
 max_blocks_in_layout = 4194304
 
 -- the farthest that a cell near the layout is moved, in cells
-abbrev pub max_shift : ℕ
-max_shift = 8191
+abbrev pub max_cell_shift : ℕ
+max_cell_shift = 8191
 
 -- the most steps of a layout
 abbrev pub max_steps : ℕ

@@ -1,8 +1,7 @@
 -- Values that are cleared under the assignments under which some used gate lacks a row
 use Rattle.local_run.proofs.Imports.{AreValueRows, AreValueRowsAt, List, Netlist, Satisfies, Valuation, and-true, arith}
-use Rattle.local_run.proofs.Imports.{bit}
-use Rattle.local_run.proofs.Imports.{bit-and, bit_and, bit_of_row, by_lt_or_le, common_steps, length, subst, sym, true}
-use Rattle.local_run.proofs.Imports.{value_of, ℕ, ◌%◌, ◌*◌, ◌<◌, ◌≡◌, ◌≤◌}
+use Rattle.local_run.proofs.Imports.{bit, bit-and, bit_and, bit_of_row, by_lt_or_le, common_steps, length, subst, sym}
+use Rattle.local_run.proofs.Imports.{true, value_of, ℕ, ◌%◌, ◌*◌, ◌<◌, ◌≡◌, ◌≤◌}
 use Rattle.lemmas.proofs.Common.{slice_index, mod-mul-add, mul_comm}
 use Rattle.module_box.specs.declared.values.ValueRows.{ValueRows}
 use Rattle.local_run.specs.Scans.{KeepsDefinedValues}

@@ -18,16 +18,14 @@ use Rattle.module_job.proofs.OwnSignals.{edge_below}
 
 -- ---- the same fault under valuations that agree
 meets_same : (n : ℕ) (u u' : Valuation) (d : Demand) (b : Bool) → AgreeBelow n u u' → IsDemandWireBelow n d →
-    MeetsDemand u d b →
-    MeetsDemand u' d b
+    MeetsDemand u d b → MeetsDemand u' d b
 meets_same n u u' d b h1 h2 h3 = grind (arith, common_steps)
 
 own_stop : (j : JobView) (s : listed.Stop) → NamesOnlyOwnWires j → Contains j.stops s → s.wire < wires j.locals.netlist
 own_stop j s own h = subst (λ (r : listed.Stop). r.wire < wires j.locals.netlist) h.2 (own.stops h.0 s h.1)
 
 pub fault_same : (j : JobView) (u u' : Valuation) (t : ℕ) (kind : Kind) (x y : ℤ) → NamesOnlyOwnWires j →
-    AgreeBelow (wires j.locals.netlist) u u' →
-    IsFaultUnderValues j u t kind x y → IsFaultUnderValues j u' t kind x y
+    AgreeBelow (wires j.locals.netlist) u u' → IsFaultUnderValues j u t kind x y → IsFaultUnderValues j u' t kind x y
 fault_same j u u' t Edge x y own same f = grind (arith, common_steps, run_same, live_same, edge_below)
 fault_same j u u' t Stop x y own same f = grind (arith, common_steps, run_same, own_stop)
 fault_same j u u' t End x y own same f = grind (arith, common_steps, meets_same, demand_below, run_same)
@@ -93,8 +91,7 @@ stop_told j u t x y is some = elim (found_stop j.stops t x y) [
 ]
 
 told : (j : JobView) (u : Valuation) (t : ℕ) (kind : Kind) (x y : ℤ) → IsJob j →
-    ∥ IsFaultUnderValues j u t kind x y ∥₁ →
-    IsFaultUnderValues j u t kind x y
+    ∥ IsFaultUnderValues j u t kind x y ∥₁ → IsFaultUnderValues j u t kind x y
 told j u t Stop x y is some = stop_told j u t x y is some
 told j u t _ x y is some = ∥∥₁_elim some (Prim.hlevel props) (λ f. f)
 

@@ -41,13 +41,11 @@ least_map n P Q h1 h2 r h3 = grind (arith, common_steps)
 
 -- no cell but those of the ring has a fault of its edge
 pub edge_none : (j : JobView) (n : ℕ) (u : ℕ → Valuation) (t : ℕ) (k : Kind) (x y : ℤ) → Edge ≡ k →
-    in_ring j.area x y ≡ false →
-    IsLeastBelow n (λ a. IsFaultUnderValues j (u a) t k x y) None
+    in_ring j.area x y ≡ false → IsLeastBelow n (λ a. IsFaultUnderValues j (u a) t k x y) None
 edge_none j n u t k x y e out a l f = grind (arith, common_steps, false≢true)
 
 pub end_least : (j : JobView) (vs : Values) (n : ℕ) (f : ℕ → Bool) (s : Signal) (d : Demand) (t : ℕ) (k : Kind)
-    (x y : ℤ) (r : Option ℕ) → End ≡ k → IsKindScannedAt j t k →
-    in_box j.area x y ≡ true → job_demand j x y ≡ d →
+    (x y : ℤ) (r : Option ℕ) → End ≡ k → IsKindScannedAt j t k → in_box j.area x y ≡ true → job_demand j x y ≡ d →
     ((v : Valuation) (b : Bool) → MeetsDemand v d b → b ≡ is_live v s) →
     ((v : Valuation) (b : Bool) → b ≡ is_live v s → MeetsDemand v d b) →
     ((a : ℕ) → a < n → f a ≡ local_run j (valuation vs a) t x y) →
@@ -138,12 +136,10 @@ abbrev pub IsAtEitherEnd : ℕ → ℕ → ℕ → Type 0
 IsAtEitherEnd w x stride = (stride ≡ 1) ⊎ ((x ≡ 0) ⊎ (w ≤ x + 1))
 
 pub still_at_either_end : (kind : Kind) (w h y x stride : ℕ) → IsScanStride kind w h y stride →
-    IsAtEitherEnd w x stride →
-    IsAtEitherEnd w (x + stride) stride
+    IsAtEitherEnd w x stride → IsAtEitherEnd w (x + stride) stride
 still_at_either_end kind w h y x stride s at = grind (arith, common_steps)
 
 pub passed_over : (j : JobView) (u : Valuation) (t : ℕ) (kind : Kind) (x x' y stride : ℕ) →
-    IsScanStride kind j.area.w j.area.h y stride → IsAtEitherEnd j.area.w x stride →
-    x < x' → x' < x + stride → x' < j.area.w →
-    ¬ IsFaultUnderValues j u t kind (box_coord j.area.x x') (box_coord j.area.y y)
+    IsScanStride kind j.area.w j.area.h y stride → IsAtEitherEnd j.area.w x stride → x < x' → x' < x + stride →
+    x' < j.area.w → ¬ IsFaultUnderValues j u t kind (box_coord j.area.x x') (box_coord j.area.y y)
 passed_over j u t kind x x' y stride s at after before within f = grind (arith, common_steps, edge_none, not_in_ring)

@@ -12,8 +12,7 @@ pub use Rattle.lanes.specs.declared.planes.Planes.{Planes}
 pub use Rattle.lemmas.proofs.Common.{Contains, and-true, div_ceil, int_equal, nat_cmp, nat_equal, ordering_then, props}
 pub use Rattle.lemmas.proofs.Common.{three_ways, ∥∥₁_elim, ∥∥₁_map, ◌<ℤ◌}
 pub use Rattle.local_run.specs.Faults.{HasFaultWitness, IsFault, IsFaultUnderValues, IsKeepFault, IsLeastFault}
-pub use Rattle.local_run.specs.Faults.{IsStopFault}
-pub use Rattle.local_run.specs.Faults.{assignments}
+pub use Rattle.local_run.specs.Faults.{IsStopFault, assignments}
 pub use Rattle.local_run.specs.Leaps.{HasSameSignalsAtOddTimes, IsOddOfTimePair, IsRunUnchangedUntil}
 pub use Rattle.local_run.specs.Leaps.{AreEventPlacesAroundTime}
 pub use Rattle.local_run.specs.Order.{kind_number}
@@ -22,12 +21,10 @@ unfoldable pub use Rattle.local_run.specs.Places.{box_coord, halo_coord}
 pub use Rattle.local_run.specs.Quiet.{AreStarredCellMarks, HasBothCellMarks, HasRoomForBoxAndHaloMarks, TakesNoMarkOff}
 pub use Rattle.local_run.specs.Quiet.{cell_number_at}
 unfoldable pub use Rattle.local_run.specs.Runs.{local_run, with_halo}
-pub use Rattle.local_run.specs.Scans.{HasNoFaultOfKind, HasValueRow, IsCellAsSignalUnderWords, IsEdgeCorrectAt}
-pub use Rattle.local_run.specs.Scans.{IsDefinedAndHasFault, IsFirstFaultOfKind, IsHaloCellAsSignal, IsKindScannedAt}
-pub use Rattle.local_run.specs.Scans.{IsLeastBelow}
-pub use Rattle.local_run.specs.Scans.{IsNextStop, IsOutsideBoxFromHalo, IsRunReady, IsScanStride, ShowsRunAt}
-pub use Rattle.local_run.specs.Scans.{is_defined_under}
-pub use Rattle.local_run.specs.Scans.{valuation}
+pub use Rattle.local_run.specs.Scans.{HasNoFaultOfKind, HasValueRow, IsCellAsSignalUnderWords, IsDefinedAndHasFault}
+pub use Rattle.local_run.specs.Scans.{IsEdgeCorrectAt, IsFirstFaultOfKind, IsHaloCellAsSignal, IsKindScannedAt}
+pub use Rattle.local_run.specs.Scans.{IsLeastBelow, IsNextStop, IsOutsideBoxFromHalo, IsRunReady, IsScanStride}
+pub use Rattle.local_run.specs.Scans.{ShowsRunAt, is_defined_under, valuation}
 pub use Rattle.local_run.specs.declared.fault.Fault.{Fault}
 pub use Rattle.local_run.specs.declared.fault.KeepFault.{KeepFault}
 pub use Rattle.local_run.specs.declared.fault.Kind.{Kind}
@@ -38,8 +35,7 @@ pub use Rattle.module_box.proofs.Imports.{Valuation, and_from, and_parts, bit-ze
 pub use Rattle.module_box.proofs.Imports.{mul-le-mul_left, ne_eqb, not, same_Some, slice_get_within, span_from}
 pub use Rattle.module_box.proofs.Imports.{span_parts, true, true≢false, w32, wires, ◌%◌, ◌+ℤ◌, ◌-ℤ◌, ◌/◌, ◌||◌}
 unfoldable pub use Rattle.module_box.proofs.Imports.{AreGatesOrdered, all_times_at, bit, cell_cmp, event_at, in_box}
-unfoldable pub use Rattle.module_box.proofs.Imports.{in_halo}
-unfoldable pub use Rattle.module_box.proofs.Imports.{in_ring, in_span, moment_cmp, partner, step}
+unfoldable pub use Rattle.module_box.proofs.Imports.{in_halo, in_ring, in_span, moment_cmp, partner, step}
 pub use Rattle.module_box.proofs.MovedBoxes.{signals_moved}
 pub use Rattle.module_box.proofs.Rising.{all_times_none, event_none, is_first, moment_total}
 pub use Rattle.module_box.specs.LocalValues.{AreValueRows, AreValueRowsAt}

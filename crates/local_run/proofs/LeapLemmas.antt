@@ -1,15 +1,13 @@
 -- Runs that stay as they are, and times that can be leapt over
-use Rattle.local_run.proofs.Imports.{AllTimesSignal, Cell, Greater, HasSameSignalsAtOddTimes, IsOddOfTimePair, IsRising}
-use Rattle.local_run.proofs.Imports.{AreEventPlacesAroundTime, IsRunUnchangedUntil, JobView, Less, List, Moment, None}
+use Rattle.local_run.proofs.Imports.{AllTimesSignal, AreEventPlacesAroundTime, Cell, Greater, HasSameSignalsAtOddTimes}
+use Rattle.local_run.proofs.Imports.{IsOddOfTimePair, IsRising, IsRunUnchangedUntil, JobView, Less, List, Moment, None}
 use Rattle.local_run.proofs.Imports.{Signal, Signals, Some, State, TimedSignal, Valuation, Zero, all_times_at}
-use Rattle.local_run.proofs.Imports.{all_times_none, ap, ap₂, arith, by_lt_or_le, common_steps, event_at}
-use Rattle.local_run.proofs.Imports.{event_none, false, false≢true, in_box, in_halo, inl, inr, is_cell_at, is_first}
-use Rattle.local_run.proofs.Imports.{is_live}
+use Rattle.local_run.proofs.Imports.{all_times_none, ap, ap₂, arith, by_lt_or_le, common_steps, event_at, event_none}
+use Rattle.local_run.proofs.Imports.{false, false≢true, in_box, in_halo, inl, inr, is_cell_at, is_first, is_live}
 use Rattle.local_run.proofs.Imports.{length, local_run, moment_cmp, moment_total, moved_signals, nat_cmp, partner, refl}
-use Rattle.local_run.proofs.Imports.{signal_at, signals_moved, slice_get, slice_get_within, step, subst, suc, sym, true}
-use Rattle.local_run.proofs.Imports.{unwrap_or, with_halo, zero, ℕ, ℤ, ◌%◌, ◌&&◌, ◌+ℤ◌, ◌+◌, ◌-◌, ◌<◌, ◌||◌, ◌∙◌, ◌≡◌}
-use Rattle.local_run.proofs.Imports.{◌≢◌, ◌≤◌}
-use Rattle.local_run.proofs.Imports.{same_Some}
+use Rattle.local_run.proofs.Imports.{same_Some, signal_at, signals_moved, slice_get, slice_get_within, step, subst, suc}
+use Rattle.local_run.proofs.Imports.{sym, true, unwrap_or, with_halo, zero, ℕ, ℤ, ◌%◌, ◌&&◌, ◌+ℤ◌, ◌+◌, ◌-◌, ◌<◌, ◌||◌}
+use Rattle.local_run.proofs.Imports.{◌∙◌, ◌≡◌, ◌≢◌, ◌≤◌}
 use Rattle.bbm_rule.proofs.SameCells.{cell_itself, cell_same}
 use Rattle.module_box.specs.Schedules.{moment_of}
 use Rattle.module_box.proofs.Rising.{all_times_found, event_found}
@@ -58,8 +56,7 @@ unfolding step
 step_alike k m s x y e = grind (arith, common_steps, partner_alike)
 
 with_halo_alike : (j : JobView) (u : Valuation) (k m : ℕ) (s s' : State) (x y : ℤ) → s x y ≡ s' x y →
-    signal_at j.halos k x y ≡ signal_at j.halos m x y →
-    with_halo j u k s x y ≡ with_halo j u m s' x y
+    signal_at j.halos k x y ≡ signal_at j.halos m x y → with_halo j u k s x y ≡ with_halo j u m s' x y
 unfolding with_halo
 with_halo_alike j u k m s s' x y e h = ap₂ (λ p q. p || (in_halo j.area x y && is_live u q)) e h
 
@@ -91,9 +88,8 @@ even_of t = elim (even_or_odd t) [
 ]
 
 after_same : (j : JobView) (u : Valuation) (t o n k : ℕ) → IsOddOfTimePair t o → IsRunUnchangedUntil j u t (t + 2) →
-    HasSameSignalsAtOddTimes j.halos o n → t ≤ k → k < n →
-    ((x y : ℤ) → local_run j u k x y ≡ local_run j u t x y) → (x y : ℤ) →
-    local_run j u (suc k) x y ≡ local_run j u t x y
+    HasSameSignalsAtOddTimes j.halos o n → t ≤ k → k < n → ((x y : ℤ) → local_run j u k x y ≡ local_run j u t x y) →
+    (x y : ℤ) → local_run j u (suc k) x y ≡ local_run j u t x y
 after_same j u t o n k of stays steady from l same x y =
     let odd = of.odd in
     let low = of.from in
@@ -110,9 +106,7 @@ after_same j u t o n k of stays steady from l same x y =
 
 -- ---- and so on
 stays_by : (j : JobView) (u : Valuation) (t o n d : ℕ) → IsOddOfTimePair t o → IsRunUnchangedUntil j u t (t + 2) →
-    HasSameSignalsAtOddTimes j.halos o n →
-    t + d ≤ n →
-    (x y : ℤ) → local_run j u (t + d) x y ≡ local_run j u t x y
+    HasSameSignalsAtOddTimes j.halos o n → t + d ≤ n → (x y : ℤ) → local_run j u (t + d) x y ≡ local_run j u t x y
 stays_by j u t o n zero of stays steady l x y = let e : t + 0 ≡ t = omega arith in ap (λ k. local_run j u k x y) e
 stays_by j u t o n (suc d) of stays steady l x y =
     let e : t + suc d ≡ suc (t + d) = omega arith in
@@ -164,8 +158,7 @@ later_in_time at xs i j a b rising le ea eb = by_lt_or_le i j
     (λ ge. grind (arith, common_steps, same_Some, slice_get))
 
 later : (es : List TimedSignal) (i j : ℕ) (a b : TimedSignal) → IsRising moment_cmp moment_of es → i ≤ j →
-    slice_get es i ≡ Some a →
-    slice_get es j ≡ Some b → a.at.time ≤ b.at.time
+    slice_get es i ≡ Some a → slice_get es j ≡ Some b → a.at.time ≤ b.at.time
 later = later_in_time moment_of
 
 pub raise_time : (es : List TimedSignal) (t low high m : ℕ) (a : TimedSignal) → IsRising moment_cmp moment_of es →
@@ -202,14 +195,12 @@ none_before es t low high a rising b met at = none_until es t low high a.at.time
 
 -- that time is not before t
 pub above_at : (es : List TimedSignal) (t low high : ℕ) (a : TimedSignal) → AreEventPlacesAroundTime es t low high →
-    high ≤ low →
-    slice_get es low ≡ Some a → t ≤ a.at.time
+    high ≤ low → slice_get es low ≡ Some a → t ≤ a.at.time
 above_at es t low high a b met at = b.above low a met at
 
 -- or at the end
 pub none_at_all : (es : List TimedSignal) (t low high n : ℕ) → AreEventPlacesAroundTime es t low high →
-    length es ≤ low →
-    HasNoEventsBetween es t n
+    length es ≤ low → HasNoEventsBetween es t n
 none_at_all es t low high n b met i e ei from to = grind (arith, common_steps, by_lt_or_le, slice_get_within)
 
 -- ---- where there are no events, signals stay

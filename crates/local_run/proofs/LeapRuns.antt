@@ -1,10 +1,9 @@
 -- Runs under all assignments that leap over times
 use Rattle.local_run.proofs.Imports.{Bool, HasSameSignalsAtOddTimes, IsJob, IsNextStop, IsOddOfTimePair, IsRunReady}
 use Rattle.local_run.proofs.Imports.{IsRunUnchangedUntil, JobView, Planes, ShowsRunAt, Values, and_parts, arith}
-use Rattle.local_run.proofs.Imports.{assignments}
-use Rattle.local_run.proofs.Imports.{by_eq_or_not, by_lt_or_le, cases_Bool, common_steps, false, in_box, in_span, inl}
-use Rattle.local_run.proofs.Imports.{inr, local_run, subst, sym, valuation, ℕ, ℤ, ◌%◌, ◌+◌, ◌-◌, ◌<◌, ◌||◌, ◌∙◌, ◌≡◌}
-use Rattle.local_run.proofs.Imports.{◌≤◌, ◌⊎◌}
+use Rattle.local_run.proofs.Imports.{assignments, by_eq_or_not, by_lt_or_le, cases_Bool, common_steps, false, in_box}
+use Rattle.local_run.proofs.Imports.{in_span, inl, inr, local_run, subst, sym, valuation, ℕ, ℤ, ◌%◌, ◌+◌, ◌-◌, ◌<◌}
+use Rattle.local_run.proofs.Imports.{◌||◌, ◌∙◌, ◌≡◌, ◌≤◌, ◌⊎◌}
 use Rattle.lemmas.proofs.Common.{or_parts}
 use Rattle.local_run.specs.Leaps.{IsLeap}
 use Rattle.local_run.specs.Scans.{IsTimeWithoutFault}
@@ -67,10 +66,9 @@ one_next j vs t old place p q before changed ready run l passed next same =
 
 -- a leap from the odd time o, where the two steps from it on changed nothing
 leap_next : (j : JobView) (vs : Values) (o n place : ℕ) (q : Planes) (changed : Bool) → o % 2 ≡ 1 →
-    SameRuns j vs (o + 1) o → SameRuns j vs (o + 2) (o + 1) →
-    AreFreeBefore j vs (o + 2) → ShowsRunAt j vs (o + 2) q → IsNextStop j (o + 2) place → IsNextStop j n place →
-    HasSameSignalsAtOddTimes j.edges o n → HasSameSignalsAtOddTimes j.halos o n → o + 1 < n → n ≤ j.steps →
-    InRun j vs n place q changed
+    SameRuns j vs (o + 1) o → SameRuns j vs (o + 2) (o + 1) → AreFreeBefore j vs (o + 2) → ShowsRunAt j vs (o + 2) q →
+    IsNextStop j (o + 2) place → IsNextStop j n place → HasSameSignalsAtOddTimes j.edges o n →
+    HasSameSignalsAtOddTimes j.halos o n → o + 1 < n → n ≤ j.steps → InRun j vs n place q changed
 leap_next j vs o n place q changed odd first second free next low high edges halos l last = record {
   shows = shows_same j vs n (o + 2) q next
       (λ a la x y. all a la n x y (omega arith) (omega arith)
@@ -98,8 +96,7 @@ leap_next j vs o n place q changed odd first second free next low high edges hal
     all a la = quiet_runs j (valuation vs a) o o n (is_odd_of o odd) (both a la) halos
 
 pub next_run : (j : JobView) (vs : Values) (t n old place : ℕ) (p q : Planes) (before changed : Bool) →
-    IsRunReady j vs →
-    InRun j vs t old p before → t < j.steps → IsTimeWithoutFault j vs t place →
+    IsRunReady j vs → InRun j vs t old p before → t < j.steps → IsTimeWithoutFault j vs t place →
     ShowsRunAt j vs (t + 1) q → (changed ≡ false → ShowsRunAt j vs t q) → (t < n) × (n ≤ j.steps) →
     (n ≡ t + 1) ⊎ IsLeap j t (before || changed) n → IsNextStop j n place → InRun j vs n place q changed
 next_run j vs t n old place p q before changed ready run l passed next same range way high = elim way [

@@ -1,11 +1,9 @@
 -- A job has one least fault
-use Rattle.local_run.proofs.Imports.{Edge, End, Fault, KeepFault, Kind, None}
-use Rattle.local_run.proofs.Imports.{Some, Stop, ap, arith, cell_cmp, common_steps, fault_cmp, keep_fault_cmp}
-use Rattle.local_run.proofs.Imports.{kind_number}
-use Rattle.local_run.proofs.Imports.{refl, suc, zero, ℕ, ℤ, ◌≡◌}
+use Rattle.local_run.proofs.Imports.{Edge, End, Fault, KeepFault, Kind, None, Some, Stop, ap, arith, cell_cmp}
+use Rattle.local_run.proofs.Imports.{common_steps, fault_cmp, keep_fault_cmp, kind_number, refl, suc, zero, ℕ, ℤ, ◌≡◌}
 use Rattle.lemmas.proofs.Common.{CmpEqualImpliesEq, IsTotalOrder, both_ways, exact_pairs, exact_signed, exact_unsigned}
-use Rattle.bbm_rule.proofs.CellOrder.{cell_total}
 use Rattle.lemmas.proofs.Common.{nat_cmp_total, on_total, then_total}
+use Rattle.bbm_rule.proofs.CellOrder.{cell_total}
 use Rattle.local_run.specs.Laws.{LeastFaultIsUnique, LeastKeepFaultIsUnique}
 
 pub fault_total : IsTotalOrder fault_cmp

@@ -124,8 +124,7 @@ is_first j vs t k f first = grind (arith, common_steps)
 least_at : (j : JobView) (vs : Values) (t : ℕ) (k : Kind) (f : Fault) → IsRunReady j vs → t ≤ j.steps →
     AreFreeBefore j vs t → IsFirstFaultOfKind j vs t k f →
     ((l : Kind) (x y : ℤ) (a : ℕ) → a < assignments j → IsDefinedAndHasFault j vs a t l x y →
-    ¬ (kind_number l < kind_number k)) →
-    IsLeastFault j (Some f)
+    ¬ (kind_number l < kind_number k)) → IsLeastFault j (Some f)
 least_at j vs t k f ready early free first lower = first_least j vs f ready (is_first j vs t k f first)
     (λ g h l. none_before j vs t ready early free g h (subst (λ (n : ℕ). g.time < n) first.at_time l))
     (λ g h e l. lower g.kind g.cell.x g.cell.y g.assignment h.in_range
@@ -154,8 +153,7 @@ none_below_end j vs stops End x y a small d h = omega (arith, h)
 
 -- the first fault at a time before the last
 pub early_least : (j : JobView) (vs : Values) (t : ℕ) (f : Fault) → IsRunReady j vs → t < j.steps →
-    AreFreeBefore j vs t →
-    IsFirstFaultAt j vs t f → IsLeastFault j (Some f)
+    AreFreeBefore j vs t → IsFirstFaultAt j vs t f → IsLeastFault j (Some f)
 early_least j vs t f ready early free (inl edge) =
     least_at j vs t Edge f ready (omega (arith, early)) free edge.1 (none_below_edge j vs t)
 early_least j vs t f ready early free (inr stop) =
@@ -195,8 +193,7 @@ end_least_fault j vs None ready free stops ends = λ g h.
 
 -- where each assignment lacks the row of a used gate, there is no fault
 pub none_undefined : (j : JobView) (vs : Values) → IsRunReady j vs →
-    ((a : ℕ) → a < vs.count → is_defined_under vs a ≡ false) →
-    IsLeastFault j None
+    ((a : ℕ) → a < vs.count → is_defined_under vs a ≡ false) → IsLeastFault j None
 none_undefined j vs ready none f h =
     true≢false (sym (under j vs f ready h).0
     ∙ none f.assignment (let count = ready.count in let small = h.in_range in omega (arith, count, small)))
@@ -247,8 +244,7 @@ keep_found j vs gate a ready below kept free least =
     )
 
 pub keep_free_more : (j : JobView) (vs : Values) (gate : ℕ) → IsRunReady j vs → gate < length j.locals.netlist.gates →
-    IsKeepFree j gate → (IsTrue (is_among j.kept gate) → IsLeastRow j vs gate None) →
-    IsKeepFree j (gate + 1)
+    IsKeepFree j gate → (IsTrue (is_among j.kept gate) → IsLeastRow j vs gate None) → IsKeepFree j (gate + 1)
 keep_free_more j vs gate ready below free none f h is = elim (cases_lt f.gate gate) [
   | inl less ↦ free f less is
   | inr large ↦

@@ -47,14 +47,12 @@ pub step_all_same : (t : ℕ) (s s' : State) (x y : ℤ) → ((x' y' : ℤ) → 
 step_all_same t s s' x y same = step_same t s s' x y (same _ _) (same _ _) (same _ _) (same _ _)
 
 with_halo_same : (j : JobView) (n : ℕ) (u u' : Valuation) (t : ℕ) (s s' : State) (x y : ℤ) → AgreeBelow n u u' →
-    IsSignalWireBelow n (signal_at j.halos t x y) →
-    s x y ≡ s' x y → with_halo j u t s x y ≡ with_halo j u' t s' x y
+    IsSignalWireBelow n (signal_at j.halos t x y) → s x y ≡ s' x y → with_halo j u t s x y ≡ with_halo j u' t s' x y
 unfolding with_halo
 with_halo_same j n u u' t s s' x y same b e = ap₂ (λ p q. p || (in_halo j.area x y && q)) e (live_same n u u' _ same b)
 
 pub run_same : (j : JobView) (u u' : Valuation) (t : ℕ) → NamesOnlyOwnWires j →
-    AgreeBelow (wires j.locals.netlist) u u' →
-    (x y : ℤ) → local_run j u t x y ≡ local_run j u' t x y
+    AgreeBelow (wires j.locals.netlist) u u' → (x y : ℤ) → local_run j u t x y ≡ local_run j u' t x y
 unfolding local_run
 run_same j u u' zero own same x y = live_same (wires j.locals.netlist) u u' _ same (start_below j x y own)
 run_same j u u' (suc t) own same x y =

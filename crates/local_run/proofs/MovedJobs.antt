@@ -1,8 +1,7 @@
 -- Jobs of the same shape have the same faults but for where they lie
 use Rattle.local_run.proofs.Imports.{Box2, Contains, Edge, End, Fault, HasFaultWitness, IsFault, IsFaultUnderValues}
-use Rattle.local_run.proofs.Imports.{IsJob}
-use Rattle.local_run.proofs.Imports.{IsKeepFault, JobView, KeepFault, Kind, List, Netlist, None, ShapeView, Signals}
-use Rattle.local_run.proofs.Imports.{Some, State, Stop, Valuation, [], and_parts, ap, ap₂, arith, cases_Bool}
+use Rattle.local_run.proofs.Imports.{IsJob, IsKeepFault, JobView, KeepFault, Kind, List, Netlist, None, ShapeView}
+use Rattle.local_run.proofs.Imports.{Signals, Some, State, Stop, Valuation, [], and_parts, ap, ap₂, arith, cases_Bool}
 use Rattle.local_run.proofs.Imports.{common_steps, fault_cmp, if◌then◌else◌, in_box, in_ring, ints, is_live, job_demand}
 use Rattle.local_run.proofs.Imports.{job_start, local_run, moved_signals, place_in, pos, props, refl, shape_of}
 use Rattle.local_run.proofs.Imports.{shift_to_origin, signal_at, signals_moved, slice_get, subst, suc, sym, true}
@@ -113,8 +112,7 @@ looked_up dx dy b b' other xs xs' m along same x y = grind (arith, common_steps,
 
 carried_on : (a b c d : ℕ) (s s' : Signals) →
     moved_signals (shift_to_origin a) (shift_to_origin c) s ≡ moved_signals (shift_to_origin b) (shift_to_origin d) s' →
-    (t : ℕ) (x y : ℤ) →
-    signal_at s' t (x +ℤ (pos b -ℤ pos a)) (y +ℤ (pos d -ℤ pos c)) ≡ signal_at s t x y
+    (t : ℕ) (x y : ℤ) → signal_at s' t (x +ℤ (pos b -ℤ pos a)) (y +ℤ (pos d -ℤ pos c)) ≡ signal_at s t x y
 carried_on a b c d s s' e t x y =
     sym (signals_moved (shift_to_origin b) (shift_to_origin d) s' t (x +ℤ (pos b -ℤ pos a)) (y +ℤ (pos d -ℤ pos c)))
     ∙ ap₂ (λ p q. signal_at (moved_signals (shift_to_origin b) (shift_to_origin d) s') t p q) (sym (same_way x a b))
@@ -178,8 +176,7 @@ least_keep_stays j k (Some f) same least = grind (arith, common_steps, keep_stay
 
 -- ---- the cell of a fault is in the box, and so near
 under_inside : (j : JobView) (u : Valuation) (t : ℕ) (kind : Kind) (x y : ℤ) → IsJob j →
-    IsFaultUnderValues j u t kind x y →
-    in_box j.area x y ≡ true
+    IsFaultUnderValues j u t kind x y → in_box j.area x y ≡ true
 unfolding in_ring
 under_inside j u t Edge x y is f = (and_parts _ _ f.ring).0
 under_inside j u t Stop x y is f = grind (arith, common_steps)

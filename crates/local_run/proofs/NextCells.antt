@@ -1,10 +1,9 @@
 -- Cells of a row that are known to be dead
 use Rattle.local_run.proofs.Imports.{Bool, Box2, End, IsKindScannedAt, IsRunReady, IsScanStride, JobView, Kind, Planes}
 use Rattle.local_run.proofs.Imports.{ShowsRunAt, Valuation, Values, Zero, ap, arith, assignments, box_coord}
-use Rattle.local_run.proofs.Imports.{by_eq_or_not}
-use Rattle.local_run.proofs.Imports.{by_lt_or_le, common_steps, false, if◌then◌else◌, is_live, job_demand, job_start}
-use Rattle.local_run.proofs.Imports.{lane, local_run, place_in, slice_get, sym, unwrap_or, ℕ, ℤ, ◌*◌, ◌+◌, ◌<◌, ◌∙◌}
-use Rattle.local_run.proofs.Imports.{◌≡◌, ◌≤◌}
+use Rattle.local_run.proofs.Imports.{by_eq_or_not, by_lt_or_le, common_steps, false, if◌then◌else◌, is_live, job_demand}
+use Rattle.local_run.proofs.Imports.{job_start, lane, local_run, place_in, slice_get, sym, unwrap_or, ℕ, ℤ, ◌*◌, ◌+◌}
+use Rattle.local_run.proofs.Imports.{◌<◌, ◌∙◌, ◌≡◌, ◌≤◌}
 use Rattle.local_run.proofs.Firsts.{FreeAt, IsAtEitherEnd, end_least, inner_in_box}
 use Rattle.local_run.proofs.Stepping.{run_start}
 use Rattle.module_job.specs.declared.job.Demand.TheVariants as Demanded

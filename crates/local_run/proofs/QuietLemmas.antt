@@ -1,11 +1,9 @@
 -- Cells of which no line of a module says anything
 use Rattle.local_run.proofs.Imports.{AllTimesSignal, AreEventPlacesAroundTime, Box2, Cell, HasBothCellMarks, List}
-use Rattle.local_run.proofs.Imports.{TakesNoMarkOff}
-use Rattle.local_run.proofs.Imports.{Signals, Some, TimedSignal, Zero, all_times_none, ap, ap₂, arith, box_coord}
-use Rattle.local_run.proofs.Imports.{by_lt_or_le, cell_number_at, common_steps, event_none, halo_coord, ints}
-use Rattle.local_run.proofs.Imports.{moved_signals}
-use Rattle.local_run.proofs.Imports.{pos, shift_to_origin, signal_at, signals_moved, slice_get, sym, ℕ, ℤ, ◌%◌, ◌*◌}
-use Rattle.local_run.proofs.Imports.{◌+ℤ◌, ◌+◌, ◌-ℤ◌, ◌/◌, ◌<◌, ◌∙◌, ◌≡◌, ◌≤◌}
+use Rattle.local_run.proofs.Imports.{Signals, Some, TakesNoMarkOff, TimedSignal, Zero, all_times_none, ap, ap₂, arith}
+use Rattle.local_run.proofs.Imports.{box_coord, by_lt_or_le, cell_number_at, common_steps, event_none, halo_coord, ints}
+use Rattle.local_run.proofs.Imports.{moved_signals, pos, shift_to_origin, signal_at, signals_moved, slice_get, sym, ℕ}
+use Rattle.local_run.proofs.Imports.{ℤ, ◌%◌, ◌*◌, ◌+ℤ◌, ◌+◌, ◌-ℤ◌, ◌/◌, ◌<◌, ◌∙◌, ◌≡◌, ◌≤◌}
 use Rattle.bbm_rule.specs.Marks.{MarksOneNumber}
 use Rattle.local_run.specs.Leaps.{AreEventsLaterFrom}
 use Rattle.local_run.specs.Quiet.{AreStarredCellsMarked, AreUnmarkedSignalsZero, LacksOneOfCellMarks}
@@ -26,9 +24,8 @@ pub part_within : (n c x y : ℕ) → n < c → n + c * (1 + 2 * (y % 2) + x % 2
 part_within n c x y l = grind (arith, common_steps, mul-le-mul_left)
 
 pub cell_marked : (b : Box2) (c : Cell) (x y : ℕ) (old middle new : List ℕ) → c.x ≡ halo_coord b.x x →
-    c.y ≡ halo_coord b.y y →
-    MarksOneNumber (cell_number_at b x y) old middle → MarksOneNumber (cell_line_mark_number_at b x y) middle new →
-    HasBothCellMarks b c new
+    c.y ≡ halo_coord b.y y → MarksOneNumber (cell_number_at b x y) old middle →
+    MarksOneNumber (cell_line_mark_number_at b x y) middle new → HasBothCellMarks b c new
 cell_marked b c x y old middle new ex ey one own x' y' lx ly ex' ey' free = grind (arith, common_steps, outer_same)
 
 lacks_line : (b : Box2) (x y : ℕ) (old new : List ℕ) → TakesNoMarkOff old new → LacksOneOfCellMarks b x y new →
@@ -43,8 +40,7 @@ still_marked b c old new keeps marked x y lx ly ex ey free = grind (arith, commo
 pub zero_signal : (s : Signals) (t : ℕ) (x y : ℤ) →
     ((i : ℕ) (h : AllTimesSignal) → slice_get s.all_times i ≡ Some h → (h.cell.x ≡ x) × (h.cell.y ≡ y) → ⊥) →
     ((i : ℕ) (e : TimedSignal) → slice_get s.events i ≡ Some e → e.at.time ≡ t → (e.at.cell.x ≡ x) × (e.at.cell.y ≡ y) →
-    ⊥) →
-    signal_at s t x y ≡ Zero
+    ⊥) → signal_at s t x y ≡ Zero
 unfolding signal_at
 zero_signal s t x y all_times events =
     let h = all_times_none s.all_times (record { x = x; y = y })
@@ -57,8 +53,7 @@ zero_signal s t x y all_times events =
     refl' = cc
 
 pub still_all_times : (s : Signals) (b : Box2) (old new : List ℕ) → TakesNoMarkOff old new →
-    AreStarredCellsMarked s b old →
-    AreStarredCellsMarked s b new
+    AreStarredCellsMarked s b old → AreStarredCellsMarked s b new
 still_all_times s b old new keeps all_times i h at = still_marked b h.cell old new keeps (all_times i h at)
 
 pub quiet_in : (s : Signals) (b : Box2) (t : ℕ) (marks : List ℕ) → AreStarredCellsMarked s b marks →
@@ -67,14 +62,12 @@ pub quiet_in : (s : Signals) (b : Box2) (t : ℕ) (marks : List ℕ) → AreStar
 quiet_in s b t marks all_times events x y lx ly free = grind (arith, common_steps, zero_signal)
 
 pub still_quiet : (s : Signals) (b : Box2) (t : ℕ) (old new : List ℕ) → TakesNoMarkOff old new →
-    AreUnmarkedSignalsZero s b t old →
-    AreUnmarkedSignalsZero s b t new
+    AreUnmarkedSignalsZero s b t old → AreUnmarkedSignalsZero s b t new
 still_quiet s b t old new keeps quiet x y lx ly free = quiet x y lx ly (lacks_line b x y old new keeps free)
 
 -- the events from the first one of a time up to the first one of the next
 pub events_between : (es : List TimedSignal) (t m n : ℕ) (P : TimedSignal → Type 0) →
-    AreEventPlacesAroundTime es t m m →
-    AreEventPlacesAroundTime es (t + 1) n n →
+    AreEventPlacesAroundTime es t m m → AreEventPlacesAroundTime es (t + 1) n n →
     ((i : ℕ) (e : TimedSignal) → m ≤ i → i < n → slice_get es i ≡ Some e → P e) → (i : ℕ) (e : TimedSignal) →
     slice_get es i ≡ Some e → e.at.time ≡ t → P e
 events_between es t m n P from to have i e at same = grind (arith, common_steps, by_lt_or_le)
@@ -92,8 +85,7 @@ outer_back c k = omega (arith, ints)
 
 pub quiet_moved : (s : Signals) (b : Box2) (t : ℕ) (marks : List ℕ) →
     AreUnmarkedSignalsZero (moved_signals (shift_to_origin b.x) (shift_to_origin b.y) s)
-    (record { x = 0; y = 0; w = b.w; h = b.h }) t marks →
-    AreUnmarkedSignalsZero s b t marks
+    (record { x = 0; y = 0; w = b.w; h = b.h }) t marks → AreUnmarkedSignalsZero s b t marks
 quiet_moved s b t marks quiet x y lx ly free =
     sym (signals_moved (shift_to_origin b.x) (shift_to_origin b.y) s t (halo_coord b.x x) (halo_coord b.y y))
     ∙ ap₂ (signal_at (moved_signals (shift_to_origin b.x) (shift_to_origin b.y) s) t) (outer_back b.x x)

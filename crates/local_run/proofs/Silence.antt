@@ -1,14 +1,11 @@
 -- Cells that are known to be dead and have no line
 use Rattle.local_run.proofs.Imports.{AreNumbersSkippableBetween, Edge, IsDefinedAndHasFault, IsEdgeCorrectAt}
-use Rattle.local_run.proofs.Imports.{IsHaloCellAsSignal}
-use Rattle.local_run.proofs.Imports.{IsLeastBelow, IsOutsideBoxFromHalo, IsRunReady, JobView, List, None, Planes}
-use Rattle.local_run.proofs.Imports.{ShowsRunAt}
-use Rattle.local_run.proofs.Imports.{Signal, Values, and_parts, ap, ap₂, arith, assignments, box_coord, by_eq_or_not}
-use Rattle.local_run.proofs.Imports.{by_lt_or_le, common_steps, dead_lane, false, false≢true, halo_coord, in_box}
-use Rattle.local_run.proofs.Imports.{in_span, inl, inr, is_defined_under, is_live, lane, local_run, mul-le-mul_left}
-use Rattle.local_run.proofs.Imports.{cell_number_at, refl, signal_at, sym, true, valuation, ℕ, ◌%◌, ◌*◌, ◌+◌, ◌-◌, ◌/◌}
-use Rattle.local_run.proofs.Imports.{◌<◌}
-use Rattle.local_run.proofs.Imports.{◌∙◌, ◌≡◌, ◌≢◌, ◌≤◌}
+use Rattle.local_run.proofs.Imports.{IsHaloCellAsSignal, IsLeastBelow, IsOutsideBoxFromHalo, IsRunReady, JobView, List}
+use Rattle.local_run.proofs.Imports.{None, Planes, ShowsRunAt, Signal, Values, and_parts, ap, ap₂, arith, assignments}
+use Rattle.local_run.proofs.Imports.{box_coord, by_eq_or_not, by_lt_or_le, cell_number_at, common_steps, dead_lane}
+use Rattle.local_run.proofs.Imports.{false, false≢true, halo_coord, in_box, in_span, inl, inr, is_defined_under}
+use Rattle.local_run.proofs.Imports.{is_live, lane, local_run, mul-le-mul_left, refl, signal_at, sym, true, valuation}
+use Rattle.local_run.proofs.Imports.{ℕ, ◌%◌, ◌*◌, ◌+◌, ◌-◌, ◌/◌, ◌<◌, ◌∙◌, ◌≡◌, ◌≢◌, ◌≤◌}
 use Rattle.lanes.specs.Calm.{AreNumberedCellsDead}
 use Rattle.bbm_rule.specs.Marks.{IsNumberUnmarked}
 use Rattle.local_run.specs.Quiet.{AreLineMarks}
@@ -53,8 +50,7 @@ pub silent_halo : (j : JobView) (vs : Values) (p : Planes) (t column row : ℕ) 
 silent_halo j vs p t column row ready shows silent x y lx ly ex ey a l outside = grind (arith, common_steps)
 
 pub silent_from : (j : JobView) (p : Planes) (t u : ℕ) (marks : List ℕ) → p.stride ≡ j.area.w / 2 + 1 →
-    AreNumberedCellsDead u p →
-    AreLineMarks j t marks → IsNumberUnmarked marks u → AreNumberedCellsSilent j t p u
+    AreNumberedCellsDead u p → AreLineMarks j t marks → IsNumberUnmarked marks u → AreNumberedCellsSilent j t p u
 silent_from j p t u marks es dead lines free = grind (arith, common_steps, dead_lane)
 
 -- a place in the box, counted from the halo
@@ -78,8 +74,7 @@ inner_edge j vs t x y lx ly none a l = grind (arith, common_steps, inner_is_oute
 pub right_edge : (j : JobView) (vs : Values) (p : Planes) (t x y : ℕ) (s : Signal) → ShowsRunAt j vs t p →
     s ≡ signal_at j.edges t (halo_coord j.area.x x) (halo_coord j.area.y y) →
     IsLeastBelow (assignments j) (λ a. (is_defined_under vs a ≡ true) × (lane p a x y ≢ is_live (valuation vs a) s))
-    None →
-    IsEdgeCorrectAt j vs t x y
+    None → IsEdgeCorrectAt j vs t x y
 right_edge j vs p t x y s shows es none a l f = grind (arith, common_steps, ring_in_box, shown_at)
 
 -- nor does a dead cell of which no line says something

@@ -1,21 +1,19 @@
 -- Cells of ring and halo that need no look, since they carry their signals at all times
-use Rattle.local_run.proofs.Imports.{AreNumbersSkippableBetween, Bool, Box2, Cell, Edge, HasNoFaultOfKind}
-use Rattle.local_run.proofs.Imports.{HasWordsStrideRows}
-use Rattle.local_run.proofs.Imports.{IsRunReady, JobView, List, Planes, ShowsRunAt, Signals, Some, TakesNoMarkOff}
-use Rattle.local_run.proofs.Imports.{TimedSignal}
-use Rattle.local_run.proofs.Imports.{Values, ap, ap₂, arith, by_eq_or_not, common_steps, event_at, event_none}
-use Rattle.local_run.proofs.Imports.{halo_coord, [], moved_signals, cell_number_at, refl, shift_to_origin, signal_at}
-use Rattle.local_run.proofs.Imports.{signals_moved, slice_get, subst, sym, ℕ, ℤ, ◌%◌, ◌*◌, ◌+◌, ◌/◌, ◌<◌, ◌∙◌, inl, inr}
-use Rattle.local_run.proofs.Imports.{◌≡◌, ◌≢◌, ◌⊎◌, AreStarredCellMarks, length, shape_of}
+use Rattle.local_run.proofs.Imports.{AreNumbersSkippableBetween, AreStarredCellMarks, Bool, Box2, Cell, Edge}
+use Rattle.local_run.proofs.Imports.{HasNoFaultOfKind, HasWordsStrideRows, IsRunReady, JobView, List, Planes}
+use Rattle.local_run.proofs.Imports.{ShowsRunAt, Signals, Some, TakesNoMarkOff, TimedSignal, Values, [], ap, ap₂, arith}
+use Rattle.local_run.proofs.Imports.{by_eq_or_not, cell_number_at, common_steps, event_at, event_none, halo_coord, inl}
+use Rattle.local_run.proofs.Imports.{inr, length, moved_signals, refl, shape_of, shift_to_origin, signal_at}
+use Rattle.local_run.proofs.Imports.{signals_moved, slice_get, subst, sym, ℕ, ℤ, ◌%◌, ◌*◌, ◌+◌, ◌/◌, ◌<◌, ◌∙◌, ◌≡◌, ◌≢◌}
+use Rattle.local_run.proofs.Imports.{◌⊎◌}
 use Rattle.bbm_rule.specs.Marks.{IsNumberUnmarked, MarksOneNumber}
 use Rattle.lanes.specs.Settled.{AreCellsSameAtNumber, AreSettledBlocksUnchanged, IsBlockSettled}
 use Rattle.lanes.specs.declared.marked_planes.MarkedPlanes.{MarkedPlanes}
 use Rattle.local_run.specs.Quiet.{AreLineMarks, AreUnmarkedSignalsZero, box_at_origin}
 use Rattle.local_run.specs.Scans.{IsHaloAsSignals}
-use Rattle.local_run.specs.Steady.{AreEventMarks, AreSignalsCorrectAtNumber, IsCellNumberMarked, IsNumberOfCell}
-use Rattle.local_run.specs.Steady.{MatchesStarsAtNumber}
-use Rattle.local_run.specs.Steady.{AreUnmarkedSignalsSteady, IsOutsideBoxAndHalo, MatchesStarsWhereSettled}
-use Rattle.local_run.specs.Steady.{all_times_signal}
+use Rattle.local_run.specs.Steady.{AreEventMarks, AreSignalsCorrectAtNumber, AreUnmarkedSignalsSteady}
+use Rattle.local_run.specs.Steady.{IsCellNumberMarked, IsNumberOfCell, IsOutsideBoxAndHalo, MatchesStarsAtNumber}
+use Rattle.local_run.specs.Steady.{MatchesStarsWhereSettled, all_times_signal}
 use Rattle.local_run.proofs.QuietLemmas.{number_below, outer_back, outer_same, quiet_moved, still_quiet}
 use Rattle.local_run.proofs.Silence.{passed_edges, passed_halo, shown_at}
 use Rattle.bbm_rule.proofs.RingTests.{ring_in_box}
@@ -23,8 +21,7 @@ use Rattle.bbm_rule.proofs.RingTests.{ring_in_box}
 -- ---- signals of a time without an event
 steady_signal : (s : Signals) (t : ℕ) (x y : ℤ) →
     ((i : ℕ) (e : TimedSignal) → slice_get s.events i ≡ Some e → e.at.time ≡ t → (e.at.cell.x ≡ x) × (e.at.cell.y ≡ y) →
-    ⊥) →
-    signal_at s t x y ≡ all_times_signal s x y
+    ⊥) → signal_at s t x y ≡ all_times_signal s x y
 unfolding signal_at event_at
 steady_signal s t x y events =
     let v = event_none s.events (record { time = t; cell = record { x = x; y = y } })
@@ -60,8 +57,7 @@ outside_marked b c marks out x y lx ly ex ey free = out x y lx ly ex ey
 
 pub steady_moved : (s : Signals) (b : Box2) (t : ℕ) (marks : List ℕ) →
     AreUnmarkedSignalsSteady (moved_signals (shift_to_origin b.x) (shift_to_origin b.y) s)
-    (record { x = 0; y = 0; w = b.w; h = b.h }) t marks →
-    AreUnmarkedSignalsSteady s b t marks
+    (record { x = 0; y = 0; w = b.w; h = b.h }) t marks → AreUnmarkedSignalsSteady s b t marks
 steady_moved s b t marks steady x y lx ly free =
     sym (signals_moved dx dy s t (halo_coord b.x x) (halo_coord b.y y))
     ∙ ap₂ (signal_at (moved_signals dx dy s) t) (outer_back b.x x) (outer_back b.y y) ∙ steady x y lx ly free
@@ -93,8 +89,7 @@ same_if_not_other a b h = grind (arith, common_steps, common_steps)
 -- after ring and halo were looked at, so do all numbers without an event
 pub steady_after_check : (j : JobView) (vs : Values) (t : ℕ) (p : Planes) (events : List ℕ) → ShowsRunAt j vs t p →
     t % 2 ≡ 1 → t < j.steps → IsHaloAsSignals j vs t p → HasNoFaultOfKind j vs t Edge → AreEventMarks j t events →
-    (u : ℕ) →
-    IsNumberUnmarked events u → MatchesStarsAtNumber j vs p u
+    (u : ℕ) → IsNumberUnmarked events u → MatchesStarsAtNumber j vs p u
 steady_after_check j vs t p events shows odd early halo none marks u free =
     grind (arith, common_steps, shown_at, ring_in_box, same_if_not_other)
 
@@ -114,8 +109,7 @@ still_settled j vs m m' marks ready size keeps steady u is free =
 -- after the odd step that follows, so do those that are settled
 pub settled_after_odd : (j : JobView) (vs : Values) (t : ℕ) (p : Planes) (m' : MarkedPlanes) (events : List ℕ) →
     IsRunReady j vs → ShowsRunAt j vs t p → t % 2 ≡ 1 → t < j.steps → IsHaloAsSignals j vs t p →
-    HasNoFaultOfKind j vs t Edge →
-    AreEventMarks j t events →
+    HasNoFaultOfKind j vs t Edge → AreEventMarks j t events →
     ((u : ℕ) → u < p.stride * p.rows → IsBlockSettled m' u → AreCellsSameAtNumber u p m'.planes) →
     MatchesStarsWhereSettled j vs m' events
 settled_after_odd j vs t p m' events ready shows odd early halo none marks same u is free =
@@ -137,13 +131,12 @@ steady_at_start j vs m m' marks none keeps u is free = absurd (none u (keeps u i
 
 -- so they are at the next time: an even step keeps what is settled
 pub steady_next : (j : JobView) (vs : Values) (t : ℕ) (m m' m'' : MarkedPlanes) (old new : List ℕ) → IsRunReady j vs →
-    ShowsRunAt j vs t m'.planes → t < j.steps →
-    (t % 2 ≡ 1 → IsHaloAsSignals j vs t m'.planes) → (t % 2 ≡ 1 → HasNoFaultOfKind j vs t Edge) →
-    (t % 2 ≡ 1 → AreEventMarks j t new) → (t % 2 ≡ 0 → (m' ≡ m) × (new ≡ old)) →
-    (t % 2 ≡ 0 → AreSettledBlocksUnchanged m' m'') →
+    ShowsRunAt j vs t m'.planes → t < j.steps → (t % 2 ≡ 1 → IsHaloAsSignals j vs t m'.planes) →
+    (t % 2 ≡ 1 → HasNoFaultOfKind j vs t Edge) → (t % 2 ≡ 1 → AreEventMarks j t new) →
+    (t % 2 ≡ 0 → (m' ≡ m) × (new ≡ old)) → (t % 2 ≡ 0 → AreSettledBlocksUnchanged m' m'') →
     (t % 2 ≡ 1 → (u : ℕ) → u < m'.planes.stride * m'.planes.rows → IsBlockSettled m'' u →
-    AreCellsSameAtNumber u m'.planes m''.planes) →
-    MatchesStarsWhereSettled j vs m old → MatchesStarsWhereSettled j vs m'' new
+    AreCellsSameAtNumber u m'.planes m''.planes) → MatchesStarsWhereSettled j vs m old →
+    MatchesStarsWhereSettled j vs m'' new
 steady_next j vs t m m' m'' old new ready shows early halo none marks unchanged even_step odd_step steady =
     by_eq_or_not (t % 2) 0
     (λ even. let same = unchanged even in
@@ -170,8 +163,7 @@ correct_if_skippable j vs t p marks u ready shows lines passed = record {
 }
 
 pub correct_unless_marked : (j : JobView) (vs : Values) (t : ℕ) (m : MarkedPlanes) (lines events last : List ℕ)
-    (u : ℕ) →
-    IsRunReady j vs → ShowsRunAt j vs t m.planes → AreLineMarks j t lines → AreEventMarks j t events →
+    (u : ℕ) → IsRunReady j vs → ShowsRunAt j vs t m.planes → AreLineMarks j t lines → AreEventMarks j t events →
     MatchesStarsWhereSettled j vs m last →
     AreNumbersSkippableBetween u (u + 1) lines m.planes
     ⊎ (IsBlockSettled m u × IsNumberUnmarked events u × IsNumberUnmarked last u) →

@@ -1,11 +1,10 @@
 -- The steps of the planes are those of the definition
 use Rattle.local_run.proofs.Imports.{Bool, Box2, HasWordsStrideRows, IsOutsideBoxFromHalo, IsRunReady, JobView, Planes}
 use Rattle.local_run.proofs.Imports.{ShowsRunAt, State, Valuation, Values, and_from, and_parts, ap, ap₂, arith}
-use Rattle.local_run.proofs.Imports.{assignments}
-use Rattle.local_run.proofs.Imports.{box_coord, by_eq_or_not, by_lt_or_le, cases_Bool, common_steps, cond-false}
-use Rattle.local_run.proofs.Imports.{cond-true, eq-eqb, false, false≢true, halo_coord, in_box, in_halo, in_span}
-use Rattle.local_run.proofs.Imports.{in_span-negsuc, ints, is_live, job_start, lane, local_run, ne_eqb, negsuc, partner}
-use Rattle.local_run.proofs.Imports.{pos, refl, signal_at, span_from, span_parts, step, subst, suc, sym, true}
+use Rattle.local_run.proofs.Imports.{assignments, box_coord, by_eq_or_not, by_lt_or_le, cases_Bool, common_steps}
+use Rattle.local_run.proofs.Imports.{cond-false, cond-true, eq-eqb, false, false≢true, halo_coord, in_box, in_halo}
+use Rattle.local_run.proofs.Imports.{in_span, in_span-negsuc, ints, is_live, job_start, lane, local_run, ne_eqb, negsuc}
+use Rattle.local_run.proofs.Imports.{partner, pos, refl, signal_at, span_from, span_parts, step, subst, suc, sym, true}
 use Rattle.local_run.proofs.Imports.{valuation, with_halo, zero, ℕ, ℤ, ◌%◌, ◌&&◌, ◌*◌, ◌+ℤ◌, ◌+◌, ◌-ℤ◌, ◌-◌, ◌/◌, ◌<◌}
 use Rattle.local_run.proofs.Imports.{◌||◌, ◌∙◌, ◌≡◌, ◌≢◌, ◌≤◌}
 use Rattle.lemmas.proofs.Common.{add-one, not_from_false, or-false, pred_pos}
@@ -21,8 +20,7 @@ use Rattle.local_run.proofs.Firsts.{inner_in_box}
 
 -- ---- one block
 block : (t : ℕ) (s : State) (x y x' y' : ℤ) (a b c d : Bool) → partner t x ≡ x' → partner t y ≡ y' → a ≡ s x y →
-    b ≡ s x' y' → c ≡ s x' y → d ≡ s x y' →
-    turned a b c d ≡ step t s x y
+    b ≡ s x' y' → c ≡ s x' y → d ≡ s x y' → turned a b c d ≡ step t s x y
 unfolding step
 block t s x y x' y' a b c d ex ey ea eb ec ed = rw (ex, ey, ea, eb, ec, ed) refl
 
@@ -87,12 +85,10 @@ run_odd j u t x y e h = ap (λ n. local_run j u n x y) (add-one t) ∙ local_odd
 
 -- ---- an even step
 pub even_shows : (j : JobView) (vs : Values) (t : ℕ) (p q : Planes) → IsRunReady j vs → t % 2 ≡ 0 →
-    ShowsRunAt j vs t p →
-    HasWordsStrideRows p.words p.stride p.rows q →
+    ShowsRunAt j vs t p → HasWordsStrideRows p.words p.stride p.rows q →
     ((a x y : ℕ) → a < 64 * p.words → x + 2 < 2 * p.stride → y + 2 < 2 * p.rows →
     lane q a (1 + x) (1 + y) ≡ turned (lane p a (1 + x) (1 + y)) (lane p a (1 + paired_place x) (1 + paired_place y))
-    (lane p a (1 + paired_place x) (1 + y)) (lane p a (1 + x) (1 + paired_place y))) →
-    ShowsRunAt j vs (t + 1) q
+    (lane p a (1 + paired_place x) (1 + y)) (lane p a (1 + x) (1 + paired_place y))) → ShowsRunAt j vs (t + 1) q
 even_shows j vs t p q ready even shows size turns = record {
   size = (size.0 ∙ shows.size.0, size.1 ∙ shows.size.1, size.2 ∙ shows.size.2);
   cells = λ a x y la lx ly.
@@ -126,12 +122,10 @@ pub odd_shows : (j : JobView) (vs : Values) (t : ℕ) (p q : Planes) → IsRunRe
     HasWordsStrideRows vs.words (j.area.w / 2 + 1) (j.area.h / 2 + 1) p →
     ((a x y : ℕ) → a < assignments j → x < j.area.w + 2 → y < j.area.h + 2 →
     lane p a x y ≡ with_halo j (valuation vs a) t (local_run j (valuation vs a) t) (halo_coord j.area.x x)
-    (halo_coord j.area.y y)) →
-    HasWordsStrideRows p.words p.stride p.rows q →
+    (halo_coord j.area.y y)) → HasWordsStrideRows p.words p.stride p.rows q →
     ((a x y : ℕ) → a < 64 * p.words → x < 2 * p.stride → y < 2 * p.rows →
     lane q a x y ≡ turned (lane p a x y) (lane p a (paired_place x) (paired_place y)) (lane p a (paired_place x) y)
-    (lane p a x (paired_place y))) →
-    ShowsRunAt j vs (t + 1) q
+    (lane p a x (paired_place y))) → ShowsRunAt j vs (t + 1) q
 odd_shows j vs t p q ready odd sized halo size turns = record {
   size = (size.0 ∙ sized.0, size.1 ∙ sized.1, size.2 ∙ sized.2);
   cells = λ a x y la lx ly.
@@ -164,8 +158,7 @@ span_outer_parts : (c n x : ℕ) → in_span c n (halo_coord c x) ≡ true → (
 unfolding halo_coord
 span_outer_parts c n x h = grind (arith, common_steps, false≢true, less_none, in_span-negsuc, span_parts, pred_pos)
 
-pub box_out : (b : Box2) (x y : ℕ) → IsOutsideBoxFromHalo b x y →
-    in_box b (halo_coord b.x x) (halo_coord b.y y) ≡ false
+pub box_out : (b : Box2) (x y : ℕ) → IsOutsideBoxFromHalo b x y → in_box b (halo_coord b.x x) (halo_coord b.y y) ≡ false
 unfolding in_box
 box_out b x y m = grind (arith, common_steps, cases_Bool, and_parts, span_outer_parts)
 
@@ -220,8 +213,7 @@ unfolding with_halo
 with_halo_outside j u t s x y dead h = grind (arith, common_steps)
 
 pub halo_cells : (j : JobView) (vs : Values) (t : ℕ) (p : Planes) → IsRunReady j vs → ShowsRunAt j vs t p →
-    IsHaloAsSignals j vs t p →
-    (a x y : ℕ) → a < assignments j → x < j.area.w + 2 → y < j.area.h + 2 →
+    IsHaloAsSignals j vs t p → (a x y : ℕ) → a < assignments j → x < j.area.w + 2 → y < j.area.h + 2 →
     lane p a x y ≡ with_halo j (valuation vs a) t (local_run j (valuation vs a) t) (halo_coord j.area.x x)
     (halo_coord j.area.y y)
 halo_cells j vs t p ready shows halo a x y la lx ly =

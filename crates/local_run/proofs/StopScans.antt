@@ -1,11 +1,10 @@
 -- Stops in their order, and the first of them that has a fault
-use Rattle.local_run.proofs.Imports.{HasNoFaultOfKind, IsFirstFaultOfKind, IsLeastBelow, IsNextStop}
-use Rattle.local_run.proofs.Imports.{IsRising, IsStopFault, JobView, Less, Moment, None, Some, Stop}
-use Rattle.local_run.proofs.Imports.{Valuation, Values, ap, arith, assignments, cases_lt, cell_cmp, common_steps}
-use Rattle.local_run.proofs.Imports.{get_or, inl, inr, int_equal, ints, is_defined_under, length, local_run, moment_cmp}
-use Rattle.local_run.proofs.Imports.{nat_equal, refl, same_Some, slice_get, slice_get-get_or}
-use Rattle.local_run.proofs.Imports.{slice_get_within, subst, sym, three_ways, true, valuation, ℕ, ℤ, ◌+◌, ◌<ℤ◌, ◌<◌}
-use Rattle.local_run.proofs.Imports.{◌∙◌, ◌≡◌, ◌≢◌, ◌≤◌, ◌⊎◌}
+use Rattle.local_run.proofs.Imports.{HasNoFaultOfKind, IsFirstFaultOfKind, IsLeastBelow, IsNextStop, IsRising}
+use Rattle.local_run.proofs.Imports.{IsStopFault, JobView, Less, Moment, None, Some, Stop, Valuation, Values, ap, arith}
+use Rattle.local_run.proofs.Imports.{assignments, cases_lt, cell_cmp, common_steps, get_or, inl, inr, int_equal, ints}
+use Rattle.local_run.proofs.Imports.{is_defined_under, length, local_run, moment_cmp, nat_equal, refl, same_Some}
+use Rattle.local_run.proofs.Imports.{slice_get, slice_get-get_or, slice_get_within, subst, sym, three_ways, true}
+use Rattle.local_run.proofs.Imports.{valuation, ℕ, ℤ, ◌+◌, ◌<ℤ◌, ◌<◌, ◌∙◌, ◌≡◌, ◌≢◌, ◌≤◌, ◌⊎◌}
 use Rattle.lemmas.proofs.Common.{below_or_same, int_less, nat_less, then_less}
 use Rattle.module_job.specs.Jobs.{stop_moment}
 use Rattle.local_run.specs.Scans.{IsStopMissed}
@@ -31,8 +30,7 @@ pub record AreTried (j : JobView) (vs : Values) (t place : ℕ) : Type 0 where
   pub before : (k : ℕ) (s : listed.Stop) → k < place → slice_get j.stops k ≡ Some s → s.at.time ≤ t
   pub from : (k : ℕ) (s : listed.Stop) → place ≤ k → slice_get j.stops k ≡ Some s → t ≤ s.at.time
   pub free : (k : ℕ) (s : listed.Stop) (a : ℕ) → k < place → slice_get j.stops k ≡ Some s → s.at.time ≡ t →
-      a < assignments j →
-      ¬ IsStopMissed j vs a s
+      a < assignments j → ¬ IsStopMissed j vs a s
 
 -- a stop more
 pub one_more : (j : JobView) (vs : Values) (t place : ℕ) (s : listed.Stop) → AreTried j vs t place →
@@ -163,9 +161,8 @@ pub past_all : (j : JobView) (vs : Values) (t place : ℕ) → AreTried j vs t p
     AreAllTried j vs t place
 past_all j vs t place tried past = all_tried j vs t place tried (at_end j t place past)
 
-pub past_these : (j : JobView) (vs : Values) (t place : ℕ) (s : listed.Stop) →
-    IsRising moment_cmp stop_moment j.stops → AreTried j vs t place → slice_get j.stops place ≡ Some s → s.at.time ≢ t →
-    AreAllTried j vs t place
+pub past_these : (j : JobView) (vs : Values) (t place : ℕ) (s : listed.Stop) → IsRising moment_cmp stop_moment j.stops →
+    AreTried j vs t place → slice_get j.stops place ≡ Some s → s.at.time ≢ t → AreAllTried j vs t place
 past_these j vs t place s rising tried e other =
     all_tried j vs t place tried (before_later j vs t place s rising tried e other)
 

@@ -8,8 +8,7 @@ use Rattle.bbm_rule.specs.Boxes.{in_halo}
 use Rattle.module_box.specs.Schedules.{Signals, signal_at}
 use Rattle.module_job.specs.Jobs.{JobView, IsJob}
 use Rattle.local_run.specs.Faults.{IsEdgeFault, IsFault, IsFaultUnderValues, IsKeepFault, IsLeastFault}
-use Rattle.local_run.specs.Faults.{IsLeastKeepFault}
-use Rattle.local_run.specs.Faults.{assignments}
+use Rattle.local_run.specs.Faults.{IsLeastKeepFault, assignments}
 use Rattle.local_run.specs.Leaps.{IsOddOfTimePair, HasSameSignalsAtOddTimes, IsRunUnchangedUntil}
 use Rattle.local_run.specs.Runs.{local_run}
 use Rattle.local_run.specs.Shown.{job_of, fault_of, keep_fault_of}

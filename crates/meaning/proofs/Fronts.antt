@@ -1,9 +1,7 @@
 -- The line before the sections of a text.
-use Rattle.lemmas.proofs.Common.{Bool, List, Some, [], ap, append_assoc, arith, common_steps, same_bytes}
-use Rattle.lemmas.proofs.Common.{drop, false, flat_map, flat_map-append, refl, sym, take, take-append-drop}
-use Rattle.lemmas.proofs.Common.{true, length, ℕ, ◌++◌, ◌<◌, ◌∙◌, ◌∷◌, ◌≡◌, codes, if◌then◌else◌, slice_split_at}
-use Rattle.lemmas.proofs.Common.{None}
-use Rattle.lemmas.proofs.Common.{bytes_eq}
+use Rattle.lemmas.proofs.Common.{Bool, List, None, Some, [], ap, append_assoc, arith, bytes_eq, codes, common_steps}
+use Rattle.lemmas.proofs.Common.{drop, false, flat_map, flat_map-append, if◌then◌else◌, length, refl, same_bytes}
+use Rattle.lemmas.proofs.Common.{slice_split_at, sym, take, take-append-drop, true, ℕ, ◌++◌, ◌<◌, ◌∙◌, ◌∷◌, ◌≡◌}
 use Rattle.section_text.specs.Limits.{limits_line_count, limits_of}
 use Rattle.section_text.specs.SaidSection.{IsSection}
 use Rattle.section_text.specs.Section.{with_line_feed}
@@ -74,8 +72,7 @@ rest_more : (line rest : List ℕ) → AreLines (line ∷ []) →
 unfolding bytes_after_last_line_feed
 rest_more line rest clean = grind (arith, common_steps, append_assoc, slice_split_at, last_part_more, some_part)
 
-rest_split : (text : List ℕ) →
-    bytes_after_last_line_feed (front_text Second ++ text) ≡ bytes_after_last_line_feed text
+rest_split : (text : List ℕ) → bytes_after_last_line_feed (front_text Second ++ text) ≡ bytes_after_last_line_feed text
 unfolding front_line
 rest_split text = rest_more front_line text front_clean
 

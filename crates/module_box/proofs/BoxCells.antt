@@ -1,13 +1,11 @@
 -- The cells of a box, and the place of a cell's block in a table of owners
-use Rattle.module_box.proofs.Imports.{Box2, HasOwnerTableSizes, Option, OwnersView, Some, and_parts, arith}
-use Rattle.module_box.proofs.Imports.{common_steps}
-use Rattle.module_box.proofs.Imports.{false≢true, get_or, get_or_from_slice_get, in_box, in_span, length}
-use Rattle.module_box.proofs.Imports.{mul-le-mul_right, owner_of, pos, rectangle, refl, slice_get_read, span_parts, sym}
-use Rattle.module_box.proofs.Imports.{true, unsigned_abs, ℕ, ℤ, ◌%◌, ◌*◌, ◌+◌, ◌/◌, ◌<◌, ◌∙◌, ◌≡◌, ◌≤◌}
+use Rattle.module_box.proofs.Imports.{Box2, HasOwnerTableSizes, Option, OwnersView, Some, and_from, and_parts, arith}
+use Rattle.module_box.proofs.Imports.{common_steps, false≢true, get_or, get_or_from_slice_get, in_box, in_span, length}
+use Rattle.module_box.proofs.Imports.{mul-le-mul_right, owner_of, pos, rectangle, refl, slice_get_read, span_from}
+use Rattle.module_box.proofs.Imports.{span_parts, sym, true, unsigned_abs, ℕ, ℤ, ◌%◌, ◌*◌, ◌+◌, ◌/◌, ◌<◌, ◌∙◌, ◌≡◌, ◌≤◌}
 use Rattle.lemmas.proofs.Common.{ints, negsuc}
 use Rattle.lemmas.specs.Bounds.{max_side}
 use Rattle.bbm_rule.proofs.Spans.{in_span-negsuc}
-use Rattle.module_box.proofs.Imports.{and_from, span_from}
 use Rattle.module_box.specs.Moves.{IsSmallShift}
 use Rattle.module_box.specs.Tiling.{IsInside, rectangle_of}
 
@@ -48,9 +46,8 @@ owner_in_table o x y t h =
     (halves _ _ (let q : unsigned_abs x < o.width = omega (arith, p.0) in q) t.width.2))
 
 pub owner_read : (o : OwnersView) (x y : ℤ) (a b r : ℕ) → HasOwnerTableSizes o → in_box (rectangle o) x y ≡ true →
-    a ≡ unsigned_abs y →
-    b ≡ unsigned_abs x →
-    r ≡ get_or o.numbers ((a / 2) * (o.width / 2) + b / 2) r → r ≡ owner_of o x y
+    a ≡ unsigned_abs y → b ≡ unsigned_abs x → r ≡ get_or o.numbers ((a / 2) * (o.width / 2) + b / 2) r →
+    r ≡ owner_of o x y
 unfolding owner_of
 owner_read o x y a b r t h ea eb e = grind (arith, common_steps, get_or_from_slice_get, slice_get_read, owner_in_table)
 

@@ -8,7 +8,7 @@ use Rattle.module_box.specs.declared.schedules.Signal.{Signal}
 use Rattle.module_box.specs.declared.schedules.Signal.TheVariants.{One, Wire}
 use Rattle.module_box.specs.Laws.{LocalsEqualityDecides, ScheduleEqualityDecides}
 use Rattle.module_box.specs.Equality.{is_one, signal_wire, same_signal, same_cell, same_all_times, same_event}
-use Rattle.module_box.specs.Equality.{source_bit, delay_steps, same_gate_kind, same_gate, same_netlist}
+use Rattle.module_box.specs.Equality.{source_bit, delay_steps, same_gate, same_netlist}
 
 -- two tests, of two parts
 pub both : {P Q R : Type 0} (r s : Bool) → Decides r P → Decides s Q → (P → Q → R) → (R → P) → (R → Q) →
@@ -75,11 +75,8 @@ gate_kind_back : (r : GateKind) → gate_kind_from (gate_kind_number r) (source_
 unfolding gate_kind_from source_of delay_of
 gate_kind_back r = grind (arith, common_steps)
 
-gate_kind_decides : (a b : GateKind) → Decides (same_gate_kind a b) (a ≡ b)
-gate_kind_decides a b = grind (arith, common_steps, both, options, gate_kind_back, gate_kind_from)
-
 pub gate_decides : (g h : Gate) → Decides (same_gate g h) (g ≡ h)
-gate_decides g h = grind (arith, common_steps, both, gate_kind_decides, lists)
+gate_decides g h = grind (arith, common_steps, both, lists)
 
 -- ---- the wires and gates of modules
 pub netlists_decide : (l m : Netlist) → Decides (same_netlist l m) (l ≡ m)

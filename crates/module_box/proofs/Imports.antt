@@ -30,8 +30,7 @@ pub use Rattle.module_box.specs.Equality.{gate_kind_number}
 pub use Rattle.module_box.specs.Laws.{SameInBox}
 pub use Rattle.module_box.specs.LocalGates.{gate_of_local_gate}
 pub use Rattle.module_box.specs.LocalValues.{AreGateValuesAtBit, AreModuleValuesAtBit, gate_out_words, is_none}
-pub use Rattle.module_box.specs.LocalValues.{is_this_gate, lane}
-pub use Rattle.module_box.specs.LocalValues.{word_of_input}
+pub use Rattle.module_box.specs.LocalValues.{is_this_gate, lane, word_of_input}
 pub use Rattle.module_box.specs.Locals.{AreDistinct, AreLocalsOf, LocalNet, circuit_wire, is_among, renumber_gate}
 unfoldable pub use Rattle.bbm_rule.specs.CellOrder.{cell_cmp}
 unfoldable pub use Rattle.module_box.specs.Moments.{moment_cmp}

@@ -54,11 +54,8 @@ gate_kind_back : (r : GateKind) → gate_kind_from (gate_kind_number r) (gate_ki
 unfolding gate_kind_from
 gate_kind_back r = grind (arith, common_steps)
 
-gate_kinds_tell : IsPrefixFree (λ (r : GateKind). gate_kind_number r ∷ gate_kind_parameter r ∷ [])
-gate_kinds_tell a b r s e = grind (arith, common_steps, same_head, same_tail, gate_kind_back, gate_kind_from)
-
 gates_tell : IsPrefixFree gate_code_numbers
-gates_tell g h r s e = grind (arith, common_steps, gate_kinds_tell, listed, lists_tell, append_assoc)
+gates_tell g h r s e = grind (arith, common_steps, listed, lists_tell, append_assoc)
 
 pub netlists_tell : NumbersDetermineNetlists
 unfolding netlist_numbers

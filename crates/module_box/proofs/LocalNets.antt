@@ -7,7 +7,7 @@ use Rattle.module_box.proofs.Imports.{length, length-append, length-map, length-
 use Rattle.module_box.proofs.Imports.{range_with_len, refl, renumber_gate, same_Some, slice_get, slice_get-get_or}
 use Rattle.module_box.proofs.Imports.{slice_get_read, slice_index, subst, suc, sym, take, take-append-drop, take_more}
 use Rattle.module_box.proofs.Imports.{uses, wires_after, zero, ℕ, ◌*◌, ◌++◌, ◌+◌, ◌<◌, ◌∙◌, ◌∷◌, ◌≡◌, ◌≤◌, ◌⊎◌}
-use Rattle.lemmas.proofs.Common.{append-nil, flat_map-append, get_or_at, take_all}
+use Rattle.lemmas.proofs.Common.{append-nil, flat_map-append, take_all}
 use Rattle.module_box.specs.Locals.{outs_of, local_wires, UsesOnlyKnownWires, AreLocalLines}
 use Rattle.module_box.proofs.WireLists.{different_front}
 
@@ -48,18 +48,6 @@ same_front keys rest (w ∷ ws) below =
     ap₂ (λ x xs. x ∷ xs) (get_or_append_left keys rest 0 w (All-head (λ w. w < length keys) w ws below))
     (same_front keys rest ws (All-tail (λ w. w < length keys) w ws below))
 
--- and those that come next
-next_wires : (keys outs rest : List ℕ) →
-    map (slice_index (keys ++ (outs ++ rest))) (range_with_len (length keys) (length outs)) ≡ outs
-next_wires keys [] rest = refl
-next_wires keys (w ∷ outs) rest =
-    let longer : List ℕ = keys ++ w ∷ [] in
-    let more : map (slice_index (longer ++ (outs ++ rest))) (range_with_len (length longer) (length outs)) ≡ outs =
-    next_wires longer outs rest in
-    ap₂ (λ x xs. x ∷ xs) (get_or_at keys w (outs ++ rest) 0 (length keys) refl)
-    (ap₂ (λ (l : List ℕ) m. map (slice_index l) (range_with_len m (length outs)))
-    (sym (append_assoc keys (w ∷ []) (outs ++ rest))) (sym (length_push keys w)) ∙ more)
-
 -- ---- what is known after i gates, and what comes later
 known_rest : (n : Netlist) (cuts gates : List ℕ) (i : ℕ) →
     local_wires n cuts gates ≡ local_wires n cuts (take i gates) ++ flat_map (outs_of n) (drop i gates)
@@ -69,8 +57,7 @@ known_rest n cuts gates i =
     ∙ sym (append_assoc cuts (flat_map (outs_of n) (take i gates)) (flat_map (outs_of n) (drop i gates)))
 
 known_more : (n : Netlist) (cuts gates : List ℕ) (i k : ℕ) (g : Gate) → i < length gates → k ≡ get_or gates i k →
-    slice_get n.gates k ≡ Some g →
-    local_wires n cuts (take (i + 1) gates) ≡ local_wires n cuts (take i gates) ++ g.outs
+    slice_get n.gates k ≡ Some g → local_wires n cuts (take (i + 1) gates) ≡ local_wires n cuts (take i gates) ++ g.outs
 known_more n cuts gates i k g within is at = grind (arith, common_steps, take_more, append-nil, flat_map-append)
 
 -- the gate g over other numbers: the wires that it uses stand at its ins in the list, and those that it defines come
@@ -84,7 +71,7 @@ pub record IsOver (keys : List ℕ) (g h : Gate) : Type 0 where
 -- it is that gate by the wires that stand at its numbers, however many come later
 renumbered : (keys all rest : List ℕ) (g h : Gate) → all ≡ keys ++ (g.outs ++ rest) → length g.outs ≡ defines g.kind →
     IsOver keys g h → g ≡ renumber_gate (slice_index all) h
-renumbered keys all rest g h whole many over = grind (arith, common_steps, same_front, next_wires)
+renumbered keys all rest g h whole many over = grind (arith, common_steps, same_front)
 
 -- an element of a list with one more at its end
 push_cases : (gs : List Gate) (h : Gate) (j : ℕ) (f : Gate) → slice_get (gs ++ h ∷ []) j ≡ Some f →
@@ -123,8 +110,7 @@ next_known n cuts gates i k keys done lines part within is = grind (arith, commo
 
 -- and so for the gate that the circuit has there
 pub known_ins : (n : Netlist) (keys : List ℕ) (k : ℕ) (g : Gate) → UsesOnlyKnownWires n keys k →
-    slice_get n.gates k ≡ Some g →
-    All (λ w. IsTrue (is_among keys w)) g.ins
+    slice_get n.gates k ≡ Some g → All (λ w. IsTrue (is_among keys w)) g.ins
 known_ins n keys k g known at = grind (arith, common_steps, same_Some)
 
 -- those that it defines are not
@@ -141,9 +127,8 @@ next_new n cuts gates i k keys done g lines part within is at =
 
 -- it is done
 pub part_more : (n : Netlist) (cuts gates : List ℕ) (i k : ℕ) (keys new : List ℕ) (done : List Gate) (g h : Gate) →
-    AreGatesOrdered n.given n.gates →
-    IsPart n cuts gates i keys done → i < length gates → k ≡ get_or gates i k → slice_get n.gates k ≡ Some g →
-    IsOver keys g h → new ≡ keys ++ g.outs →
+    AreGatesOrdered n.given n.gates → IsPart n cuts gates i keys done → i < length gates → k ≡ get_or gates i k →
+    slice_get n.gates k ≡ Some g → IsOver keys g h → new ≡ keys ++ g.outs →
     IsPart n cuts gates (i + 1) new (done ++ h ∷ [])
 part_more n cuts gates i k keys new done g h ordered part within is at over added =
     let all : List ℕ = local_wires n cuts gates in

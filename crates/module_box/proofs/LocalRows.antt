@@ -1,15 +1,12 @@
 -- The values of all wires of a module, and its gates without a row: one assignment, and rows of assignments
-use Rattle.module_box.proofs.Imports.{All, All-head, All-tail, AreGatesOrdered, AreModuleValuesAtBit, Bool, FollowsRow}
-use Rattle.module_box.proofs.Imports.{Gate}
-use Rattle.module_box.proofs.Imports.{List}
-use Rattle.module_box.proofs.Imports.{AreGateValuesAtBit, Netlist, None, Option, Satisfies, Some, Valuation, [], ap}
-use Rattle.module_box.proofs.Imports.{arith}
-use Rattle.module_box.proofs.Imports.{as_values, bit, cases_Bool, cases_lt, common_steps, defines, eq-eqb, eqb-true}
-use Rattle.module_box.proofs.Imports.{false, get_or, get_or-append-add, get_or_append_left, inl, inr, is_none}
-use Rattle.module_box.proofs.Imports.{is_this_gate, lane, length, length-map, length-range_with_len, length_push, map}
-use Rattle.module_box.proofs.Imports.{mul-le-mul_left, range_with_len, refl, row, slice_get_within, slice_index}
-use Rattle.module_box.proofs.Imports.{slice_index_or, subst, sym, true, true≢false, wires, wires_after, ℕ, ◌%◌, ◌*◌}
-use Rattle.module_box.proofs.Imports.{◌++◌, ◌+◌, ◌/◌, ◌<◌, ◌∙◌, ◌∷◌, ◌≡◌, ◌≢◌, ◌≤◌}
+use Rattle.module_box.proofs.Imports.{All, All-head, All-tail, AreGateValuesAtBit, AreGatesOrdered}
+use Rattle.module_box.proofs.Imports.{AreModuleValuesAtBit, Bool, FollowsRow, Gate, List, Netlist, None, Option}
+use Rattle.module_box.proofs.Imports.{Satisfies, Some, Valuation, [], ap, arith, as_values, bit, cases_Bool, cases_lt}
+use Rattle.module_box.proofs.Imports.{common_steps, defines, eq-eqb, eqb-true, false, get_or, get_or-append-add}
+use Rattle.module_box.proofs.Imports.{get_or_append_left, inl, inr, is_none, is_this_gate, lane, length, length-map}
+use Rattle.module_box.proofs.Imports.{length-range_with_len, length_push, map, mul-le-mul_left, range_with_len, refl}
+use Rattle.module_box.proofs.Imports.{row, slice_get_within, slice_index, slice_index_or, subst, sym, true, true≢false}
+use Rattle.module_box.proofs.Imports.{wires, wires_after, ℕ, ◌%◌, ◌*◌, ◌++◌, ◌+◌, ◌/◌, ◌<◌, ◌∙◌, ◌∷◌, ◌≡◌, ◌≢◌, ◌≤◌}
 use Rattle.lemmas.proofs.Common.{All-cons, All-nil, get_or-set_other, get_or-set_same, length-set, place_within, set}
 use Rattle.lemmas.proofs.Common.{get_or-range_with_len}
 use Rattle.circuit.proofs.Undefined.{undefined_at, undefined_is, wires_grow}
@@ -116,13 +113,11 @@ pub record AreRowsBelow (l : Netlist) (words chunk : ℕ) (values undefined defi
 
 pub rows_more : (l : Netlist) (words chunk word : ℕ)
     (column gaps values values' undefined undefined' defined defined' : List ℕ) → AreGatesOrdered l.given l.gates →
-    chunk < words →
-    IsWritten words chunk (wires l) column values values' →
+    chunk < words → IsWritten words chunk (wires l) column values values' →
     IsWritten words chunk (length l.gates) gaps undefined undefined' → length values' ≡ length values →
-    length undefined' ≡ length undefined →
-    defined' ≡ defined ++ word ∷ [] → ((b : ℕ) → b < 64 → AreModuleValuesAtBit l (64 * chunk + b) column gaps word b) →
-    AreRowsBelow l words chunk values undefined defined →
-    AreRowsBelow l words (chunk + 1) values' undefined' defined'
+    length undefined' ≡ length undefined → defined' ≡ defined ++ word ∷ [] →
+    ((b : ℕ) → b < 64 → AreModuleValuesAtBit l (64 * chunk + b) column gaps word b) →
+    AreRowsBelow l words chunk values undefined defined → AreRowsBelow l words (chunk + 1) values' undefined' defined'
 unfolding bit_of_row
 rows_more l words chunk word column gaps values values' undefined undefined' defined defined' ordered within written
     gaps_written long tall pushed columns before = record {
@@ -171,8 +166,7 @@ rows_more l words chunk word column gaps values values' undefined undefined' def
     }
 
 pub written : (words place n : ℕ) (column old new column' old' : List ℕ) → column' ≡ column → old' ≡ old →
-    length column ≡ n →
-    ((w : ℕ) → w < length column' → slice_index new (words * w + place) ≡ slice_index column' w) →
+    length column ≡ n → ((w : ℕ) → w < length column' → slice_index new (words * w + place) ≡ slice_index column' w) →
     ((w k : ℕ) → w < length column' → k < words → k ≢ place →
     slice_index new (words * w + k) ≡ slice_index old' (words * w + k)) → IsWritten words place n column old new
 written words place n column old new column' old' same_column same_old long put kept = grind (arith, common_steps)
@@ -191,8 +185,7 @@ is_gate_at : (o : Option ℕ) (k : ℕ) → o ≡ Some k → is_this_gate o k �
 is_gate_at o k e = ap (λ (o : Option ℕ). is_this_gate o k) e ∙ eq-eqb k k refl
 
 pub column_at : (l : Netlist) (given words undefined : List ℕ) (defined a b : ℕ) → AreGatesOrdered l.given l.gates →
-    length given ≡ l.given →
-    ((i : ℕ) → i < l.given → bit (slice_index_or given i 0) b ≡ bit a i) →
+    length given ≡ l.given → ((i : ℕ) → i < l.given → bit (slice_index_or given i 0) b ≡ bit a i) →
     AreGateValuesAtBit given l.gates words undefined defined b → AreModuleValuesAtBit l a words undefined defined b
 column_at l given words undefined defined a b ordered long bits says =
     let vs : List Bool = lane b given in
@@ -211,8 +204,7 @@ column_at l given words undefined defined a b ordered long bits says =
 -- where no gate of a column is undefined, the values are there
 pub column_defined : (l : Netlist) (a b defined : ℕ) (words undefined : List ℕ) →
     AreModuleValuesAtBit l a words undefined defined b →
-    ((k : ℕ) → k < length l.gates → bit (slice_index undefined k) b ≡ false) →
-    bit defined b ≡ true
+    ((k : ℕ) → k < length l.gates → bit (slice_index undefined k) b ≡ false) → bit defined b ≡ true
 column_defined l a b defined words undefined is clear =
     grind (arith, common_steps, cases_Bool, slice_get_within, true≢false)
 

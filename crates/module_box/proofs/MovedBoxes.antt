@@ -4,16 +4,13 @@ use Rattle.module_box.proofs.Imports.{State, TimedSignal, [], all_times_at, ap, 
 use Rattle.module_box.proofs.Imports.{common_steps, event_at, in_box, in_halo, in_ring, in_span, ints, is_cell_at, map}
 use Rattle.module_box.proofs.Imports.{moment_cmp, moment_of, moved_all_times, moved_event, nat_eq, pos, refl}
 use Rattle.module_box.proofs.Imports.{has_neighbour_in_set, ℕ, ℤ, ◌&&◌, ◌+ℤ◌, ◌+◌, ◌∷◌, ◌≡◌}
-use Rattle.lemmas.proofs.Common.{if◌then◌else◌, int_le, int_lt, ordering_then, down_moved, mapped_from, up_moved}
+use Rattle.lemmas.proofs.Common.{if◌then◌else◌, int_lt, ordering_then, down_moved, mapped_from, up_moved}
 use Rattle.std.specs.Ordering.{int_eq, int_cmp, nat_cmp}
 use Rattle.bbm_rule.specs.Moves.{IsStateMovedBy}
 use Rattle.module_box.specs.Moves.{moved_cell, moved_signals, IsMovedBox, RingsAndHalosMoveAlong, SignalsMoveAlong}
 use Rattle.module_box.specs.Schedules.{Signals, signal_at}
 
 -- ---- comparisons of numbers that are moved alike
-le_moved : (a b d : ℤ) → int_le (a +ℤ d) (b +ℤ d) ≡ int_le a b
-le_moved a b d = grind (arith, ints)
-
 lt_moved : (a b d : ℤ) → int_lt (a +ℤ d) (b +ℤ d) ≡ int_lt a b
 lt_moved a b d = grind (arith, ints)
 
@@ -24,12 +21,9 @@ cmp_moved : (a b d : ℤ) → int_cmp (a +ℤ d) (b +ℤ d) ≡ int_cmp a b
 cmp_moved a b d = λ i. if lt_moved a b d i then Less else (if lt_moved b a d i then Greater else Equal)
 
 -- ---- boxes
-end_moved : (f f' n : ℕ) (d : ℤ) → pos f' ≡ pos f +ℤ d → pos (f' + n) ≡ pos (f + n) +ℤ d
-end_moved f f' n d e = omega (arith, ints, e)
-
 pub span_moved : (f f' n n' : ℕ) (d x : ℤ) → pos f' ≡ pos f +ℤ d → n' ≡ n → in_span f' n' (x +ℤ d) ≡ in_span f n x
 unfolding in_span
-span_moved f f' n n' d x e same = grind (arith, common_steps, end_moved, le_moved, lt_moved)
+span_moved f f' n n' d x e same = grind (arith, common_steps, lt_moved)
 
 pub box_moved : (dx dy : ℤ) (b b' : Box2) → IsMovedBox dx dy b b' → IsStateMovedBy dx dy (in_box b) (in_box b')
 unfolding in_box

@@ -1,6 +1,6 @@
 -- Boxes that a halo reaches
-use Rattle.module_box.proofs.Imports.{Box2, and_parts, arith, common_steps, in_halo, in_span, ints, or_cases, pos, refl}
-use Rattle.module_box.proofs.Imports.{true, ℕ, ℤ, ◌+ℤ◌, ◌+◌, ◌-ℤ◌, ◌<◌, ◌||◌, ◌∙◌, ◌≡◌, ◌≤◌, ◌⊎◌}
+use Rattle.module_box.proofs.Imports.{Box2, and_parts, arith, common_steps, in_halo, in_span, or_cases, pos, refl}
+use Rattle.module_box.proofs.Imports.{true, ℕ, ℤ, ◌+ℤ◌, ◌+◌, ◌-ℤ◌, ◌<◌, ◌||◌, ◌∙◌, ◌≡◌, ◌⊎◌}
 use Rattle.bbm_rule.proofs.RingTests.{halo_read}
 use Rattle.module_box.proofs.BoxCells.{in_span_nat}
 
@@ -15,10 +15,6 @@ pub near_one : (f n : ℕ) (x : ℤ) → (in_span f n (x -ℤ pos 1) || in_span 
     (y : ℤ) × ((y ≡ x -ℤ pos 1) ⊎ ((y ≡ x) ⊎ (y ≡ x +ℤ pos 1))) × (in_span f n y ≡ true)
 near_one f n x h = grind (arith, common_steps, or_cases)
 
-beside_bounds : (f n g m i j : ℕ) (x y : ℤ) → x ≡ pos i → y ≡ pos j → (y ≡ x -ℤ pos 1) ⊎ ((y ≡ x) ⊎ (y ≡ x +ℤ pos 1)) →
-    g ≤ i → i < g + m → f ≤ j → j < f + n → (g < f + n + 1) × (f < g + m + 1)
-beside_bounds f n g m i j x y h1 h2 h3 h4 h5 h6 h7 = grind (arith, common_steps, ints)
-
 near_span : (f n g m : ℕ) (x : ℤ) → (in_span f n (x -ℤ pos 1) || in_span f n x || in_span f n (x +ℤ pos 1)) ≡ true →
     in_span g m x ≡ true → (g < f + n + 1) × (f < g + m + 1)
-near_span f n g m x h k = grind (arith, common_steps, near_one, in_span_nat, beside_bounds)
+near_span f n g m x h k = grind (arith, common_steps, near_one, in_span_nat)

@@ -1,20 +1,16 @@
 -- The eight neighbours of a cell, rings and halos
-use Rattle.module_box.proofs.Imports.{Bool, Box2, List, SameInBox, Some, State, and_from, and_parts, ap, ap₂, arith}
-use Rattle.module_box.proofs.Imports.{cases_Bool, common_steps, false, false≢true, in_box, in_halo, in_ring, inl, inr}
-use Rattle.module_box.proofs.Imports.{has_neighbour_in_set, ints, not, or_cases, partner, pos, slice_get, step}
-use Rattle.module_box.proofs.Imports.{step_same}
-use Rattle.module_box.proofs.Imports.{sym, true, ℕ, ℤ, ◌+ℤ◌, ◌-ℤ◌, ◌||◌, ◌∙◌, ◌≡◌, ◌⊎◌}
+use Rattle.module_box.proofs.Imports.{Box2, List, SameInBox, Some, State, and_from, and_parts, ap, ap₂, arith}
+use Rattle.module_box.proofs.Imports.{cases_Bool, common_steps, false, false≢true, has_neighbour_in_set, in_box}
+use Rattle.module_box.proofs.Imports.{in_halo, in_ring, inl, inr, not, partner, pos, slice_get, step}
+use Rattle.module_box.proofs.Imports.{step_same, sym, true, ℕ, ℤ, ◌+ℤ◌, ◌-ℤ◌, ◌∙◌, ◌≡◌, ◌⊎◌}
 use Rattle.lemmas.proofs.Common.{not-true, not_from_false, or_left, or_right}
 use Rattle.module_box.specs.Laws.{SameInHalo, HaloCellIsRingCellOfOwner}
 use Rattle.bbm_rule.proofs.Spans.{partner_near}
 
-or_more : (a b c d : Bool) → (a ≡ true → c ≡ true) → (b ≡ true → d ≡ true) → (a || b) ≡ true → (c || d) ≡ true
-or_more a b c d f g h = elim (or_cases a b h) [ inl p ↦ or_left c d (f p) | inr q ↦ or_right c d (g q) ]
-
 pub some_neighbour_more : (p q : State) (x y : ℤ) → ((x' y' : ℤ) → p x' y' ≡ true → q x' y' ≡ true) →
     has_neighbour_in_set p x y ≡ true → has_neighbour_in_set q x y ≡ true
 unfolding has_neighbour_in_set
-some_neighbour_more p q x y f = grind (arith, common_steps, or_more)
+some_neighbour_more p q x y f = grind (arith, common_steps)
 
 -- the cell x y is one of the neighbours of a b
 at_0 : (p : State) (a b x y : ℤ) → p x y ≡ true → a -ℤ pos 1 ≡ x → b -ℤ pos 1 ≡ y → has_neighbour_in_set p a b ≡ true
@@ -49,19 +45,13 @@ at_7 : (p : State) (a b x y : ℤ) → p x y ≡ true → a +ℤ pos 1 ≡ x →
 unfolding has_neighbour_in_set
 at_7 p a b x y h e f = or_right _ _ (ap₂ p e f ∙ h)
 
-back_down : (z z' : ℤ) → z' ≡ z +ℤ pos 1 → z' -ℤ pos 1 ≡ z
-back_down z z' e = omega (arith, ints)
-
-back_up : (z z' : ℤ) → z' ≡ z -ℤ pos 1 → z' +ℤ pos 1 ≡ z
-back_up z z' e = omega (arith, ints)
-
 -- the other coordinate is one more or one less
 Beside : ℤ → ℤ → Type 0
 Beside z' z = (z' -ℤ pos 1 ≡ z) ⊎ (z' +ℤ pos 1 ≡ z)
 
 partner_beside : (t : ℕ) (z : ℤ) → Beside (partner t z) z
 unfolding Beside
-partner_beside t z = grind (arith, common_steps, partner_near, back_down, back_up)
+partner_beside t z = grind (arith, common_steps, partner_near)
 
 -- each cell of a block is a neighbour of the three others
 pub block_x : (p : State) (t : ℕ) (x y : ℤ) → p x y ≡ true → has_neighbour_in_set p (partner t x) y ≡ true
@@ -89,8 +79,7 @@ halo_parts b x y h = let p = and_parts (not (in_box b x y)) (has_neighbour_in_se
     (not-true _ p.0, p.1)
 
 pub ring_from : (b : Box2) (x y : ℤ) → in_box b x y ≡ true →
-    has_neighbour_in_set (λ x' y'. not (in_box b x' y')) x y ≡ true →
-    in_ring b x y ≡ true
+    has_neighbour_in_set (λ x' y'. not (in_box b x' y')) x y ≡ true → in_ring b x y ≡ true
 unfolding in_ring
 ring_from b x y h near = and_from _ _ h near
 

@@ -31,8 +31,7 @@ no_tiling w h boxes (Outside n) task f m tile =
     let s = task.sides n b f.1.1 in
     let p = below_sides w h (b.x + b.w - 1) (b.y + b.h - 1) (tile.inside _ _ n b f.1.1 (last_cell b s.0 s.1)) in
     f.1.2 (record { right = omega (arith, p.0, s.0); bottom = omega (arith, p.1, s.1) })
-no_tiling w h boxes (Overlap c) task f m tile =
-    grind (arith, common_steps)
+no_tiling w h boxes (Overlap c) task f m tile = grind (arith, common_steps)
 no_tiling w h boxes (Gap c) task f m tile =
     let bad = f.0 in
     let inside : in_box (rectangle_of w h) c.x c.y ≡ true =

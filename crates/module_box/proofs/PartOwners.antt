@@ -1,9 +1,7 @@
 -- Tables of owners that boxes take one after the other, from blocks to cells
 use Rattle.module_box.proofs.Imports.{Box2, HasBlockAtPlace, HasOwnerTableSizes, IsEvenBox, List, OwnersView, TakesBox}
-use Rattle.module_box.proofs.Imports.{[]}
-use Rattle.module_box.proofs.Imports.{ap}
-use Rattle.module_box.proofs.Imports.{arith, below_or_from, common_steps, div-mul-add, in_box, inl}
-use Rattle.module_box.proofs.Imports.{inr, length, mod-mul-add, mul-le-mul_right, owner_of, rectangle, refl, slice_get}
+use Rattle.module_box.proofs.Imports.{[], ap, arith, below_or_from, common_steps, div-mul-add, in_box, inl, inr, length}
+use Rattle.module_box.proofs.Imports.{mod-mul-add, mul-le-mul_right, owner_of, rectangle, refl, slice_get}
 use Rattle.module_box.proofs.Imports.{slice_get_within, slice_index, subst, sym, true, ℕ, ℤ, ◌*◌, ◌+◌, ◌/◌, ◌<◌, ◌∙◌}
 use Rattle.module_box.proofs.Imports.{◌≡◌}
 use Rattle.lemmas.proofs.Common.{div-add-mod', mod-lt, replicate}
@@ -36,8 +34,7 @@ module _ (o : OwnersView) (t : HasOwnerTableSizes o) where
 
   pub has_cell : (b : Box2) (x y : ℤ) → IsEvenBox b → in_box (rectangle o) x y ≡ true →
       HasBlockAtPlace b (o.width / 2) (place_of o x y) → in_box b x y ≡ true
-  has_cell b x y even inside here =
-      grind (arith, common_steps, in_box_nats, box_up, div-mul-add, mod-mul-add, halves)
+  has_cell b x y even inside here = grind (arith, common_steps, in_box_nats, box_up, div-mul-add, mod-mul-add, halves)
 
   -- the corner of a block is in the rectangle
   pub corner_inside : (k : ℕ) → k < length o.numbers →

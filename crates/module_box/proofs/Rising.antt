@@ -1,14 +1,12 @@
 -- Facts about a rising list by comparing its keys with a key
-use Rattle.module_box.proofs.Imports.{AllTimesSignal, Cell, Equal, Greater, IsRising, Less, List, None}
-use Rattle.module_box.proofs.Imports.{Ordering, Some, TimedSignal, [], all_times_at, and_parts, ap, arith}
-use Rattle.module_box.proofs.Imports.{below_or_from, below_or_same, cases_Bool, cell_cmp, common_steps, eqb, eqb-true}
-use Rattle.module_box.proofs.Imports.{event_at, inl, inr, is_cell_at, length, moment_cmp, refl, rules, slice_get, suc}
-use Rattle.module_box.proofs.Imports.{sym}
-use Rattle.module_box.proofs.Imports.{true, zero, ℕ, ℤ, ◌++◌, ◌+◌, ◌<◌, ◌∙◌, ◌∷◌, ◌≡◌, ◌≢◌, ◌≤◌, ◌⊎◌}
+use Rattle.module_box.proofs.Imports.{AllTimesSignal, Cell, Equal, Greater, IsRising, Less, List, None, Ordering, Some}
+use Rattle.module_box.proofs.Imports.{TimedSignal, [], all_times_at, and_parts, ap, arith}
+use Rattle.module_box.proofs.Imports.{cases_Bool, cell_cmp, common_steps, eqb-true, event_at, inl, inr, is_cell_at}
+use Rattle.module_box.proofs.Imports.{length, moment_cmp, refl, slice_get, suc, sym, true, zero, ℕ, ℤ, ◌++◌, ◌+◌}
+use Rattle.module_box.proofs.Imports.{◌<◌, ◌∙◌, ◌∷◌, ◌≡◌, ◌≢◌, ◌≤◌, ◌⊎◌}
 use Rattle.lemmas.proofs.Common.{CmpEqualImpliesEq, IsTotalOrder, cond-false, cond-true, exact_pairs, exact_signed}
-use Rattle.lemmas.proofs.Common.{exact_unsigned, nat_cmp_total, on_total, then_total, tied_itself}
+use Rattle.lemmas.proofs.Common.{exact_unsigned, nat_cmp_total, on_total, same_or_higher, then_total, tied_itself}
 use Rattle.bbm_rule.proofs.CellOrder.{cell_total}
-use Rattle.lemmas.proofs.Common.{same_or_higher}
 use Rattle.module_box.specs.declared.schedules.Moment.{Moment}
 use Rattle.module_box.specs.Schedules.{is_moment_at}
 use Rattle.bbm_rule.proofs.SameCells.{cell_itself, cell_same}
@@ -34,12 +32,6 @@ pub record IsBetween {A K : Type 0} (cmp : K → K → Ordering) (key : A → K)
   pub below : (i : ℕ) (a : A) → i < low → slice_get xs i ≡ Some a → cmp (key a) k ≡ Less
   pub above : (i : ℕ) (a : A) → high ≤ i → slice_get xs i ≡ Some a → cmp k (key a) ≡ Less
 
-pub raise_low : {A K : Type 0} (cmp : K → K → Ordering) (key : A → K) (xs : List A) (k : K) (low high m : ℕ) (a : A) →
-    IsTotalOrder cmp → IsRising cmp key xs →
-    IsBetween cmp key xs k low high → slice_get xs m ≡ Some a → cmp (key a) k ≡ Less →
-    IsBetween cmp key xs k (m + 1) high
-raise_low cmp key xs k low high m a total rising b at less = grind (arith, common_steps, below_or_same, same_some)
-
 pub drop_high : {A K : Type 0} (cmp : K → K → Ordering) (key : A → K) (xs : List A) (k : K) (low high m : ℕ) (a : A) →
     IsTotalOrder cmp → IsRising cmp key xs →
     IsBetween cmp key xs k low high → slice_get xs m ≡ Some a → cmp (key a) k ≡ Greater → IsBetween cmp key xs k low m
@@ -48,34 +40,19 @@ drop_high cmp key xs k low high m a total rising b at greater = grind (arith, co
 less_equal : Less ≡ Equal → ⊥
 less_equal e = cc
 
--- the bounds have met: the key is not there
-pub is_absent : {A K : Type 0} (cmp : K → K → Ordering) (key : A → K) (xs : List A) (k : K) (low high : ℕ) →
-    IsTotalOrder cmp → IsBetween cmp key xs k low high → high ≤ low →
-    (i : ℕ) (a : A) → slice_get xs i ≡ Some a → key a ≢ k
-is_absent cmp key xs k low high total b met i a e same =
-    grind (arith, common_steps, tied_itself, below_or_from, less_equal)
-
 -- an earlier element has another key
 pub is_first : {A K : Type 0} (cmp : K → K → Ordering) (key : A → K) (xs : List A) (m : ℕ) (a : A) → IsTotalOrder cmp →
-    IsRising cmp key xs → slice_get xs m ≡ Some a →
-    (i : ℕ) (b : A) → i < m → slice_get xs i ≡ Some b → key b ≢ key a
+    IsRising cmp key xs → slice_get xs m ≡ Some a → (i : ℕ) (b : A) → i < m → slice_get xs i ≡ Some b → key b ≢ key a
 is_first cmp key xs m a total rising at i b lt e same =
     less_equal (sym (rising.rises i m b a lt e at) ∙ ap (λ z. cmp z (key a)) same ∙ tied_itself total (key a))
 
 -- ---- what the lookups give
 
-eqb_itself : (a : ℕ) → eqb a a ≡ true
-eqb_itself a = search rules
-
 pub then_moment : (m n : Moment) → is_moment_at m n.time n.cell.x n.cell.y ≡ true → m ≡ n
 then_moment m n h = grind (arith, common_steps, and_parts, eqb-true, cell_same)
 
-then_own_moment : (m : Moment) → is_moment_at m m.time m.cell.x m.cell.y ≡ true
-then_own_moment m = rw (eqb_itself m.time, cell_itself m.cell)
-
 pub all_times_none : (hs : List AllTimesSignal) (c : Cell) →
-    ((i : ℕ) (h : AllTimesSignal) → slice_get hs i ≡ Some h → h.cell ≢ c) →
-    all_times_at hs c.x c.y ≡ None
+    ((i : ℕ) (h : AllTimesSignal) → slice_get hs i ≡ Some h → h.cell ≢ c) → all_times_at hs c.x c.y ≡ None
 unfolding all_times_at
 all_times_none [] c f = refl
 all_times_none (h ∷ hs) c f = elim (cases_Bool (is_cell_at h.cell c.x c.y)) [
@@ -95,8 +72,7 @@ all_times_some (g ∷ hs) (suc i) h e f = elim (cases_Bool (is_cell_at g.cell h.
 ]
 
 pub event_none : (es : List TimedSignal) (m : Moment) →
-    ((i : ℕ) (e : TimedSignal) → slice_get es i ≡ Some e → e.at ≢ m) →
-    event_at es m.time m.cell.x m.cell.y ≡ None
+    ((i : ℕ) (e : TimedSignal) → slice_get es i ≡ Some e → e.at ≢ m) → event_at es m.time m.cell.x m.cell.y ≡ None
 unfolding event_at
 event_none [] m f = refl
 event_none (h ∷ hs) m f = elim (cases_Bool (is_moment_at h.at m.time m.cell.x m.cell.y)) [
@@ -109,15 +85,14 @@ pub event_some : (es : List TimedSignal) (i : ℕ) (h : TimedSignal) → slice_g
     event_at es h.at.time h.at.cell.x h.at.cell.y ≡ Some h.signal
 unfolding event_at
 event_some [] i h e f = grind (arith, common_steps)
-event_some (g ∷ hs) zero h e f = grind (arith, common_steps, same_some, cond-true, then_own_moment)
+event_some (g ∷ hs) zero h e f = grind (arith, common_steps, same_some, cond-true)
 event_some (g ∷ hs) (suc i) h e f = elim (cases_Bool (is_moment_at g.at h.at.time h.at.cell.x h.at.cell.y)) [
   | inl t ↦ absurd (f 0 g (omega arith) refl (then_moment g.at h.at t))
   | inr n ↦ cond-false _ _ _ n ∙ event_some hs i h e (λ j h' lt. f (suc j) h' (omega arith))
 ]
 
 pub all_times_found : (hs : List AllTimesSignal) (i : ℕ) (h : AllTimesSignal) (c : Cell) → h.cell ≡ c →
-    slice_get hs i ≡ Some h →
-    ((j : ℕ) (h' : AllTimesSignal) → j < i → slice_get hs j ≡ Some h' → h'.cell ≢ h.cell) →
+    slice_get hs i ≡ Some h → ((j : ℕ) (h' : AllTimesSignal) → j < i → slice_get hs j ≡ Some h' → h'.cell ≢ h.cell) →
     all_times_at hs c.x c.y ≡ Some h.signal
 all_times_found hs i h c same e f = grind (arith, common_steps, all_times_some)
 

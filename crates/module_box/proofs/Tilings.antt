@@ -6,8 +6,7 @@ use Rattle.module_box.proofs.Imports.{false≢true, in_box, in_span, inl, inr, l
 use Rattle.module_box.proofs.Imports.{slice_get_within, slice_index, span_from, span_parts, subst, sym, true}
 use Rattle.module_box.proofs.Imports.{ℕ, ℤ, ◌%◌, ◌*◌, ◌++◌, ◌+◌, ◌/◌, ◌<◌, ◌∙◌, ◌∷◌, ◌≡◌, ◌≤◌, ◌⊎◌}
 use Rattle.lemmas.proofs.Common.{div-add-mod, get_or-replicate, get_or-take, length-replicate, length-take-le}
-use Rattle.lemmas.proofs.Common.{replicate}
-use Rattle.lemmas.proofs.Common.{take_all}
+use Rattle.lemmas.proofs.Common.{replicate, take_all}
 use Rattle.module_box.specs.Tiling.{BoxHoldsBlock, BoxHoldsCell, IsOwnerTableOf, block_corner_x, block_corner_y}
 use Rattle.module_box.specs.Tiling.{IsCellHeldTwice, IsFirstBadBlock}
 use Rattle.module_box.proofs.Rising.{at_end, kept, pushed}

@@ -82,8 +82,7 @@ front_wire [] w i v l at = absurd (omega arith)
 front_wire (u ∷ ws) w zero v l at = at
 front_wire (u ∷ ws) w (suc i) v l at = front_wire ws w i v (omega arith) at
 
-last_wire : (ws : List ℕ) (w i v : ℕ) → length ws ≤ i → slice_get (ws ++ w ∷ []) i ≡ Some v →
-    (i ≡ length ws) × (w ≡ v)
+last_wire : (ws : List ℕ) (w i v : ℕ) → length ws ≤ i → slice_get (ws ++ w ∷ []) i ≡ Some v → (i ≡ length ws) × (w ≡ v)
 last_wire [] w zero v l at = (refl, same_Some w v at)
 last_wire [] w (suc i) v l at = absurd cc
 last_wire (u ∷ ws) w zero v l at = absurd (omega arith)

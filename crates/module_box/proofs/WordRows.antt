@@ -1,13 +1,12 @@
 -- The words of a gate's wires: at each bit they are the gate's row
-use Rattle.module_box.proofs.Imports.{Bool, Cswap, Delay, Fredkin, Gate, GateKind, Interact, List, LocalGate, None}
-use Rattle.module_box.proofs.Imports.{AreGateValuesAtBit, Option, Some, Source, Switch, Uninteract, Unswitch, [], ap}
-use Rattle.module_box.proofs.Imports.{ap₂}
+use Rattle.module_box.proofs.Imports.{AreGateValuesAtBit, Bool, Cswap, Delay, Fredkin, Gate, GateKind, Interact, List}
+use Rattle.module_box.proofs.Imports.{LocalGate, None, Option, Some, Source, Switch, Uninteract, Unswitch, [], ap, ap₂}
 use Rattle.module_box.proofs.Imports.{arith, as_values, bit, bit-zero, cases_lt, common_steps, defines, drop, eq-eqb}
 use Rattle.module_box.proofs.Imports.{false, gate_of_local_gate, gate_out_words, get_or, get_or-append-add}
 use Rattle.module_box.proofs.Imports.{get_or_append_left, inl, inr, is_none, is_this_gate, lane, length, length-append}
 use Rattle.module_box.proofs.Imports.{length-map, map, ne_eqb, not, refl, row, slice_index, slice_index_or, subst, sym}
 use Rattle.module_box.proofs.Imports.{take, true, true≢false, uses, wires_after, word_of_input, ℕ, ◌&&◌, ◌++◌, ◌+◌, ◌<◌}
-use Rattle.module_box.proofs.Imports.{◌||◌, ◌∙◌, ◌∷◌, ◌≡◌, ◌≤◌}
+use Rattle.module_box.proofs.Imports.{◌∙◌, ◌∷◌, ◌≡◌, ◌≤◌}
 use Rattle.lemmas.proofs.Common.{add-one, bit_and, bit_xor, cond, drop-cons, drop_of_length-le, option_and_then}
 use Rattle.lemmas.proofs.Common.{option_map, map-append}
 use Rattle.bbm_rule.proofs.BitLemmas.{bit-and, bit-or, bit-xor, xor}
@@ -16,13 +15,6 @@ use Rattle.module_box.specs.LocalValues.{undefined_bits, row_unless_undefined, A
 use Rattle.std.proofs.Math.ListN as listn
 use Rattle.bbm_rule.proofs.MarkLemmas.{bit_ones}
 
--- which of two
-pick_first : (a x y : Bool) → xor y (a && xor x y) ≡ cond a x y
-pick_first a x y = grind (arith, common_steps)
-
-pick_second : (a x y : Bool) → xor x (a && xor x y) ≡ cond a y x
-pick_second a x y = grind (arith, common_steps)
-
 second_only : (x y : Bool) → xor y (x && y) ≡ (not x && y)
 second_only x y = grind (arith, common_steps)
 
@@ -30,10 +22,10 @@ first_only : (x y : Bool) → xor x (x && y) ≡ (x && not y)
 first_only x y = grind (arith, common_steps)
 
 first_bit : (a x y b : ℕ) → bit (bit_xor y (bit_and a (bit_xor x y))) b ≡ cond (bit a b) (bit x b) (bit y b)
-first_bit a x y b = grind (arith, common_steps, bit-xor, bit-and, pick_first)
+first_bit a x y b = grind (arith, common_steps, bit-xor, bit-and)
 
 second_bit : (a x y b : ℕ) → bit (bit_xor x (bit_and a (bit_xor x y))) b ≡ cond (bit a b) (bit y b) (bit x b)
-second_bit a x y b = grind (arith, common_steps, bit-xor, bit-and, pick_second)
+second_bit a x y b = grind (arith, common_steps, bit-xor, bit-and)
 
 second_only_bit : (x y b : ℕ) → bit (bit_xor y (bit_and x y)) b ≡ (not (bit x b) && bit y b)
 second_only_bit x y b = rw (bit-xor y (bit_and x y) b, bit-and x y b) (second_only (bit x b) (bit y b))
@@ -44,16 +36,6 @@ first_only_bit x y b = rw (bit-xor x (bit_and x y) b, bit-and x y b) (first_only
 -- a row that is always there
 forward : (o : Option (List Bool)) (r : List Bool) (b : ℕ) → o ≡ Some r → o ≡ row_unless_undefined (bit 0 b) r
 forward o r b e = e ∙ ap (λ (v : Bool). row_unless_undefined v r) (sym (bit-zero b))
-
-unswitch_bits : (c y z : Bool) → row Unswitch (c ∷ y ∷ z ∷ []) ≡ row_unless_undefined (cond c z y) (c ∷ (y || z) ∷ [])
-unfolding row
-unswitch_bits c y z = grind (arith, common_steps)
-
-uninteract_bits : (a b c d : Bool) →
-    row Uninteract (a ∷ b ∷ c ∷ d ∷ [])
-    ≡ row_unless_undefined (xor a d || ((a && (b || c)) || (b && c))) ((a || c) ∷ (a || b) ∷ [])
-unfolding row
-uninteract_bits a b c d = grind (arith, common_steps)
 
 words_row : (kind : GateKind) (a x y z b : ℕ) → b < 64 →
     row kind (take (uses kind) (bit a b ∷ bit x b ∷ bit y b ∷ bit z b ∷ []))
@@ -66,8 +48,8 @@ words_row Cswap a x y z b h = grind (arith, common_steps, forward, second_bit, f
 words_row Interact a x y z b h = forward _ _ b (rw (second_only_bit a x b, first_only_bit a x b, bit-and a x b) refl)
 words_row Switch a x y z b h = grind (arith, common_steps, forward, bit-and, second_only_bit)
 words_row (Delay n) a x y z b h = forward _ _ b refl
-words_row Unswitch a x y z b h = grind (arith, common_steps, unswitch_bits, second_bit, bit-or)
-words_row Uninteract a x y z b h = grind (arith, common_steps, uninteract_bits, bit-or, xor, bit-xor, bit-and)
+words_row Unswitch a x y z b h = grind (arith, common_steps, second_bit, bit-or)
+words_row Uninteract a x y z b h = grind (arith, common_steps, bit-or, xor, bit-xor, bit-and)
 
 -- reading a lane
 pub read_lane : (ws : List ℕ) (b w : ℕ) → as_values (lane b ws) w ≡ bit (slice_index_or ws w 0) b
@@ -75,9 +57,8 @@ read_lane ws b w = ap (λ (d : Bool). get_or (lane b ws) w d) (sym (bit-zero b))
 
 -- ---- one gate
 front_ins : (kind : GateKind) (f : ℕ → Bool) (ins : List ℕ) → length ins ≡ 4 →
-    map f (take (uses kind) ins)
-    ≡ take (uses kind) (f (get_or ins 0 0) ∷ f (get_or ins 1 0) ∷ f (get_or ins 2 0) ∷ f (get_or ins 3 0)
-    ∷ [])
+    map f (take (uses kind) ins) ≡ take (uses kind)
+    (f (get_or ins 0 0) ∷ f (get_or ins 1 0) ∷ f (get_or ins 2 0) ∷ f (get_or ins 3 0) ∷ [])
 front_ins kind f ins h1 = grind (arith, common_steps)
 
 -- the words of the wires that a gate uses
@@ -278,9 +259,8 @@ pub column_none : (given : List ℕ) (gs : List LocalGate) (words undefined : Li
 column_none given gs words undefined same none = grind (arith, common_steps, column_start)
 
 pub column_more : (given : List ℕ) (gs : List LocalGate) (k : ℕ) (d : LocalGate) (old new undefined undefined' : List ℕ)
-    (defined defined' none first : ℕ) → k < length gs →
-    AddsOutWords (gate_of_local_gate (get_or gs k d)) old new none → first ≡ bit_and defined none →
-    undefined' ≡ undefined ++ first ∷ [] → defined' ≡ bit_xor defined first →
+    (defined defined' none first : ℕ) → k < length gs → AddsOutWords (gate_of_local_gate (get_or gs k d)) old new none →
+    first ≡ bit_and defined none → undefined' ≡ undefined ++ first ∷ [] → defined' ≡ bit_xor defined first →
     AreInColumn given gs k old undefined defined → AreInColumn given gs (k + 1) new undefined' defined'
 unfolding wires_after
 column_more given gs k d old new undefined undefined' defined defined' none first within adds is_first more fewer

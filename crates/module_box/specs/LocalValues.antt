@@ -3,9 +3,8 @@ use Rattle.std.specs.Prelude.{◌≡◌, ◌==◌, ◌<◌, ◌↔◌, ℕ, ◌+
 use Rattle.std.specs.Prelude.{Option, Some, None, slice_index, slice_index_or, bit_and, bit_or, bit_xor}
 use Rattle.bbm_rule.specs.Bits.{bit}
 use Rattle.circuit.specs.declared.circuit_line.GateKind.{GateKind}
-use Rattle.circuit.specs.declared.circuit_line.GateKind.TheVariants.{Source, Fredkin, Cswap, Interact, Switch, Delay}
-use Rattle.circuit.specs.declared.circuit_line.GateKind.TheVariants.{Unswitch}
-use Rattle.circuit.specs.declared.circuit_line.GateKind.TheVariants.{Uninteract}
+use Rattle.circuit.specs.declared.circuit_line.GateKind.TheVariants.{Cswap, Delay, Fredkin, Interact, Source, Switch}
+use Rattle.circuit.specs.declared.circuit_line.GateKind.TheVariants.{Uninteract, Unswitch}
 use Rattle.circuit.specs.Gates.{row, defines}
 use Rattle.circuit.specs.Meaning.{Gate, Netlist, Valuation, Satisfies, IsFirstGateWithoutRow, wires}
 use Rattle.circuit.specs.Bridge.{AreWireValues, as_values}

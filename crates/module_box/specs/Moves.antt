@@ -7,7 +7,7 @@ use Rattle.module_box.specs.Schedules.{Signals, signal_at}
 use Rattle.bbm_rule.specs.declared.block.Box2.{Box2}
 use Rattle.module_box.specs.declared.schedules.TimedSignal.{TimedSignal}
 use Rattle.module_box.specs.declared.schedules.AllTimesSignal.{AllTimesSignal}
-use Rattle.lemmas.specs.Bounds.{max_shift}
+use Rattle.lemmas.specs.Bounds.{max_cell_shift}
 
 -- by dx columns and dy rows
 abbrev pub moved_cell : ℤ → ℤ → Cell → Cell
@@ -35,7 +35,7 @@ pub record IsMovedBox (dx dy : ℤ) (b b' : Box2) : Type 0 where
 
 -- A number that is added to another of these without going out of the range of 32 bits
 abbrev pub IsSmallShift : ℤ → Type 0
-IsSmallShift z = (negsuc max_shift ≤ℤ z) × (z ≤ℤ pos max_shift)
+IsSmallShift z = (negsuc max_cell_shift ≤ℤ z) × (z ≤ℤ pos max_cell_shift)
 
 -- a cell near the corner of the plane
 abbrev pub IsCellInShiftRange : Cell → Type 0

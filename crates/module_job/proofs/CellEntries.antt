@@ -25,8 +25,7 @@ begins_above place p [] r le n s e = inl (sym (same_head 0 n r s e))
 begins_above place p (m ∷ ns) r le n s e = elim (forms p m) [
   | inl none ↦ begins_above place (p + 1) ns r (omega (arith, le)) n s
       (sym (ap (λ (l : List ℕ). (l ++ sparse_entries_from (p + 1) ns) ++ 0 ∷ r) none.1) ∙ e)
-  | inr some ↦
-      grind (arith, common_steps, same_head)
+  | inr some ↦ grind (arith, common_steps, same_head)
 ]
 
 -- ---- entries tell their numbers

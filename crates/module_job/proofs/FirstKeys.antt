@@ -1,8 +1,7 @@
 -- The first keys that are the same, as a map has them
 use Rattle.module_job.proofs.Imports.{IsFirstEqualElement, List, None, Option, Some, arith, cases_Bool, cases_lt}
-use Rattle.module_job.proofs.Imports.{common_steps}
-use Rattle.module_job.proofs.Imports.{false≢true, if◌then◌else◌, lists, same_key, slice_get, unwrap_or, ℕ, ◌+◌, ◌<◌}
-use Rattle.module_job.proofs.Imports.{◌≡◌, ◌≢◌}
+use Rattle.module_job.proofs.Imports.{common_steps, false≢true, if◌then◌else◌, lists, same_key, slice_get, unwrap_or, ℕ}
+use Rattle.module_job.proofs.Imports.{◌+◌, ◌<◌, ◌≡◌, ◌≢◌}
 
 -- what is known of a key after the first n
 abbrev pub IsFirstOf : List (List ℕ) → ℕ → List ℕ → Option ℕ → Type 0

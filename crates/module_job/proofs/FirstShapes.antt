@@ -33,8 +33,7 @@ map_twice f g (x ∷ xs) = ap (λ l. g (f x) ∷ l) (map_twice f g xs)
 
 pub value_twice : {A B C : Type 0} (v : A → B) (g : B → C) (xs : List A) (k : ℕ) (d : A) (c : C) → k < length xs →
     d ≡ get_or xs k d → c ≡ g (v d) → slice_get (map g (map v xs)) k ≡ Some c
-value_twice v g xs k d c lt is e =
-    ap (λ l. slice_get l k) (map_twice v g xs) ∙ value_at (λ x. g (v x)) xs k d c lt is e
+value_twice v g xs k d c lt is e = ap (λ l. slice_get l k) (map_twice v g xs) ∙ value_at (λ x. g (v x)) xs k d c lt is e
 
 -- ---- one key is that at the same place
 read_is : {A : Type 0} (xs : List A) (i : ℕ) (d : A) → get_or xs i d ≡ unwrap_or (slice_get xs i) d

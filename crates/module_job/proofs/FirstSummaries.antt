@@ -26,8 +26,7 @@ head_like summary xs n x k o h there its is known = grind (arith, common_steps, 
 
 -- ---- the first one with the summary is the same
 pub first_equal_shape_number : {A : Type 0} (summary : A → List ℕ) (xs : List A) (n h : ℕ) →
-    IsFirstEqualElement (map summary xs) n h →
-    slice_get xs h ≡ slice_get xs n → IsFirstEqualElement xs n h
+    IsFirstEqualElement (map summary xs) n h → slice_get xs h ≡ slice_get xs n → IsFirstEqualElement xs n h
 first_equal_shape_number summary xs n h like same = record {
   same = same;
   first = λ i lt e. like.first i lt

@@ -19,8 +19,7 @@ pub use Rattle.module_job.specs.CellLists.{demand_from_number, signal_from_numbe
 pub use Rattle.module_job.specs.Equality.{same_demand, same_job, same_shape}
 pub use Rattle.module_job.specs.Groups.{IsFirstEqualElement, same_key}
 pub use Rattle.module_job.specs.Keys.{all_times_numbers, compact_number_bytes, demand_number, event_numbers}
-pub use Rattle.module_job.specs.Keys.{shape_digest}
-pub use Rattle.module_job.specs.Keys.{signal_number, sparse_entry, sparse_list_numbers, stop_numbers}
+pub use Rattle.module_job.specs.Keys.{shape_digest, signal_number, sparse_entry, sparse_list_numbers, stop_numbers}
 unfoldable pub use Rattle.module_job.specs.Keys.{sparse_entries_from}
 pub use Rattle.module_job.specs.Shapes.{ShapeView, job_of_shape, moved_stop, shape_of}
 unfoldable pub use Rattle.module_job.specs.Summaries.{shape_summary}

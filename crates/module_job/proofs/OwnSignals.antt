@@ -11,8 +11,7 @@ use Rattle.module_job.specs.Jobs.{JobView, NamesOnlyOwnWires}
 use Rattle.module_job.specs.Signals.{IsSignalWireBelow}
 
 all_times_below : (n : ℕ) (hs : List AllTimesSignal) (x y : ℤ) (d : Signal) →
-    All (λ h. IsSignalWireBelow n h.signal) hs →
-    IsSignalWireBelow n d →
+    All (λ h. IsSignalWireBelow n h.signal) hs → IsSignalWireBelow n d →
     IsSignalWireBelow n (unwrap_or (all_times_at hs x y) d)
 unfolding all_times_at
 all_times_below n [] x y d all b = b

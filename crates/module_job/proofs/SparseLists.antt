@@ -22,8 +22,7 @@ are_from place p [] le n r e = absurd cc
 are_from place p (m ∷ ns) le n r e = elim (forms p m) [
   | inl none ↦ are_from place (p + 1) ns (omega (arith, le)) n r
       (sym (ap (λ (l : List ℕ). l ++ sparse_entries_from (p + 1) ns) none.1) ∙ e)
-  | inr some ↦
-      grind (arith, common_steps)
+  | inr some ↦ grind (arith, common_steps)
 ]
 
 -- a place before that of the first entry has the number 0
@@ -154,8 +153,7 @@ zero_elsewhere : (ns : List ℕ) (n u : ℕ) → u ≢ length ns → get_or ns u
 zero_elsewhere ns n u other none = grind (arith, common_steps, cases_lt, get_or_append_left, get_or_past, length-append)
 
 pub zeros_unmarked : (count n u : ℕ) (es : List ℕ) → AreEntries count es →
-    get_or (numbers_from_entries count 0 es) u 0 ≡ 0 →
-    get_or (numbers_from_entries (count + n) 0 es) u 0 ≡ 0
+    get_or (numbers_from_entries count 0 es) u 0 ≡ 0 → get_or (numbers_from_entries (count + n) 0 es) u 0 ≡ 0
 zeros_unmarked count n u es are none = grind (arith, common_steps, zeros_grow, zero_stays)
 
 pub number_unmarked : (count n u : ℕ) (es : List ℕ) → 0 < n → AreEntries count es → u ≢ count →
@@ -301,8 +299,7 @@ finds place ns lt =
             λ e. first_other place rest
                 (are_from (place + 1) (place + 1) (drop (place + 1) ns) (omega arith)) (sym value ∙ e),
           )
-      | inr some ↦
-          grind (arith, common_steps, length-append, get_or-append-add)
+      | inr some ↦ grind (arith, common_steps, length-append, get_or-append-add)
     ]
 
 module _ (place at : ℕ) (ns es : List ℕ) (lt : place < length ns) (are : es ≡ sparse_entries_from 0 ns)

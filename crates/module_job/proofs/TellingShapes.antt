@@ -1,10 +1,9 @@
 -- The numbers of a shape tell it, and the bytes of numbers tell them
 use Rattle.module_job.proofs.Imports.{All-head, All-tail, Demand, IsPrefixFree, List, ShapeView, Signal, []}
-use Rattle.module_job.proofs.Imports.{all_times_numbers, append_assoc, ap₂, arith, cases_Bool, common_steps, cond-false}
-use Rattle.module_job.proofs.Imports.{cond-true, demand_number, event_numbers, flat_map, inl, inr, nat_tests}
-use Rattle.module_job.proofs.Imports.{compact_number_bytes, refl, same_head, same_tail, signal_number}
-use Rattle.module_job.proofs.Imports.{sparse_list_numbers}
-use Rattle.module_job.proofs.Imports.{stop_numbers, sym, ℕ, ℤ, ◌++◌, ◌<◌, ◌∙◌, ◌∷◌, ◌≡◌, ◌⊎◌}
+use Rattle.module_job.proofs.Imports.{all_times_numbers, append_assoc, ap₂, arith, cases_Bool, common_steps}
+use Rattle.module_job.proofs.Imports.{compact_number_bytes, cond-false, cond-true, demand_number, event_numbers}
+use Rattle.module_job.proofs.Imports.{flat_map, inl, inr, nat_tests, refl, same_head, same_tail, signal_number}
+use Rattle.module_job.proofs.Imports.{sparse_list_numbers, stop_numbers, sym, ℕ, ℤ, ◌++◌, ◌<◌, ◌∙◌, ◌∷◌, ◌≡◌, ◌⊎◌}
 use Rattle.lemmas.proofs.Common.{◌^◌, from_le_bytes-to_le_bytes_2, from_le_bytes-to_le_bytes_8, to_le_bytes, w16}
 use Rattle.std.specs.Int.{w64}
 use Rattle.module_box.specs.Numbers.{length_prefixed, netlist_numbers}

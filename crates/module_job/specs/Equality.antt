@@ -4,9 +4,8 @@ use Rattle.std.specs.Ordering.{on, eq_of_both}
 use Rattle.std.specs.Cmp.{IsEquivalence, and_equiv, on_equiv, nat_eq_equiv}
 use Rattle.std.specs.Cmp.Lexicographic.{pointwise, lists_equiv, options_equiv}
 use Rattle.std.specs.Option.{option_eq}
-use Rattle.module_box.specs.Equality.{same_signal, signal_equivalence, same_cell, cell_equivalence, same_signals}
-use Rattle.module_box.specs.Equality.{schedule_equivalence, same_locals, locals_equivalence, same_netlist}
-use Rattle.module_box.specs.Equality.{netlist_equivalence}
+use Rattle.module_box.specs.Equality.{cell_equivalence, locals_equivalence, netlist_equivalence, same_cell, same_locals}
+use Rattle.module_box.specs.Equality.{same_netlist, same_signal, same_signals, schedule_equivalence, signal_equivalence}
 use Rattle.bbm_rule.specs.declared.block.Box2.{Box2}
 use Rattle.module_job.specs.Jobs.{JobView}
 use Rattle.module_job.specs.Shapes.{ShapeView}

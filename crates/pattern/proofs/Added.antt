@@ -1,12 +1,10 @@
 -- A layout with one more line.
 use Rattle.pattern.proofs.Imports.{AreGoodAfter, Ball, Bool, Box2, Cell, In, LayoutHeader, LayoutLine, List, Mirror}
-use Rattle.pattern.proofs.Imports.{None, Out, Pattern, Port, RefusalCode, Waste, [], ap, append-nil, append_assoc}
+use Rattle.pattern.proofs.Imports.{None, Out, Pattern, Port, RefusalCode, Waste, [], append-nil, append_assoc}
 use Rattle.pattern.proofs.Imports.{arith, cell_fault, cells_taken_at_end, cells_taken_at_start, code_if, common_steps}
-use Rattle.pattern.proofs.Imports.{false, has_later_kind_before, largest_limit_code, list_any-append, nat_tests, not}
-use Rattle.pattern.proofs.Imports.{or_last}
-use Rattle.pattern.proofs.Imports.{order_fault, parts_of, subst, sym, takes_cells_at_end, takes_cells_at_start, ℕ, ℤ}
-use Rattle.pattern.proofs.Imports.{◌&&◌, ◌++◌}
-use Rattle.pattern.proofs.Imports.{◌==◌, ◌||◌, ◌∙◌, ◌∷◌, ◌≡◌}
+use Rattle.pattern.proofs.Imports.{false, has_later_kind_before, largest_limit_code, list_any-append}
+use Rattle.pattern.proofs.Imports.{or_last, order_fault, parts_of, subst, sym, takes_cells_at_end, takes_cells_at_start}
+use Rattle.pattern.proofs.Imports.{ℤ, ◌&&◌, ◌++◌, ◌||◌, ◌∙◌, ◌∷◌, ◌≡◌}
 use Rattle.lemmas.proofs.Common.{map-append}
 use Rattle.pattern.specs.Lines.{holds}
 use Rattle.pattern.proofs.Orders.{is_nonempty, late_mirror, late_ball, late_in, late_out}
@@ -15,11 +13,8 @@ use Rattle.pattern.proofs.Orders.{is_nonempty, late_mirror, late_ball, late_in, 
 pub no_code : (b : Bool) (code : RefusalCode) → code_if b code ≡ None → b ≡ false
 no_code b code h1 = grind (arith, common_steps)
 
-is_zero : (n : ℕ) → not (n == 0) ≡ false → n ≡ 0
-is_zero n e = grind (arith, nat_tests)
-
 none_of : {X : Type 0} (xs : List X) → is_nonempty xs ≡ false → xs ≡ []
-none_of xs h1 = grind (arith, common_steps, is_zero)
+none_of xs h1 = grind (arith, common_steps)
 
 -- none of some lists has an element
 module _ {A B C D : Type 0} (ks : List A) (ls : List B) (ms : List C) (ns : List D) where
@@ -48,28 +43,25 @@ module _ (p v : Pattern) (same : v ≡ p) (part : LayoutLine) (follows : order_f
   unfolding order_fault
   not_late = grind (arith, common_steps, no_code)
 
-  on_old : (q : Pattern) → parts_of q ≡ parts_of p ++ part ∷ [] → parts_of q ≡ parts_of v ++ part ∷ []
-  on_old q e = e ∙ ap (λ (u : Pattern). parts_of u ++ part ∷ []) (sym same)
-
   pub with_mirror : (r : Box2) (ms : List Box2) → part ≡ Mirror r → ms ≡ p.mirrors ++ r ∷ [] →
       parts_of (record p { mirrors = ms }) ≡ parts_of v ++ part ∷ []
-  with_mirror r ms is more = grind (arith, common_steps, are_empty, late_mirror, not_late, on_old, map-append)
+  with_mirror r ms is more = grind (arith, common_steps, are_empty, late_mirror, not_late, map-append)
 
   pub with_ball : (c : Cell) (bs : List Cell) → part ≡ Ball c → bs ≡ p.balls ++ c ∷ [] →
       parts_of (record p { balls = bs }) ≡ parts_of v ++ part ∷ []
-  with_ball c bs is more = grind (arith, common_steps, are_empty, is_nonempty, late_ball, not_late, on_old, map-append)
+  with_ball c bs is more = grind (arith, common_steps, are_empty, is_nonempty, late_ball, not_late, map-append)
 
   pub with_in : (q : Port) (is : List Port) → part ≡ In q → is ≡ p.ins ++ q ∷ [] →
       parts_of (record p { ins = is }) ≡ parts_of v ++ part ∷ []
-  with_in q ins is more = grind (arith, common_steps, are_empty, is_nonempty, late_in, not_late, on_old, map-append)
+  with_in q ins is more = grind (arith, common_steps, are_empty, is_nonempty, late_in, not_late, map-append)
 
   pub with_out : (q : Port) (os : List Port) → part ≡ Out q → os ≡ p.outs ++ q ∷ [] →
       parts_of (record p { outs = os }) ≡ parts_of v ++ part ∷ []
-  with_out q os is more = grind (arith, common_steps, none_of, late_out, not_late, on_old, map-append)
+  with_out q os is more = grind (arith, common_steps, none_of, late_out, not_late, map-append)
 
   pub with_waste : (c : Cell) (ws : List Cell) → part ≡ Waste c → ws ≡ p.wastes ++ c ∷ [] →
       parts_of (record p { wastes = ws }) ≡ parts_of v ++ part ∷ []
-  with_waste c ws is more = grind (arith, common_steps, on_old, map-append)
+  with_waste c ws is more = grind (arith, common_steps, map-append)
 
 -- ---- one more good line
 

@@ -21,10 +21,8 @@ pub use Rattle.pattern.specs.LayoutView.{pattern_of}
 pub use Rattle.pattern.specs.Lines.{AreGoodAfter, ArePortsNamed, is_layout_side}
 unfoldable pub use Rattle.pattern.specs.Lines.{cell_fault, cells_of, cells_taken_at_end, cells_taken_at_start}
 unfoldable pub use Rattle.pattern.specs.Lines.{has_later_kind_before, has_taken_cell, is_inside, largest_limit_code}
-unfoldable pub use Rattle.pattern.specs.Lines.{line_fault}
-unfoldable pub use Rattle.pattern.specs.Lines.{missing_port_fault, name_fault, order_fault, size_fault}
-unfoldable pub use Rattle.pattern.specs.Lines.{takes_cells_at_end}
-unfoldable pub use Rattle.pattern.specs.Lines.{takes_cells_at_start}
+unfoldable pub use Rattle.pattern.specs.Lines.{line_fault, missing_port_fault, name_fault, order_fault, size_fault}
+unfoldable pub use Rattle.pattern.specs.Lines.{takes_cells_at_end, takes_cells_at_start}
 pub use Rattle.pattern.specs.Run.{EndsWithCells, LeavesLayoutAt}
 unfoldable pub use Rattle.pattern.specs.Run.{live_cells, start_cells_by_kind}
 pub use Rattle.pattern.specs.Text.{cell_words, form_text, port_words, box_words, size_words}

@@ -2,7 +2,6 @@
 use Rattle.pattern.proofs.Imports.{AreGoodAfter, Ball, Bool, Box2, Cell, In, LayoutHeader, LayoutLine, List, Mirror}
 use Rattle.pattern.proofs.Imports.{None, Pattern, Port, TakenCell, [], arith, code_if, common_steps, get_or, in_cells}
 use Rattle.pattern.proofs.Imports.{in_layout, in_ports_on, in_rectangles, in_span, is_cell_at, is_inside}
-use Rattle.pattern.proofs.Imports.{is_layout_side}
 use Rattle.pattern.proofs.Imports.{length, list_all, list_any, nat_tests, negsuc, not, parts_of, pos, refl, size_fault}
 use Rattle.pattern.proofs.Imports.{start, suc, true, zero, ℕ, ℤ, ◌%◌, ◌&&◌, ◌++◌, ◌+◌, ◌<◌, ◌||◌, ◌∷◌, ◌≡◌, ◌≤◌}
 use Rattle.lemmas.proofs.Common.{list_all-append, list_all-map, left_is_true, right_is_true}
@@ -18,12 +17,9 @@ pub record IsSideLength (n : ℕ) : Type 0 where
   pub most : n ≤ max_side
   pub even : n % 2 ≡ 0
 
-side_length : (n : ℕ) → is_layout_side n ≡ true → IsSideLength n
-side_length n e = grind (arith, common_steps, nat_tests)
-
 pub size_sides : (s : LayoutHeader) → size_fault s ≡ None → IsSideLength s.w × IsSideLength s.h
 unfolding size_fault
-size_sides s e = grind (arith, common_steps, no_code, left_is_true, side_length, right_is_true)
+size_sides s e = grind (arith, common_steps, no_code, left_is_true, right_is_true)
 
 -- ---- the parts
 
@@ -46,8 +42,7 @@ begins_inside p h =
     grind (arith, common_steps, parts_inside, list_all-append, right_is_true, list_all-map, left_is_true)
 
 pub mirrors_fit : (s : LayoutHeader) (rs : List Box2) → list_all (λ r. is_inside s (Mirror r)) rs ≡ true →
-    s.w ≤ max_side →
-    s.h ≤ max_side → (k : ℕ) (d : Box2) → k < length rs →
+    s.w ≤ max_side → s.h ≤ max_side → (k : ℕ) (d : Box2) → k < length rs →
     ((get_or rs k d).x + (get_or rs k d).w ≤ max_side) × ((get_or rs k d).y + (get_or rs k d).h ≤ max_side)
 mirrors_fit s [] e w h k d lt = absurd (omega arith)
 mirrors_fit s (r ∷ rs) e w h zero d lt = grind (arith, common_steps, mirror_fits, left_is_true)

@@ -6,10 +6,8 @@ use Rattle.section_text.specs.Codes.{or_else}
 use Rattle.section_text.specs.declared.code.RefusalCode.TheVariants.{PastLimit}
 use Rattle.section_text.specs.declared.limits.Limits.TheVariants.{First, Second}
 use Rattle.pattern.specs.Laws.{FirstLineLimitsAreUnchanged, FirstSizeLimitsAreUnchanged, SecondLimitsAreWider}
-use Rattle.pattern.specs.Laws.{first_limits_mirror_fault}
-use Rattle.pattern.specs.Laws.{is_mirror_side_in_first_limits, is_side_in_first_limits}
-use Rattle.pattern.specs.Lines.{is_layout_side, is_mirror_side, layout_line_fault, size_fault, text_limit_fault}
-use Rattle.pattern.specs.Lines.{text_size_fault}
+use Rattle.pattern.specs.Laws.{first_limits_mirror_fault, is_side_in_first_limits}
+use Rattle.pattern.specs.Lines.{is_layout_side, layout_line_fault, size_fault, text_limit_fault, text_size_fault}
 use Rattle.pattern.specs.declared.layout_line.LayoutHeader.{LayoutHeader}
 use Rattle.pattern.specs.declared.layout_line.LayoutLine.TheVariants.{Ball, In, Mirror, Out, Waste}
 use Rattle.section_text.proofs.Codes.{no_code_first, no_code_second, none_both}
@@ -24,9 +22,6 @@ one_code a b = grind (arith, common_steps)
 
 -- ---- one side
 
-mirror_side : (n : ℕ) → (nat_lt 512 n || not (is_mirror_side n)) ≡ not (is_mirror_side_in_first_limits n)
-mirror_side n = grind (arith, common_steps)
-
 layout_side : (n : ℕ) → (nat_lt 512 n || not (is_layout_side n)) ≡ not (is_side_in_first_limits n)
 layout_side n = grind (arith, common_steps)
 
@@ -34,10 +29,6 @@ step_count : (n : ℕ) → (nat_lt 65536 n || not (nat_le n 1048576)) ≡ not (n
 step_count n = grind (arith, common_steps)
 
 -- ---- all of them
-
-two_sides : (p q a b c d : Bool) → (p || not a) ≡ not c → (q || not b) ≡ not d →
-    ((p || q) || not (a && b)) ≡ not (c && d)
-two_sides p q a b c d first second = grind (arith, common_steps)
 
 three_sizes : (p q r a b e c d f : Bool) → (p || not a) ≡ not c → (q || not b) ≡ not d → (r || not e) ≡ not f →
     ((p || (q || r)) || not (a && b && e)) ≡ not (c && d && f)
@@ -55,7 +46,7 @@ mirror_kept : (part : LayoutLine) (rest : Option RefusalCode) →
     or_else (text_limit_fault First part) (or_else (largest_limit_code part) rest)
     ≡ or_else (first_limits_mirror_fault part) rest
 unfolding largest_limit_code text_limit_fault
-mirror_kept part rest = grind (arith, common_steps, one_test, two_sides, mirror_side)
+mirror_kept part rest = grind (arith, common_steps, one_test)
 
 -- the test of the order is made twice
 in_order : (order text limit name cell : Option RefusalCode) →

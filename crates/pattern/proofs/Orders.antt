@@ -12,8 +12,7 @@ later : ℕ → LayoutLine → Bool
 later k b = nat_lt k (rank_of b)
 
 any_map : {X : Type 0} (k : ℕ) (f : X → LayoutLine) (v : Bool) → ((x : X) → nat_lt k (rank_of (f x)) ≡ v) →
-    (xs : List X) →
-    list_any (λ b. nat_lt k (rank_of b)) (map f xs) ≡ (v && is_nonempty xs)
+    (xs : List X) → list_any (λ b. nat_lt k (rank_of b)) (map f xs) ≡ (v && is_nonempty xs)
 any_map k f v same [] = grind arith
 any_map k f v same (x ∷ xs) = rw (same x, any_map k f v same xs) (grind arith)
 

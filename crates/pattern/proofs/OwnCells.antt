@@ -3,10 +3,8 @@ use Rattle.pattern.proofs.Imports.{AreGoodAfter, Ball, Bool, Cell, HaveDistinctC
 use Rattle.pattern.proofs.Imports.{List, Mirror, None, Out, Pattern, Port, Some, State, TakenCell, Waste, [], ap}
 use Rattle.pattern.proofs.Imports.{append-nil, arith, cell_fault, cells_of, cells_taken_at_end, cells_taken_at_start}
 use Rattle.pattern.proofs.Imports.{code_if, common_steps, false, has_taken_cell, is_cell_at, is_inside, map, not}
-use Rattle.pattern.proofs.Imports.{parts_of, refl}
-use Rattle.pattern.proofs.Imports.{same_Some, slice_get, subst, suc, sym, takes_cells_at_end, takes_cells_at_start}
-use Rattle.pattern.proofs.Imports.{true, zero, ℕ}
-use Rattle.pattern.proofs.Imports.{ℤ, ◌++◌, ◌||◌, ◌∙◌, ◌∷◌, ◌≡◌}
+use Rattle.pattern.proofs.Imports.{parts_of, refl, same_Some, slice_get, subst, suc, sym, takes_cells_at_end}
+use Rattle.pattern.proofs.Imports.{takes_cells_at_start, true, zero, ℕ, ℤ, ◌++◌, ◌||◌, ◌∙◌, ◌∷◌, ◌≡◌}
 use Rattle.lemmas.proofs.Common.{true≢false, left_is_false}
 use Rattle.pattern.proofs.Added.{no_code, begun_push, ended_push}
 use Rattle.bbm_rule.proofs.SameCells.{cell_itself}

@@ -1,11 +1,8 @@
 -- The tables of a reader of layouts, for the lines so far.
-use Rattle.pattern.proofs.Imports.{Bool, LayoutLine, List, None, Option, PortNameLists}
-use Rattle.pattern.proofs.Imports.{SomethingMissing, [], ap, arith, code_if, common_steps, has, largest_limit_code}
-use Rattle.pattern.proofs.Imports.{line_fault}
-use Rattle.pattern.proofs.Imports.{list_all, list_any, missing_port_fault, name_fault, not, order_fault}
-use Rattle.pattern.proofs.Imports.{port_name_lists}
-use Rattle.pattern.proofs.Imports.{refl}
-use Rattle.pattern.proofs.Imports.{sym, ℕ, ◌&&◌, ◌∙◌, ◌∷◌, ◌≡◌}
+use Rattle.pattern.proofs.Imports.{Bool, LayoutLine, List, None, Option, PortNameLists, SomethingMissing, [], ap, arith}
+use Rattle.pattern.proofs.Imports.{code_if, common_steps, has, largest_limit_code, line_fault, list_all, list_any}
+use Rattle.pattern.proofs.Imports.{missing_port_fault, name_fault, not, order_fault, port_name_lists, refl, sym, ℕ}
+use Rattle.pattern.proofs.Imports.{◌&&◌, ◌∙◌, ◌∷◌, ◌≡◌}
 use Rattle.lemmas.proofs.Common.{Global, Vec}
 use Rattle.section_text.specs.Codes.{or_else}
 use Rattle.section_text.specs.declared.ports.PortNames.{PortNames}

@@ -24,8 +24,7 @@ unfolding cell_of_words_from
 cell_spelled ws i c e = grind (arith, common_steps, option_and_then_some, same_Some, number_at_spelled)
 
 lone_cell_spelled : (ws : List (List ℕ)) (w : List ℕ) (c : Cell) → is_word_at ws 0 w ≡ true →
-    cell_after_keyword ws ≡ Some c →
-    ws ≡ w ∷ cell_words c
+    cell_after_keyword ws ≡ Some c → ws ≡ w ∷ cell_words c
 unfolding cell_after_keyword
 lone_cell_spelled ws w c at e =
     let found = passed (eqb (length ws) 3) (cell_of_words_from ws 1) c e in

@@ -1,13 +1,11 @@
 -- The cells of a line, and the cells that are taken.
 use Rattle.pattern.proofs.Imports.{All, AllByRecursion, Bool, Box2, Cell, LayoutHeader, LayoutLine, List, Mirror, None}
 use Rattle.pattern.proofs.Imports.{Some, TakenCell, [], arith, cell_fault, cells_of, cells_taken_at_end}
-use Rattle.pattern.proofs.Imports.{cells_taken_at_start, common_steps, false, flat_map, in_cells, in_layout, in_span}
-use Rattle.pattern.proofs.Imports.{has_taken_cell, inside_is_span, is_inside, is_layout_side, list_any, nat_tests, not}
-use Rattle.pattern.proofs.Imports.{pos}
-use Rattle.pattern.proofs.Imports.{range_with_len, rectangle_cells, refl, row_cells, size_fault, subst, suc, sym}
-use Rattle.pattern.proofs.Imports.{takes_cells_at_end, takes_cells_at_start, true, zero, ℕ, ℤ, ◌%◌, ◌&&◌, ◌++◌, ◌+◌}
-use Rattle.pattern.proofs.Imports.{◌<◌, ◌||◌, ◌∙◌}
-use Rattle.pattern.proofs.Imports.{◌∷◌, ◌≡◌, ◌≤◌}
+use Rattle.pattern.proofs.Imports.{cells_taken_at_start, common_steps, false, flat_map, has_taken_cell, in_cells}
+use Rattle.pattern.proofs.Imports.{in_layout, in_span, inside_is_span, is_inside, is_layout_side, list_any, nat_tests}
+use Rattle.pattern.proofs.Imports.{pos, range_with_len, rectangle_cells, refl, row_cells, size_fault, subst, suc}
+use Rattle.pattern.proofs.Imports.{sym, takes_cells_at_end, takes_cells_at_start, true, zero, ℕ, ℤ, ◌%◌, ◌&&◌, ◌++◌}
+use Rattle.pattern.proofs.Imports.{◌+◌, ◌<◌, ◌||◌, ◌∙◌, ◌∷◌, ◌≡◌, ◌≤◌}
 use Rattle.lemmas.proofs.Common.{if◌then◌else◌, All-from_recursion, and_parts, at_most_by_test}
 use Rattle.pattern.specs.DraftBoards.{LiesOnBoard}
 use Rattle.pattern.proofs.Added.{no_code, begun_push, ended_push}
@@ -21,15 +19,12 @@ pub record IsSized (s : LayoutHeader) : Type 0 where
   pub height : (2 ≤ s.h) × (s.h ≤ max_side) × (s.h % 2 ≡ 0)
   pub steps : s.steps ≤ max_steps
 
-all_three : (a b c : Bool) → not (a && b && c) ≡ false → (a ≡ true) × (b ≡ true) × (c ≡ true)
-all_three a b c h1 = grind (arith, common_steps)
-
 side : (n : ℕ) → is_layout_side n ≡ true → (2 ≤ n) × (n ≤ max_side) × (n % 2 ≡ 0)
 side n e = grind (arith, nat_tests)
 
 pub is_sized : (s : LayoutHeader) → size_fault s ≡ None → IsSized s
 unfolding size_fault
-is_sized s e = grind (arith, common_steps, all_three, no_code, side, nat_tests)
+is_sized s e = grind (arith, common_steps, no_code, side, nat_tests)
 
 -- ---- cells that lie inside
 
@@ -46,8 +41,7 @@ row_inside s x (suc n) y wide high =
     grind (arith, common_steps, row_inside s (x + 1) n y (omega arith) high, in_span_of)
 
 append_inside : (s : LayoutHeader) (xs ys : List Cell) → AllByRecursion (IsInside s) xs →
-    AllByRecursion (IsInside s) ys →
-    AllByRecursion (IsInside s) (xs ++ ys)
+    AllByRecursion (IsInside s) ys → AllByRecursion (IsInside s) (xs ++ ys)
 append_inside s [] ys front back = back
 append_inside s (x ∷ xs) ys front back = (front.0, append_inside s xs ys front.1 back)
 
@@ -59,8 +53,7 @@ rows_inside s x w y (suc n) wide high =
     (row_inside s x w y wide (omega arith)) (rows_inside s x w (y + 1) n wide (omega arith))
 
 -- where the corner of a mirror that lies inside is
-pub mirror_fits : (s : LayoutHeader) (r : Box2) → is_inside s (Mirror r) ≡ true →
-    (r.x + r.w ≤ s.w) × (r.y + r.h ≤ s.h)
+pub mirror_fits : (s : LayoutHeader) (r : Box2) → is_inside s (Mirror r) ≡ true → (r.x + r.w ≤ s.w) × (r.y + r.h ≤ s.h)
 unfolding is_inside
 mirror_fits s r e = grind (arith, common_steps, and_parts, at_most_by_test)
 
@@ -128,11 +121,9 @@ any_same p q same (c ∷ cells) = rw (same c, any_same p q same cells) refl
 
 pub taken_by : (one other : Board) (parts : List LayoutLine) (part : LayoutLine) (cells : List Cell) →
     ((x y : ℤ) → live one x y ≡ cells_taken_at_start parts x y) →
-    ((x y : ℤ) → live other x y ≡ cells_taken_at_end parts x y) →
-    cells ≡ cells_of part
-    → (if takes_cells_at_start part then list_any (λ c. live one c.x c.y) cells else list_any
-    (λ c. live other c.x c.y) cells)
-    ≡ has_taken_cell parts part
+    ((x y : ℤ) → live other x y ≡ cells_taken_at_end parts x y) → cells ≡ cells_of part →
+    (if takes_cells_at_start part then list_any (λ c. live one c.x c.y) cells else list_any
+    (λ c. live other c.x c.y) cells) ≡ has_taken_cell parts part
 unfolding has_taken_cell
 taken_by one other parts part cells same_begun same_ended are =
     rw (

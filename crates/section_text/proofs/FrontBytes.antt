@@ -1,5 +1,5 @@
 -- The first bytes of a text, one after the other.
-use Rattle.section_text.proofs.Imports.{Bool, List, Option, Some, [], ap, arith, bytes_eq, common_steps, false, refl}
+use Rattle.section_text.proofs.Imports.{Bool, List, Option, Some, [], ap, arith, bytes_eq, common_steps, false}
 use Rattle.section_text.proofs.Imports.{slice_get, subst, suc, sym, take, true, zero, ℕ, ◌+◌, ◌<◌, ◌∙◌, ◌∷◌, ◌≡◌}
 use Rattle.lemmas.proofs.Common.{same_bytes, ◌≢◌}
 use Rattle.section_text.specs.Limits.{limits_line_bytes}
@@ -23,19 +23,13 @@ same_more xs ys k b e g h =
     let next : suc k ≡ k + 1 = omega arith in
     subst (λ n. take n xs ≡ take n ys) next (same_first xs ys k b e g h)
 
-taken_at : (n k : ℕ) (xs : List ℕ) → k < n → slice_get (take n xs) k ≡ slice_get xs k
-taken_at zero k xs lt = absurd (omega (arith, lt))
-taken_at (suc n) k [] lt = refl
-taken_at (suc n) zero (x ∷ xs) lt = refl
-taken_at (suc n) (suc k) (x ∷ xs) lt = taken_at n k xs (omega (arith, lt))
-
 differs : (a b : List ℕ) (t : Bool) → bytes_eq a b ≡ t → (a ≡ b → ⊥) → false ≡ t
 differs a b t h1 h2 = grind (arith, common_steps, same_bytes)
 
 -- another byte, or none
 pub other_byte : (xs : List ℕ) (k : ℕ) (o : Option ℕ) → k < 9 → slice_get xs k ≡ o → o ≢ slice_get limits_line_bytes k →
     false ≡ bytes_eq (take 9 xs) limits_line_bytes
-other_byte xs k o lt at other = grind (arith, common_steps, differs, taken_at, slice_get)
+other_byte xs k o lt at other = grind (arith, common_steps, differs, slice_get)
 
 pub all_bytes : (xs : List ℕ) → take 9 xs ≡ take 9 limits_line_bytes → true ≡ bytes_eq (take 9 xs) limits_line_bytes
 all_bytes xs same = sym (ap (λ l. bytes_eq l limits_line_bytes) same)

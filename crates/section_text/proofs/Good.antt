@@ -23,8 +23,7 @@ module _ {H I : Type 0} (g : Grammar H I) where
     pub end : g.end_fault h rows ≡ None
 
   unless_ok : (n : ℕ) (o : Option RefusalCode) (r : Result (H × List I) Refusal) (y : H × List I) →
-      refused_if_code n o r ≡ Ok y →
-      (o ≡ None) × (r ≡ Ok y)
+      refused_if_code n o r ≡ Ok y → (o ≡ None) × (r ≡ Ok y)
   unless_ok n o r y h1 = grind (arith, common_steps)
 
   ok_is : (x y : H × List I) → ◌≡◌ {A = Result (H × List I) Refusal} (Ok x) (Ok y) → x ≡ y

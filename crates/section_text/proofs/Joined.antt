@@ -29,8 +29,7 @@ module _ {H I A B : Type 0} (g : Grammar H I) (view : A → H × List I) (old ne
 
 -- a fault of what comes later
 pub fails_along : {B : Type 0} (fault : ReadFault) (early late : Result B Refusal) → early ≡ late →
-    FailsAsReading fault late →
-    FailsAsReading fault early
+    FailsAsReading fault late → FailsAsReading fault early
 fails_along fault early late e fails = subst (FailsAsReading fault) (sym e) fails
 
 -- ---- the end of the text

@@ -22,12 +22,6 @@ reads n k (b ∷ line) = if is_digit b then (if nat_lt k 9 then reads (10 * n + 
 below : (k : ℕ) → k < 9 → nat_lt k 9 ≡ true
 below k few = grind (arith, nat_tests)
 
-not_below : (k : ℕ) → 9 ≤ k → nat_lt k 9 ≡ false
-not_below k full = grind (arith, nat_tests)
-
-other_than : (b : ℕ) → (b ≡ 32 → ⊥) → is_space b ≡ false
-other_than b other = grind (arith, nat_tests)
-
 pub reads_more : (n k : ℕ) (line : List ℕ) (i : ℕ) → i < length line → is_digit (get_or line i 0) ≡ true → k < 9 →
     reads n k (drop i line) ≡ reads (10 * n + (get_or line i 0 - 48)) (k + 1) (drop (i + 1) line)
 unfolding reads
@@ -41,14 +35,14 @@ reads_some n k line i lt space = at_drop_more (reads n k) line i 0 lt ∙ rw spa
 pub reads_none : (n k : ℕ) (line : List ℕ) (i : ℕ) → i < length line → is_digit (get_or line i 0) ≡ false →
     (get_or line i 0 ≡ 32 → ⊥) → reads n k (drop i line) ≡ None
 unfolding reads
-reads_none n k line i lt digit space = grind (arith, common_steps, at_drop_more, reads, cond-false, other_than)
+reads_none n k line i lt digit space = grind (arith, common_steps, at_drop_more, reads, cond-false)
 
 -- nine digits without a space behind them
 pub reads_full : (n k : ℕ) (line : List ℕ) (i : ℕ) → i < length line → 9 ≤ k → (get_or line i 0 ≡ 32 → ⊥) →
     reads n k (drop i line) ≡ None
 unfolding reads
 reads_full n k line i lt full space =
-    grind (arith, common_steps, at_drop_more, reads, cases_Bool, cond-true, cond-false, not_below, other_than)
+    grind (arith, common_steps, at_drop_more, reads, cases_Bool, cond-true, cond-false)
 
 pub reads_end : (n k : ℕ) (line : List ℕ) (i : ℕ) → length line ≤ i → reads n k (drop i line) ≡ None
 unfolding reads
@@ -116,12 +110,9 @@ other_byte : (ds : List ℕ) (b : ℕ) (w : List ℕ) → is_digit b ≡ false �
 other_byte [] b w other = not_digits b w (not_all [] b w other)
 other_byte (d ∷ ds) b w other = not_digits d (ds ++ b ∷ w) (not_all (d ∷ ds) b w other)
 
-and_long : (a b c : Bool) → b ≡ false → (a && b && c) ≡ false
-and_long a b c e = rw (e, and_false a false refl) refl
-
 too_long : (ds : List ℕ) (b : ℕ) (w : List ℕ) → 9 ≤ length ds → is_number (ds ++ b ∷ w) ≡ false
 too_long [] b w long = absurd (omega arith)
-too_long (d ∷ ds) b w long = grind (arith, common_steps, length-append, and_long, not_below)
+too_long (d ∷ ds) b w long = grind (arith, common_steps, length-append)
 
 -- ---- the whole
 
@@ -183,11 +174,8 @@ reads_whole first line low high = ap (λ n. reads n 1 line) (omega arith) ∙ re
 zero_is : (line : List ℕ) → Some (0, words_of line) ≡ leading_number (words_of (48 ∷ 32 ∷ line))
 zero_is line = is_leading (48 ∷ []) line refl
 
-plain_zero : (b : ℕ) (w : List ℕ) → is_number (48 ∷ b ∷ w) ≡ false
-plain_zero b w = and_false (list_all is_digit (48 ∷ b ∷ w) && nat_lt (length (b ∷ w)) 9) _ (grind (arith, nat_tests))
-
 zero_goes_on : (b : ℕ) (line : List ℕ) → is_space b ≡ false → None ≡ leading_number (words_of (48 ∷ b ∷ line))
-zero_goes_on b line other = grind (arith, common_steps, begun, not_leading, plain_zero, put_before)
+zero_goes_on b line other = grind (arith, common_steps, begun, not_leading, put_before)
 
 zero_ends : None ≡ leading_number (words_of (48 ∷ []))
 unfolding leading_number
@@ -203,7 +191,7 @@ zero_then (b ∷ line) some space = grind (arith, common_steps, take_rest, zero_
 
 pub zero_else : (line : List ℕ) → (0 < length line → get_or line 0 0 ≡ 32 → ⊥) →
     None ≡ leading_number (words_of (48 ∷ line))
-zero_else line h1 = grind (arith, common_steps, zero_ends, zero_goes_on, other_than)
+zero_else line h1 = grind (arith, common_steps, zero_ends, zero_goes_on)
 
 pub empty_line : (line : List ℕ) → length line ≡ 0 → None ≡ leading_number (words_of line)
 unfolding leading_number

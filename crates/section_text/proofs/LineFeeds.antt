@@ -14,5 +14,4 @@ first_is_position byte text None none =
     position_or_len_is (λ b. b == byte) text (length text) 0 (omega arith) (λ k lt. fails _ (none k (omega arith) lt))
     (λ lt. absurd (omega arith)) in
     grind (arith, nat_tests, all)
-first_is_position byte text (Some at) first =
-    grind (arith, common_steps, position_or_len_is, fails, nat_tests)
+first_is_position byte text (Some at) first = grind (arith, common_steps, position_or_len_is, fails, nat_tests)

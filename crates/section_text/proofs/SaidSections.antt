@@ -32,11 +32,10 @@ module _ {H I : Type 0} (g : Grammar H I) where
   one_more l ls k = grind (arith, common_steps)
 
   line_said : (l : List ℕ) (ls : List (List ℕ)) (h : H) (before : List I) (n : ℕ) (h' : H) (rows : List I)
-      (o : Option (Form H I)) → g.form (words_of l) ≡ o
-      → result_after_line g h before n (λ i. section_body_of g h (before ++ i ∷ []) (n + 1) ls) o ≡ Ok (h', rows)
-      → ((i : I) → section_body_of g h (before ++ i ∷ []) (n + 1) ls ≡ Ok (h', rows) →
-      BodySaid (before ++ i ∷ []) ls h h' rows)
-      → BodySaid before (l ∷ ls) h h' rows
+      (o : Option (Form H I)) → g.form (words_of l) ≡ o →
+      result_after_line g h before n (λ i. section_body_of g h (before ++ i ∷ []) (n + 1) ls) o ≡ Ok (h', rows) →
+      ((i : I) → section_body_of g h (before ++ i ∷ []) (n + 1) ls ≡ Ok (h', rows) →
+      BodySaid (before ++ i ∷ []) ls h h' rows) → BodySaid before (l ∷ ls) h h' rows
   line_said l ls h before n h' rows o h1 h2 h3 =
       grind (arith, common_steps, unless_ok, append_assoc, one_more, ok_is, append-nil)
 
@@ -49,8 +48,7 @@ module _ {H I : Type 0} (g : Grammar H I) where
       (λ i. body_said ls h (before ++ i ∷ []) (n + 1) h' rows)
 
   header_said : (l : List ℕ) (ls : List (List ℕ)) (n : ℕ) (h : H) (rows : List I) (o : Option (Form H I)) →
-      g.form (words_of l) ≡ o
-      → result_after_header g n (λ k. section_body_of g k [] (n + 1) ls) o ≡ Ok (h, rows) →
+      g.form (words_of l) ≡ o → result_after_header g n (λ k. section_body_of g k [] (n + 1) ls) o ≡ Ok (h, rows) →
       IsSection g.form (take (length rows + 2) (l ∷ ls)) h rows
   header_said l ls n h rows (Some (Header k)) f e =
       let t = body_said ls k [] (n + 1) h rows
@@ -104,8 +102,7 @@ module _ {H I : Type 0} where
         let both = same_header h k xs ys (forms rest) (forms rest')
         (ap (λ fs. fs ++ forms rest) (sym is) ∙ sym (map-append _ a rest) ∙ ap forms e ∙ map-append _ b rest'
         ∙ ap (λ fs. fs ++ forms rest') is') in
-        let long : length a ≡ length b =
-        grind (arith, common_steps, length-map, headed) in
+        let long : length a ≡ length b = grind (arith, common_steps, length-map, headed) in
         record {
           header = both.0;
           items = both.1;

@@ -4,7 +4,7 @@ use Rattle.section_text.proofs.Imports.{cond-false, drop, fails_before_first, fa
 use Rattle.section_text.proofs.Imports.{is_name, is_name_byte, is_number, is_space, join_with_byte}
 use Rattle.section_text.proofs.Imports.{join_with_byte-slice_split, length, length-drop, length-slice_split, list_all}
 use Rattle.section_text.proofs.Imports.{name_at, name_of, nat_tests, number_at, number_of, onto_first, option_and_then}
-use Rattle.section_text.proofs.Imports.{position, refl, same_Some, slice_get, slice_split-cons_no, slice_split_first}
+use Rattle.section_text.proofs.Imports.{position, refl, slice_get, slice_split-cons_no, slice_split_first}
 use Rattle.section_text.proofs.Imports.{slice_split_none, suc, sym, take, take_all, true, words_of, ℕ, ◌&&◌, ◌+◌, ◌-◌}
 use Rattle.section_text.proofs.Imports.{◌<◌, ◌==◌, ◌∙◌, ◌∷◌, ◌≡◌, ◌⊎◌}
 use Rattle.lemmas.proofs.Common.{below_by_test, not_below_by_test, test_failed}
@@ -16,15 +16,12 @@ use Rattle.section_text.proofs.NameLemmas.{letters_of_name}
 found_by : (b : Bool) (p i : ℕ) → cond b (Some p) None ≡ Some i → (b ≡ true) × (p ≡ i)
 found_by b p i h1 = grind (arith, common_steps)
 
-missed_by : (b : Bool) (p : ℕ) → cond b (Some p) None ≡ None → b ≡ false
-missed_by b p h1 = grind (arith, common_steps)
-
 pub split_some : (line : List ℕ) (i : ℕ) → position is_space line ≡ Some i →
     words_of line ≡ take i line ∷ words_of (take (length line - (i + 1)) (drop (i + 1) line))
 split_some line i e = grind (arith, common_steps, found_by, below_by_test, slice_split_first, take_all, length-drop)
 
 pub split_none : (line : List ℕ) → position is_space line ≡ None → words_of line ≡ line ∷ []
-split_none line e = grind (arith, common_steps, not_below_by_test, missed_by, slice_split_none, fails_before_first)
+split_none line e = grind (arith, common_steps, not_below_by_test, slice_split_none, fails_before_first)
 
 -- a line has a word
 pub some_words : (l : List ℕ) → 0 < length (words_of l)
@@ -48,14 +45,10 @@ three_words l w r v s a b c = rw (a, b, c) refl
 not_four : (n : ℕ) → (suc (suc (suc (suc (suc n)))) == 4) ≡ false
 not_four n = grind arith
 
-five_or_more : (zs : List (List ℕ)) → 0 < length zs → (ws : List (List ℕ)) →
-    None ≡ (if suc (suc (suc (suc (length zs)))) == 4 then Some ws else None)
-five_or_more zs h1 ws = grind (arith, common_steps, not_four)
-
 pub many_words : (l w r v s u t x y : List ℕ) → words_of l ≡ w ∷ words_of r → words_of r ≡ v ∷ words_of s →
     words_of s ≡ u ∷ words_of t → words_of t ≡ x ∷ words_of y → None ≡ words_of_four (words_of l)
 unfolding words_of_four
-many_words l w r v s u t x y a b c d = grind (arith, common_steps, five_or_more, some_words)
+many_words l w r v s u t x y a b c d = grind (arith, common_steps, some_words)
 
 pub four_are : (l w r v s u t : List ℕ) → words_of l ≡ w ∷ words_of r → words_of r ≡ v ∷ words_of s →
     words_of s ≡ u ∷ words_of t → words_of t ≡ t ∷ [] → Some (w ∷ v ∷ u ∷ t ∷ []) ≡ words_of_four (words_of l)
@@ -64,14 +57,8 @@ four_are l w r v s u t a b c d = rw (a, b, c, d) refl
 
 -- ---- lines of five words, by those of four
 
-test_of : {A : Type 0} (b : Bool) (x y : A) → (if b then Some x else None) ≡ Some y → (b ≡ true) × (x ≡ y)
-test_of b x y h1 = grind (arith, common_steps, same_Some)
-
 one_more : (n : ℕ) → (n == 4) ≡ true → (suc n == 5) ≡ true
 one_more n e = grind (arith, nat_tests)
-
-not_one_more : (n : ℕ) → (n == 4) ≡ false → (suc n == 5) ≡ false
-not_one_more n e = grind (arith, nat_tests)
 
 pub lone_word : (l : List ℕ) → words_of l ≡ l ∷ [] → None ≡ words_of_five (words_of l)
 unfolding words_of_five
@@ -80,13 +67,12 @@ lone_word l a = rw a refl
 pub no_five : (l w r : List ℕ) → words_of l ≡ w ∷ words_of r → None ≡ words_of_four (words_of r) →
     None ≡ words_of_five (words_of l)
 unfolding words_of_four words_of_five
-no_five l w r a none = grind (arith, common_steps, not_one_more, test_failed)
+no_five l w r a none = grind (arith, common_steps, test_failed)
 
 pub five_are : (l w r : List ℕ) (ws : List (List ℕ)) → words_of l ≡ w ∷ words_of r →
-    Some ws ≡ words_of_four (words_of r) →
-    Some (w ∷ ws) ≡ words_of_five (words_of l)
+    Some ws ≡ words_of_four (words_of r) → Some (w ∷ ws) ≡ words_of_five (words_of l)
 unfolding words_of_four words_of_five
-five_are l w r ws a some = grind (arith, common_steps, test_of, one_more)
+five_are l w r ws a some = grind (arith, common_steps, one_more)
 
 -- ---- lines of one, two and three words
 

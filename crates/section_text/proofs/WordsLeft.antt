@@ -77,10 +77,6 @@ unless_both a b = grind (arith, common_steps)
 unless_one : {A : Type 0} (a : Bool) → ◌≡◌ {A = Option A} None (if a then None else None)
 unless_one a = grind (arith, common_steps)
 
-unless_three : {A B : Type 0} (a b : Bool) (o : Option B) →
-    ◌≡◌ {A = Option A} None (if a then (if b then (o >>= λ x. None) else None) else None)
-unless_three a b o = grind (arith, common_steps)
-
 is_no : (n m : ℕ) → m < n → (n == m) ≡ false
 is_no n m lt = grind (arith, nat_tests)
 
@@ -103,7 +99,7 @@ module _ (ws : List (List ℕ)) (i before after : ℕ) where
 
   pub no_names_after : None ≡ names_at ws (i + before + 1) after → None ≡ names_beside_arrow ws i before after
   unfolding names_beside_arrow
-  no_names_after none = grind (arith, common_steps, unless_three)
+  no_names_after none = grind (arith, common_steps)
 
   pub words_after : (l : List ℕ) → words_of l ≡ drop (i + before + 1 + after) ws →
       None ≡ names_beside_arrow ws i before after
@@ -120,7 +116,6 @@ module _ (ws : List (List ℕ)) (i before after : ℕ) where
   names_are w ins outs between arrow first last end =
       let within = slice_get_within ws (i + before) w (sym between) in
       let fit = names_fit ws (i + before + 1) after outs (sym last) (omega (arith, within)) in
-      let left : 0 ≡ length ws - (i + before + 1 + after) =
-      ap length end ∙ length-drop (i + before + 1 + after) ws in
+      let left : 0 ≡ length ws - (i + before + 1 + after) = ap length end ∙ length-drop (i + before + 1 + after) ws in
       rw (is_so (length ws) (i + before + 1 + after) (omega (arith, left)) fit, sym between, arrow, sym first, sym last)
       refl

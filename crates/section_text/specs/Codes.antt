@@ -1,10 +1,9 @@
 -- The codes of refusals, and of tests that a line fails.
 use Rattle.std.specs.Prelude.{ℕ, Bool, Option, Some, None, if◌then◌else◌}
 use Rattle.section_text.specs.declared.code.RefusalCode.{RefusalCode}
-use Rattle.section_text.specs.declared.code.RefusalCode.TheVariants.{NoForm, PastLimit, UnknownName, DefinedTwice}
-use Rattle.section_text.specs.declared.code.RefusalCode.TheVariants.{ConsumedTwice, OutOfOrder, TakenCell}
-use Rattle.section_text.specs.declared.code.RefusalCode.TheVariants.{MisplacedBox, NotLocal, NoPlace, SomethingMissing}
-use Rattle.section_text.specs.declared.code.RefusalCode.TheVariants.{TextCut}
+use Rattle.section_text.specs.declared.code.RefusalCode.TheVariants.{ConsumedTwice, DefinedTwice, MisplacedBox, NoForm}
+use Rattle.section_text.specs.declared.code.RefusalCode.TheVariants.{NoPlace, NotLocal, OutOfOrder, PastLimit}
+use Rattle.section_text.specs.declared.code.RefusalCode.TheVariants.{SomethingMissing, TakenCell, TextCut, UnknownName}
 
 -- the number of a code
 abbrev pub code_number : RefusalCode → ℕ

@@ -102,8 +102,7 @@ lists_local number (suc k) (g ∷ fs) (b ∷ bs) r f at lt is =
     (lists_local (number + 1) k fs bs r f at (omega (arith, lt)) is))
 
 lists_border : (number k : ℕ) (fs : List LeastFaults) (bs : List (Option BorderFault)) (f : BorderFault) →
-    slice_get bs k ≡ Some (Some f) → k < length fs →
-    Contains (report_lines_from number fs bs) (Border (number + k) f)
+    slice_get bs k ≡ Some (Some f) → k < length fs → Contains (report_lines_from number fs bs) (Border (number + k) f)
 unfolding report_lines_from
 lists_border number k [] bs f at lt = absurd (omega (arith, lt))
 lists_border number k (g ∷ fs) [] f at lt = absurd cc

@@ -28,9 +28,8 @@ use Rattle.bbm_rule.proofs.RingTests.{ring_in_box}
 
 -- up to a time before which the borders are good, the plane is the jobs' runs
 pub runs_up_to : (lines : List CircuitLine) (p : Pattern) (ms : List ModuleLines) (jobs : List JobView)
-    (inputs v : Valuation) (t : ℕ) → BelongTogether lines p ms jobs →
-    Satisfies (netlist_of lines) inputs v → t ≤ p.size.steps → ((s : ℕ) → s < t → HasGoodBorders lines p ms jobs v s) →
-    IsRunOfJobs lines p jobs v t
+    (inputs v : Valuation) (t : ℕ) → BelongTogether lines p ms jobs → Satisfies (netlist_of lines) inputs v →
+    t ≤ p.size.steps → ((s : ℕ) → s < t → HasGoodBorders lines p ms jobs v s) → IsRunOfJobs lines p jobs v t
 runs_up_to lines p ms jobs inputs v zero b s h good = starts lines p ms jobs v b
 runs_up_to lines p ms jobs inputs v (suc t) b s h good =
     steps_with_good_borders lines p ms jobs inputs v t b s (omega arith) (good t (omega arith))
@@ -71,9 +70,8 @@ record IsStopThere (p : Pattern) (m : ModuleLines) (v : Valuation) (state : Stat
   same : r.at.time ≡ t → r.at.cell.x ≡ x → r.at.cell.y ≡ y → state x y ≡ v r.wire
 
 pub real : (lines : List CircuitLine) (p : Pattern) (ms : List ModuleLines) (jobs : List JobView) (inputs v : Valuation)
-    (i : ℕ) (m : ModuleLines) (j : JobView) (t : ℕ) (kind : Kind) (x y : ℤ) →
-    BelongTogether lines p ms jobs → slice_get ms i ≡ Some m → slice_get jobs i ≡ Some j →
-    Satisfies (netlist_of lines) inputs v →
+    (i : ℕ) (m : ModuleLines) (j : JobView) (t : ℕ) (kind : Kind) (x y : ℤ) → BelongTogether lines p ms jobs →
+    slice_get ms i ≡ Some m → slice_get jobs i ≡ Some j → Satisfies (netlist_of lines) inputs v →
     ((s : ℕ) → s < t → HasGoodBorders lines p ms jobs v s) →
     IsFaultUnderValues j (values_by_local_number j.locals v) t kind x y →
     ¬ IsCellAsCertified (circuit_of lines) p m v t kind x y
@@ -165,8 +163,7 @@ unfolding end_demand
 asked_meets c p v state x y looks = grind (arith, common_steps, cases_Bool, off_mirrors)
 
 end_last : (j : JobView) (u : Valuation) (t : ℕ) (kind : Kind) (x y : ℤ) → kind ≡ End →
-    IsFaultUnderValues j u t kind x y →
-    t ≡ j.steps
+    IsFaultUnderValues j u t kind x y → t ≡ j.steps
 end_last j u t kind x y h1 h2 = grind (arith, common_steps)
 
 end_said : (c : Circuit) (p : Pattern) (m : ModuleLines) (v : Valuation) (t : ℕ) (kind : Kind) (x y : ℤ) → kind ≡ End →
@@ -250,13 +247,11 @@ by_wire f x n ns (Some w) (suc k) e all at rest = grind (arith, common_steps)
 pub placed_wire : (f : List ℕ → Option ℕ) (ns : List (List ℕ)) (n : List ℕ) (k : ℕ) →
     length (wires_of f ns) ≡ length ns → slice_get ns k ≡ Some n → IsPlacedWire f ns k n
 placed_wire f [] n k all at = absurd cc
-placed_wire f (x ∷ ns) n k all at =
-    by_wire f x n ns (f x) k refl all at (λ k all at. placed_wire f ns n k all at)
+placed_wire f (x ∷ ns) n k all at = by_wire f x n ns (f x) k refl all at (λ k all at. placed_wire f ns n k all at)
 
 -- what gives the cuts the bits by their names does so by the job's wires
 pub assigned : (lines : List CircuitLine) (p : Pattern) (m : ModuleLines) (j : JobView) (v : Valuation) (a : ℕ) →
-    IsModule (setting_of lines p) m → IsJobOf (circuit_of lines) p m j →
-    IsModuleAssignmentOf (circuit_of lines) m v a →
+    IsModule (setting_of lines p) m → IsJobOf (circuit_of lines) p m j → IsModuleAssignmentOf (circuit_of lines) m v a →
     (k : ℕ) → k < j.locals.netlist.given → bit a k ≡ values_by_local_number j.locals v k
 assigned lines p m j v a good is has k lt =
     let c = circuit_of lines in

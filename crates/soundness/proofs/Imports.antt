@@ -66,8 +66,7 @@ pub use Rattle.local_run.proofs.Imports.{IsSignalWireBelow, IsTrue, MeetsDemand,
 pub use Rattle.local_run.proofs.Imports.{and_from, assignments, cases_lt, eq-eqb, is_live, ordering_then, place_in}
 pub use Rattle.local_run.proofs.Imports.{props, true≢false, wires, ∥∥₁_elim, ◌*◌, ◌/◌, ◌||◌}
 unfoldable pub use Rattle.local_run.proofs.Imports.{AreGatesOrdered, bit, fault_cmp, in_ring, in_span, job_demand}
-unfoldable pub use Rattle.local_run.proofs.Imports.{job_start}
-unfoldable pub use Rattle.local_run.proofs.Imports.{local_run, step, with_halo}
+unfoldable pub use Rattle.local_run.proofs.Imports.{job_start, local_run, step, with_halo}
 pub use Rattle.local_run.specs.declared.fault.Fault.{Fault}
 pub use Rattle.local_run.specs.declared.fault.KeepFault.{KeepFault}
 pub use Rattle.local_run.specs.declared.fault.Kind.{Kind}

@@ -19,8 +19,7 @@ live_seen : (l : LocalNet) (v : Valuation) (s : Signal) →
 live_seen l v s = grind (arith, common_steps)
 
 pub meets_for_circuit_wires : (l : LocalNet) (v : Valuation) (d : Demand) (live : Bool) →
-    MeetsDemand (values_by_local_number l v) d live →
-    MeetsDemand v (renumber_demand (circuit_wire l) d) live
+    MeetsDemand (values_by_local_number l v) d live → MeetsDemand v (renumber_demand (circuit_wire l) d) live
 meets_for_circuit_wires l v d live h1 = grind (arith, common_steps)
 
 pub live_renumbered : (l : LocalNet) (v : Valuation) (s r : Signal) → renumber_signal (circuit_wire l) s ≡ r →
@@ -37,8 +36,7 @@ pub record Known (lines : List CircuitLine) (p : Pattern) (ms : List ModuleLines
   pub good : IsModule (setting_of lines p) of
 
 pub known_job : (lines : List CircuitLine) (p : Pattern) (ms : List ModuleLines) (jobs : List JobView) (i : ℕ)
-    (j : JobView) →
-    BelongTogether lines p ms jobs → slice_get jobs i ≡ Some j → Known lines p ms i j
+    (j : JobView) → BelongTogether lines p ms jobs → slice_get jobs i ≡ Some j → Known lines p ms i j
 known_job lines p ms jobs i j b e =
     let m = some_at ms i (let lt = slice_get_within jobs i j e in let n = b.are_jobs.count in omega (arith, lt, n)) in
     record { of = m.0; numbered = m.1; is_job = b.are_jobs.each i m.0 j m.1 e; good = b.are_modules.each i m.0 m.1 }
@@ -53,8 +51,7 @@ pub record Owner (lines : List CircuitLine) (p : Pattern) (ms : List ModuleLines
   pub owned : in_box job.area x y ≡ true
 
 pub owner_of : (lines : List CircuitLine) (p : Pattern) (ms : List ModuleLines) (jobs : List JobView) (x y : ℤ) →
-    BelongTogether lines p ms jobs →
-    in_box (whole p.size) x y ≡ true → Owner lines p ms jobs x y
+    BelongTogether lines p ms jobs → in_box (whole p.size) x y ≡ true → Owner lines p ms jobs x y
 owner_of lines p ms jobs x y b h =
     let c = b.are_modules.tile.covered x y h in
     let m = mapped_from (λ (m : ModuleLines). m.area) ms c.0 c.1 c.2 in
@@ -72,15 +69,13 @@ owner_of lines p ms jobs x y b h =
 -- ---- cells that no line names
 
 one_all_times : (e : BorderLine) (time : Option ℕ) (s : Signal) (rest : List AllTimesSignal) (x y : ℤ) →
-    is_cell_at e.cell x y ≡ false →
-    all_times_at rest x y ≡ None →
+    is_cell_at e.cell x y ≡ false → all_times_at rest x y ≡ None →
     all_times_at (signal_if_starred e time s ++ rest) x y ≡ None
 unfolding all_times_at
 one_all_times e time s rest x y h1 h2 = grind (arith, common_steps, cond-false)
 
 one_event : (e : BorderLine) (time : Option ℕ) (s : Signal) (rest : List TimedSignal) (t : ℕ) (x y : ℤ) →
-    is_cell_at e.cell x y ≡ false → event_at rest t x y ≡ None →
-    event_at (event_if_timed e time s ++ rest) t x y ≡ None
+    is_cell_at e.cell x y ≡ false → event_at rest t x y ≡ None → event_at (event_if_timed e time s ++ rest) t x y ≡ None
 unfolding event_at
 one_event e time s rest t x y h1 h2 = grind (arith, common_steps, cond-false, and-false)
 
@@ -138,11 +133,9 @@ module _ (lines : List CircuitLine) (p : Pattern) (ms : List ModuleLines) (i : �
   pub edge_by_circuit : (k : Known lines p ms i j) →
       is_live (values_by_local_number j.locals v) (signal_at j.edges t x y)
       ≡ is_live v (edge_signal (circuit_of lines) k.of t x y)
-  edge_by_circuit k =
-      live_renumbered j.locals v (signal_at j.edges t x y) _ (edge_same lines p k.of j t x y k.is_job)
+  edge_by_circuit k = live_renumbered j.locals v (signal_at j.edges t x y) _ (edge_same lines p k.of j t x y k.is_job)
 
   pub halo_by_circuit : (k : Known lines p ms i j) →
       is_live (values_by_local_number j.locals v) (signal_at j.halos t x y)
       ≡ is_live v (halo_signal (circuit_of lines) k.of t x y)
-  halo_by_circuit k =
-      live_renumbered j.locals v (signal_at j.halos t x y) _ (halo_same lines p k.of j t x y k.is_job)
+  halo_by_circuit k = live_renumbered j.locals v (signal_at j.halos t x y) _ (halo_same lines p k.of j t x y k.is_job)

@@ -3,14 +3,12 @@ use Rattle.soundness.proofs.Imports.{AreGoodAfter, Ball, Bool, Box2, Cell, Circu
 use Rattle.soundness.proofs.Imports.{LayoutLine, List, MeetsDemand, Mirror, None, Option, Out, Pattern, Port, Some}
 use Rattle.soundness.proofs.Imports.{Valuation, Waste, [], and_from, and_parts, any_at, ap, arith, cell_fault}
 use Rattle.soundness.proofs.Imports.{cell_same, cells_of, cells_taken_at_end, common_steps, end_demand, false}
-use Rattle.soundness.proofs.Imports.{false≢true, in_box, in_cells, in_ports, in_ports_on, in_rectangles, is_cell_at}
-use Rattle.soundness.proofs.Imports.{has_taken_cell, is_inside, is_live, kept, map, none_stands, option_map}
-use Rattle.soundness.proofs.Imports.{option_map_or}
+use Rattle.soundness.proofs.Imports.{false≢true, has_taken_cell, in_box, in_cells, in_ports, in_ports_on, in_rectangles}
+use Rattle.soundness.proofs.Imports.{is_cell_at, is_inside, is_live, kept, map, none_stands, option_map, option_map_or}
 use Rattle.soundness.proofs.Imports.{parts_of, passed, port_at, port_stands, refl, same_Some, same_truth, size_fault}
 use Rattle.soundness.proofs.Imports.{slice_get, slice_get-map, start, start_signal, suc, sym, takes_cells_at_end}
 use Rattle.soundness.proofs.Imports.{takes_cells_at_start, true, true≢false, values_by_name, whole, wire_or_dead, zero}
-use Rattle.soundness.proofs.Imports.{ℕ, ℤ}
-use Rattle.soundness.proofs.Imports.{◌&&◌, ◌++◌, ◌||◌, ◌∙◌, ◌∷◌, ◌≡◌}
+use Rattle.soundness.proofs.Imports.{ℕ, ℤ, ◌&&◌, ◌++◌, ◌||◌, ◌∙◌, ◌∷◌, ◌≡◌}
 use Rattle.lemmas.proofs.Common.{left_is_false}
 use Rattle.bbm_rule.specs.Boxes.{in_box}
 use Rattle.pattern.specs.Layout.{HaveDistinctCells, in_layout}
@@ -64,8 +62,7 @@ on_by on ports x y (Some n) own e =
     (and_from (on s.port.name) (is_cell_at s.port.cell x y) (ap on s.named ∙ h) s.stands))
 
 port_is : (ports : List Port) (q : Port) (i : ℕ) (o : Option (List ℕ)) → HaveDistinctCells ports →
-    slice_get ports i ≡ Some q →
-    port_at ports q.cell.x q.cell.y ≡ o → o ≡ Some q.name
+    slice_get ports i ≡ Some q → port_at ports q.cell.x q.cell.y ≡ o → o ≡ Some q.name
 port_is ports q i None own at e = absurd (none_stands ports q.cell.x q.cell.y e i q at (cell_itself q.cell))
 port_is ports q i (Some n) own at e =
     ap (λ (m : List ℕ). Some m) (sym (only_port ports q.cell.x q.cell.y n own e i q at (cell_itself q.cell)))
@@ -121,8 +118,7 @@ unfolding cell_fault has_taken_cell cells_of takes_cells_at_start is_inside
 free_here s before q e = grind (arith, common_steps)
 
 all_free : (s : LayoutHeader) (before : List LayoutLine) (ports : List Port) (rest : List LayoutLine) →
-    AreGoodAfter s before (map Out ports ++ rest) →
-    (i : ℕ) (q : Port) → slice_get ports i ≡ Some q → IsFree s before q
+    AreGoodAfter s before (map Out ports ++ rest) → (i : ℕ) (q : Port) → slice_get ports i ≡ Some q → IsFree s before q
 all_free s before [] rest good i q e = absurd cc
 all_free s before (p ∷ ports) rest good zero q e = grind (arith, common_steps, same_Some, free_here)
 all_free s before (p ∷ ports) rest good (suc i) q e =
@@ -170,8 +166,7 @@ is_output p good i q e =
 -- ---- the end
 
 pub met_mirror : (c : Circuit) (p : Pattern) (v : Valuation) (x y : ℤ) (live : Bool) →
-    in_rectangles p.mirrors x y ≡ true →
-    MeetsDemand v (end_demand c p x y) live → live ≡ true
+    in_rectangles p.mirrors x y ≡ true → MeetsDemand v (end_demand c p x y) live → live ≡ true
 unfolding end_demand
 met_mirror c p v x y live e h = grind (arith, common_steps)
 

@@ -5,13 +5,12 @@ use Rattle.soundness.proofs.Imports.{IsSignalWireBelow, IsTrue, JobView, KeepFau
 use Rattle.soundness.proofs.Imports.{Pattern, Setting, Signal, Some, Wire, Zero, [], ap, are_all_timings_obeyed, arith}
 use Rattle.soundness.proofs.Imports.{cases_Bool, circuit_of, circuit_wire, common_steps, edge_signal, edges, false}
 use Rattle.soundness.proofs.Imports.{first_seen_time, halo_same, halo_signal, halos, in_box, in_halo, inl, inr}
-use Rattle.soundness.proofs.Imports.{is_among}
-use Rattle.soundness.proofs.Imports.{is_local, is_local_wire, job_demand, job_start, known, last_seen_time, length}
-use Rattle.soundness.proofs.Imports.{length-map, line_signals, list_any, map, mapped_from, modules, nat_lt, nat_tests}
-use Rattle.soundness.proofs.Imports.{not, one_or_named_wire, refl, renumber_signal, renumber_signals, setting}
-use Rattle.soundness.proofs.Imports.{setting_of, signal_at, slice_get, slice_get_within, slice_index, some_at, stops}
-use Rattle.soundness.proofs.Imports.{stops_of_lines, stops_stand, subst, sym, time_lines_of_gates, true, whole, wire_of}
-use Rattle.soundness.proofs.Imports.{wire_or_zero, wires, ℕ, ℤ, ◌%◌, ◌<◌, ◌∙◌, ◌∷◌, ◌≡◌, ◌≤◌}
+use Rattle.soundness.proofs.Imports.{is_among, is_local, is_local_wire, job_demand, job_start, known, last_seen_time}
+use Rattle.soundness.proofs.Imports.{length, length-map, line_signals, list_any, map, mapped_from, modules, nat_lt}
+use Rattle.soundness.proofs.Imports.{nat_tests, not, one_or_named_wire, refl, renumber_signal, renumber_signals}
+use Rattle.soundness.proofs.Imports.{setting, setting_of, signal_at, slice_get, slice_get_within, slice_index, some_at}
+use Rattle.soundness.proofs.Imports.{stops, stops_of_lines, stops_stand, subst, sym, time_lines_of_gates, true, whole}
+use Rattle.soundness.proofs.Imports.{wire_of, wire_or_zero, wires, ℕ, ℤ, ◌%◌, ◌<◌, ◌∙◌, ◌∷◌, ◌≡◌, ◌≤◌}
 use Rattle.lemmas.proofs.Common.{slice_index_or, mapped_at}
 use Rattle.std.specs.List.{All}
 use Rattle.certificate_lines.specs.Entries.{modules_of}
@@ -134,8 +133,7 @@ module _ (lines : List CircuitLine) (p : Pattern) (ms : List ModuleLines) (jobs 
 
   none_outside : (m : ModuleLines) → IsModule g m → (t : ℕ) (x y : ℤ) → in_box (whole p.size) x y ≡ false →
       halo_signal c m t x y ≡ Zero
-  none_outside m is t x y out =
-      no_signal c (halos m) t x y (grind (arith, common_steps, other_cell))
+  none_outside m is t x y out = no_signal c (halos m) t x y (grind (arith, common_steps, other_cell))
 
   module _ (i : ℕ) (m : ModuleLines) (j k : JobView) (at : slice_get ms i ≡ Some m) (of_j : IsJobOf c p m j)
       (of_k : IsJobOf c p (with_halo_lines g ms m) k) where

@@ -1,6 +1,5 @@
 -- A module has one job
-use Rattle.lemmas.proofs.Common.{common_steps}
-use Rattle.lemmas.proofs.Common.{cond-true, same_head, same_tail}
+use Rattle.lemmas.proofs.Common.{common_steps, cond-true, same_head, same_tail}
 use Rattle.soundness.proofs.Imports.{All, All-head, All-tail, AllTimesSignal, AreDistinct, AreGatesOrdered, AreLocalsOf}
 use Rattle.soundness.proofs.Imports.{Box2, Circuit, Demand, Gate, GateKind, IsDemandWireBelow, IsJobOf}
 use Rattle.soundness.proofs.Imports.{IsSignalWireBelow, IsTrue, JobView, List, LocalNet, ModuleLines, Netlist, Pattern}
@@ -51,8 +50,7 @@ module _ (ws : List ℕ) (different : AreDistinct ws) where
   demand_back s t h1 h2 h3 = grind (arith, common_steps, number_back)
 
   all_times_back : (s t : AllTimesSignal) → IsSignalWireBelow (length ws) s.signal →
-      IsSignalWireBelow (length ws) t.signal →
-      renumber_all_times f s ≡ renumber_all_times f t → s ≡ t
+      IsSignalWireBelow (length ws) t.signal → renumber_all_times f s ≡ renumber_all_times f t → s ≡ t
   all_times_back s t a b e =
       let signal = signal_back s.signal t.signal a b (ap (λ (h : AllTimesSignal). h.signal) e) in
       λ i. record { cell = ap (λ (h : AllTimesSignal). h.cell) e i; signal = signal i }
@@ -66,8 +64,7 @@ module _ (ws : List ℕ) (different : AreDistinct ws) where
   signals_back : (s t : Signals) → All (λ h. IsSignalWireBelow (length ws) h.signal) s.all_times →
       All (λ h. IsSignalWireBelow (length ws) h.signal) s.events →
       All (λ h. IsSignalWireBelow (length ws) h.signal) t.all_times →
-      All (λ h. IsSignalWireBelow (length ws) h.signal) t.events →
-      renumber_signals f s ≡ renumber_signals f t → s ≡ t
+      All (λ h. IsSignalWireBelow (length ws) h.signal) t.events → renumber_signals f s ≡ renumber_signals f t → s ≡ t
   signals_back s t sh se th te e =
       let all_times = map_back (renumber_all_times f)
       (λ (h : AllTimesSignal). IsSignalWireBelow (length ws) h.signal) all_times_back s.all_times t.all_times sh th
@@ -108,8 +105,7 @@ module _ (ws : List ℕ) (different : AreDistinct ws) where
       λ i. record { kind = kind i; ins = ins i; outs = outs i }
 
   gates_back : (n : ℕ) (gs hs : List Gate) → AreGatesOrdered n gs → AreGatesOrdered n hs →
-      wires_after n gs ≡ length ws →
-      wires_after n hs ≡ length ws →
+      wires_after n gs ≡ length ws → wires_after n hs ≡ length ws →
       ((k : ℕ) (g h : Gate) → slice_get gs k ≡ Some g → slice_get hs k ≡ Some h → renumber_gate f g ≡ renumber_gate f h)
       → gs ≡ hs
   unfolding AreGatesOrdered wires_after

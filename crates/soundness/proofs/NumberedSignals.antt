@@ -1,11 +1,10 @@
 -- The wires that signals name, by their places in a list of wires
 use Rattle.soundness.proofs.Imports.{AllTimesSignal, Bool, BorderLine, Circuit, Each, IfSome, IsSignalWireBelow, IsTrue}
-use Rattle.soundness.proofs.Imports.{List, None, One, Option, Signal, Signals, Some, TimedSignal, Wire, Zero, []}
-use Rattle.soundness.proofs.Imports.{arith, common_steps, event_if_timed, false, false≢true, signal_if_starred}
-use Rattle.soundness.proofs.Imports.{if◌then◌else◌, is_among, is_local, is_local_wire, length, line_signals, map}
-use Rattle.soundness.proofs.Imports.{nat_tests, one_or_named_wire, refl, renumber_all_times, renumber_event}
-use Rattle.soundness.proofs.Imports.{renumber_signal, slice_index, suc, true, wire_of, wire_or_zero, ℕ, ◌++◌, ◌<◌, ◌==◌}
-use Rattle.soundness.proofs.Imports.{◌||◌, ◌∷◌, ◌≡◌}
+use Rattle.soundness.proofs.Imports.{List, None, One, Option, Signal, Signals, Some, TimedSignal, Wire, Zero, [], arith}
+use Rattle.soundness.proofs.Imports.{common_steps, event_if_timed, false, false≢true, if◌then◌else◌, is_among, is_local}
+use Rattle.soundness.proofs.Imports.{is_local_wire, length, line_signals, map, nat_tests, one_or_named_wire, refl}
+use Rattle.soundness.proofs.Imports.{renumber_all_times, renumber_event, renumber_signal, signal_if_starred}
+use Rattle.soundness.proofs.Imports.{slice_index, suc, true, wire_of, wire_or_zero, ℕ, ◌++◌, ◌<◌, ◌==◌, ◌||◌, ◌∷◌, ◌≡◌}
 
 -- ---- the number of a wire in a list of wires
 
@@ -75,8 +74,7 @@ module _ (c : Circuit) (ws : List ℕ) where
     pub events_below : Each (λ e. IsSignalWireBelow (length ws) e.signal) (map numbered_event es)
 
   back_from : (e : BorderLine) (time : Option ℕ) (s : Signal) (hs : List AllTimesSignal) (es : List TimedSignal) →
-      IsNumbered ws s →
-      IsBack hs es → IsBack (signal_if_starred e time s ++ hs) (event_if_timed e time s ++ es)
+      IsNumbered ws s → IsBack hs es → IsBack (signal_if_starred e time s ++ hs) (event_if_timed e time s ++ es)
   unfolding numbered_all_times numbered_event Each
   back_from e None s hs es is more = grind (arith, common_steps)
   back_from e (Some t) s hs es is more = grind (arith, common_steps)

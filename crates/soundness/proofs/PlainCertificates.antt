@@ -1,31 +1,26 @@
 -- A plain certificate decides whether its layout is correct
 use Rattle.soundness.proofs.Imports.{Accepts, All, All-append, All-cons, All-contains, All-head, All-nil, All-tail}
 use Rattle.soundness.proofs.Imports.{AreDistinct, AreGatesOrdered, AreLeastFaultsOfJob, AreReportLines, BelongTogether}
-use Rattle.soundness.proofs.Imports.{Bool}
-use Rattle.soundness.proofs.Imports.{BorderFault, Circuit, CircuitLine, Contains, Contains-append_left, Delay, Fault}
-use Rattle.soundness.proofs.Imports.{Gate, IsModuleAssignmentOf, Greater, HasGoodBorders, HasInputNames}
-use Rattle.soundness.proofs.Imports.{IsAcceptedBundle, IsAssignmentOf, IsBorderFault, IsCellAsCertified, IsCorrect}
-use Rattle.soundness.proofs.Imports.{IsFault}
-use Rattle.soundness.proofs.Imports.{IsFaultUnderValues, IsFirstFault, IsInputName, IsJobOf, IsKeepFault}
-use Rattle.soundness.proofs.Imports.{IsLeastBorderFault}
-use Rattle.soundness.proofs.Imports.{IsAllowedStop, IsLeastFault, IsLeastKeepFault, IsRunOfJobs, IsVerdict, JobView}
-use Rattle.soundness.proofs.Imports.{KeepFault}
-use Rattle.soundness.proofs.Imports.{Kind, LeastFaults, List, ModuleLines, None, Option, Pattern, ReportLine, Satisfies}
-use Rattle.soundness.proofs.Imports.{Some, StopGap, StopHolds, StopLine, TimeLine, Valuation, Zero, [], all_stops}
-use Rattle.soundness.proofs.Imports.{and_from, ap, append-nil, ap₂, are_all_timings_obeyed, arith, assignments, bit}
-use Rattle.soundness.proofs.Imports.{border_line, cases_Bool, circuit_gate, circuit_of, common_steps, cut_wires, cuts}
-use Rattle.soundness.proofs.Imports.{defines, delay_and_meet_lines, edge_signal, eq-eqb, eqb, eqb-true, false}
-use Rattle.soundness.proofs.Imports.{false≢true, fault_cmp, halo_parts, has_valuation, if◌then◌else◌, in_ring, inl, inr}
-use Rattle.soundness.proofs.Imports.{is_among, is_inverse, is_live, keep_line, keeps, kept, known, length, list_all}
-use Rattle.soundness.proofs.Imports.{local_line, local_run, local_values_agree_with_circuit, map, netlist_of, not}
-use Rattle.soundness.proofs.Imports.{nothing_prop}
+use Rattle.soundness.proofs.Imports.{Bool, BorderFault, Circuit, CircuitLine, Contains, Contains-append_left, Delay}
+use Rattle.soundness.proofs.Imports.{Fault, Gate, Greater, HasGoodBorders, HasInputNames, IsAcceptedBundle}
+use Rattle.soundness.proofs.Imports.{IsAllowedStop, IsAssignmentOf, IsBorderFault, IsCellAsCertified, IsCorrect}
+use Rattle.soundness.proofs.Imports.{IsFault, IsFaultUnderValues, IsFirstFault, IsInputName, IsJobOf, IsKeepFault}
+use Rattle.soundness.proofs.Imports.{IsLeastBorderFault, IsLeastFault, IsLeastKeepFault, IsModuleAssignmentOf}
+use Rattle.soundness.proofs.Imports.{IsRunOfJobs, IsVerdict, JobView, KeepFault, Kind, LeastFaults, List, ModuleLines}
+use Rattle.soundness.proofs.Imports.{None, Option, Pattern, ReportLine, Satisfies, Some, StopGap, StopHolds, StopLine}
+use Rattle.soundness.proofs.Imports.{TimeLine, Valuation, Zero, [], all_stops, and_from, ap, append-nil, ap₂}
+use Rattle.soundness.proofs.Imports.{are_all_timings_obeyed, arith, assignments, bit, border_line, cases_Bool}
+use Rattle.soundness.proofs.Imports.{circuit_gate, circuit_of, common_steps, cut_wires, cuts, defines}
+use Rattle.soundness.proofs.Imports.{delay_and_meet_lines, edge_signal, eq-eqb, eqb, eqb-true, false, false≢true}
+use Rattle.soundness.proofs.Imports.{fault_cmp, halo_parts, has_valuation, if◌then◌else◌, in_ring, inl, inr, is_among}
+use Rattle.soundness.proofs.Imports.{is_inverse, is_live, keep_line, keeps, kept, known, length, list_all, local_line}
+use Rattle.soundness.proofs.Imports.{local_run, local_values_agree_with_circuit, map, netlist_of, not, nothing_prop}
 use Rattle.soundness.proofs.Imports.{only_inverse, option_map, option_map_or, option_to_list, ordering_then, props}
 use Rattle.soundness.proofs.Imports.{refl, renumber_keep, report_lines_from, same_Some, setting_of, signal_at}
 use Rattle.soundness.proofs.Imports.{slice_get, slice_get_within, some_at, stops, subst, suc, sym, timing_report_line}
 use Rattle.soundness.proofs.Imports.{true, undefined_has_none, undefined_is_seen, unkept, unkept_gates_from}
-use Rattle.soundness.proofs.Imports.{unkept_lines}
-use Rattle.soundness.proofs.Imports.{values_by_local_number, whole, wire_of, zero, ℕ, ℤ, ∥∥₁_elim, ◌&&◌, ◌++◌, ◌+◌, ◌<◌}
-use Rattle.soundness.proofs.Imports.{◌||◌, ◌∙◌, ◌∷◌, ◌≡◌, ◌≢◌, ◌≤◌}
+use Rattle.soundness.proofs.Imports.{unkept_lines, values_by_local_number, whole, wire_of, zero, ℕ, ℤ, ∥∥₁_elim, ◌&&◌}
+use Rattle.soundness.proofs.Imports.{◌++◌, ◌+◌, ◌<◌, ◌||◌, ◌∙◌, ◌∷◌, ◌≡◌, ◌≢◌, ◌≤◌}
 use Rattle.lemmas.proofs.Common.{nat_cmp}
 use Rattle.circuit.specs.Gates.{uses}
 use Rattle.certificate.specs.Arrivals.{AreOnTime, IsFirstStopTime, IsLastStopTime, TakesStepsFromLastToFirstStop}
@@ -34,11 +29,10 @@ use Rattle.certificate.specs.Times.{is_timing_obeyed}
 use Rattle.certificate.specs.declared.times.StopGap.TheVariants.{Steps, Missing, Before}
 use Rattle.certificate.proofs.ArrivalLemmas.{lines_tell}
 use Rattle.local_run.specs.Faults.{IsEdgeFault}
-use Rattle.soundness.specs.PlainCertificates.{IsPlainModule, IsWrongDesign, PlainNoMeansWrongOrRimLive}
-use Rattle.soundness.specs.PlainCertificates.{PlainVerdictDecidesDesign}
-use Rattle.soundness.specs.PlainCertificates.{TouchesRim, UntimedIsOnTime, IsLiveOnRim, KeepFaultLineMeans, LineMeans}
-use Rattle.soundness.specs.PlainCertificates.{DelayLineMeans, MeetLineMeans, PlainReportLinesHaveMeaning}
-use Rattle.soundness.specs.PlainCertificates.{LocalLineMeans}
+use Rattle.soundness.specs.PlainCertificates.{DelayLineMeans, IsLiveOnRim, IsPlainModule, IsWrongDesign}
+use Rattle.soundness.specs.PlainCertificates.{KeepFaultLineMeans, LineMeans, LocalLineMeans, MeetLineMeans}
+use Rattle.soundness.specs.PlainCertificates.{PlainNoMeansWrongOrRimLive, PlainReportLinesHaveMeaning}
+use Rattle.soundness.specs.PlainCertificates.{PlainVerdictDecidesDesign, TouchesRim, UntimedIsOnTime}
 use Rattle.soundness.proofs.KeptGates.{PlaceOf, place_of}
 use Rattle.soundness.proofs.FirstFaults.{correct_meets, real, runs_up_to, seen_fault, stop_by_lines}
 use Rattle.soundness.proofs.FirstFaults.{IsPlacedWire, assigned, first_means, placed_wire}
@@ -115,8 +109,7 @@ same_steps : (c : Circuit) (ss : List StopLine) (m n a b : ℕ) → TakesStepsFr
 same_steps c ss m n a b s t = grind (arith, common_steps)
 
 not_before : (c : Circuit) (ss : List StopLine) (n a b s t : ℕ) → TakesStepsFromLastToFirstStop c ss n a b →
-    IsLastStopTime c ss a s →
-    IsFirstStopTime c ss b t → t < s → ⊥
+    IsLastStopTime c ss a s → IsFirstStopTime c ss b t → t < s → ⊥
 not_before c ss n a b s t takes last first lt = grind (arith, common_steps)
 
 kept_gap : (c : Circuit) (ss : List StopLine) (k n a b : ℕ) (gap : StopGap) → TakesStepsFromLastToFirstStop c ss n a b →
@@ -234,8 +227,7 @@ module _ (lines : List CircuitLine) (p : Pattern) (m : ModuleLines) (jobs : List
       record {
         at = at;
         first = only_number m k.0 n k.1;
-        is = subst (λ k. IsJobOf c p k j)
-            (sym (only_module m k.0 n k.1)) (b.are_jobs.each n k.0 j k.1 at);
+        is = subst (λ k. IsJobOf c p k j) (sym (only_module m k.0 n k.1)) (b.are_jobs.each n k.0 j k.1 at);
       }
 
   -- every assignment is that of some values of the inputs
@@ -301,8 +293,7 @@ module _ (lines : List CircuitLine) (p : Pattern) (m : ModuleLines) (jobs : List
   no_border n f fault = grind (arith, common_steps, only_module, halo_parts)
 
   edge_of : (j : JobView) (u : Valuation) (t : ℕ) (kind : Kind) (x y : ℤ) → kind ≡ Edge →
-      IsFaultUnderValues j u t kind x y →
-      IsEdgeFault j u t x y
+      IsFaultUnderValues j u t kind x y → IsEdgeFault j u t x y
   edge_of j u t kind x y h1 h2 = grind (arith, common_steps)
 
   good : (inputs v : Valuation) (t : ℕ) → ¬ TouchesRim lines p → Satisfies (netlist_of lines) inputs v →
@@ -432,9 +423,8 @@ module _ (lines : List CircuitLine) (p : Pattern) (m : ModuleLines) (jobs : List
       h))
 
   its_first : (f : Fault) (j : JobView) (v : Valuation) → IsItsJob 0 j → IsFault j f →
-      ((g : Fault) → IsFault j g → fault_cmp f g ≢ Greater) →
-      Satisfies (netlist_of lines) (its_inputs f.assignment) v → IsFirstFault lines p (m ∷ []) jobs
-      (its_inputs f.assignment) v 0 m f
+      ((g : Fault) → IsFault j g → fault_cmp f g ≢ Greater) → Satisfies (netlist_of lines) (its_inputs f.assignment) v →
+      IsFirstFault lines p (m ∷ []) jobs (its_inputs f.assignment) v 0 m f
   its_first f j v it fault least s = record {
     bundle = b;
     lines_are = refl;
@@ -591,8 +581,7 @@ plain_decides lines p m jobs named ports b plain = (
       let all : IsAcceptedBundle lines p (m ∷ []) jobs = record { bundle = b; accepted = is } in (
         correct lines p (m ∷ []) jobs named ports all,
         on_time lines p (m ∷ []) jobs named all,
-        off_rim lines p
-            (m ∷ []) jobs named b is,
+        off_rim lines p (m ∷ []) jobs named b is,
       )),
   (λ is.
       accepts lines p m jobs named b plain (no_fault lines p m jobs named b plain is.0 is.1.stops is.2)

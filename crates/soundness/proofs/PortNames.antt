@@ -37,14 +37,12 @@ ports_known names (q ∷ ports) n all h = elim (cases_Bool (bytes_eq n q.name)) 
 -- ---- the lines that have a name
 
 none_in : {X : Type 0} (f : LayoutLine → Bool) (make : X → LayoutLine) → ((x : X) → f (make x) ≡ false) →
-    (xs : List X) →
-    list_any f (map make xs) ≡ false
+    (xs : List X) → list_any f (map make xs) ≡ false
 none_in f make never [] = refl
 none_in f make never (x ∷ xs) = ap₂ (λ a b. a || b) (never x) (none_in f make never xs)
 
 all_in : (f : LayoutLine → Bool) (make : Port → LayoutLine) (n : List ℕ) →
-    ((q : Port) → f (make q) ≡ bytes_eq n q.name) →
-    (ports : List Port) →
+    ((q : Port) → f (make q) ≡ bytes_eq n q.name) → (ports : List Port) →
     list_any f (map make ports) ≡ has (map (λ q. q.name) ports) n
 all_in f make n same [] = refl
 all_in f make n same (q ∷ ports) = ap₂ (λ a b. a || b) (same q) (all_in f make n same ports)

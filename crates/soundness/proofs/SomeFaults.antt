@@ -1,16 +1,15 @@
 -- A job has a least fault or none, and so for keep faults and border faults
 use Rattle.lemmas.proofs.Common.{common_steps}
 use Rattle.soundness.proofs.Imports.{AreGatesOrdered, Bool, BorderFault, Box2, Cell, Demand, Edge, End, Fault}
-use Rattle.soundness.proofs.Imports.{IsBorderFault}
-use Rattle.soundness.proofs.Imports.{IsFault, IsFaultUnderValues, IsJob, IsKeepFault, IsLeastBorderFault, IsLeastFault}
-use Rattle.soundness.proofs.Imports.{IsLeastKeepFault, IsTrue, JobView, KeepFault, Kind, List, MeetsDemand, ModuleLines}
-use Rattle.soundness.proofs.Imports.{None, Option, Setting, Some, Stop, Valuation, [], ap, arith, as_values}
-use Rattle.soundness.proofs.Imports.{assignments, bit, border_fault_cmp, box_place, decided, edge_signal, fault_cmp}
-use Rattle.soundness.proofs.Imports.{flat_map}
-use Rattle.soundness.proofs.Imports.{get_or_from_slice_get, halo_signal, in_box, in_halo, in_ring, inl, inr, is_among}
-use Rattle.soundness.proofs.Imports.{is_live, job_demand, local_run, map, range_with_len, rectangle_cells, refl}
-use Rattle.soundness.proofs.Imports.{signal_at, slice_get, slice_get-get_or, slice_get_within, subst, true}
-use Rattle.soundness.proofs.Imports.{undefined_has_none, whole, ℕ, ℤ, ∥∥₁_elim, ◌%◌, ◌+◌, ◌<◌, ◌∙◌, ◌∷◌, ◌≡◌, ◌≢◌, ◌⊎◌}
+use Rattle.soundness.proofs.Imports.{IsBorderFault, IsFault, IsFaultUnderValues, IsJob, IsKeepFault, IsLeastBorderFault}
+use Rattle.soundness.proofs.Imports.{IsLeastFault, IsLeastKeepFault, IsTrue, JobView, KeepFault, Kind, List}
+use Rattle.soundness.proofs.Imports.{MeetsDemand, ModuleLines, None, Option, Setting, Some, Stop, Valuation, [], ap}
+use Rattle.soundness.proofs.Imports.{arith, as_values, assignments, bit, border_fault_cmp, box_place, decided}
+use Rattle.soundness.proofs.Imports.{edge_signal, fault_cmp, flat_map, get_or_from_slice_get, halo_signal, in_box}
+use Rattle.soundness.proofs.Imports.{in_halo, in_ring, inl, inr, is_among, is_live, job_demand, local_run, map}
+use Rattle.soundness.proofs.Imports.{range_with_len, rectangle_cells, refl, signal_at, slice_get, slice_get-get_or}
+use Rattle.soundness.proofs.Imports.{slice_get_within, subst, true, undefined_has_none, whole, ℕ, ℤ, ∥∥₁_elim, ◌%◌, ◌+◌}
+use Rattle.soundness.proofs.Imports.{◌<◌, ◌∙◌, ◌∷◌, ◌≡◌, ◌≢◌, ◌⊎◌}
 use Rattle.circuit.proofs.Undefined.{stopped, undefined_is_one}
 use Rattle.module_box.specs.LocalValues.{IsFirstLocalGateWithoutRow}
 use Rattle.certificate_lines.proofs.LineOrder.{In, flat_in}

@@ -1,11 +1,10 @@
 -- A module has a job, which is computed from its lines
-use Rattle.lemmas.proofs.Common.{common_steps}
+use Rattle.lemmas.proofs.Common.{common_steps, get_or_at, length_push, take_all}
 use Rattle.soundness.proofs.Imports.{All, All-cons, All-head, All-nil, All-tail, AreGatesOrdered, AreJobsOf}
-use Rattle.soundness.proofs.Imports.{AreLocalsOf}
-use Rattle.soundness.proofs.Imports.{Bool, Cell, Circuit, CircuitLine, Demand, Each, Gate, IfSome, IsDemandWireBelow}
-use Rattle.soundness.proofs.Imports.{IsJobOf, IsModule, IsSignalWireBelow, IsTrue, JobView, List, LocalNet, ModuleLines}
-use Rattle.soundness.proofs.Imports.{Netlist, None, One, Option, Pattern, Signal, Some, StopLine, Zero, [], ap}
-use Rattle.soundness.proofs.Imports.{append-nil, append_assoc, ap₂, arith, circuit_of, cut_wires, defines}
+use Rattle.soundness.proofs.Imports.{AreLocalsOf, Bool, Cell, Circuit, CircuitLine, Demand, Each, Gate, IfSome}
+use Rattle.soundness.proofs.Imports.{IsDemandWireBelow, IsJobOf, IsModule, IsSignalWireBelow, IsTrue, JobView, List}
+use Rattle.soundness.proofs.Imports.{LocalNet, ModuleLines, Netlist, None, One, Option, Pattern, Signal, Some, StopLine}
+use Rattle.soundness.proofs.Imports.{Zero, [], ap, append-nil, append_assoc, ap₂, arith, circuit_of, cut_wires, defines}
 use Rattle.soundness.proofs.Imports.{demand_outside_mirrors, edges, end_demand, false, flat_map, get_or, halos}
 use Rattle.soundness.proofs.Imports.{if◌then◌else◌, in_box, in_cells, in_rectangles, is_among, is_local, is_local_wire}
 use Rattle.soundness.proofs.Imports.{keeps, known, length, length-append, length-map, line_signals, map, netlist_of}
@@ -14,7 +13,6 @@ use Rattle.soundness.proofs.Imports.{renumber_demand, renumber_signal, renumber_
 use Rattle.soundness.proofs.Imports.{slice_get-map, slice_index, start_signal, stop_with_wire_number, stops}
 use Rattle.soundness.proofs.Imports.{stops_of_lines, subst, suc, sym, true, wire_of, wire_of_optional_name}
 use Rattle.soundness.proofs.Imports.{wire_or_dead, wire_or_zero, wires, ℕ, ℤ, ◌++◌, ◌<◌, ◌||◌, ◌∙◌, ◌∷◌, ◌≡◌}
-use Rattle.lemmas.proofs.Common.{get_or_at, length_push, take_all}
 use Rattle.module_box.specs.Locals.{AreLocalLines, local_wires}
 use Rattle.module_box.proofs.LocalNets.{IsOver, IsPart, next_known, part_all, part_more, part_none}
 use Rattle.certificate_lines.specs.Entries.{gates}

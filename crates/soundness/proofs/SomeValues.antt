@@ -1,9 +1,8 @@
 -- Ordered gates have values, or there is a first gate that has no row
 use Rattle.soundness.proofs.Imports.{AreGatesOrdered, Bool, List, Netlist, None, Option, Some, Valuation, arith}
-use Rattle.soundness.proofs.Imports.{as_values}
-use Rattle.soundness.proofs.Imports.{evaluated, false, get_or-map-range_with_len, inl, inr, length, length-map}
-use Rattle.soundness.proofs.Imports.{length-range_with_len, map, range_with_len, refl, subst, sym, ℕ, ◌<◌, ◌∙◌, ◌≡◌}
-use Rattle.soundness.proofs.Imports.{◌⊎◌}
+use Rattle.soundness.proofs.Imports.{as_values, evaluated, false, get_or-map-range_with_len, inl, inr, length}
+use Rattle.soundness.proofs.Imports.{length-map, length-range_with_len, map, range_with_len, refl, subst, sym, ℕ, ◌<◌}
+use Rattle.soundness.proofs.Imports.{◌∙◌, ◌≡◌, ◌⊎◌}
 use Rattle.circuit.specs.Bridge.{AreWireValues, ValuesStopAt}
 use Rattle.circuit.specs.Evaluate.{first_undefined_gate}
 use Rattle.circuit.proofs.Undefined.{all_evaluated, stops, up_to}

@@ -1,19 +1,15 @@
 -- The modules of a certificate have jobs and a verdict
 use Rattle.soundness.proofs.Imports.{AreGatesOrdered, AreJobsOf, AreLeastFaultsOfJob, AreModules, Bool, BorderFault}
-use Rattle.soundness.proofs.Imports.{Box2}
-use Rattle.soundness.proofs.Imports.{CircuitLine, Gate, IsEvenBox, IsJob, IsJobOf, IsLeastBorderFault, IsModule}
-use Rattle.soundness.proofs.Imports.{IsVerdict}
-use Rattle.soundness.proofs.Imports.{JobView, LeastFaults, List, ModuleLines, None, Option, Pattern, ReportLine}
-use Rattle.soundness.proofs.Imports.{Setting, Some, TimeLine, Yes, [], ap, append-nil, append_assoc}
-use Rattle.soundness.proofs.Imports.{are_all_timings_obeyed}
-use Rattle.soundness.proofs.Imports.{arith, circuit_of, common_steps, cond, defined, delay_and_meet_lines, false}
-use Rattle.soundness.proofs.Imports.{get_or, in_box, inl, inr, is_inverse, is_kept, length, length-append, length-map}
-use Rattle.soundness.proofs.Imports.{map, nat_lt, nat_tests, netlist_of, not, option_map, option_to_list, refl}
-use Rattle.soundness.proofs.Imports.{renumber_keep, report_lines_from, setting_of, size_fault, slice_get}
-use Rattle.soundness.proofs.Imports.{slice_get_within, stops, stops_stand, subst, suc, sym, time_lines_of_gates}
-use Rattle.soundness.proofs.Imports.{timing_report_line, true, unkept_gates_from, unkept_lines, zero, ℕ, ◌&&◌, ◌*◌}
-use Rattle.soundness.proofs.Imports.{◌++◌, ◌+◌}
-use Rattle.soundness.proofs.Imports.{◌<◌, ◌||◌, ◌∙◌, ◌∷◌, ◌≡◌, ◌≤◌}
+use Rattle.soundness.proofs.Imports.{Box2, CircuitLine, Gate, IsEvenBox, IsJob, IsJobOf, IsLeastBorderFault, IsModule}
+use Rattle.soundness.proofs.Imports.{IsVerdict, JobView, LeastFaults, List, ModuleLines, None, Option, Pattern}
+use Rattle.soundness.proofs.Imports.{ReportLine, Setting, Some, TimeLine, Yes, [], ap, append-nil, append_assoc}
+use Rattle.soundness.proofs.Imports.{are_all_timings_obeyed, arith, circuit_of, common_steps, cond, defined}
+use Rattle.soundness.proofs.Imports.{delay_and_meet_lines, false, get_or, in_box, inl, inr, is_inverse, is_kept, length}
+use Rattle.soundness.proofs.Imports.{length-append, length-map, map, nat_lt, nat_tests, netlist_of, not, option_map}
+use Rattle.soundness.proofs.Imports.{option_to_list, refl, renumber_keep, report_lines_from, setting_of, size_fault}
+use Rattle.soundness.proofs.Imports.{slice_get, slice_get_within, stops, stops_stand, subst, suc, sym}
+use Rattle.soundness.proofs.Imports.{time_lines_of_gates, timing_report_line, true, unkept_gates_from, unkept_lines}
+use Rattle.soundness.proofs.Imports.{zero, ℕ, ◌&&◌, ◌*◌, ◌++◌, ◌+◌, ◌<◌, ◌||◌, ◌∙◌, ◌∷◌, ◌≡◌, ◌≤◌}
 use Rattle.lemmas.proofs.Common.{◌^◌, Global, Vec, nat_le}
 use Rattle.circuit.specs.Bridge.{AreGoodCircuitLines, AreGoodAfter}
 use Rattle.circuit.specs.Rules.{limit_or_name_code, gate_count, is_gate, is_wrong_delay, exceeds_largest_limit}
@@ -177,8 +173,7 @@ all_borders g ms (suc count) n =
 -- ---- a job of a module is a good one
 
 job_good : (lines : List CircuitLine) (p : Pattern) (m : ModuleLines) (j : JobView) → size_fault p.size ≡ None →
-    IsModule (setting_of lines p) m →
-    IsJobOf (circuit_of lines) p m j → IsJob j
+    IsModule (setting_of lines p) m → IsJobOf (circuit_of lines) p m j → IsJob j
 job_good lines p m j limits own is =
     let c = circuit_of lines in
     let fits = within_512 (setting_of lines p) m p.size refl limits own in

@@ -3,18 +3,17 @@
 -- Each job is run under each assignment, and the borders are compared at each odd time.
 use Rattle.soundness.proofs.Imports.{Accepts, AreGatesOrdered, AreJobsOf, AreModules, Bool, BorderFault, Box2, Cell}
 use Rattle.soundness.proofs.Imports.{CircuitLine, Demand, Edge, End, Fault, Gate, IsBorderFault, IsFault}
-use Rattle.soundness.proofs.Imports.{IsFaultUnderValues}
-use Rattle.soundness.proofs.Imports.{IsJob, IsKeepFault, IsTrue, JobView, KeepFault, Kind, List, MeetsDemand}
-use Rattle.soundness.proofs.Imports.{ModuleLines, None, Option, Pattern, Setting, Some, Stop, Valuation, [], and_parts}
-use Rattle.soundness.proofs.Imports.{ap, are_all_timings_obeyed, arith, as_values, assignments, bit, box_place}
-use Rattle.soundness.proofs.Imports.{circuit_of}
-use Rattle.soundness.proofs.Imports.{common_steps, decided, delay_and_meet_lines, edge_signal, evaluate, evaluated}
-use Rattle.soundness.proofs.Imports.{false, false≢true, get_or-map-range_with_len, halo_signal, in_box, in_halo}
-use Rattle.soundness.proofs.Imports.{in_ring, is_inverse, is_kept, is_live, job_demand, length, length-map}
-use Rattle.soundness.proofs.Imports.{length-range_with_len, list_all, local_run, map, not, place_in, range_with_len}
-use Rattle.soundness.proofs.Imports.{rectangle_cells, refl, setting_of, signal_at, size_fault, slice_get}
-use Rattle.soundness.proofs.Imports.{slice_get-get_or, slice_get_within, subst, suc, sym, true, undefined_has_none}
-use Rattle.soundness.proofs.Imports.{whole, zero, ℕ, ℤ, ∥∥₁_elim, ◌%◌, ◌&&◌, ◌*◌, ◌+◌, ◌/◌, ◌<◌, ◌||◌, ◌∙◌, ◌∷◌, ◌≡◌}
+use Rattle.soundness.proofs.Imports.{IsFaultUnderValues, IsJob, IsKeepFault, IsTrue, JobView, KeepFault, Kind, List}
+use Rattle.soundness.proofs.Imports.{MeetsDemand, ModuleLines, None, Option, Pattern, Setting, Some, Stop, Valuation}
+use Rattle.soundness.proofs.Imports.{[], and_parts, ap, are_all_timings_obeyed, arith, as_values, assignments, bit}
+use Rattle.soundness.proofs.Imports.{box_place, circuit_of, common_steps, decided, delay_and_meet_lines, edge_signal}
+use Rattle.soundness.proofs.Imports.{evaluate, evaluated, false, false≢true, get_or-map-range_with_len, halo_signal}
+use Rattle.soundness.proofs.Imports.{in_box, in_halo, in_ring, is_inverse, is_kept, is_live, job_demand, length}
+use Rattle.soundness.proofs.Imports.{length-map, length-range_with_len, list_all, local_run, map, not, place_in}
+use Rattle.soundness.proofs.Imports.{range_with_len, rectangle_cells, refl, setting_of, signal_at, size_fault}
+use Rattle.soundness.proofs.Imports.{slice_get, slice_get-get_or, slice_get_within, subst, suc, sym, true}
+use Rattle.soundness.proofs.Imports.{undefined_has_none, whole, zero, ℕ, ℤ, ∥∥₁_elim, ◌%◌, ◌&&◌, ◌*◌, ◌+◌, ◌/◌, ◌<◌}
+use Rattle.soundness.proofs.Imports.{◌||◌, ◌∙◌, ◌∷◌, ◌≡◌}
 use Rattle.lemmas.proofs.Common.{beq, booleans_Decides, get_or-range_with_len}
 use Rattle.module_box.specs.Equality.{same_signal}
 use Rattle.module_box.specs.LocalValues.{IsLocalValuation}
@@ -52,8 +51,7 @@ range_at n a k lt = slice_get-get_or (range_with_len a n) k 0 (omega (arith, lt,
 
 -- a test that all numbers below n pass
 pub all_below : (test : ℕ → Bool) (n k : ℕ) → list_all test (range_with_len 0 n) ≡ true → k < n → test k ≡ true
-all_below test n k all lt =
-    all_at test (range_with_len 0 n) k k all (range_at n 0 k lt ∙ ap Some (omega arith))
+all_below test n k all lt = all_at test (range_with_len 0 n) k k all (range_at n 0 k lt ∙ ap Some (omega arith))
 
 -- the odd times before the last one
 abbrev pub at_odd_times : ℕ → (ℕ → Bool) → Bool
@@ -143,8 +141,7 @@ no_fault_under : (j : JobView) (u : Valuation) (t : ℕ) (kind : Kind) (x y : �
 no_fault_under j u t Edge x y is p f =
     f.differs ((booleans_Decides _ _).0 (implied (in_ring j.area x y) _
     (at_every j.area _ (p.edges t f.odd f.early) x y (ring_in_box j.area x y f.ring)) f.ring))
-no_fault_under j u t Stop x y is p f =
-    grind (arith, common_steps, slice_get-get_or, all_at)
+no_fault_under j u t Stop x y is p f = grind (arith, common_steps, slice_get-get_or, all_at)
 no_fault_under j u t End x y is p f =
     f.differs (subst (λ n. MeetsDemand u (job_demand j x y) (local_run j u n x y)) (sym f.last)
     (meets_is u _ _ (at_every j.area _ p.end x y f.inside)))

@@ -1,19 +1,16 @@
 -- The run of the whole plane is that of the jobs
 use Rattle.soundness.proofs.Imports.{All, BelongTogether, Bool, CircuitLine, Contains, Demand, Fault, HasGoodBorders}
-use Rattle.soundness.proofs.Imports.{HasInputNames, IsAcceptedBundle, IsAssignmentOf, IsFault, IsFaultUnderValues}
-use Rattle.soundness.proofs.Imports.{IsJobOf}
-use Rattle.soundness.proofs.Imports.{IsAllowedStop, IsRunOfJobs, JobView, Kind, List, LooksAsAsked, MeetsDemand}
-use Rattle.soundness.proofs.Imports.{ModuleLines}
-use Rattle.soundness.proofs.Imports.{Pattern, Satisfies, Some, State, StopHolds, StopLine, Valuation, and_parts, ap}
-use Rattle.soundness.proofs.Imports.{arith, cases_Bool, choices_are_assignments, circuit_of, circuit_wire, common_steps}
-use Rattle.soundness.proofs.Imports.{end_demand, false, false≢true, halo_parts, in_box, in_halo, in_ring, inl, inr}
-use Rattle.soundness.proofs.Imports.{is_live, job_demand, known, local_run, local_values_agree_with_circuit, netlist_of}
-use Rattle.soundness.proofs.Imports.{not}
-use Rattle.soundness.proofs.Imports.{option_map_or, refl, renumber_stop, run, run_under, setting_of, signal_at}
-use Rattle.soundness.proofs.Imports.{has_neighbour_in_set, slice_get, slice_get-get_or, slice_get_within, some_at, step}
-use Rattle.soundness.proofs.Imports.{stop_with_wire_number, stops, subst, suc, sym, true, true≢false}
-use Rattle.soundness.proofs.Imports.{values_by_local_number, values_by_name, whole, wire_of, with_halo, zero, ℕ, ℤ, ◌%◌}
-use Rattle.soundness.proofs.Imports.{◌&&◌, ◌<◌, ◌∙◌, ◌≡◌, ◌≢◌, ◌≤◌}
+use Rattle.soundness.proofs.Imports.{HasInputNames, IsAcceptedBundle, IsAllowedStop, IsAssignmentOf, IsFault}
+use Rattle.soundness.proofs.Imports.{IsFaultUnderValues, IsJobOf, IsRunOfJobs, JobView, Kind, List, LooksAsAsked}
+use Rattle.soundness.proofs.Imports.{MeetsDemand, ModuleLines, Pattern, Satisfies, Some, State, StopHolds, StopLine}
+use Rattle.soundness.proofs.Imports.{Valuation, and_parts, ap, arith, cases_Bool, choices_are_assignments, circuit_of}
+use Rattle.soundness.proofs.Imports.{circuit_wire, common_steps, end_demand, false, false≢true, halo_parts}
+use Rattle.soundness.proofs.Imports.{has_neighbour_in_set, in_box, in_halo, in_ring, inl, inr, is_live, job_demand}
+use Rattle.soundness.proofs.Imports.{known, local_run, local_values_agree_with_circuit, netlist_of, not, option_map_or}
+use Rattle.soundness.proofs.Imports.{refl, renumber_stop, run, run_under, setting_of, signal_at, slice_get}
+use Rattle.soundness.proofs.Imports.{slice_get-get_or, slice_get_within, some_at, step, stop_with_wire_number, stops}
+use Rattle.soundness.proofs.Imports.{subst, suc, sym, true, true≢false, values_by_local_number, values_by_name, whole}
+use Rattle.soundness.proofs.Imports.{wire_of, with_halo, zero, ℕ, ℤ, ◌%◌, ◌&&◌, ◌<◌, ◌∙◌, ◌≡◌, ◌≢◌, ◌≤◌}
 use Rattle.lemmas.proofs.Common.{All-contains_itself, not-true, not_from_false}
 use Rattle.bbm_rule.proofs.Steps.{step_dead}
 use Rattle.module_box.specs.Laws.{IsDeadOutsideBox, SameInBox}
@@ -84,10 +81,8 @@ its_assignment j v = let a = choices_are_assignments j.locals.netlist.given (val
 
 -- and under it, where the wires have their values in v, its faults are those of the job
 own_fault : (lines : List CircuitLine) (p : Pattern) (ms : List ModuleLines) (inputs v : Valuation) (i t a : ℕ)
-    (j : JobView)
-    (kind : Kind) (x y : ℤ) → Known lines p ms i j →
-    Satisfies (netlist_of lines) inputs v → IsAssignmentOf j v a →
-    IsFaultUnderValues j (values_by_local_number j.locals v) t kind x y →
+    (j : JobView) (kind : Kind) (x y : ℤ) → Known lines p ms i j → Satisfies (netlist_of lines) inputs v →
+    IsAssignmentOf j v a → IsFaultUnderValues j (values_by_local_number j.locals v) t kind x y →
     IsFault j (fault_at t kind x y a)
 own_fault lines p ms inputs v i t a j kind x y k s is differs =
     let agree = local_values_agree_with_circuit (netlist_of lines) j.locals inputs v a k.is_job.locals s is.bits in
@@ -235,8 +230,7 @@ steps_with_good_borders lines p ms jobs inputs v t b s early right now =
 
 -- where some_at is no fault, borders are good at all times
 pub good_borders : (lines : List CircuitLine) (p : Pattern) (ms : List ModuleLines) (jobs : List JobView)
-    (v : Valuation)
-    (t : ℕ) → HasNoJobOrBorderFault lines p ms jobs → HasGoodBorders lines p ms jobs v t
+    (v : Valuation) (t : ℕ) → HasNoJobOrBorderFault lines p ms jobs → HasGoodBorders lines p ms jobs v t
 good_borders lines p ms jobs v t right =
     record { of_jobs = λ n j f at kind time is. right.of_jobs n j f at; of_modules = λ n f time. right.of_borders n f }
 
@@ -247,8 +241,7 @@ steps lines p ms jobs inputs v t b right s early now =
 -- ---- the end
 
 met : (lines : List CircuitLine) (p : Pattern) (ms : List ModuleLines) (jobs : List JobView) (inputs v : Valuation)
-    (x y : ℤ) →
-    BelongTogether lines p ms jobs → HasNoEndFault jobs → Satisfies (netlist_of lines) inputs v →
+    (x y : ℤ) → BelongTogether lines p ms jobs → HasNoEndFault jobs → Satisfies (netlist_of lines) inputs v →
     IsRunOfJobs lines p jobs v p.size.steps → in_box (whole p.size) x y ≡ true →
     MeetsDemand v (end_demand (circuit_of lines) p x y) (run_under (circuit_of lines) p v p.size.steps x y)
 met lines p ms jobs inputs v x y b right s now h =
@@ -278,9 +271,8 @@ ends lines p ms jobs inputs v b right s now =
 -- ---- all times
 
 all_times : (lines : List CircuitLine) (p : Pattern) (ms : List ModuleLines) (jobs : List JobView)
-    (inputs v : Valuation)
-    (t : ℕ) → IsAcceptedBundle lines p ms jobs →
-    Satisfies (netlist_of lines) inputs v → t ≤ p.size.steps → IsRunOfJobs lines p jobs v t
+    (inputs v : Valuation) (t : ℕ) → IsAcceptedBundle lines p ms jobs → Satisfies (netlist_of lines) inputs v →
+    t ≤ p.size.steps → IsRunOfJobs lines p jobs v t
 all_times lines p ms jobs inputs v zero all s h = starts lines p ms jobs v all.bundle
 all_times lines p ms jobs inputs v (suc t) all s h =
     grind (arith, common_steps, steps, right_of, (all_times lines p ms jobs inputs v t all s (omega arith)))
@@ -372,9 +364,8 @@ module _ (lines : List CircuitLine) (p : Pattern) (ms : List ModuleLines) (jobs 
       (subst (All (IsAsWire j v)) is.stops own) k s at)
 
 stop_holds : (lines : List CircuitLine) (p : Pattern) (ms : List ModuleLines) (jobs : List JobView) →
-    HasInputNames lines p →
-    IsAcceptedBundle lines p ms jobs →
-    (i k : ℕ) (m : ModuleLines) (s : StopLine) → slice_get ms i ≡ Some m → slice_get (stops m) k ≡ Some s →
+    HasInputNames lines p → IsAcceptedBundle lines p ms jobs → (i k : ℕ) (m : ModuleLines) (s : StopLine) →
+    slice_get ms i ≡ Some m → slice_get (stops m) k ≡ Some s →
     IsAllowedStop (setting_of lines p) m.area (known (circuit_of lines) m) s → StopHolds (circuit_of lines) p s
 stop_holds lines p ms jobs named all i k m s at has line inputs v satisfied =
     let set : Faultless lines p ms jobs inputs v =

@@ -1,9 +1,8 @@
 -- From a yes to the whole pattern
 use Rattle.soundness.proofs.Imports.{AreGatesOrdered, AreGoodAfter, AreModules, BelongTogether, IsAcceptedBundle}
-use Rattle.soundness.proofs.Imports.{IsCorrect}
-use Rattle.soundness.proofs.Imports.{IsVerdict, JobView, LayoutHeader, List, None, Some, Yes, [], arith, circuit_of}
-use Rattle.soundness.proofs.Imports.{common_steps, defined, input_names, modules, netlist_of, parts_of, setting}
-use Rattle.soundness.proofs.Imports.{size_fault, take, ◌≡◌}
+use Rattle.soundness.proofs.Imports.{IsCorrect, IsVerdict, JobView, LayoutHeader, List, None, Some, Yes, [], arith}
+use Rattle.soundness.proofs.Imports.{circuit_of, common_steps, defined, input_names, modules, netlist_of, parts_of}
+use Rattle.soundness.proofs.Imports.{setting, size_fault, take, ◌≡◌}
 use Rattle.pattern.specs.Lines.{ArePortsNamed}
 use Rattle.certificate.specs.Grammars.{CertView}
 use Rattle.core_book.specs.Concluding.{AreJobsOfCertificate, port_names_of}
@@ -24,28 +23,23 @@ pub record IsRead (s : CertView) (size : LayoutHeader) : Type 0 where
 
 -- it belongs together with the jobs of its modules
 pub bundle_read : (s : CertView) (size : LayoutHeader) (jobs : List JobView) → IsRead s size →
-    AreJobsOfCertificate s jobs →
-    BelongTogether s.circuit s.layout (modules s) jobs
+    AreJobsOfCertificate s jobs → BelongTogether s.circuit s.layout (modules s) jobs
 bundle_read s size jobs is own = grind (arith, common_steps)
 
 accepted_bundle : (s : CertView) (size : LayoutHeader) (jobs : List JobView) → IsRead s size →
-    AreJobsOfCertificate s jobs →
-    IsVerdict (setting s) (modules s) jobs Yes →
+    AreJobsOfCertificate s jobs → IsVerdict (setting s) (modules s) jobs Yes →
     IsAcceptedBundle s.circuit s.layout (modules s) jobs
 unfolding IsVerdict
 accepted_bundle s size jobs is own accepted = record { bundle = bundle_read s size jobs is own; accepted = accepted }
 
 pub yes_means-correct : (s : CertView) (size : LayoutHeader) (jobs : List JobView) → IsRead s size →
-    AreJobsOfCertificate s jobs →
-    IsVerdict (setting s) (modules s) jobs Yes →
-    IsCorrect s.circuit s.layout
+    AreJobsOfCertificate s jobs → IsVerdict (setting s) (modules s) jobs Yes → IsCorrect s.circuit s.layout
 yes_means-correct s size jobs is own judged =
     correct s.circuit s.layout (modules s) jobs (read_layout-names s.circuit s.layout is.inputs is.named)
     (read_layout-is_named s.circuit s.layout is.named) (accepted_bundle s size jobs is own judged)
 
 pub yes_means-on_time : (s : CertView) (size : LayoutHeader) (jobs : List JobView) → IsRead s size →
-    AreJobsOfCertificate s jobs →
-    IsVerdict (setting s) (modules s) jobs Yes →
+    AreJobsOfCertificate s jobs → IsVerdict (setting s) (modules s) jobs Yes →
     AreStopsTrueAndOnTime (circuit_of s.circuit) s.layout (modules s)
 yes_means-on_time s size jobs is own judged =
     on_time s.circuit s.layout (modules s) jobs (read_layout-names s.circuit s.layout is.inputs is.named)

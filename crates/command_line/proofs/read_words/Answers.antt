@@ -5,7 +5,7 @@ use Rattle.lemmas.proofs.Common.{sym, true, true≢false, option_map_or}
 use Rattle.std.specs.Str.Parse.{ExplainsUnsignedError, HasUnsignedDigitsIfOk, ParsesUnsigned}
 use Rattle.clap.specs.Words.{Row, Text, fault_of, found_of, is_simple, is_simple_and_free, one_text, subcommand_of}
 use Rattle.clap.specs.Words.{subcommand_rows_of}
-use Rattle.command_line.specs.CommandLine.{bbmcheck, number_in, request_named}
+use Rattle.command_line.specs.CommandLine.{bbmcheck_app, number_in, request_named}
 use Rattle.command_line.specs.declared.Request.TheVariants.{Run}
 use Rattle.clap.proofs.OnLiterals.{clap_on_literals}
 use Rattle.clap.proofs.WalkLemmas.{one_text-rows}
@@ -13,11 +13,11 @@ use Rattle.command_line.proofs.WorkersRead.{asked_in_range, name_by_rows, no_tex
 use Rattle.command_line.proofs.read_words.Goals.{in-Some, in-None}
 use Rattle.command_line.proofs.read_words.Goals as goal
 
-is_free : is_simple_and_free bbmcheck ≡ true
+is_free : is_simple_and_free bbmcheck_app ≡ true
 unfolding clap_on_literals
 is_free = refl
 
-simple : is_simple bbmcheck ≡ true
+simple : is_simple bbmcheck_app ≡ true
 unfolding clap_on_literals
 simple = refl
 
@@ -35,17 +35,17 @@ by_name (Some p) name same = rw same refl
 pub returns-clause-request : goal.returns-clause-request
 returns-clause-request c =
     let words = map (λ s. s.now) c.args.words.now in
-    let met : subcommand_rows_of c.in-Ok.matches ≡ subcommand_of bbmcheck words =
+    let met : subcommand_rows_of c.in-Ok.matches ≡ subcommand_of bbmcheck_app words =
     (c.in-Ok.ensures.matches (ap is_simple c.in_ok-command.ensures ∙ simple)).1
     ∙ ap₂ subcommand_of c.in_ok-command.ensures refl in
     let name = c.subcommand_name.ensures ∙ name_by_rows c.in-Ok.matches ∙ ap (option_map (λ p. p.0)) met in
-    rw (← by_name (subcommand_of bbmcheck words) _ name) (search rules)
+    rw (← by_name (subcommand_of bbmcheck_app words) _ name) (search rules)
 
 pub returns-clause-number : goal.returns-clause-number
 returns-clause-number c =
     let words = map (λ s. s.now) c.args.words.now in
-    let none : fault_of bbmcheck words ≡ [] = returns-clause-fails c in
-    let met : subcommand_rows_of c.in-Ok.matches ≡ subcommand_of bbmcheck words =
+    let none : fault_of bbmcheck_app words ≡ [] = returns-clause-fails c in
+    let met : subcommand_rows_of c.in-Ok.matches ≡ subcommand_of bbmcheck_app words =
     (c.in-Ok.ensures.matches (ap is_simple c.in_ok-command.ensures ∙ simple)).1
     ∙ ap₂ subcommand_of c.in_ok-command.ensures refl in
     let name = sym (name_by_rows c.in-Ok.matches) in

@@ -1,6 +1,5 @@
 -- The lines of the circuit and of the layout as they are, and those of the certificate that stay.
-use Rattle.lemmas.proofs.Common.{List, ap, ap₂, append_assoc, drop, flat_map, refl, sym, take_rest, ◌++◌, ◌∙◌}
-use Rattle.lemmas.proofs.Common.{◌≡◌}
+use Rattle.lemmas.proofs.Common.{List, ap, append_assoc, ap₂, drop, flat_map, refl, sym, take_rest, ◌++◌, ◌∙◌, ◌≡◌}
 use Rattle.section_text.specs.Section.{with_line_feed}
 use Rattle.section_text.specs.Words.{lines_of}
 use Rattle.section_text.specs.declared.section.Form.TheVariants.{End, Header}
@@ -14,8 +13,7 @@ use Rattle.answers.specs.MigrateText.{bundle_text, certificate_section_text, lay
 use Rattle.answers.proofs.KeptLines.{header_line, section_kept}
 use Rattle.answers.proofs.migration.migrate.Goals as goal
 
-joined : (b : Bundle) →
-    (circuit_text b.circuit ++ layout_section_text b.size b.parts)
+joined : (b : Bundle) → (circuit_text b.circuit ++ layout_section_text b.size b.parts)
     ++ (form_text (Header 2) ++ flat_map entry_text (without_halo_lines b.entries) ++ form_text End) ≡ migrate_of b
 unfolding bundle_text certificate_section_text
 joined b = refl

@@ -1,5 +1,4 @@
-use Rattle.bbm_rule.proofs.Imports.{arith, cell_at, get_or, trailing_zeros, true, w64, ◌%◌, ◌*◌, ◌+◌, ◌/◌}
-use Rattle.bbm_rule.proofs.Imports.{◌^◌, ◌≡◌}
+use Rattle.bbm_rule.proofs.Imports.{arith, cell_at, get_or, trailing_zeros, true, w64, ◌%◌, ◌*◌, ◌+◌, ◌/◌, ◌^◌, ◌≡◌}
 use Rattle.lemmas.proofs.Common.{subst}
 use Rattle.bbm_rule.proofs.MarkLemmas.{first_marked, none_in_word, whole_marked}
 use Rattle.bbm_rule.proofs.marks.next_marked.Goals as goal

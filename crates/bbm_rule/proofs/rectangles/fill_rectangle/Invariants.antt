@@ -7,6 +7,5 @@ use Rattle.bbm_rule.proofs.rectangles.fill_rectangle.Given as goal
 abbrev pub invariant-loop-y : goal.invariant-loop-y
 invariant-loop-y l = record {
   size : HasSameSize l.fn.grid l.grid;
-  filled : (x y : ℤ) → live l.grid x y
-      ≡ (live l.fn.grid x y || in_area l.r.x l.r.y l.r.w (l.y - l.r.y) x y);
+  filled : (x y : ℤ) → live l.grid x y ≡ (live l.fn.grid x y || in_area l.r.x l.r.y l.r.w (l.y - l.r.y) x y);
 }

@@ -1,7 +1,6 @@
 use Rattle.border_match.proofs.Imports.{IsBorderFaultOfJob, IsLeastBorderFault, IsLeastCandidate, IsOwnerTableOfJobs}
-use Rattle.border_match.proofs.Imports.{LayoutHeader}
-use Rattle.border_match.proofs.Imports.{Some, ap, arc_value, arith, common_steps, map, modules_in, setting_of}
-use Rattle.border_match.proofs.Imports.{slice_get, subst, sym, whole, ◌∙◌, ◌≡◌}
+use Rattle.border_match.proofs.Imports.{LayoutHeader, Some, ap, arc_value, arith, common_steps, map, modules_in}
+use Rattle.border_match.proofs.Imports.{setting_of, slice_get, subst, sym, whole, ◌∙◌, ◌≡◌}
 use Rattle.lemmas.proofs.Common.{Err, IfOk, Ok, Result}
 use Rattle.module_box.specs.Tiling.{IsTilingOwnerTable}
 use Rattle.certificate_lines.specs.Entries.{modules_of}
@@ -30,7 +29,7 @@ least_fault-requires-clause-borders_ready c =
     let are = subst (IsTilingOwnerTable o)
     (sym (meant_areas s.version (setting_of s.circuit s.layout) (modules_of s.entries)))
     owners.owners in
-    let good = c.modules-count.ensures.good in
+    let good = c.modules-count.ensures.valid.good in
     let got : slice_get js c.loop-job.job-index ≡ Some c.deref.result.now =
     job_at arc_value c.args.jobs.now c.loop-job.job-index _ c.deref.result.now c.loop-job-test.true
     (c.deref.ensures ∙ ap arc_value c.job-item.is) in (
@@ -50,7 +49,7 @@ loop-job-preserved c =
     let are = subst (IsTilingOwnerTable o)
     (sym (meant_areas s.version (setting_of s.circuit s.layout) (modules_of s.entries)))
     owners.owners in
-    let good = c.modules-count.ensures.good in
+    let good = c.modules-count.ensures.valid.good in
     let got : slice_get js c.loop-job.job-index ≡ Some c.deref.result.now =
     job_at arc_value c.args.jobs.now c.loop-job.job-index _ c.deref.result.now c.loop-job-test.true
     (c.deref.ensures ∙ ap arc_value c.job-item.is) in

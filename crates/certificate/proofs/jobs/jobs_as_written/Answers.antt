@@ -1,7 +1,6 @@
-use Rattle.certificate.proofs.Imports.{IsGoodModule, IsJobOf, ap, arc_value, arith, circuit_of, length-map, map}
-use Rattle.certificate.proofs.Imports.{all_module_lines, map-append, mapped_at, module_lines, module_lines_with, subst}
-use Rattle.certificate.proofs.Imports.{sym}
-use Rattle.certificate.proofs.Imports.{◌+◌, ◌∙◌}
+use Rattle.certificate.proofs.Imports.{IsGoodModule, IsJobOf, all_module_lines, ap, arc_value, arith, circuit_of}
+use Rattle.certificate.proofs.Imports.{length-map, map, map-append, mapped_at, module_lines, module_lines_with, subst}
+use Rattle.certificate.proofs.Imports.{sym, ◌+◌, ◌∙◌}
 use Rattle.lemmas.proofs.Common.{map-id}
 use Rattle.certificate.specs.Jobs.{AreJobsOf}
 use Rattle.certificate.proofs.JobsSoFar.{PartJobs, element_at, good_at, one_part_more, parts_done}

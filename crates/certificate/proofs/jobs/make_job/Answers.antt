@@ -1,11 +1,10 @@
-use Rattle.certificate.proofs.Imports.{All, AreStopsOfLines, Box2, Demand, IsCellInShiftRange, IsJobOf, List}
-use Rattle.certificate.proofs.Imports.{ModuleLines, Netlist}
-use Rattle.certificate.proofs.Imports.{Signal, Signals, StoredBorder, StoredStop, ap, arc_value, arith, cell_at}
-use Rattle.certificate.proofs.Imports.{circuit_of, common_steps, edges, get_or, halos, in_box, is_among, keeps, length}
-use Rattle.certificate.proofs.Imports.{map, module_lines_with, netlist_of, refl, setting_of, stops, stops_in_plane}
-use Rattle.certificate.proofs.Imports.{subst, sym, true, AreLocalLines, IsTrue, HasLocalWire, AreBorderLinesRising}
-use Rattle.certificate.proofs.Imports.{gates}
-use Rattle.certificate.proofs.Imports.{stored_signals, stored_stop, IsWithinMaxSize, ℕ, ◌<◌, ◌∙◌, ◌≡◌, ◌≤◌, CircuitLine}
+use Rattle.certificate.proofs.Imports.{All, AreBorderLinesRising, AreLocalLines, AreStopsOfLines, Box2, CircuitLine}
+use Rattle.certificate.proofs.Imports.{Demand, HasLocalWire, IsCellInShiftRange, IsJobOf, IsTrue, IsWithinMaxSize, List}
+use Rattle.certificate.proofs.Imports.{ModuleLines, Netlist, Signal, Signals, StoredBorder, StoredStop, ap, arc_value}
+use Rattle.certificate.proofs.Imports.{arith, cell_at, circuit_of, common_steps, edges, gates, get_or, halos, in_box}
+use Rattle.certificate.proofs.Imports.{is_among, keeps, length, map, module_lines_with, netlist_of, refl, setting_of}
+use Rattle.certificate.proofs.Imports.{stops, stops_in_plane, stored_signals, stored_stop, subst, sym, true, ℕ, ◌<◌}
+use Rattle.certificate.proofs.Imports.{◌∙◌, ◌≡◌, ◌≤◌}
 use Rattle.lemmas.proofs.Common.{slice_index}
 use Rattle.module_box.specs.Locals.{AreLocalsOf}
 use Rattle.module_job.specs.Jobs.{IsJob}
@@ -87,8 +86,7 @@ schedule_from_corner-requires-clause-corner c =
     c.size-size.ensures.limits
 
 pub schedule_from_corner-requires-2-clause-order : goal.schedule_from_corner-requires-2-clause-order
-schedule_from_corner-requires-2-clause-order c =
-    halos_rising c.requires
+schedule_from_corner-requires-2-clause-order c = halos_rising c.requires
 
 pub schedule_from_corner-requires-2-clause-local : goal.schedule_from_corner-requires-2-clause-local
 schedule_from_corner-requires-2-clause-local c =
@@ -154,8 +152,7 @@ invariant_of-job c =
     let gates_are = c.into_parts-wiring.ensures.gates in
     let placed_stops = stops_in_plane area c.in_ok-stops.stops.items in
     let are_stops : AreStopsOfLines (circuit_of p.circuit) l (stops m) placed_stops = record {
-      same = c.in_ok-stops.ensures.same_stops ∙ ap (map stored_stop) c.deref-6.ensures.value
-          ∙ stops_say c.requires;
+      same = c.in_ok-stops.ensures.same_stops ∙ ap (map stored_stop) c.deref-6.ensures.value ∙ stops_say c.requires;
       own = c.in_ok-stops.ensures.own_wires;
     } in
     let job : IsJob (job_of_shape area.x area.y l.circuit_wires l.circuit_gates s) = record {
@@ -205,8 +202,7 @@ returns c =
       area = refl;
       steps = ap (λ s. s.steps) (c.size-size.ensures.size ∙ ap (λ q. q.size) c.layout.ensures);
       locals = subst (λ ls. AreLocalsOf (netlist_of ls) l) c.circuit.ensures c.in_ok-locals.ensures.locals;
-      cut = c.in_ok-locals.ensures.cuts_given ∙ ap length c.deref-3.ensures.value
-          ∙ cut_count c.requires;
+      cut = c.in_ok-locals.ensures.cuts_given ∙ ap length c.deref-3.ensures.value ∙ cut_count c.requires;
       wires = (known_wires c.requires c.circuit.ensures c.deref-3.ensures.value
           c.deref-4.ensures.value c.in_ok-locals.ensures.wires);
       used = used;
@@ -214,13 +210,10 @@ returns c =
       demand_count = c.in_ok-starts.ensures.demands_count;
       start = start_found (circuit_of p.circuit) p.layout area j refl c.in_ok-starts.ensures.starts;
       demand = demand_found (circuit_of p.circuit) p.layout area j refl c.in_ok-starts.ensures.demands;
-      edges = c.in_ok-edges.ensures.same_signals ∙ ap stored_signals c.deref-5.ensures.value
-          ∙ edges_say c.requires;
-      halos = c.in_ok-halos.ensures.same_signals
-          ∙ halos_say c.requires;
+      edges = c.in_ok-edges.ensures.same_signals ∙ ap stored_signals c.deref-5.ensures.value ∙ edges_say c.requires;
+      halos = c.in_ok-halos.ensures.same_signals ∙ halos_say c.requires;
       own = grind (arith, common_steps);
-      stops = c.in_ok-stops.ensures.same_stops ∙ ap (map stored_stop) c.deref-6.ensures.value
-          ∙ stops_say c.requires;
+      stops = c.in_ok-stops.ensures.same_stops ∙ ap (map stored_stop) c.deref-6.ensures.value ∙ stops_say c.requires;
       kept = subst (λ (us : List ℕ). map (slice_index us) c.in_ok-kept.kept.items ≡ keeps m)
           (c.deref.ensures.value ∙ sym c.deref-4.ensures.value ∙ sym c.in_ok-locals.ensures.gates)
           (c.in_ok-kept.ensures.gates ∙ c.deref-2.ensures.value

@@ -1,7 +1,6 @@
 use Rattle.certificate.proofs.Imports.{All, Box2, IsCellInShiftRange, IsSignalWireBelow, IsSmallShift, Signals}
-use Rattle.certificate.proofs.Imports.{TimedSignal}
-use Rattle.certificate.proofs.Imports.{ap, ap₂, arith, circuit_wire, common_steps, ints, of_z, renumber_signals}
-use Rattle.certificate.proofs.Imports.{shift_to_origin, subst, sym, to_z, w32, wires, ℕ, ℤ, ◌∙◌, ◌≡◌}
+use Rattle.certificate.proofs.Imports.{TimedSignal, ap, ap₂, arith, circuit_wire, common_steps, ints, of_z}
+use Rattle.certificate.proofs.Imports.{renumber_signals, shift_to_origin, subst, sym, to_z, w32, wires, ℕ, ℤ, ◌∙◌, ◌≡◌}
 use Rattle.module_box.specs.Moves.{moved_signals}
 use Rattle.module_job.specs.Shapes.{signals_in_plane}
 use Rattle.module_job.proofs.ShapeParts.{placed_again}
@@ -26,9 +25,7 @@ moved-requires-clause-events c =
 
 -- what is moved back by these numbers
 moved_back : (x y : ℕ) (dx dy : ℤ) (s own : Signals) → dx ≡ shift_to_origin x → IsSmallShift dx →
-    dy ≡ shift_to_origin y →
-    IsSmallShift dy →
-    own ≡ moved_signals (to_z w32 (of_z w32 dx)) (to_z w32 (of_z w32 dy)) s →
+    dy ≡ shift_to_origin y → IsSmallShift dy → own ≡ moved_signals (to_z w32 (of_z w32 dx)) (to_z w32 (of_z w32 dy)) s →
     own ≡ moved_signals (shift_to_origin x) (shift_to_origin y) s
 moved_back x y dx dy s own e p f q is =
     is ∙ ap₂ (λ u v. moved_signals u v s) (passed (shift_to_origin x) dx e p) (passed (shift_to_origin y) dy f q)

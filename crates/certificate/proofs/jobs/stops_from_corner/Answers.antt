@@ -20,8 +20,7 @@ passed z r e small = omega (arith, ints, e, small)
 
 -- what is moved back by these numbers
 moved_back : (x y : ℕ) (dx dy : ℤ) (ss given own : List Stop) → dx ≡ shift_to_origin x → IsSmallShift dx →
-    dy ≡ shift_to_origin y → IsSmallShift dy →
-    given ≡ ss →
+    dy ≡ shift_to_origin y → IsSmallShift dy → given ≡ ss →
     own ≡ map (moved_stop (to_z w32 (of_z w32 dx)) (to_z w32 (of_z w32 dy))) given →
     own ≡ map (moved_stop (shift_to_origin x) (shift_to_origin y)) ss
 moved_back x y dx dy ss given own e p f q same is =

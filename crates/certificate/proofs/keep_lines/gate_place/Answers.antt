@@ -15,8 +15,7 @@ loop-place-preserved c =
     ) other
 
 pub returns-then-number-clause-gate : goal.returns-then-number-clause-gate
-returns-then-number-clause-gate c =
-    get_or_default _ _ _ _ c.loop-place-test.true ∙ sym c.index-gates-place.is ∙ (cc)
+returns-then-number-clause-gate c = get_or_default _ _ _ _ c.loop-place-test.true ∙ sym c.index-gates-place.is ∙ (cc)
 
 pub unreachable-requires : goal.unreachable-requires
 unreachable-requires c =

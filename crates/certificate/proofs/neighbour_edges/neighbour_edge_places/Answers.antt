@@ -1,6 +1,5 @@
-use Rattle.certificate.proofs.Imports.{Box2, List, ap, size_sides, arith, circuit_of}
-use Rattle.certificate.proofs.Imports.{length, length-map, map, module_lines, setting_of, slice_get, subst}
-use Rattle.certificate.proofs.Imports.{sym, ◌<◌, ◌∙◌, ◌≡◌, ◌≤◌}
+use Rattle.certificate.proofs.Imports.{Box2, List, ap, arith, circuit_of, length, length-map, map, module_lines}
+use Rattle.certificate.proofs.Imports.{setting_of, size_sides, slice_get, subst, sym, ◌<◌, ◌∙◌, ◌≡◌, ◌≤◌}
 use Rattle.certificate.proofs.HaloTables.{all_placed, even_areas, few_edges, inner_edges, none_placed, stored_areas}
 use Rattle.certificate.proofs.neighbour_edges.neighbour_edge_places.Goals as goal
 use Rattle.lemmas.specs.Bounds.{max_modules}

@@ -1,6 +1,5 @@
 use Rattle.certificate.proofs.Imports.{AddsEdgePlacesInHalo, All, IsInnerCell, List, StoredBorder, StoredModule}
-use Rattle.certificate.proofs.Imports.{flat_map}
-use Rattle.certificate.proofs.Imports.{length, line_cell, map, rectangle, subst, sym, take, ◌≤◌}
+use Rattle.certificate.proofs.Imports.{flat_map, length, line_cell, map, rectangle, subst, sym, take, ◌≤◌}
 use Rattle.certificate_lines.proofs.FlatParts.{flat_more}
 use Rattle.certificate.proofs.HaloLists.{edges_then, still_ready}
 use Rattle.certificate.proofs.JobsSoFar.{element_at}

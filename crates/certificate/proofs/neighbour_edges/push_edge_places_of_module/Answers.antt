@@ -1,7 +1,6 @@
-use Rattle.certificate.proofs.Imports.{AddsEdgePlacesInHalo, Cell, EdgePlace, IsInnerCell, None, get_or, StoredBorder}
-use Rattle.certificate.proofs.Imports.{ap}
-use Rattle.certificate.proofs.Imports.{in_halo, length-map, line_cell, map, option_to_list, rectangle, slice_get}
-use Rattle.certificate.proofs.Imports.{subst, sym, take, ◌∙◌, ◌∷◌, []}
+use Rattle.certificate.proofs.Imports.{AddsEdgePlacesInHalo, Cell, EdgePlace, IsInnerCell, None, StoredBorder, [], ap}
+use Rattle.certificate.proofs.Imports.{get_or, in_halo, length-map, line_cell, map, option_to_list, rectangle}
+use Rattle.certificate.proofs.Imports.{slice_get, subst, sym, take, ◌∙◌, ◌∷◌}
 use Rattle.certificate.specs.HaloPlaces.{AddsPlaceIfBoxPasses}
 use Rattle.certificate.proofs.HaloLists.{edge_placed, edges_then, place_found, still_ready, taken_one}
 use Rattle.certificate.proofs.JobsSoFar.{element_at}

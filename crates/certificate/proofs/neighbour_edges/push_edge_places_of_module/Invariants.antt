@@ -1,8 +1,6 @@
 -- The lists have the places of the edge lines so far more.
 use Rattle.certificate.proofs.Imports.{AddsEdgePlacesInHalo, AreOwnersAndListsReady, List, Some, StoredModule, length}
-use Rattle.certificate.proofs.Imports.{map}
-use Rattle.certificate.proofs.Imports.{slice_get, take}
-use Rattle.certificate.proofs.Imports.{◌≡◌}
+use Rattle.certificate.proofs.Imports.{map, slice_get, take, ◌≡◌}
 use Rattle.certificate.proofs.neighbour_edges.push_edge_places_of_module.Given as goal
 
 abbrev pub invariant-loop-line : goal.invariant-loop-line

@@ -1,7 +1,6 @@
 -- The stops so far are noted.
 use Rattle.certificate.proofs.Imports.{All, Circuit, IsCircuitWire, IsStopTimeTable, List, StopLine, length, map}
-use Rattle.certificate.proofs.Imports.{stop_line}
-use Rattle.certificate.proofs.Imports.{take, ◌++◌, ◌≡◌}
+use Rattle.certificate.proofs.Imports.{stop_line, take, ◌++◌, ◌≡◌}
 use Rattle.certificate.proofs.times.note_times_of_stops.Given as goal
 
 abbrev pub invariant-loop-stop : goal.invariant-loop-stop

@@ -1,7 +1,6 @@
 use Rattle.certificate.proofs.Imports.{All, HasCircuitWires, IsCircuitWire, IsStopTimeTable, StoredStop, all_stops, ap}
-use Rattle.certificate.proofs.Imports.{arith}
-use Rattle.certificate.proofs.Imports.{circuit_of, common_steps, drop, get_or, length, map, module_lines, stop_line}
-use Rattle.certificate.proofs.Imports.{subst, sym, take, ◌++◌, ◌<◌, ◌∙◌, ◌≡◌}
+use Rattle.certificate.proofs.Imports.{arith, circuit_of, common_steps, drop, get_or, length, map, module_lines}
+use Rattle.certificate.proofs.Imports.{stop_line, subst, sym, take, ◌++◌, ◌<◌, ◌∙◌, ◌≡◌}
 use Rattle.certificate_lines.proofs.StoredLemmas.{wire_within}
 use Rattle.certificate.proofs.StoredSignals.{all_at}
 use Rattle.certificate.proofs.TimeLemmas.{stops_more}

@@ -1,9 +1,7 @@
 use Rattle.certificate_lines.proofs.Imports.{ArePortsInLayout, AreRowsWithPortsNumbered, Box2, HaveDistinctCells}
-use Rattle.certificate_lines.proofs.Imports.{LayoutHeader}
-use Rattle.certificate_lines.proofs.Imports.{List}
-use Rattle.certificate_lines.proofs.Imports.{None, Port, Some, arith, common_steps, entry_place, get_or, length, refl}
-use Rattle.certificate_lines.proofs.Imports.{size_fault, size_sides, slice_get, slice_get-get_or, subst, sym, whole, ℕ}
-use Rattle.certificate_lines.proofs.Imports.{◌+◌, ◌<◌, ◌∙◌, ◌≡◌, ◌≤◌}
+use Rattle.certificate_lines.proofs.Imports.{LayoutHeader, List, None, Port, Some, arith, common_steps, entry_place}
+use Rattle.certificate_lines.proofs.Imports.{get_or, length, refl, size_fault, size_sides, slice_get, slice_get-get_or}
+use Rattle.certificate_lines.proofs.Imports.{subst, sym, whole, ℕ, ◌+◌, ◌<◌, ◌∙◌, ◌≡◌, ◌≤◌}
 use Rattle.lemmas.proofs.Common.{take-length}
 use Rattle.certificate_lines.proofs.RowLemmas.{entry_few, entry_some}
 use Rattle.certificate_lines.proofs.TableLemmas.{IsFilling, in_whole, few_entries, no_ports, number_small, one_more}
@@ -45,11 +43,10 @@ entry_place-requires-clause-small c =
 
 -- a port at a place among the numbers has a number that fits
 few : (s : LayoutHeader) → size_fault s ≡ None → (b : Box2) → b ≡ whole s → (ports : List Port) →
-    HaveDistinctCells ports →
-    ArePortsInLayout s ports → (rows : List ℕ) (count : ℕ) → AreRowsWithPortsNumbered b ports rows count →
-    (k : ℕ) (p : Port) →
-    slice_get ports k ≡ Some p → (place : ℕ) → entry_place b rows p.cell.x p.cell.y ≡ Some place → (numbers : List ℕ) →
-    IsFilling b ports rows count k numbers → k + 1 < 4294967296
+    HaveDistinctCells ports → ArePortsInLayout s ports → (rows : List ℕ) (count : ℕ) →
+    AreRowsWithPortsNumbered b ports rows count → (k : ℕ) (p : Port) → slice_get ports k ≡ Some p → (place : ℕ) →
+    entry_place b rows p.cell.x p.cell.y ≡ Some place → (numbers : List ℕ) → IsFilling b ports rows count k numbers →
+    k + 1 < 4294967296
 few s limits b is ports apart on_board rows count are k p at place there numbers filling =
     let small = small_sides s limits b is in
     let most = few_entries count b.w b.h are.few small.0 small.1 in

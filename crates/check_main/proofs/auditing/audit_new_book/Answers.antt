@@ -16,8 +16,7 @@ fill_and_close-requires g c =
       open_for_jobs = record {
         still_open = still.still_open;
         digest_is = still.digest_is ∙ sym c.digest-digest.ensures;
-        jobs_are = still.jobs_are
-            ∙ sym (ap (map arc_value) c.deref-4.ensures.value ∙ copied ∙ c.jobs.ensures);
+        jobs_are = still.jobs_are ∙ sym (ap (map arc_value) c.deref-4.ensures.value ∙ copied ∙ c.jobs.ensures);
       };
     }
 

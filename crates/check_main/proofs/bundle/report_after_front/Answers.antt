@@ -1,7 +1,6 @@
 -- The circuit and the layout, the certificate, and the end of the text.
 use Rattle.check_main.proofs.Imports.{FeedView, IfOk, IfOk-weaker, List, ap, certificate_text, length, subst, sym, ℕ}
-use Rattle.check_main.proofs.Imports.{◌++◌}
-use Rattle.check_main.proofs.Imports.{◌∙◌, ◌≡◌}
+use Rattle.check_main.proofs.Imports.{◌++◌, ◌∙◌, ◌≡◌}
 use Rattle.sha2.specs.Sha256.{sha256}
 use Rattle.certificate_lines.specs.Settings.{setting_of}
 use Rattle.answers.specs.CheckText.{SaysReport}

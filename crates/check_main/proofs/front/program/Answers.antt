@@ -1,8 +1,7 @@
 -- The command ran, or memory ran out before it did, or the words are explained.
 use Rattle.check_main.proofs.Imports.{CheckFault, Err, IsRightInFull, Kinds, List, Memory, No, Ok, Option, Outcome}
-use Rattle.check_main.proofs.Imports.{RanCommand}
-use Rattle.check_main.proofs.Imports.{Refused, Result, Streams, Yes, YesPromises, [], ap, arith, inl, inr, refl}
-use Rattle.check_main.proofs.Imports.{status_for, subst, sym, ℕ, ◌∙◌, ◌≡◌, ◌⊎◌}
+use Rattle.check_main.proofs.Imports.{RanCommand, Refused, Result, Streams, Yes, YesPromises, [], ap, arith, inl, inr}
+use Rattle.check_main.proofs.Imports.{refl, status_for, subst, sym, ℕ, ◌∙◌, ◌≡◌, ◌⊎◌}
 use Rattle.clap.specs.Words.{HasKind, IsAmong, kind_of}
 use Rattle.clap.specs.declared.error.Error.{Error}
 use Rattle.clap.specs.declared.error.kind.ErrorKind.TheVariants.{DisplayHelp, DisplayVersion, OutOfMemory}

@@ -1,6 +1,5 @@
 use Rattle.core_book.proofs.Imports.{BookView, IsBookFilledSoFar, IsOpenFor, ap, arc_value, inr, map, new_book, subst}
-use Rattle.core_book.proofs.Imports.{sym}
-use Rattle.core_book.proofs.Imports.{◌∙◌, ◌≡◌}
+use Rattle.core_book.proofs.Imports.{sym, ◌∙◌, ◌≡◌}
 use Rattle.core_book.proofs.Fillings.{clones-same, new-open}
 use Rattle.core_book.proofs.filling.fill.Goals.{then-not-own+in_ok-to_vec+in_ok-state, else-not-own}
 use Rattle.core_book.proofs.filling.fill.Goals as goal

@@ -1,19 +1,16 @@
 use Rattle.core_book.proofs.Imports.{AreGroups, HoldsFindingOfSameShape, JobView, List, ap, arc_value, arith}
-use Rattle.core_book.proofs.Imports.{common_steps}
-use Rattle.core_book.proofs.Imports.{length, length-map, map, shape_of, shapes_of, slice_get, subst, sym, ℕ, ◌+◌, ◌<◌}
-use Rattle.core_book.proofs.Imports.{◌∙◌, ◌≤◌}
+use Rattle.core_book.proofs.Imports.{common_steps, length, length-map, map, shape_of, shapes_of, slice_get, subst, sym}
+use Rattle.core_book.proofs.Imports.{ℕ, ◌+◌, ◌<◌, ◌∙◌, ◌≤◌}
 use Rattle.core_book.proofs.Fillings.{filled-all, filling-step, is-full, open-stays}
 use Rattle.core_book.proofs.FillingRuns.{first-read, holds_alike, runs_end, runs_step}
 use Rattle.core_book.proofs.HeldJobs.{job-at}
 use Rattle.core_book.proofs.filling.fill_open_book.Goals as goal
 
 pub returns-then-is_full-clause-full : goal.returns-then-is_full-clause-full
-returns-then-is_full-clause-full c =
-    grind (arith, common_steps, is-full)
+returns-then-is_full-clause-full c = grind (arith, common_steps, is-full)
 
 pub fill_number-requires-clause-job : goal.fill_number-requires-clause-job
-fill_number-requires-clause-job c =
-    grind (arith, common_steps, job-at, open-stays)
+fill_number-requires-clause-job c = grind (arith, common_steps, job-at, open-stays)
 
 -- each job has a group
 within : {Y : Type 0} (view : Y → JobView) (jobs : List Y) (g : List ℕ) (n : ℕ) →

@@ -14,8 +14,7 @@ enough n count all room is asked fits = omega arith
 pub take_workers_apart-seats-requires-clause-room_for_seats :
     goal.take_workers_apart-seats-requires-clause-room_for_seats
 take_workers_apart-seats-requires-clause-room_for_seats g c = let hired = c.make_workers-workers.ensures.count in
-    let room =
-    c.in-Ok.ensures.room_for_all in
+    let room = c.in-Ok.ensures.room_for_all in
     (enough _ _ _ _ hired c.len.ensures room.1, enough _ _ _ _ hired c.len.ensures room.2)
 
 pub close-requires : goal.close-requires

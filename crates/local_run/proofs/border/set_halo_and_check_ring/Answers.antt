@@ -1,7 +1,5 @@
-use Rattle.local_run.proofs.Imports.{Edge, IsDefinedAndHasFault, Planes, and_parts, ap, ap₂, arith}
-use Rattle.local_run.proofs.Imports.{box_coord, by_lt_or_le, cell_number_at, halo_coord, refl, subst, ℕ, ℤ, ◌%◌, ◌*◌}
-use Rattle.local_run.proofs.Imports.{◌+◌}
-use Rattle.local_run.proofs.Imports.{◌/◌}
+use Rattle.local_run.proofs.Imports.{Edge, IsDefinedAndHasFault, Planes, and_parts, ap, ap₂, arith, box_coord}
+use Rattle.local_run.proofs.Imports.{by_lt_or_le, cell_number_at, halo_coord, refl, subst, ℕ, ℤ, ◌%◌, ◌*◌, ◌+◌, ◌/◌}
 use Rattle.local_run.proofs.Imports.{◌<◌, ◌∙◌, ◌≡◌, ◌≤◌}
 use Rattle.lanes.proofs.MarkSearch.{whole_zero}
 use Rattle.local_run.proofs.Firsts.{free_from}

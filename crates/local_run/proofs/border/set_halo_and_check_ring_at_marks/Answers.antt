@@ -1,6 +1,5 @@
-use Rattle.local_run.proofs.Imports.{Planes, and_parts, ap, ap₂, arith, by_eq_or_not, cell_number_at, refl, sym, ℕ, ◌*◌}
-use Rattle.local_run.proofs.Imports.{◌+◌}
-use Rattle.local_run.proofs.Imports.{◌%◌, ◌/◌, ◌<◌, ◌∙◌, ◌≡◌}
+use Rattle.local_run.proofs.Imports.{Planes, and_parts, ap, ap₂, arith, by_eq_or_not, cell_number_at, refl, sym, ℕ, ◌%◌}
+use Rattle.local_run.proofs.Imports.{◌*◌, ◌+◌, ◌/◌, ◌<◌, ◌∙◌, ◌≡◌}
 use Rattle.lanes.specs.Sweeps.{IsInRangeNotInWordRest}
 use Rattle.lanes.proofs.FieldLemmas.{one_past, past_all}
 use Rattle.lanes.proofs.SettledLemmas.{settled_once, settled_twice}

@@ -1,6 +1,5 @@
 use Rattle.local_run.proofs.Imports.{IsEdgeCorrectAt, IsHaloCellAsSignal, ShowsRunAt, cell_number_at, trailing_zeros}
-use Rattle.local_run.proofs.Imports.{true, w64, ℕ}
-use Rattle.local_run.proofs.Imports.{◌+◌, ◌-◌, ◌<◌, ◌≡◌}
+use Rattle.local_run.proofs.Imports.{true, w64, ℕ, ◌+◌, ◌-◌, ◌<◌, ◌≡◌}
 use Rattle.local_run.specs.Scans.{IsSameBeforeNumber}
 use Rattle.lanes.specs.Settled.{AreSettledBlocksUnchanged}
 use Rattle.lanes.specs.Sweeps.{IsInRangeNotInWordRest}

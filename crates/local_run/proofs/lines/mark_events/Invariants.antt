@@ -1,6 +1,5 @@
 use Rattle.local_run.proofs.Imports.{HasBothCellMarks, HasRoomForBoxAndHaloMarks, Some, TakesNoMarkOff, TimedSignal}
-use Rattle.local_run.proofs.Imports.{slice_get, ℕ}
-use Rattle.local_run.proofs.Imports.{◌<◌, ◌≡◌, ◌≤◌}
+use Rattle.local_run.proofs.Imports.{slice_get, ℕ, ◌<◌, ◌≡◌, ◌≤◌}
 use Rattle.local_run.specs.Steady.{HasRoomForNumberMarks, IsCellNumberMarked}
 use Rattle.local_run.proofs.lines.mark_events.Given as goal
 

@@ -1,6 +1,5 @@
 use Rattle.local_run.proofs.Imports.{AllTimesSignal, HasBothCellMarks, HasRoomForBoxAndHaloMarks, Some, TakesNoMarkOff}
-use Rattle.local_run.proofs.Imports.{slice_get}
-use Rattle.local_run.proofs.Imports.{ℕ, ◌<◌, ◌≡◌}
+use Rattle.local_run.proofs.Imports.{slice_get, ℕ, ◌<◌, ◌≡◌}
 use Rattle.local_run.proofs.lines.mark_starred_cells.Given as goal
 
 -- those so far are marked

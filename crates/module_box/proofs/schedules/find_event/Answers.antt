@@ -1,10 +1,9 @@
 use Rattle.module_box.proofs.Imports.{arith, common_steps, length, slice_get-get_or, sym, ◌+◌, ◌-◌, ◌/◌, ◌<◌}
-use Rattle.module_box.proofs.Rising.{raise_low, drop_high, is_absent, is_first, moment_total, moment_exact, event_none}
-use Rattle.module_box.proofs.Rising.{event_found}
+use Rattle.module_box.proofs.Rising.{drop_high, event_found, event_none, is_first, moment_exact, moment_total}
 use Rattle.module_box.proofs.schedules.find_event.Goals as goal
 
 pub loop-low-preserved-in-Less : goal.loop-low-preserved-in-Less
-loop-low-preserved-in-Less c = grind (arith, common_steps, raise_low, moment_total, slice_get-get_or)
+loop-low-preserved-in-Less c = grind (arith, common_steps, moment_total, slice_get-get_or)
 
 pub loop-low-preserved : goal.loop-low-preserved
 loop-low-preserved c = grind (arith, common_steps, drop_high, moment_total, slice_get-get_or)
@@ -19,4 +18,4 @@ returns-in-Equal c =
     (λ i b lt e. is_first _ _ _ m _ moment_total c.requires got i b lt e))
 
 pub returns : goal.returns
-returns c = grind (arith, common_steps, event_none, is_absent, moment_total)
+returns c = grind (arith, common_steps, event_none, moment_total)

@@ -1,11 +1,10 @@
 use Rattle.module_box.proofs.Imports.{arith, common_steps, length, slice_get-get_or, sym, ◌+◌, ◌-◌, ◌/◌, ◌<◌}
 use Rattle.bbm_rule.proofs.CellOrder.{cell_total, cell_exact}
-use Rattle.module_box.proofs.Rising.{raise_low, drop_high, is_absent, is_first, all_times_none}
-use Rattle.module_box.proofs.Rising.{all_times_found}
+use Rattle.module_box.proofs.Rising.{all_times_found, all_times_none, drop_high, is_first}
 use Rattle.module_box.proofs.schedules.find_signal_at_all_times.Goals as goal
 
 pub loop-low-preserved-in-Less : goal.loop-low-preserved-in-Less
-loop-low-preserved-in-Less c = grind (arith, common_steps, raise_low, cell_total, slice_get-get_or)
+loop-low-preserved-in-Less c = grind (arith, common_steps, cell_total, slice_get-get_or)
 
 pub loop-low-preserved : goal.loop-low-preserved
 loop-low-preserved c = grind (arith, common_steps, drop_high, cell_total, slice_get-get_or)
@@ -20,4 +19,4 @@ returns-in-Equal c =
     (λ i b lt e. is_first _ _ _ m _ cell_total c.requires got i b lt e))
 
 pub returns : goal.returns
-returns c = grind (arith, common_steps, all_times_none, is_absent, cell_total)
+returns c = grind (arith, common_steps, all_times_none, cell_total)

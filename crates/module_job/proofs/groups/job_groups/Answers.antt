@@ -1,13 +1,11 @@
 use Rattle.module_job.proofs.Imports.{IsFirstEqualElement, List, Some, [], ap, arc_value, arith, false≢true, get}
-use Rattle.module_job.proofs.Imports.{length}
-use Rattle.module_job.proofs.Imports.{length-append, length-map, map, mapped_at, same_key, shape_digest, shape_of}
-use Rattle.module_job.proofs.Imports.{shape_summary, slice_get, slice_index, subst, sym, unwrap_or, ℕ, ◌+◌, ◌<◌, ◌∙◌}
-use Rattle.module_job.proofs.Imports.{◌∷◌, ◌≡◌}
+use Rattle.module_job.proofs.Imports.{length, length-append, length-map, map, mapped_at, same_key, shape_digest}
+use Rattle.module_job.proofs.Imports.{shape_of, shape_summary, slice_get, slice_index, subst, sym, unwrap_or, ℕ, ◌+◌}
+use Rattle.module_job.proofs.Imports.{◌<◌, ◌∙◌, ◌∷◌, ◌≡◌}
 use Rattle.module_job.proofs.FirstKeys.{IsFirstOf, found_within, known_more}
 use Rattle.module_job.proofs.FirstShapes.{all_groups, group_more, value_twice}
-use Rattle.module_job.proofs.FirstSummaries.{first_equal_shape_number, head_like, head_same, heads_more, is_head}
-use Rattle.module_job.proofs.FirstSummaries.{others_more}
-use Rattle.module_job.proofs.FirstSummaries.{AreHeadsBefore}
+use Rattle.module_job.proofs.FirstSummaries.{AreHeadsBefore, first_equal_shape_number, head_like, head_same, heads_more}
+use Rattle.module_job.proofs.FirstSummaries.{is_head, others_more}
 use Rattle.module_job.proofs.groups.job_groups.Goals.{then-not-have_same_shape+in_ok-key+in_ok-first}
 use Rattle.module_job.proofs.groups.job_groups.Goals.{else-not-have_same_shape}
 use Rattle.module_job.proofs.groups.job_groups.Goals as goal

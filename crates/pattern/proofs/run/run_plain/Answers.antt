@@ -1,6 +1,5 @@
 use Rattle.pattern.proofs.Imports.{EndsWithCells, LeavesLayoutAt, Pattern, arith, common_steps, has, live, pattern_of}
-use Rattle.pattern.proofs.Imports.{start}
-use Rattle.pattern.proofs.Imports.{subst, sym, ℤ, ◌≡◌}
+use Rattle.pattern.proofs.Imports.{start, subst, sym, ℤ, ◌≡◌}
 use Rattle.pattern.proofs.InsideLemmas.{size_sides}
 use Rattle.pattern.proofs.PlaneRuns.{leaves_at, ends_with}
 use Rattle.pattern.proofs.run.run_plain.Goals as goal

@@ -19,8 +19,7 @@ returns-in-Mirror-clause-cells_taken c x y = c.fill_rectangle.ensures.filled x y
 
 pub make_live-requires : goal.make_live-requires
 unfolding cells_of
-make_live-requires c =
-    one_lies_on c.args.grid.now c.args.part.now c.in-Ball.cell (ap cells_of c.in-Ball.is) c.requires
+make_live-requires c = one_lies_on c.args.grid.now c.args.part.now c.in-Ball.cell (ap cells_of c.in-Ball.is) c.requires
 
 pub returns-in-Ball-clause-cells_taken : goal.returns-in-Ball-clause-cells_taken
 unfolding cells_of

@@ -1,9 +1,8 @@
 use Rattle.border_match.proofs.Imports.{BorderFault, Borders, Box2, HasCandidateAtMost, HasNoWindowEventBetween}
 use Rattle.border_match.proofs.Imports.{IsAtSomeEventBelow, IsExtentOfEvents, IsFaultOfSearchedJob, IsRising}
-use Rattle.border_match.proofs.Imports.{IsWindowAround}
-use Rattle.border_match.proofs.Imports.{JobView, List, ShapeView, Signals, TimedSignal, Window, ap, arith, ints}
-use Rattle.border_match.proofs.Imports.{moment_cmp, moment_of, pos, shape_of, shift_to_origin}
-use Rattle.border_match.proofs.Imports.{subst, sym, ℕ, ◌+◌, ◌∙◌, ◌≡◌}
+use Rattle.border_match.proofs.Imports.{IsWindowAround, JobView, List, ShapeView, Signals, TimedSignal, Window, ap}
+use Rattle.border_match.proofs.Imports.{arith, ints, moment_cmp, moment_of, pos, shape_of, shift_to_origin, subst, sym}
+use Rattle.border_match.proofs.Imports.{ℕ, ◌+◌, ◌∙◌, ◌≡◌}
 use Rattle.border_match.proofs.EventSignals.{events_unmoved}
 use Rattle.border_match.proofs.Least.{better_for, better_rest, better_same, better_then}
 use Rattle.border_match.proofs.Steps.{cornered, cornered_all, far_step, named_step, named_all, rest_covered, same_fault}
@@ -12,10 +11,9 @@ use Rattle.border_match.proofs.borders.Borders.least_with_edge_events.Goals as g
 -- the events that the search passes over are no faults
 passed : (b : Borders) (other : JobView) (a corner : Box2) (w : Window) (es : List TimedSignal) (s : Signals)
     (sv : ShapeView) (i next : ℕ) (f : BorderFault) → a ≡ b.job.now.area → corner ≡ other.area →
-    IsWindowAround a corner w →
-    es ≡ s.events → s ≡ sv.edges → sv ≡ shape_of other → HasNoWindowEventBetween w es i next →
-    IsFaultOfSearchedJob b f →
-    IsAtSomeEventBelow next other.edges.events f → IsAtSomeEventBelow i other.edges.events f
+    IsWindowAround a corner w → es ≡ s.events → s ≡ sv.edges → sv ≡ shape_of other →
+    HasNoWindowEventBetween w es i next → IsFaultOfSearchedJob b f → IsAtSomeEventBelow next other.edges.events f →
+    IsAtSomeEventBelow i other.edges.events f
 passed b other a corner w es s sv i next f ea ec is same are shape far g h =
     far_step b other a corner w es i next f ea ec is
     (cornered other es s same (are ∙ ap (λ (s : ShapeView). s.edges) shape)) far g h

@@ -1,6 +1,5 @@
 use Rattle.border_match.proofs.Imports.{AreHaloEventMarks, IsAtSomeEventBelow, IsFaultOfSearchedJob, IsUpdatedCandidate}
-use Rattle.border_match.proofs.Imports.{length}
-use Rattle.border_match.proofs.Imports.{◌-◌}
+use Rattle.border_match.proofs.Imports.{length, ◌-◌}
 use Rattle.border_match.proofs.borders.Borders.least_with_edge_events.Given as goal
 
 abbrev pub invariant-loop-place : goal.invariant-loop-place

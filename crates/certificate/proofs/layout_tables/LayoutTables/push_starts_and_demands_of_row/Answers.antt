@@ -1,6 +1,5 @@
 use Rattle.certificate.proofs.Imports.{AddsStartsAndDemands, Dead, Live, One, Zero, arith, circuit_of, common_steps}
-use Rattle.certificate.proofs.Imports.{row_cells}
-use Rattle.certificate.proofs.Imports.{subst, ℕ, ◌-◌, ◌≡◌, ◌≤◌}
+use Rattle.certificate.proofs.Imports.{row_cells, subst, ℕ, ◌-◌, ◌≡◌, ◌≤◌}
 use Rattle.certificate.proofs.CellRows.{add_cell, add_same, cast_inside}
 use Rattle.certificate.proofs.layout_tables.LayoutTables.push_starts_and_demands_of_row.Goals as goal
 

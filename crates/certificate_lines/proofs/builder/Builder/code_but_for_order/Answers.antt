@@ -1,6 +1,5 @@
-use Rattle.certificate_lines.proofs.Imports.{arith, common_steps, BuilderView, Some, ap, ap₂, code_but_for_order, cuts}
-use Rattle.certificate_lines.proofs.Imports.{gates}
-use Rattle.certificate_lines.proofs.Imports.{known, last_module, length, subst, sym, wire_of, ◌∙◌, ◌≡◌}
+use Rattle.certificate_lines.proofs.Imports.{BuilderView, Some, ap, ap₂, arith, code_but_for_order, common_steps, cuts}
+use Rattle.certificate_lines.proofs.Imports.{gates, known, last_module, length, subst, sym, wire_of, ◌∙◌, ◌≡◌}
 use Rattle.std.specs.Option.{option_and_then}
 use Rattle.certificate_lines.specs.Entries.{wire_name_in_line}
 use Rattle.certificate_lines.specs.Rules.{cut_line_code, use_line_code}

@@ -1,8 +1,7 @@
 use Rattle.certificate_lines.proofs.Imports.{All, Bool, BuilderView, List, ap, arith, common_steps}
 use Rattle.certificate_lines.proofs.Imports.{does_neighbour_lack_wire, edges, flat_map, get_or, lacks_wire_of_some_edge}
-use Rattle.certificate_lines.proofs.Imports.{length}
-use Rattle.certificate_lines.proofs.Imports.{list_any, list_any_at, modules_of, subst, sym, take, take_all, true, ◌<◌}
-use Rattle.certificate_lines.proofs.Imports.{◌∙◌, ◌≡◌}
+use Rattle.certificate_lines.proofs.Imports.{length, list_any, list_any_at, modules_of, subst, sym, take, take_all}
+use Rattle.certificate_lines.proofs.Imports.{true, ◌<◌, ◌∙◌, ◌≡◌}
 use Rattle.certificate_lines.specs.StoredModules.{HasCircuitWire, HasCircuitWires, IsCellWithinLayout, border_line}
 use Rattle.certificate_lines.specs.declared.stored_module.StoredModule.{StoredModule}
 use Rattle.certificate_lines.proofs.StoredEdges.{lacked_stored, lines_on_layout}

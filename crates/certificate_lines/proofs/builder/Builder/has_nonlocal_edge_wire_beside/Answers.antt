@@ -1,6 +1,5 @@
-use Rattle.certificate_lines.proofs.Imports.{BuilderView, LayoutHeader, ap, arith, common_steps, refl}
-use Rattle.certificate_lines.proofs.Imports.{edges, false, flat_map, modules_of, nat_lt, nat_tests, subst, true}
-use Rattle.certificate_lines.proofs.Imports.{ℕ, ◌<◌, ◌∙◌, ◌≡◌, ◌≤◌}
+use Rattle.certificate_lines.proofs.Imports.{BuilderView, LayoutHeader, ap, arith, common_steps, edges, false, flat_map}
+use Rattle.certificate_lines.proofs.Imports.{modules_of, nat_lt, nat_tests, refl, subst, true, ℕ, ◌<◌, ◌∙◌, ◌≡◌, ◌≤◌}
 use Rattle.certificate_lines.proofs.LackedWires.{lacked, none_lacked}
 use Rattle.certificate_lines.proofs.builder.Builder.has_nonlocal_edge_wire_beside.Goals as goal
 

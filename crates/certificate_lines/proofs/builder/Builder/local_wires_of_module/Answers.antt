@@ -1,7 +1,6 @@
 use Rattle.certificate_lines.proofs.Imports.{BuilderView, Some, ap, arith, common_steps, known, length, length-map, map}
 use Rattle.certificate_lines.proofs.Imports.{modules_of, option_map, refl, slice_get, slice_get-map, subst, sym, ◌+◌}
-use Rattle.certificate_lines.proofs.Imports.{◌∙◌}
-use Rattle.certificate_lines.proofs.Imports.{◌≡◌}
+use Rattle.certificate_lines.proofs.Imports.{◌∙◌, ◌≡◌}
 use Rattle.lemmas.proofs.Common.{slice_get_read}
 use Rattle.certificate_lines.proofs.LackedWires.{earlier_wires, last_wires}
 use Rattle.certificate_lines.specs.BuilderView.{builder_lines}

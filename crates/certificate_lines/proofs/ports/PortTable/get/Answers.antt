@@ -1,9 +1,7 @@
 use Rattle.certificate_lines.proofs.Imports.{ArePortTableFields, Cell, CircuitAndPorts, Inside, List, Option, Some, ap}
-use Rattle.certificate_lines.proofs.Imports.{arith}
-use Rattle.certificate_lines.proofs.Imports.{circuit_of, common_steps, entry_place, get_or, in_box, length-map}
+use Rattle.certificate_lines.proofs.Imports.{arith, circuit_of, common_steps, entry_place, get_or, in_box, length-map}
 use Rattle.certificate_lines.proofs.Imports.{option_map, port_at, port_number_at, positive, subst, sym, true, wire_of}
-use Rattle.certificate_lines.proofs.Imports.{ℕ}
-use Rattle.certificate_lines.proofs.Imports.{◌-◌, ◌∙◌, ◌≡◌}
+use Rattle.certificate_lines.proofs.Imports.{ℕ, ◌-◌, ◌∙◌, ◌≡◌}
 use Rattle.certificate_lines.proofs.TableLemmas.{IsNumbered, entry_is, numbered_below, numbered_wire, placed}
 use Rattle.certificate_lines.proofs.TableLemmas.{unnumbered, unplaced}
 use Rattle.certificate_lines.proofs.ports.PortTable.get.Goals as goal

@@ -1,8 +1,7 @@
 use Rattle.certificate_lines.proofs.Imports.{ArePortTableFields, Box2, Cell, Inside, List, None, Option, Some, ap}
-use Rattle.certificate_lines.proofs.Imports.{arith, cell}
-use Rattle.certificate_lines.proofs.Imports.{common_steps, drop, entry_place, in_box, ints, length, list_all, nat_eq}
-use Rattle.certificate_lines.proofs.Imports.{port_at, pos, suc, sym, take, to_z, true, w32, zero, ℕ, ◌+◌, ◌-◌, ◌<◌, ◌∙◌}
-use Rattle.certificate_lines.proofs.Imports.{◌≡◌, ◌≤◌}
+use Rattle.certificate_lines.proofs.Imports.{arith, cell, common_steps, drop, entry_place, in_box, ints, length}
+use Rattle.certificate_lines.proofs.Imports.{list_all, nat_eq, port_at, pos, suc, sym, take, to_z, true, w32, zero, ℕ}
+use Rattle.certificate_lines.proofs.Imports.{◌+◌, ◌-◌, ◌<◌, ◌∙◌, ◌≡◌, ◌≤◌}
 use Rattle.certificate_lines.proofs.RowLemmas.{row_entry, row_inside}
 use Rattle.certificate_lines.proofs.TableLemmas.{part_zero, placed, unnumbered, unplaced}
 use Rattle.certificate_lines.proofs.ports.PortTable.is_row_part_without_port.Goals as goal
@@ -22,8 +21,7 @@ inside_at b x y l m h = sym (ap (λ (d : Cell). in_box b d.x d.y) (cast_cell x y
 -- the place of the first cell's entry, whose rows were read
 place_at : (a : Inside) (x y : ℕ) (rows : List ℕ) (o : Option ℕ) → x ≤ max_side → y < max_side → rows ≡ a.rows.items →
     o ≡ entry_place a.area rows (to_z w32 x) (to_z w32 y) → entry_place a.area a.rows.items (pos x) (pos y) ≡ o
-place_at a x y rows o l m are at =
-    sym (grind (arith, common_steps, cast_cell))
+place_at a x y rows o l m are at = sym (grind (arith, common_steps, cast_cell))
 
 -- the entries of a part of a row
 row_within : (a : Inside) → ArePortTableFields a → (x y width place : ℕ) → in_box a.area (pos x) (pos y) ≡ true →

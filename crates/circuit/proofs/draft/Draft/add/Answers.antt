@@ -1,8 +1,7 @@
 use Rattle.circuit.proofs.Imports.{CircuitLine, IsNoInputAfterGate, List, None, [], ap, arith, common_steps}
 use Rattle.circuit.proofs.Imports.{consume_fault, consumed, define_fault, defined, exceeds_largest_limit, false}
-use Rattle.circuit.proofs.Imports.{gate_of}
-use Rattle.circuit.proofs.Imports.{gate_with_outs_from, length, length-map, map, number, rules, subst, sym, take}
-use Rattle.circuit.proofs.Imports.{with_marks_set, ℕ, ◌++◌, ◌∙◌, ◌∷◌, ◌≡◌}
+use Rattle.circuit.proofs.Imports.{gate_of, gate_with_outs_from, length, length-map, map, number, rules, subst, sym}
+use Rattle.circuit.proofs.Imports.{take, with_marks_set, ℕ, ◌++◌, ◌∙◌, ◌∷◌, ◌≡◌}
 use Rattle.circuit.specs.DraftView.{DraftView}
 use Rattle.circuit.proofs.Drafts.{added}
 use Rattle.circuit.proofs.WireMarks.{marks_reach}

@@ -1,7 +1,6 @@
 -- The wire at the place of a guess has the name that stands there.
 use Rattle.circuit.proofs.Imports.{AreGoodCircuitLines, CircuitLine, List, Some, ap, defined, has, number, refl}
-use Rattle.circuit.proofs.Imports.{slice_get}
-use Rattle.circuit.proofs.Imports.{subst, sym, true, ℕ, ◌∙◌, ◌≡◌}
+use Rattle.circuit.proofs.Imports.{slice_get, subst, sym, true, ℕ, ◌∙◌, ◌≡◌}
 use Rattle.circuit.specs.DraftView.{DraftView}
 use Rattle.circuit.proofs.Naming.{wires_are_own}
 use Rattle.circuit.proofs.Places.{position_number}

@@ -1,6 +1,5 @@
 use Rattle.circuit.proofs.Imports.{AreWireValues, CircuitLine, Gate, IsGateEvaluationError, IsValuesFault, List, Some}
-use Rattle.circuit.proofs.Imports.{ap}
-use Rattle.circuit.proofs.Imports.{as_values, defined, evaluate, gate_of, gates_of, input_count, length, map}
+use Rattle.circuit.proofs.Imports.{ap, as_values, defined, evaluate, gate_of, gates_of, input_count, length, map}
 use Rattle.circuit.proofs.Imports.{netlist_of, refl, subst, sym, ◌∙◌, ◌≡◌}
 use Rattle.circuit.proofs.Bridging.{gates_are_ordered}
 use Rattle.circuit.proofs.Undefined.{fault_stops}

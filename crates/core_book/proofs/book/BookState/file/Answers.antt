@@ -1,10 +1,8 @@
 use Rattle.core_book.proofs.Imports.{Accepted, BookView, Filed, Filing, IsBook, IsHistoryReplayed, Some, []}
-use Rattle.core_book.proofs.Imports.{held_finding_count}
-use Rattle.core_book.proofs.Imports.{after_filing, ap, arith, book_view, common_steps, filing_of, reply_to, set, subst}
-use Rattle.core_book.proofs.Imports.{sym, ◌++◌, ◌+◌, ◌∙◌, ◌∷◌, ◌≡◌}
+use Rattle.core_book.proofs.Imports.{after_filing, ap, arith, book_view, common_steps, filing_of, held_finding_count}
+use Rattle.core_book.proofs.Imports.{reply_to, set, subst, sym, ◌++◌, ◌+◌, ◌∙◌, ◌∷◌, ◌≡◌}
 use Rattle.core_book.proofs.Filings.{IsBook-filed, accepted-inside, held_finding_count-accepted}
-use Rattle.core_book.proofs.Filings.{held_finding_count-filed}
-use Rattle.core_book.proofs.Filings.{held_finding_count-other, left-accepted, left-other}
+use Rattle.core_book.proofs.Filings.{held_finding_count-filed, held_finding_count-other, left-accepted, left-other}
 use Rattle.core_book.proofs.Replays.{IsHistoryReplayed-filed}
 use Rattle.core_book.proofs.book.BookState.file.Goals.{After-push_reserved}
 use Rattle.core_book.proofs.book.BookState.file.Goals as goal
@@ -63,12 +61,10 @@ returns-in_default-clause-after c =
     grind (arith, common_steps, without, c.in_default.not-Accepted, c.args.finding, c.self.view_is)
 
 pub returns-in_default-clause-counted : goal.returns-in_default-clause-counted
-returns-in_default-clause-counted c =
-    grind (arith, common_steps, held_finding_count-filed, without)
+returns-in_default-clause-counted c = grind (arith, common_steps, held_finding_count-filed, without)
 
 pub index_mut-requires : goal.index_mut-requires
-index_mut-requires c =
-    grind (arith, common_steps, accepted-inside, accepted, filing)
+index_mut-requires c = grind (arith, common_steps, accepted-inside, accepted, filing)
 
 pub invariant_of-self-2 : goal.invariant_of-self-2
 invariant_of-self-2 c =

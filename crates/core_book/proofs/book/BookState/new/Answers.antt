@@ -3,5 +3,4 @@ use Rattle.core_book.proofs.book.BookState.new.Goals as goal
 
 pub returns : goal.returns
 unfolding new_book
-returns c =
-    grind (arith, common_steps, length-map)
+returns c = grind (arith, common_steps, length-map)

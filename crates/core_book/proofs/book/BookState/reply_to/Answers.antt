@@ -14,12 +14,10 @@ is_open : (c : After-digest) → c.args.self.now.closed ≡ false
 is_open c = ap (λ (v : BookView). v.closed) (sym c.self.view_is) ∙ c.if-self.false
 
 pub returns-then-ne : goal.returns-then-ne
-returns-then-ne c =
-    grind (arith, common_steps, reply_to-other_digest, is_open, digest-differs)
+returns-then-ne c = grind (arith, common_steps, reply_to-other_digest, is_open, digest-differs)
 
 agrees : (c : After-len) → pointwise nat_eq (digest_of c.args.finding.now) c.args.self.now.digest ≡ true
-agrees c =
-    grind (arith, common_steps, digest-agrees)
+agrees c = grind (arith, common_steps, digest-agrees)
 
 -- the length of the list of jobs as the code sees it
 count : (c : After-len) → c.len.result ≡ length c.args.self.now.jobs
@@ -28,8 +26,7 @@ count c =
     ∙ ap (λ (v : BookView). length v.jobs) c.self.view_is
 
 pub returns-then-number-len : goal.returns-then-number-len
-returns-then-number-len c =
-    grind (arith, common_steps, reply_to-other_number, is_open, agrees, number-past, count)
+returns-then-number-len c = grind (arith, common_steps, reply_to-other_number, is_open, agrees, number-past, count)
 
 pub returns-then-not-same : goal.returns-then-not-same
 returns-then-not-same c =
@@ -46,9 +43,7 @@ within c len = number-within c.args.self.now c.args.finding.now c.number-number.
     c.number-number.ensures len c.if-number-len.false
 
 pub returns-in-Some : goal.returns-in-Some
-returns-in-Some c =
-    grind (arith, common_steps, reply_to-held, is_open, agrees, within, count)
+returns-in-Some c = grind (arith, common_steps, reply_to-held, is_open, agrees, within, count)
 
 pub returns-in-None : goal.returns-in-None
-returns-in-None c =
-    grind (arith, common_steps, reply_to-new, is_open, agrees, within, count)
+returns-in-None c = grind (arith, common_steps, reply_to-new, is_open, agrees, within, count)

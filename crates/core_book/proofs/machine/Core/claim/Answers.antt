@@ -34,8 +34,7 @@ kept c same = map-set_same (λ (v : Vec ℕ Global). v.items) c.self.inside.draw
     c.index_mut.result.now (same ∙ ap (λ (v : Vec ℕ Global). v.items) c.index_mut.ensures.value)
 
 pub invariant_of-self : goal.invariant_of-self
-invariant_of-self c =
-    grind (arith, common_steps, kept, length-set)
+invariant_of-self c = grind (arith, common_steps, kept, length-set)
 
 pub returns-in_default-clause-unchanged : goal.returns-in_default-clause-unchanged
 returns-in_default-clause-unchanged c =
@@ -49,8 +48,7 @@ left : (c : After-next_claim) (next : ℕ) →
     → record (core_view c.self.inside)
     { next = next; draws = lists_of (set c.self.inside.draws.items c.args.seat c.next_claim.new.drawn) }
     ≡ after_claim (core_view c.self.inside) c.args.seat
-left c next next_is drawn_is =
-    grind (arith, common_steps, at-After-next_claim, left-claim, count, was, map-set)
+left c next next_is drawn_is = grind (arith, common_steps, at-After-next_claim, left-claim, count, was, map-set)
 
 pub invariant_of-self-2 : goal.invariant_of-self-2
 invariant_of-self-2 c =
@@ -65,5 +63,4 @@ invariant_of-self-2 c =
     }
 
 pub returns-clause-after : goal.returns-clause-after
-returns-clause-after c =
-    grind (arith, common_steps, left)
+returns-clause-after c = grind (arith, common_steps, left)

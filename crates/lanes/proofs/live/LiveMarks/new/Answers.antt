@@ -1,6 +1,5 @@
 use Rattle.lanes.proofs.Imports.{IsNumberUnmarked, List, arith, bit-zero, by_lt_or_le, cell_at, common_steps, get_or, ℕ}
-use Rattle.lanes.proofs.Imports.{◌%◌}
-use Rattle.lanes.proofs.Imports.{◌/◌, ◌≡◌}
+use Rattle.lanes.proofs.Imports.{◌%◌, ◌/◌, ◌≡◌}
 use Rattle.lemmas.proofs.Common.{replicate, get_or-replicate, get_or_past, length-replicate}
 use Rattle.lanes.proofs.live.LiveMarks.new.Goals as goal
 

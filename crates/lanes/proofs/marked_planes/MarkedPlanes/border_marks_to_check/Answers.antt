@@ -1,6 +1,5 @@
 use Rattle.lanes.proofs.Imports.{AreNumberCellsUnmarked, IsNumberUnmarked, List, arith, inl, inr, mul-le-mul_left}
-use Rattle.lanes.proofs.Imports.{subst, ◌*◌}
-use Rattle.lanes.proofs.Imports.{◌+◌, ◌<◌, ℕ, ◌≡◌, ◌≤◌, ◌⊎◌}
+use Rattle.lanes.proofs.Imports.{subst, ℕ, ◌*◌, ◌+◌, ◌<◌, ◌≡◌, ◌≤◌, ◌⊎◌}
 use Rattle.lanes.specs.Borders.{AreNumbersSkippableBetween}
 use Rattle.lanes.specs.declared.marked_planes.MarkedPlanes.{MarkedPlanes}
 use Rattle.lanes.proofs.LiveLemmas.{dead_at}

@@ -6,8 +6,7 @@ use Rattle.lanes.proofs.marked_planes.MarkedPlanes.turn_lone.Goals as goal
 use Rattle.lanes.proofs.marked_planes.MarkedPlanes.turn_lone.Goals.{in-Even-Main+else-unmark_even_block_if_dead}
 use Rattle.lanes.proofs.marked_planes.MarkedPlanes.turn_lone.Goals.{in-Even+in-Anti-1, in-Odd-1}
 
-pub returns-in_default-partition-clause-settled_if_even :
-    goal.returns-in_default-partition-clause-settled_if_even
+pub returns-in_default-partition-clause-settled_if_even : goal.returns-in_default-partition-clause-settled_if_even
 returns-in_default-partition-clause-settled_if_even c = λ even.
     let old = c.args.self.now in
     let new = c.swap_lone.new.self in

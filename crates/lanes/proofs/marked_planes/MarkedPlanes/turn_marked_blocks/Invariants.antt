@@ -1,8 +1,5 @@
 use Rattle.lanes.proofs.Imports.{Even, HasWordsStrideRows, IsPassedBlock, TurnsBlocksSatisfying, trailing_zeros, w64}
-use Rattle.lanes.proofs.Imports.{◌+◌}
-use Rattle.lanes.proofs.Imports.{◌-◌}
-use Rattle.lanes.proofs.Imports.{◌≡◌}
-use Rattle.lanes.proofs.Imports.{◌≤◌}
+use Rattle.lanes.proofs.Imports.{◌+◌, ◌-◌, ◌≡◌, ◌≤◌}
 use Rattle.lanes.specs.Settled.{AreSettledBlocksUnchanged}
 use Rattle.lanes.proofs.marked_planes.MarkedPlanes.turn_marked_blocks.Given as goal
 

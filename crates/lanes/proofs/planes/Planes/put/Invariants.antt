@@ -1,6 +1,5 @@
 use Rattle.lanes.proofs.Imports.{ChangesOnlyDiagonals, HasWordsStrideRows, Odd, bit, block_at, lane, not, ℕ, ◌*◌, ◌+◌}
-use Rattle.lanes.proofs.Imports.{◌/◌, ◌<◌}
-use Rattle.lanes.proofs.Imports.{◌≡◌}
+use Rattle.lanes.proofs.Imports.{◌/◌, ◌<◌, ◌≡◌}
 use Rattle.lanes.specs.Turns.{is_on_main_diagonal}
 use Rattle.lanes.specs.Lanes.{word_of_source}
 use Rattle.lanes.proofs.planes.Planes.put.Given as goal

@@ -1,6 +1,5 @@
 use Rattle.lanes.proofs.Imports.{HasWordsStrideRows, IsNumberUnmarked, KeepsCellsOutsideBlocks}
-use Rattle.lanes.proofs.Imports.{TurnsNumberedBlocksBetween, ◌-◌, ◌<◌}
-use Rattle.lanes.proofs.Imports.{◌≤◌}
+use Rattle.lanes.proofs.Imports.{TurnsNumberedBlocksBetween, ◌-◌, ◌<◌, ◌≤◌}
 use Rattle.lanes.proofs.planes.Planes.step_between_marks.Given as goal
 
 -- the blocks so far are turned, and the next one has no mark

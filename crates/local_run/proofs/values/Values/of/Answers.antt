@@ -1,6 +1,5 @@
 use Rattle.local_run.proofs.Imports.{AreGatesOrdered, AreValueRows, Netlist, ap, arith, assignments, common_steps}
-use Rattle.local_run.proofs.Imports.{div_ceil}
-use Rattle.local_run.proofs.Imports.{subst, ℕ, ◌%◌, ◌*◌, ◌<◌, ◌^◌, ◌∙◌, ◌≡◌, ◌≤◌}
+use Rattle.local_run.proofs.Imports.{div_ceil, subst, ℕ, ◌%◌, ◌*◌, ◌<◌, ◌^◌, ◌∙◌, ◌≡◌, ◌≤◌}
 use Rattle.lemmas.proofs.Common.{pow_pos}
 use Rattle.std.proofs.Math.Pow.{pow_mono}
 use Rattle.local_run.proofs.Cleared.{rows_kept}

@@ -1,6 +1,5 @@
 use Rattle.module_box.proofs.Imports.{AreModuleValuesAtBit, List, Netlist, ap, arith, bit, lane, length, refl}
-use Rattle.module_box.proofs.Imports.{slice_index, subst}
-use Rattle.module_box.proofs.Imports.{sym, true, ℕ, ◌%◌, ◌*◌, ◌+◌, ◌/◌, ◌<◌, ◌∙◌, ◌≡◌}
+use Rattle.module_box.proofs.Imports.{slice_index, subst, sym, true, ℕ, ◌%◌, ◌*◌, ◌+◌, ◌/◌, ◌<◌, ◌∙◌, ◌≡◌}
 use Rattle.circuit.specs.Bridge.{AreWireValues}
 use Rattle.module_box.proofs.LocalRows.{column_defined}
 use Rattle.module_box.proofs.wiring.Wiring.local_values.Goals as goal

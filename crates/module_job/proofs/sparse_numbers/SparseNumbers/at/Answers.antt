@@ -15,8 +15,7 @@ pub returns-then-index-place : goal.returns-then-index-place
 returns-then-index-place c =
     let a = c.self.inside in
     let ns = sparse_view a in
-    let lt : c.args.place < length ns =
-    omega (arith, c.if-self-place.false, count_numbers a.count 0 a.entries.items) in
+    let lt : c.args.place < length ns = omega (arith, c.if-self-place.false, count_numbers a.count 0 a.entries.items) in
     let start : 2 * c.count_entries_before-at.result ≡ rank c.args.place ns =
     c.count_entries_before-at.ensures.length_prefixed ns (c.deref-2.ensures.value ∙ c.self.invariant.entries) in
     let size = ap length c.deref-2.ensures.value in

@@ -1,7 +1,6 @@
 -- The grids hold the cells that are taken.
 use Rattle.pattern.proofs.Imports.{LayoutHeader, ap, arith, cells_of, common_steps, has_taken_cell, parts_of, refl, sym}
-use Rattle.pattern.proofs.Imports.{◌∙◌}
-use Rattle.pattern.proofs.Imports.{◌≡◌}
+use Rattle.pattern.proofs.Imports.{◌∙◌, ◌≡◌}
 use Rattle.pattern.proofs.TakenLemmas.{cells_free, cells_taken, lies_on, outside_is_fault, taken_by}
 use Rattle.pattern.proofs.draft.Draft.cell_code.Goals.{After-is_any_cell_taken}
 use Rattle.pattern.proofs.draft.Draft.cell_code.Goals as goal

@@ -1,8 +1,7 @@
 -- Each name that is asked for was seen.
 use Rattle.pattern.proofs.Imports.{List, None, Some, SomethingMissing, ap, ap₂, arith, common_steps, false, has}
 use Rattle.pattern.proofs.Imports.{list_all, missing_port_fault, parts_of, port_name_lists, subst, sym, true, ℕ, ◌&&◌}
-use Rattle.pattern.proofs.Imports.{◌∙◌}
-use Rattle.pattern.proofs.Imports.{◌≡◌}
+use Rattle.pattern.proofs.Imports.{◌∙◌, ◌≡◌}
 use Rattle.pattern.specs.Readings.{ReadingView}
 use Rattle.pattern.specs.Lines.{allows_any_name}
 use Rattle.pattern.proofs.ReadingLemmas.{none_missing, missing_by}
