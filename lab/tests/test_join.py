@@ -238,7 +238,7 @@ class Joining(unittest.TestCase):
 
         change = mock.patch.object(wiring.JoinWorld, "add_part", add_mirrors)
         # Balls wander through the parts, which cost nothing.
-        with mock.patch.multiple(wiring, INSIDE_CELLS=0, OUTWARD_CELLS=0, LEAST_COILED=10 ** 6):
+        with mock.patch.multiple(wiring, INSIDE_STEP_COST=0, OUTWARD_STEP_COST=0, LEAST_COIL_STEPS=10 ** 6):
             self.assertIn("verdict no", self.verdict_with(change))
 
     def test_a_lost_wire(self) -> None:
@@ -318,22 +318,22 @@ class Joining(unittest.TestCase):
         """A ball that random bounces do not lead is led by a search if it has time to spare, and a deep one before
         them."""
         search = command.JoinSearch(self.made(), command.JoinOptions(1, None, 60), ProgressLine(60))
-        _, _, own = search.prepared()
+        _, _, own = search.prepare_attempt()
         ball, least = Ball(400, 400, 1, 1, 1000), 100 + planning.SPARES[-1].steps
         for depth, steps, tried, order in ((0, least, 0, "RO"), (0, least - 1, 0, "R"), (0, least, 1, "R"),
                                            (planning.SHALLOW_CELLS + 1, least - 1, 0, "OR"),
                                            (planning.SHALLOW_CELLS + 1, least, 1, "R")):
             goal, found = Ball(500, 500, 1, 1, 1000 + steps), list[str]()
             with mock.patch.object(own.world, "depth", lambda *words, own=depth: own), mock.patch.object(
-                    own, "connected", lambda *words, found=found: found.append("R")), mock.patch.object(
-                    own, "connected_outside", lambda *words, found=found: found.append("O")):
-                self.assertIsNone(own.found(planning.BallJob("w", ball, goal, goal.time), tried))
+                    own, "find_connecting_path", lambda *words, found=found: found.append("R")), mock.patch.object(
+                    own, "find_path_outside", lambda *words, found=found: found.append("O")):
+                self.assertIsNone(own.find_path(planning.BallJob("w", ball, goal, goal.time), tried))
             self.assertEqual("".join(found), order, (depth, steps, tried))
 
     def test_ways_from_open_ground(self) -> None:
         """The first ways by each cost come before the second ones, and a search without more ways is left out."""
         search = command.JoinSearch(self.made(), command.JoinOptions(1, None, 60), ProgressLine(60))
-        _, _, own = search.prepared()
+        _, _, own = search.prepare_attempt()
         job = own.plan.jobs[0]
         assert job.start and job.goal
         counts = dict(zip(wiring.GOAL_STEP_COSTS, (1, 9, 2)))
