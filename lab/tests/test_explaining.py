@@ -72,7 +72,7 @@ class Explained(unittest.TestCase):
                 if finding.word != "local":
                     continue
                 module = document.certificate.modules[finding.number("module")]
-                wanted = module.assignment_names(finding.number("assignment"))
+                wanted = module.cut_values(finding.number("assignment"))
                 occurrence = diagnosis.occurrence(module, finding.number("assignment"))
                 all_inputs = itertools.product((0, 1), repeat=len(document.circuit.inputs))
                 found = any(gives(document, dict(zip(document.circuit.inputs, bits)), wanted) for bits in all_inputs)

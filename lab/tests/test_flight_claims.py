@@ -7,7 +7,7 @@ from typing import Iterable
 import support  # noqa: F401
 from bbmlab_core.joining.flight_claims import DIRECTIONS, FlightClaims, flights_in, flights_without
 from bbmlab_core.joining.lone_ways import LoneBalls
-from bbmlab_core.joining.parts import BlockCounts, part_item
+from bbmlab_core.joining.parts import BlockCounts, part_footprint
 from bbmlab_core.route.balls import Ball
 from bbmlab_core.route.world import ROW_STRIDE, STEP_STRIDE
 from bbmlab_core.texts.layouts import Layout
@@ -71,7 +71,7 @@ class FlightClaimsTest(unittest.TestCase):
             corners = [number % STEP_STRIDE for flight in flights for number in flight]
             around = {corner + offset for corner in corners for offset in (0, 1, ROW_STRIDE, ROW_STRIDE + 1)}
             mirrors = frozenset([*chance.sample(sorted(around), 9), ROW_STRIDE * ROW_STRIDE - 1])
-            item = part_item(mirrors, flights)
+            item = part_footprint(mirrors, flights)
             self.assertEqual((item.touched, item.mirrors), (around - mirrors, mirrors))
             self.assertEqual(item.claims, {number for flight in flights for number in flight})
             counts = BlockCounts(Layout(128, 128, 64), (number for flight in flights for number in flight))

@@ -6,7 +6,7 @@ import sys
 import unittest
 
 import support
-from bbmlab_core.circuits.cones import keeping_cone
+from bbmlab_core.circuits.cones import cone_for_inverse_gate
 from bbmlab_core.circuits.keeps import KeepSearch, search_keeping_cone, why_not_kept
 from bbmlab_core.texts.certificates import MAX_CUTS, MAX_USES
 from bbmlab_core.texts.circuits import Circuit, evaluate
@@ -35,7 +35,7 @@ class Keeps(unittest.TestCase):
         for seed in range(1, 7):
             circuit = read_circuit(made_circuit("any", 100, 8, seed))
             for gate in circuit.gates:
-                if not gate.is_inverse or keeping_cone(circuit, gate.number):
+                if not gate.is_inverse or cone_for_inverse_gate(circuit, gate.number):
                     continue
                 cone = search_keeping_cone(circuit, gate.number)
                 if cone is None:

@@ -14,7 +14,7 @@ from typing import Any, Callable
 from unittest import mock
 
 import support
-from bbmlab_core.circuits.cones import keeping_cone
+from bbmlab_core.circuits.cones import cone_for_inverse_gate
 from bbmlab_core.circuits.netlists import NetlistError, NetlistFormat, circuit_from_netlist, map_netlist, netlist_format
 from bbmlab_core.texts.circuits import Circuit, evaluate, values_under
 
@@ -108,7 +108,7 @@ class Equivalence(support.InRoom):
             self.assertEqual(found, {name: bool(wanted[name]) for name in outputs}, f"inputs {bits[::-1]}")
         for gate in circuit.gates:
             if gate.is_inverse:
-                self.assertIsNotNone(keeping_cone(circuit, gate.number), f"gate {gate.number}")
+                self.assertIsNotNone(cone_for_inverse_gate(circuit, gate.number), f"gate {gate.number}")
 
     @FEW_TRIES
     def test_random_netlists(self) -> None:

@@ -7,7 +7,7 @@ import unittest
 
 import support
 from bbmlab_core.circuits.cleaning import clean
-from bbmlab_core.circuits.cones import keeping_cone
+from bbmlab_core.circuits.cones import cone_for_inverse_gate
 from bbmlab_core.circuits.gate_lines import reread_circuit
 from bbmlab_core.circuits.inverting import inverse
 from bbmlab_core.circuits.simplifying import simplify
@@ -217,7 +217,7 @@ class Clean(support.InRoom):
             own = sum(gate.is_inverse for gate in circuit.gates)
             late = [gate.number for gate in found_circuit.gates if gate.is_inverse][own:]
             inverse_count += len(late)
-            self.assertNotIn(None, [keeping_cone(found_circuit, number) for number in late])
+            self.assertNotIn(None, [cone_for_inverse_gate(found_circuit, number) for number in late])
         self.assertGreater(inverse_count, 100)
 
     def test_deep_circuits_use_fredkin_gates(self) -> None:
@@ -234,7 +234,7 @@ class Clean(support.InRoom):
         words = [gate.kind for gate in result.gates]
         self.assertGreater(words.count("fredkin"), 0)
         self.assertGreater(words.count("unswitch") + words.count("uninteract"), 0)
-        self.assertNotIn(None, [keeping_cone(result, gate.number) for gate in result.gates if gate.is_inverse])
+        self.assertNotIn(None, [cone_for_inverse_gate(result, gate.number) for gate in result.gates if gate.is_inverse])
 
     def test_routed(self) -> None:
         """A clean half adder, routed, gets a yes, and its modules keep each inverse gate."""

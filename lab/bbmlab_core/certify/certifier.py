@@ -9,7 +9,7 @@ program decides.
 from dataclasses import dataclass, field
 from typing import Iterable
 
-from ..circuits.cones import few_cuts_and_uses, keeping_cone
+from ..circuits.cones import few_cuts_and_uses, cone_for_inverse_gate
 from ..host.processor import processor_seconds
 from ..host.terminal import LabError
 from ..physics.simulation import Fault, ModuleRun, Table, cell_of, key_of, keys_of
@@ -244,7 +244,7 @@ class CertificateMaker:
 
     def add_keep(self, gate: Gate, modules: list[ModuleDraft]) -> None:
         """Has a gate kept by the module that needs the fewest more wires for it."""
-        found = keeping_cone(self.circuit, gate.number)
+        found = cone_for_inverse_gate(self.circuit, gate.number)
         if found is None:
             raise LabError(f"gate {gate.number} (`{gate.kind}`, line {gate.line}) always has a row only if more than "
                            f"{MAX_CUTS} wires or "

@@ -6,7 +6,7 @@ outputs. What is left are the inputs, and the constants.
 """
 
 from ..texts.circuits import Circuit, Gate
-from .cones import keeping_cone
+from .cones import cone_for_inverse_gate
 from .gate_lines import reread_circuit, constant_gate
 from .inverting import INVERSES, require_rows
 from .netlists.naming import MAX_NAME_BYTES, NameBook
@@ -106,7 +106,8 @@ def clean(circuit: Circuit) -> Circuit:
         lines = cleaner.run()
         result = reread_circuit(lines)
         failed = {number for place, number in cleaner.undone.items()
-                  if result.gates[place].is_inverse and number not in separate and keeping_cone(result, place) is None}
+                  if result.gates[place].is_inverse and number not in separate
+                  and cone_for_inverse_gate(result, place) is None}
         if not failed:
             return lines
         separate |= failed

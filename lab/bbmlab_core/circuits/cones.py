@@ -56,7 +56,7 @@ def delay_gates_between(circuit: Circuit, wires: set[str]) -> set[int]:
     return found
 
 
-def keeping_cone(circuit: Circuit, number: int) -> tuple[list[str], list[int]] | None:
+def cone_for_inverse_gate(circuit: Circuit, number: int) -> tuple[list[str], list[int]] | None:
     """Returns wires to cut and gates to use under which an inverse gate has a row whenever the gates before it have
     theirs."""
     used = {number}

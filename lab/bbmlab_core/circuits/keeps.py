@@ -10,7 +10,7 @@ from typing import Iterable, Iterator
 
 from ..texts.certificates import MAX_CUTS, MAX_USES
 from ..texts.circuits import Circuit, evaluate, evaluate_under
-from .cones import few_cuts_and_uses, keeping_cone
+from .cones import few_cuts_and_uses, cone_for_inverse_gate
 
 # The assignments that are sampled, the sets of gates of one size that are looked at further, and the gates that are run
 # at most to add gates, and to leave gates out: less than a second each.
@@ -25,7 +25,7 @@ Cone = tuple[list[str], list[int]]
 def search_keeping_cone(circuit: Circuit, number: int) -> Cone | None:
     """Returns wires to cut and gates to use under which an inverse gate has a row whenever the gates before it have
     theirs, or None."""
-    return keeping_cone(circuit, number) or KeepSearch(circuit, number).find_cone()
+    return cone_for_inverse_gate(circuit, number) or KeepSearch(circuit, number).find_cone()
 
 
 def why_not_kept(circuit: Circuit, number: int) -> str:

@@ -5,7 +5,7 @@ Each wire gets a literal, by the rules of `netlists.graph`: wires with one liter
 """
 
 from ..texts.circuits import Circuit, Gate
-from .cones import keeping_cone
+from .cones import cone_for_inverse_gate
 from .gate_lines import outputs_without_control, reread_circuit
 from .inverting import require_rows
 from .netlists.graph import FALSE, TRUE, Graph, Literal
@@ -296,7 +296,7 @@ def kept_inverse_count(circuit: Circuit) -> int:
     inverse = [gate.number for gate in circuit.gates if gate.is_inverse]
     if len(inverse) > MAX_SEARCHED_GATES:
         return 0
-    return sum(keeping_cone(circuit, number) is not None for number in inverse)
+    return sum(cone_for_inverse_gate(circuit, number) is not None for number in inverse)
 
 
 def simplified_by_passes(lines: Circuit, may_share: bool) -> Circuit:

@@ -82,11 +82,11 @@ def run_table(options: argparse.Namespace) -> int:
     out = io.StringIO()
     if options.csv:
         csv.writer(out, lineterminator="\n").writerows(rows)
-    write_text(options.output, out.getvalue() if options.csv else table_text(circuit, [*rows]))
+    write_text(options.output, out.getvalue() if options.csv else rows_text(circuit, [*rows]))
     return 0
 
 
-def table_text(circuit: Circuit, rows: list[list[str]]) -> str:
+def rows_text(circuit: Circuit, rows: list[list[str]]) -> str:
     """Returns rows in columns, with a bar between inputs and outputs."""
     heads, count = rows[0], len(circuit.inputs)
     lines = []

@@ -40,7 +40,7 @@ class Tristate(Enum):
 
 
 @dataclass
-class Occurrence:
+class AssignmentOccurrence:
     """Whether an assignment of a module's cuts occurs in the circuit.
 
     `inputs` is a choice of inputs that gives it, if one was found; `count` of `total` choices do, if all were tried,
@@ -155,7 +155,7 @@ class Diagnosis:
         """In how many choices of the inputs the whole run was tried, in words."""
         return self.wire_tables.choices_words
 
-    def occurrence(self, module: Module, assignment: int) -> Occurrence:
+    def occurrence(self, module: Module, assignment: int) -> AssignmentOccurrence:
         """Returns whether the circuit gives the module's cuts these values, and for which inputs."""
         inputs, gates = self.circuit.cone(module.cuts)
         is_all = len(inputs) <= MAX_EXHAUSTIVE_INPUTS
@@ -167,10 +167,10 @@ class Diagnosis:
             table &= values.rows[number]
         total = 1 << len(inputs) if is_all else 0
         if not table:
-            return Occurrence(Tristate.NO if is_all else Tristate.UNKNOWN, total=total)
+            return AssignmentOccurrence(Tristate.NO if is_all else Tristate.UNKNOWN, total=total)
         chosen = lowest_bit(table)
         given = {name: values.tables[name] >> chosen & 1 for name in inputs}
-        return Occurrence(Tristate.YES, given, table.bit_count() if is_all else 0, total)
+        return AssignmentOccurrence(Tristate.YES, given, table.bit_count() if is_all else 0, total)
 
     def occurring_assignments(self, module: Module) -> Table:
         """Returns a table of assignments of the module's cuts that occur: all of them, or those that occur in the

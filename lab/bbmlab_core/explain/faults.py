@@ -9,7 +9,7 @@ from ..texts.certificates import Border, Module, Stop, line_words
 from ..texts.circuits import evaluate
 from ..texts.layouts import Cell
 from ..texts.reports import ReportLine, parse_finding
-from .diagnosis import Diagnosis, Difference, Occurrence, Signal, Tristate
+from .diagnosis import Diagnosis, Difference, AssignmentOccurrence, Signal, Tristate
 
 
 @dataclass
@@ -98,7 +98,7 @@ def wanted_end_state(diagnosis: Diagnosis, module: Module, cell: Cell, assignmen
                        part.line, text)
 
 
-def occurrence_words(diagnosis: Diagnosis, occurrence: Occurrence, names: str) -> str:
+def occurrence_words(diagnosis: Diagnosis, occurrence: AssignmentOccurrence, names: str) -> str:
     """Returns whether an assignment occurs, in words."""
     if occurrence.occurs is Tristate.UNKNOWN:
         return f"No choice that gives these values was found {diagnosis.choices_words}; the others were not tried."
@@ -168,7 +168,7 @@ def add_cause_if_never_occurring(diagnosis: Diagnosis, module: Module, entry: Ex
 
 
 def add_cause_if_occurring(diagnosis: Diagnosis, module: Module, finding: ReportLine, entry: ExplainedLine,
-                           occurrence: Occurrence) -> None:
+                           occurrence: AssignmentOccurrence) -> None:
     """Adds the cause of a fault under an assignment that occurs: what the module hears, its line, or the layout."""
     assignment, time = finding.number("assignment"), finding.number("time")
     cell = finding.number("x"), finding.number("y")

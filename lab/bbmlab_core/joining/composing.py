@@ -15,7 +15,7 @@ from ..texts.limits import text_without_limits_line
 from ..texts.sections import text_of_section
 from .flight_claims import flights_without
 from .lone_ways import LoneWay
-from .parts import ALWAYS_SIGNAL, PartText, PartPort, part_item
+from .parts import ALWAYS_SIGNAL, PartText, PartPort, part_footprint
 
 
 @dataclass(frozen=True)
@@ -67,7 +67,7 @@ class NamedPart:
         flights = [own for flight in self.text.flights
                    for own in ((flight,) if claims.isdisjoint(flight) else flights_without(flight, claims))]
         left = {cell_number(cell) for way in self.ways.values() for cell in way.mirrors}
-        return part_item(self.text.item.mirrors - left, flights)
+        return part_footprint(self.text.item.mirrors - left, flights)
 
     @cached_property
     def left_out_lines(self) -> set[int]:

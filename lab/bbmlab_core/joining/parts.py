@@ -107,7 +107,7 @@ def read_part(name: str, text: str, connected: Collection[str] = ()) -> PartText
     run = PartRun(circuit, layout, certificate, LoneRuns(list(lone.values())))
     last = run.run()
     counts = BlockCounts(layout, run.claims)
-    item = part_item(frozenset(map(cell_number, run.mirrors)), list(flights_in(run.claims)))
+    item = part_footprint(frozenset(map(cell_number, run.mirrors)), list(flights_in(run.claims)))
     starts, start_fault = start_ports(layout)
     ends, end_fault = end_ports(circuit, layout, run.wires_at_end(last))
     starts = [replace(port, run=lone.get(("in", port.wire))) for port in starts]
@@ -172,7 +172,7 @@ def ports_of(cells: dict[str, list[Cell]], time: int, what: str) -> tuple[list[P
     return ports, ""
 
 
-def part_item(mirrors: frozenset[int], flights: Sequence[range]) -> Footprint:
+def part_footprint(mirrors: frozenset[int], flights: Sequence[range]) -> Footprint:
     """Returns what a part takes whose balls claim the blocks at times of some flights."""
     ends = [(flight[0] % STEP_STRIDE, flight[-1] % STEP_STRIDE) for flight in flights]
     width = max((corner % ROW_STRIDE for own in ends for corner in own), default=0) + 2

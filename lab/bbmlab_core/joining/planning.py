@@ -198,7 +198,7 @@ def set_times(composed: Composition, placed: list[PlacedPart], spares: SpareIndi
         own.time = 0
         for connection, spare in zip(composed.connections, spares):
             if connection.target == own.part.name:
-                first = end_ball(by_name[connection.source], connection.output)
+                first = part_output_ball(by_name[connection.source], connection.output)
                 last = start_ball(own, connection.input)
                 after = first.time + steps_needed(own, first, last, spare) - (last.time - own.time)
                 own.time = max(own.time, (after + 1) // 2 * 2)
@@ -211,7 +211,7 @@ def steps_needed(target: PlacedPart, first: Ball, last: Ball, spare: int) -> int
     return own.steps_between(first, last) + target.cells_too_deep(last)
 
 
-def end_ball(placed: PlacedPart, wire: str) -> Ball:
+def part_output_ball(placed: PlacedPart, wire: str) -> Ball:
     """Returns the ball of an output where the join takes it over from a part."""
     return placed.placed_ball(placed.part.inner_ball(placed.part.text.ends, wire))
 
@@ -229,7 +229,7 @@ def jobs_of(composed: Composition, placed: dict[str, PlacedPart], end: int) -> l
     for own in composed.connections:
         goal = start_ball(placed[own.target], own.input)
         source = placed[own.source]
-        jobs.append(BallJob(source.part.joined_wire(own.output), end_ball(source, own.output), goal, goal.time))
+        jobs.append(BallJob(source.part.joined_wire(own.output), part_output_ball(source, own.output), goal, goal.time))
     for name, part in placed.items():
         text, wire = part.part.text, part.part.joined_wire
         for port in text.starts:

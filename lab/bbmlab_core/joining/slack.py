@@ -11,7 +11,7 @@ from ..route.balls import Ball
 from .composing import Composition, Connection, NamedPart
 from .lone_ways import LoneRun
 from .parts import PartPort
-from .planning import JoinPlan, PlacedPart, SpareIndices, end_ball, jobs_of, start_ball, steps_needed
+from .planning import JoinPlan, PlacedPart, SpareIndices, part_output_ball, jobs_of, start_ball, steps_needed
 
 # A ball with at most so many more steps than it needs is led as it is. Others keep at least the spare steps of this
 # place.
@@ -55,7 +55,7 @@ class LoneWayCuts:
         """Cuts the ways of a connection if its ball has much time to spare."""
         source, target = self.placed[own.source], self.placed[own.target]
         spare = max(LEAST_SPARE_INDEX, self.spares[index])
-        first, last = end_ball(source, own.output), start_ball(target, own.input)
+        first, last = part_output_ball(source, own.output), start_ball(target, own.input)
 
         def has_time(begin: Ball, end: Ball, slack: int = 0) -> bool:
             """Whether a ball has time from one ball to another one, and so many steps more."""

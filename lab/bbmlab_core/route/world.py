@@ -55,7 +55,7 @@ def cell_of_number(number: int) -> Cell:
 
 
 @cache
-def ones(length: int) -> int:
+def words_of_one(length: int) -> int:
     """Returns a number in which each of so many words of 16 bits is 1."""
     return int.from_bytes(array("H", [1] * length).tobytes(), sys.byteorder)
 
@@ -306,7 +306,7 @@ class World:
         (x, y), length, own = cell_of_number(part.start), len(part), slice(part.start, part.stop, part.step)
         dx, dy = 1 if part.step % ROW_STRIDE == 1 else -1, 1 if part.step > 0 else -1
         before = counts[own]
-        total = int.from_bytes(before.tobytes(), sys.byteorder) + change * ones(length)
+        total = int.from_bytes(before.tobytes(), sys.byteorder) + change * words_of_one(length)
         after = array("H", total.to_bytes(2 * length, sys.byteorder))
         counts[own] = after
         is_changed = bytes(map(operator.not_, before if change > 0 else after))

@@ -10,7 +10,7 @@ from dataclasses import dataclass, replace
 from ..host.terminal import LabError
 from ..joining.flight_claims import flights_in
 from ..joining.lone_ways import whole_balls_of
-from ..joining.parts import part_item, start_ports
+from ..joining.parts import part_footprint, start_ports
 from ..pictures.drawing import wire_tables
 from ..route.balls import Ball, block_corner, start_state, state_after_step
 from ..route.world import ROW_STRIDE, STEP_STRIDE, Footprint, cell_number
@@ -99,5 +99,5 @@ class MachineRun:
         """Returns what some machines take. Mirrors, which are nobody's, are in one of the items."""
         claims = {claim for number, own in enumerate(self.claims) if self.machine_of_ball(number) in numbers
                   for claim in own}
-        machines_item = part_item(frozenset(map(cell_number, self.mirrors)), list(flights_in(claims)))
+        machines_item = part_footprint(frozenset(map(cell_number, self.mirrors)), list(flights_in(claims)))
         return machines_item if is_for_mirrors else replace(machines_item, mirrors=frozenset())

@@ -66,7 +66,7 @@ def line_words(kind: str, line: Border | Stop) -> str:
 
 def borders_in_order(lines: Iterable[Border]) -> tuple[Border, ...]:
     """Returns `edge` or `halo` lines in the order of the formats: those with `*` first, then by time, y and x."""
-    return tuple(sorted(lines, key=attrgetter("place")))
+    return tuple(sorted(lines, key=attrgetter("order_key")))
 
 
 @dataclass(frozen=True, slots=True)
@@ -108,7 +108,7 @@ class Module:
 
     def stop(self, time: int, name: str, x: int, y: int) -> "Module":
         """Returns the module with one more `stop` line."""
-        return replace(self, stops=tuple(sorted((*self.stops, Stop(time, name, x, y)), key=attrgetter("place"))))
+        return replace(self, stops=tuple(sorted((*self.stops, Stop(time, name, x, y)), key=attrgetter("order_key"))))
 
     def __str__(self) -> str:
         """Writes the module's lines."""

@@ -135,7 +135,7 @@ class Member:
             raise self.error_for("a whole number from 0 to 999999999")
         return str(self.value)
 
-    def name(self) -> str:
+    def wire_name(self) -> str:
         """Returns a name of a wire."""
         if not isinstance(self.value, str) or not NAME_PATTERN.match(self.value):
             raise self.error_for("a name of a wire: a to z, then a to z, 0 to 9 and _, at most 32 of them")
@@ -143,7 +143,7 @@ class Member:
 
     def signal(self) -> str:
         """Returns a name of a wire, or `1`."""
-        return "1" if self.value == "1" else self.name()
+        return "1" if self.value == "1" else self.wire_name()
 
     def time_text(self) -> str:
         """Returns a time, with `*` for null."""
@@ -163,23 +163,23 @@ def gate_text(gate: Member) -> str:
     number = [parameter.number_text()] if word in ("source", "delay") else []
     if not number and parameter.value is not None:
         raise parameter.error_for("null")
-    return " ".join([word, *number, *(item.name() for item in gate["ins"].list_items(ins)), "->",
-                     *(item.name() for item in gate["outs"].list_items(outs))])
+    return " ".join([word, *number, *(item.wire_name() for item in gate["ins"].list_items(ins)), "->",
+                     *(item.wire_name() for item in gate["outs"].list_items(outs))])
 
 
 def circuit_lines(circuit: Member) -> list[str]:
     """Returns the lines of a circuit."""
-    return ["circuit", *(f"input {item.name()}" for item in circuit["inputs"].list_items()),
+    return ["circuit", *(f"input {item.wire_name()}" for item in circuit["inputs"].list_items()),
             *(gate_text(gate) for gate in circuit["gates"].list_items()),
-            *(f"output {item.name()}" for item in circuit["outputs"].list_items()),
-            *(f"spill {item.name()}" for item in circuit["spills"].list_items()), "end"]
+            *(f"output {item.wire_name()}" for item in circuit["outputs"].list_items()),
+            *(f"spill {item.wire_name()}" for item in circuit["spills"].list_items()), "end"]
 
 
 def layout_lines(layout: Member) -> list[str]:
     """Returns the lines of a layout."""
     def ports(word: str) -> list[str]:
         """Returns the lines of ports."""
-        return [f"{word} {port['name'].name()} {port['cell'].numbers_text(2)}"
+        return [f"{word} {port['name'].wire_name()} {port['cell'].numbers_text(2)}"
                 for port in layout[f"{word}s"].list_items()]
 
     return [f"layout {layout['width'].number_text()} {layout['height'].number_text()} {layout['steps'].number_text()}",
@@ -198,12 +198,12 @@ def border_text(word: str, line: Member) -> str:
 def stop_text(line: Member) -> str:
     """Returns a `stop` line."""
     time, name, x, y = line.list_items(4)
-    return f"stop {time.number_text()} {name.name()} {x.number_text()} {y.number_text()}"
+    return f"stop {time.number_text()} {name.wire_name()} {x.number_text()} {y.number_text()}"
 
 
 def module_lines(module: Member) -> list[str]:
     """Returns the lines of a module."""
-    kinds: list[tuple[str, Callable[[Member], str]]] = [("cut", Member.name), ("use", Member.number_text),
+    kinds: list[tuple[str, Callable[[Member], str]]] = [("cut", Member.wire_name), ("use", Member.number_text),
                                                         ("keep", Member.number_text)]
     lines = [f"module {module['box'].numbers_text(4)}"]
     for word, value in kinds:
@@ -232,7 +232,7 @@ def text_from_json(text: str) -> str:
     if document.has("layout"):
         lines += layout_lines(document["layout"])
     if document.has("assign"):
-        lines += ["assign", *(f"on {item.name()}" for item in document["assign"]["on"].list_items()), "end"]
+        lines += ["assign", *(f"on {item.wire_name()}" for item in document["assign"]["on"].list_items()), "end"]
     if document.has("certificate"):
         certificate = document["certificate"]
         lines.append(f"certificate {certificate['version'].number_text()}")

@@ -4,7 +4,7 @@
 import random
 
 from ...texts.limits import SECOND_LIMITS
-from ..cones import keeping_cone
+from ..cones import cone_for_inverse_gate
 from .circuit_text import NamedCircuit, named_circuit
 from .graph import Graph
 from .mapping import Mapper, Preferences, MappedGates
@@ -63,7 +63,7 @@ def map_graph(graph: Graph) -> NamedCircuit:
         # The nodes whose inverse gate has no cone that shows that it always has a row.
         failed = frozenset(gate.node for number, gate in enumerate(wiring.gates)
                            if gate.word == "unswitch" and gate.node is not None
-                           and keeping_cone(found.circuit, number) is None)
+                           and cone_for_inverse_gate(found.circuit, number) is None)
         if not failed:
             return found
         separate |= failed
