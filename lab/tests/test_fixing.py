@@ -100,8 +100,8 @@ class Edits(unittest.TestCase):
             at: dict[tuple[int, int], list[tuple[Module, Border]]] = {}
             for x, y, time, name in lines:
                 at.setdefault((x, y), []).append((knowing[0], Border(time, x, y, name)))
-            check.__dict__.update(lines_at=at, layout=layout,
-                                  diagnosis=SimpleNamespace(values=SimpleNamespace(tables=tables),
+            check.__dict__.update(lines_by_cell=at, layout=layout,
+                                  diagnosis=SimpleNamespace(wire_tables=SimpleNamespace(tables=tables),
                                                             local_wires_of=lambda module: module.cuts))
             self.assertEqual("".join(check.likely_wires(5, modules, (8, 3), 49)), wanted, lines)
 

@@ -206,7 +206,7 @@ class Equivalence(support.InRoom):
         """If no inverse gate has a cone, the circuit has no inverse gate, and still computes the netlist."""
         chooser = random.Random(5)
         texts = [full_adder_blif(), *(random_blif(chooser) for _ in range(10))]
-        with mock.patch("bbmlab_core.circuits.netlists.search.keeping_cone", return_value=None):
+        with mock.patch("bbmlab_core.circuits.netlists.search.cone_for_inverse_gate", return_value=None):
             for number, text in enumerate(texts):
                 with self.subTest(number):
                     self.assertFalse(any(gate.is_inverse for gate in circuit_of(text).gates))
