@@ -9,8 +9,8 @@ from .netlist import RouterNetlist
 
 @dataclass(frozen=True)
 class MeasuredCircuits:
-    """Circuits that `bench/route` routed on 2026-11-30 (bench/README.md): how many got a yes, and the median of their
-    processor seconds.
+    """Circuits that `bench/route` tried (bench/README.md), those of up to 42 gates on 2026-11-30 and others on
+    2026-12-01: how many got a yes, within the goal or not, and the median of their processor seconds.
 
     `gates` is the most gates that one of them has.
     """
@@ -21,7 +21,8 @@ class MeasuredCircuits:
     seconds: int
 
 
-MEASURED_CIRCUITS = (MeasuredCircuits(12, 30, 30, 2), MeasuredCircuits(42, 17, 17, 9), MeasuredCircuits(106, 5, 5, 36))
+MEASURED_CIRCUITS = (MeasuredCircuits(12, 30, 30, 2), MeasuredCircuits(42, 17, 17, 9), MeasuredCircuits(56, 20, 20, 13),
+                     MeasuredCircuits(106, 3, 4, 70))
 
 
 @dataclass(frozen=True)
