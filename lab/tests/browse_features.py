@@ -138,10 +138,10 @@ class Picture(Page):
         # A step in four seconds, so that a slow machine stops it on its way, and a list of the times, so that it misses
         # none.
         self.script("const speed = document.getElementById('speed'); speed.min = speed.value = -2; "
-                        "speed.dispatchEvent(new Event('input'));"
-                        "const time = document.getElementById('time'); window.times = [];"
-                        "new MutationObserver(() => window.times.push(time.textContent)).observe(time, {childList: "
-                        "true})")
+                    "speed.dispatchEvent(new Event('input'));"
+                    "const time = document.getElementById('time'); window.times = [];"
+                    "new MutationObserver(() => window.times.push(time.textContent)).observe(time, {childList: "
+                    "true})")
         self.click("#reverse")
         self.wait(lambda: self.script("return window.times.length") >= 2, "it plays")
         self.assertEqual(self.script("return window.times.slice(0, 2)"), ["8 of 8", "7 of 8"], "it begins at the end")
@@ -196,7 +196,7 @@ class Report(Page):
             count = f"return document.querySelectorAll('#{box} > {item}').length"
             self.assertEqual(self.script(count), 500)
             self.script(f"const box = document.getElementById('{box}'); "
-                                        "box.scrollTop = box.scrollHeight")
+                        "box.scrollTop = box.scrollHeight")
             self.wait(lambda: self.script(count) == 600, f"the box {box} shows all")
         self.assertEqual(self.script("return document.querySelectorAll('#inputs :checked').length"), 0)
 
@@ -302,7 +302,7 @@ class State(Page):
         self.script("location.hash = '#t=3&on=b'")
         self.wait(lambda: self.text("time") == "3 of 8", self.text("time"))
         on = self.script("return [...document.querySelectorAll('#inputs input')].filter((box) => "
-                             "box.checked).map((box) => box.value)")
+                         "box.checked).map((box) => box.value)")
         self.assertEqual(on, ["b"])
 
     def test_a_hostile_address(self) -> None:
@@ -374,8 +374,8 @@ class Phone(Page):
             self.open(name, size=PHONE)
             self.assertFalse(self.script("return document.documentElement.scrollWidth > innerWidth"), name)
         small = self.script("return [...document.querySelectorAll('#transport button, #tools "
-                                "button')].filter((part) => part.offsetHeight < 30)"
-                                ".map((part) => part.id)")
+                            "button')].filter((part) => part.offsetHeight < 30)"
+                            ".map((part) => part.id)")
         self.assertEqual(small, [])
 
 

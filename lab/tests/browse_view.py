@@ -129,7 +129,7 @@ def use_machine(page: Page) -> None:
     page.shoot("machine_dark")
     page.scheme("light")
     page.script("const s = document.getElementById('speed'); s.value = s.max; s.dispatchEvent(new "
-                                "Event('input'));")
+                "Event('input'));")
     page.click("#play")
     steps = page.text("time").split(" of ")[1]
     page.wait(lambda: page.text("time") == f"{steps} of {steps}", "it plays to the end at the highest speed",

@@ -97,7 +97,7 @@ class Connecting(unittest.TestCase):
     def test_gates_come_in_order(self) -> None:
         """The circuit lists a gate after those that it takes wires from, and the input's wire is the output's."""
         section = connecting.PortConnection(read_document(two_nots(200, 160, (20, 60), (120, 70)), "design"), "z",
-                                        "b").circuit_section()
+                                            "b").circuit_section()
         self.assertLess(section.index("switch a k -> d y z"), section.index("switch z l -> e x q"))
         self.assertNotIn("input b", section)
         self.assertNotIn("output z", section)

@@ -78,7 +78,7 @@ class Contrast(unittest.TestCase):
         names = set(re.findall(r"border(?:-top|-color)?: *(?:\d+px solid )?var\(--(\w+)\)", STYLE))
         self.assertLessEqual({"border", "box"}, names)
         borders, understood = (len(re.findall(form, STYLE)) for form in (r"border(?:-\w+)?: *[^;}]*var\(",
-                                                                          r"border(?:-top|-color)?: *(?:\d+px solid "
+                                                                         r"border(?:-top|-color)?: *(?:\d+px solid "
                                                                          r")?var\("))
         self.assertEqual(borders, understood)
         self.assert_seen([(name, ground) for name in names for ground in ("paper", "plane")], SHAPES)

@@ -124,7 +124,8 @@ class Joining(unittest.TestCase):
             assert own.certificate
             return [(module.box.width, module.box.height, tuple(name + wire for wire in module.cuts),
                      tuple(module.uses), tuple((line.time, line.x - module.box.x, line.y - module.box.y)
-                           for line in module.edges if line.signal == "1")) for module in own.certificate.modules]
+                                               for line in module.edges if line.signal == "1"))
+                    for module in own.certificate.modules]
 
         there, own = set(shapes(document, "")), [shape for shape in shapes(part, "x_") if len(shape[2]) > 1]
         self.assertGreater(sum(shape in there for shape in own), len(own) // 3)

@@ -38,7 +38,7 @@ class Package(support.InRoom):
         self.assertEqual(sorted(self.room.glob("lab/**/*")), before, "the build leaves nothing next to the sources")
         self.assertIn("Only the checker `bbmcheck` gives verdicts, and it is not in this package",
                       output(str(self.room / "env" / "bin" / "python3"), "-c",
-                      "from importlib.metadata import metadata; print(metadata('bbmlab').get_payload())"))
+                             "from importlib.metadata import metadata; print(metadata('bbmlab').get_payload())"))
         shutil.rmtree(self.room / "lab")
         shutil.copy(program, self.room / "env" / "bin" / "bbmcheck")
         lab = str(self.room / "env" / "bin" / "bbmlab")

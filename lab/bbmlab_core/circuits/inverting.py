@@ -52,7 +52,7 @@ def inverse(circuit: Circuit) -> Circuit:
                            "an output", 1)
         gates.append(constant_gate(bit, name))
     gates += [Gate(INVERSES[gate.kind], tuple(gate.outs), tuple(gate.ins), gate.parameter)
-                    for gate in reversed(circuit.gates) if gate.kind != "source"]
+              for gate in reversed(circuit.gates) if gate.kind != "source"]
     spills = tuple(gate.outs[0] for gate in circuit.gates if gate.kind == "source")
     back = Circuit(tuple(circuit.outputs), tuple(gates), tuple(circuit.inputs), spills)
     require_constants_returned(circuit, reread_circuit(back))

@@ -207,7 +207,7 @@ def with_output_names(lines: Circuit, wanted: tuple[str, ...]) -> Circuit:
     """Returns a circuit whose outputs have the wanted names. A delay names an input that leaves at once."""
     renamed = {found: name for found, name in zip(lines.outputs, wanted) if found != name and found not in lines.inputs}
     delays = [Gate("delay", (found,), (name,), 1) for found,
-            name in zip(lines.outputs, wanted) if found != name and found in lines.inputs]
+              name in zip(lines.outputs, wanted) if found != name and found in lines.inputs]
 
     def names(old: tuple[str, ...]) -> tuple[str, ...]:
         """Returns the new names of some wires."""

@@ -285,7 +285,7 @@ class Diagnosis:
             inputs = self.inputs_words(lowest_bit(run.left[1]))
             return WholeOutcome(Tristate.NO,
                                 f"with {inputs} step {run.left[0]} makes the cell ({run.left[2][0]}, {run.left[2][1]}) "
-                                          "outside the rectangle live")
+                                "outside the rectangle live")
         wanted = {key_of(cell): table for cell, table in end_tables(self.layout, values.tables, values.full).items()}
         for key in sorted(wanted.keys() | run.field.live.keys()):
             table = wanted.get(key, 0)

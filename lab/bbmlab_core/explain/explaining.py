@@ -373,7 +373,7 @@ def as_gcc(explanation: ExplainedAnswer) -> list[str]:
         return [escape_controls(f"{explanation.file}:{explanation.line}: error: {text} [code {explanation.code}]")]
     return [escape_controls(f"{explanation.file}:{editor_line_number(entry)}: error: "
                             f"{' '.join([*entry.what, *labelled_fix_words(entry.fixes)])} "
-                  f"[{entry.report_line}]")
+                            f"[{entry.report_line}]")
             for entry in explanation.entries if entry.is_against]
 
 

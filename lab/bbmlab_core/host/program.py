@@ -117,8 +117,8 @@ def find_program(given: str | None = None) -> Executable:
     where = (f"there is no program at {tried[0]}" if is_named
              else "no program was found in the clone, next to bbmlab or on PATH")
     raise BadProgramError(f"{where}; name it with --program PATH or set BBMCHECK. The checker has a Debian package and "
-                       "archives of its own: the Python package "
-                       "does not contain it")
+                          "archives of its own: the Python package "
+                          "does not contain it")
 
 
 class RunningPrograms:
@@ -208,7 +208,7 @@ def ask(program: Executable | str, command: str, text: bytes, timeout: float | N
     answer = command_answer(program, command, text, timeout, running or SHARED_RUNNING_PROGRAMS or RunningPrograms())
     if answer.status not in (0, 1, 3, 4, 5):
         raise BadProgramError(f"{program} ended with status {answer.status}: "
-                           f"{answer.errors.splitlines()[0] if answer.errors else 'no message'}")
+                              f"{answer.errors.splitlines()[0] if answer.errors else 'no message'}")
     why = why_not_report_of(text, answer.output) if command == "check" else None
     if why:
         raise BadProgramError(f"{program} gave the report of another text: {why}")

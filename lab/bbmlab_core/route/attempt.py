@@ -213,7 +213,7 @@ class Attempt:
         steps = sum(end - (waiting.ball.time if waiting.ball else 0) for waiting in board.waiting.values())
         taken = sum(row.bit_count() for row in board.world.blocked) + self.settings.step_cells * steps
         while taken > self.settings.end_fill * board.width * board.height and board.grow(self.settings.growth_part,
-                                                                              self.most_size):
+                                                                                         self.most_size):
             pass
 
     def lead_to_the_end(self) -> str | None:

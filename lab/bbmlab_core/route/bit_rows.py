@@ -17,7 +17,7 @@ from .world import ROW_STRIDE, World
 
 # The cells of a mirror as seen from the cell of the ball that it turns.
 MIRROR_OFFSETS = {(turn, dx, dy): bounce(Ball(0, 0, dx, dy, 0), turn)[1].cells() for turn in Turn for dx in (1, -1)
-           for dy in (1, -1)}
+                  for dy in (1, -1)}
 # The most paths that are yielded for one last bounce.
 MAX_PATHS_PER_BEND = 3
 
@@ -118,7 +118,7 @@ class BitJoiner:
             before = bounce_before(goal, turn)[0]
             found += ((steps, turn)
                       for steps in unset_bit_steps(self.taken_columns(before, turn, is_falling), before.x, -goal.dx,
-                                                       BOUNCE_STEPS, most))
+                                                   BOUNCE_STEPS, most))
         for steps, turn in self.shuffled(found):
             yield Bend(steps, turn, bounce_before(goal.flown(-steps), turn)[0])
 

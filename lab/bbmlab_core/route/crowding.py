@@ -121,11 +121,11 @@ def crowding_picture(crowding: Crowding, circuit: Circuit, title: str) -> str:
     width, height = max(size, 560) + 2 * MARGIN, top + bottom + 3 * MARGIN
     drawn = [f'<svg xmlns="http://www.w3.org/2000/svg" width="{width}" height="{height}" viewBox="0 0 {width} '
              f'{height}" '
-               'font-family="sans-serif" font-size="13">', f'<rect width="{width}" height="{height}" fill="#fff"/>']
+             'font-family="sans-serif" font-size="13">', f'<rect width="{width}" height="{height}" fill="#fff"/>']
     drawn += [f'<text x="{MARGIN}" y="{MARGIN + LINE_PX * (at + 1) - 6}">{escape(line)}</text>' for at,
               line in enumerate(lines)]
     drawn += [f'<g transform="translate({MARGIN} {top}) scale({scale})">', *class_path_elements(crowding),
-                '<g fill="transparent" stroke="#d1495b" stroke-width="2">', *gate_frames(crowding, circuit), "</g>",
-                f'<rect width="{tiles}" height="{rows}" fill="none" stroke="#444" stroke-width="2" {STEADY_STROKE}/>',
+              '<g fill="transparent" stroke="#d1495b" stroke-width="2">', *gate_frames(crowding, circuit), "</g>",
+              f'<rect width="{tiles}" height="{rows}" fill="none" stroke="#444" stroke-width="2" {STEADY_STROKE}/>',
               "</g>", *legend_elements(top + bottom + MARGIN), "</svg>"]
     return "\n".join(drawn) + "\n"

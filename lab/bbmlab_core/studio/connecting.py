@@ -155,7 +155,7 @@ class PortConnection:
             is_late = not late.isdisjoint(gate.ins)
             late.update(gate.outs if is_late else ())
             gates[is_late].append(Gate(gate.kind, tuple(map(self.new_wire_name, gate.ins)), tuple(gate.outs),
-                                                gate.parameter))
+                                       gate.parameter))
         inputs = tuple(name for name in circuit.inputs if name != self.input)
         outputs = tuple(self.new_wire_name(name) for name in circuit.outputs if name != self.output)
         return str(Circuit(inputs, (*gates[0], *gates[1]), outputs, tuple(map(self.new_wire_name, circuit.spills))))

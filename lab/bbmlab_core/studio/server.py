@@ -95,10 +95,10 @@ class Handler(BaseHTTPRequestHandler):
             if name != ENTER_PATH:
                 guard.require_key(self.headers)
             body = self.read_body(MAX_TOKEN_BYTES if name == ENTER_PATH else MAX_REQUEST_BYTES)
-            answer = self.enter(text_member(body,
-                                       "token")) if name == ENTER_PATH else self.server.answers.answer("" if name
-                                                                                                       == self.path
-                                                                                                       else name, body)
+            if name == ENTER_PATH:
+                answer = self.enter(text_member(body, "token"))
+            else:
+                answer = self.server.answers.answer("" if name == self.path else name, body)
             self.send(200, "application/json", json.dumps(answer).encode())
         except (ValueError, RecursionError):
             self.deny(Denied(400, "the request is no JSON"))

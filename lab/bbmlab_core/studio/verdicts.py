@@ -26,7 +26,7 @@ from ..texts.spelling import source_line_number, spelling_of
 # The most lines of a report for which fixes are looked for one by one, and the most lines that are sent to the page.
 MAX_FIXED_LINES, MAX_SENT_LINES = 6, 200
 NO_OTHER_FOUND = {"own": "The certificate of the text was checked. The lab found no other one:",
-            "earlier": "The last certificate that got a yes was checked. The lab found no other one:"}
+                  "earlier": "The last certificate that got a yes was checked. The lab found no other one:"}
 
 
 @dataclass

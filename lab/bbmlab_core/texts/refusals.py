@@ -197,7 +197,7 @@ DERIVED_FACTS: dict[str, Callable[[Facts], str]] = {
     "other_box_words": lambda facts: box_words(facts["other_box"]),
     "rest_words": lambda facts: f"`{facts['rest'][:60]}`" if facts["rest"] else "an empty line",
     "header": lambda facts: {"layout": "layout W H STEPS", "certificate": "certificate 2"}.get(facts["section"],
-                                                                                              facts["section"]),
+                                                                                               facts["section"]),
     "kind_words": lambda facts: kind_words(facts["kind"]), "later_words": lambda facts: kind_words(facts["later"]),
     "largest_sides": lambda facts: " ".join(str(min(side, 64)) for side in facts["size"]),
     "why_no_side": lambda facts: "odd" if 2 <= facts["number"] <= 64 else "outside 2 to 64",

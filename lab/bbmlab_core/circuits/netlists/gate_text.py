@@ -12,7 +12,7 @@ from .model import MAX_PORTS, Cell, CellNode, LogicNetlist, NetlistError, TableN
 
 # Gates of two or more inputs: the cell that joins two of them, and the last one.
 VARIADIC_CELLS = {"and": (Cell.AND, Cell.AND), "or": (Cell.OR, Cell.OR), "xor": (Cell.XOR, Cell.XOR),
-          "nand": (Cell.AND, Cell.NAND), "nor": (Cell.OR, Cell.NOR), "xnor": (Cell.XOR, Cell.XNOR)}
+                  "nand": (Cell.AND, Cell.NAND), "nor": (Cell.OR, Cell.NOR), "xnor": (Cell.XOR, Cell.XNOR)}
 # Gates with a fixed number of inputs and outputs, and for each output its cell and the places of its inputs.
 FIXED_SIZE_CELLS: dict[str, tuple[int, list[tuple[Cell, tuple[int, ...]]]]] = {
     "not": (1, [(Cell.NOT, (0,))]), "buf": (1, [(Cell.BUF, (0,))]), "mux": (3, [(Cell.MUX, (2, 1, 0))]),
@@ -132,7 +132,7 @@ class GateReader:
         """Refuses a gate with another number of inputs or outputs."""
         if found != wanted:
             raise self.line_error(f"`{keyword}` takes {wanted[0]} before the arrow and {wanted[1]} behind it, and has "
-                             f"{found[0]} and {found[1]}")
+                                  f"{found[0]} and {found[1]}")
 
     def define_wire(self, name: str) -> None:
         """Notes a new wire."""

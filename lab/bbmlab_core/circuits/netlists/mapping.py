@@ -142,7 +142,7 @@ class Mapper:
     # ---- pools of wires
 
     def add_gate(self, word: str, parameter: int | None, ins: list[Wire], count: int,
-             node: int | None = None) -> list[Wire]:
+                 node: int | None = None) -> list[Wire]:
         """Adds a gate with `count` outputs, and returns these."""
         outs = list(range(self.wire_count, self.wire_count + count))
         self.wire_count += count
@@ -346,7 +346,7 @@ class Mapper:
         self.uses[select >> 1] -= 1
         found, control = self.borrow_wire(select)
         control, result = self.add_gate("unswitch", None, [control, *(parts if found == select else parts[::-1])], 2,
-                                    number)
+                                        number)
         self.pool_of(found).append(control)
         self.pool_of(2 * number).append(result)
 
