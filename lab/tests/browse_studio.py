@@ -573,8 +573,8 @@ def keep_selection(studio: Studio) -> None:
     chosen = "return bbmlab.studio.sketch.selected.map(({ kind, box }) => `${kind} ${box[0]} ${box[1]}`)"
     found = studio.script(chosen)
     assert len(found) == 1, found
-    studio.script("const { model } = bbmlab.studio.desk; model.setHead(model.headText.replace('circuit', 'circuit\\n# "
-                  "one'), 'typing')")
+    studio.script("const { model } = bbmlab.studio.desk; "
+                  "model.setCircuitText(model.headText.replace('circuit', 'circuit\\n# one'), 'typing')")
     assert studio.script(chosen) == found, (found, studio.script(chosen))
     studio.press_keys(Keys.CONTROL + "c")
     # Another report would take the place of the words that are marked next.

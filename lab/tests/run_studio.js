@@ -32,25 +32,25 @@ function commandsOf(model, draw, cells) {
       if (box) model.add([part("mirror", box)]);
     },
     () => model.add([part("mirror", [...cell(), 1 + draw(4), 1 + draw(4)])]),
-    () => model.addCellParts(geometry.pairCells(cell(), 0).map((at) => part("ball", [...at, 1, 1]))),
+    () => model.addBallsOrPorts(geometry.pairCells(cell(), 0).map((at) => part("ball", [...at, 1, 1]))),
     () => {
       const name = names();
-      model.addCellParts(geometry.pairCells(cell(), 0).map((at) => part("in", [...at, 1, 1], name)));
+      model.addBallsOrPorts(geometry.pairCells(cell(), 0).map((at) => part("in", [...at, 1, 1], name)));
     },
     () => {
       const name = names();
-      model.addCellParts([part("out", [...cell(), 1, 1], name)]);
+      model.addBallsOrPorts([part("out", [...cell(), 1, 1], name)]);
     },
-    () => model.addCellParts([part("waste", [...cell(), 1, 1])]),
+    () => model.addBallsOrPorts([part("waste", [...cell(), 1, 1])]),
     () => model.remove(lines()), () => model.move(lines(), draw(9) - 4, draw(9) - 4),
-      () => model.turn(lines(), ["rotate", "flip-x", "flip-y"][draw(3)]),
+      () => model.rotateOrFlip(lines(), ["rotate", "flip-x", "flip-y"][draw(3)]),
     () => model.rename(lines(), names()),
       () => model.add(geometry.shiftedParts(model.partsOfLines(lines()).slice(0, 6), 2 * draw(9), 2 * draw(9)),
         "paste"),
-    () => model.resize(model.header.width + 2 * draw(3) - 2, model.header.height + 2 * draw(3) - 2,
+    () => model.setSizeAndSteps(model.header.width + 2 * draw(3) - 2, model.header.height + 2 * draw(3) - 2,
       Math.max(0, model.header.steps + draw(7) - 3), draw(2) === 1),
     () => model.insertStandardCell(cells[draw(cells.length)], 2 * draw(10), 2 * draw(10), draw(2) === 1),
-    () => model.setHead(`${model.headText}# ${draw(100)}`.replace(/(# \d+)+$/, (found) => found.slice(0, 40)),
+    () => model.setCircuitText(`${model.headText}# ${draw(100)}`.replace(/(# \d+)+$/, (found) => found.slice(0, 40)),
       draw(2) ? "typing" : null),
     () => model.setTail(draw(2) ? `certificate 2\nmodule 0 0 ${2 * draw(9)} 2\nend\n` : ""), () => model.undo(),
       () => model.redo(),
@@ -93,9 +93,9 @@ function commands(text, list) {
 function moved(text, [name, ...words], lines) {
   const model = new Model(text);
   model[name](...words);
-  const after = model.movedLines(lines);
+  const after = model.takeMovedLines(lines);
   model.undo();
-  return [after, model.movedLines(after), model.movedLines(after)];
+  return [after, model.takeMovedLines(after), model.takeMovedLines(after)];
 }
 
 /** Returns the cells that are live at the end under each choice of the inputs, and the kinds of marks. */
@@ -147,7 +147,7 @@ const circuit = (text) => {
 
 /** Returns the words of the lines that contain one, for each text. */
 const words = (texts) =>
-  texts.map((text) => circuitText.withoutMark(text).split("\n").map(circuitText.wordsOf)
+  texts.map((text) => circuitText.withoutByteOrderMark(text).split("\n").map(circuitText.wordsOf)
     .filter((found) => found.length));
 
 /** Returns the text that is drawn, for each text. */

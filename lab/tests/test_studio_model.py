@@ -121,7 +121,7 @@ class Commands(unittest.TestCase):
         """A part that is moved keeps its indentation and its comment, and a new one comes behind the last of its kind.
         """
         moved = node(["commands", COMMENTED,
-                      [["move", [8], 1, 1], ["add", [part("mirror", 5, 2, 2, 2)]], ["resize", 10, 8, 3]]])[0]
+                      [["move", [8], 1, 1], ["add", [part("mirror", 5, 2, 2, 2)]], ["setSizeAndSteps", 10, 8, 3]]])[0]
         self.assertEqual(moved,
                          COMMENTED.replace("  mirror 1 4 2 2\t# stays\n", "  mirror 2 5 2 2\t# stays\nmirror 5 2 2 2\n")
                          .replace("layout 8 8 3 ", "layout 10 8 3 "))
@@ -129,7 +129,7 @@ class Commands(unittest.TestCase):
     def test_lines_move(self) -> None:
         """Lines behind added ones move, lines that went away are left out, and a change is taken into account once."""
         head = "circuit\n# one\n# two" + example("not_gate").partition("\nlayout")[0].removeprefix("circuit")
-        self.assertEqual(node(["moved", example("not_gate"), ["setHead", head, "typing"], [0, 10, 12]])[0],
+        self.assertEqual(node(["moved", example("not_gate"), ["setCircuitText", head, "typing"], [0, 10, 12]])[0],
                          [[0, 12, 14], [0, 10, 12], [0, 12, 14]])
         self.assertEqual(node(["moved", example("not_gate"), ["remove", [11]], [10, 11, 12]])[0],
                          [[10, 11], [10, 12], [10, 11]])
@@ -139,11 +139,11 @@ class Commands(unittest.TestCase):
     def test_order_of_kinds(self) -> None:
         """New parts of any order of kinds are read."""
         text = "circuit\nend\nlayout 12 12 3\nend\n"
-        steps = [["addCellParts", [part("in", 4, 4, name="p")]], ["addCellParts", [part("ball", 7, 7)]],
-                 ["addCellParts", [part("waste", 7, 4)]],
-                 ["setHead", "circuit\ninput p\nsource 1 -> one\ninteract p one -> a b c d\nspill a\nspill c\nspill "
-                  "d\nend"],
-                 ["addCellParts", [part("out", 4, 4, name="b")]], ["addCellParts", [part("waste", 4, 7)]]]
+        steps = [["addBallsOrPorts", [part("in", 4, 4, name="p")]], ["addBallsOrPorts", [part("ball", 7, 7)]],
+                 ["addBallsOrPorts", [part("waste", 7, 4)]],
+                 ["setCircuitText", "circuit\ninput p\nsource 1 -> one\ninteract p one -> a b c d\nspill a\nspill c\n"
+                  "spill d\nend"],
+                 ["addBallsOrPorts", [part("out", 4, 4, name="b")]], ["addBallsOrPorts", [part("waste", 4, 7)]]]
         made = node(["commands", text, steps])[0]
         self.assertEqual(made.split("end\n")[1], example("not_gate").split("end\n")[1])
         self.assertIsNone(support.read_document(made, "design").refusal)
@@ -173,12 +173,12 @@ class Commands(unittest.TestCase):
         for front, side, steps in (("", 512, 65_536), ("limits 2\n", 4096, 1_048_576),
                                    ("# large\n\n limits  02 # two\n", 4096, 1_048_576)):
             with self.subTest(front):
-                made = node(["commands", front + text, [["resize", side, side, steps]]])[0]
+                made = node(["commands", front + text, [["setSizeAndSteps", side, side, steps]]])[0]
                 self.assertIn(f"\nlayout {side} {side} {steps}\n", made)
                 self.assertTrue(made.startswith(front))
                 self.assertTrue(node(["parts", made])[0]["isWhole"])
                 more = "" if front else " A larger layout needs `limits 2` as first line."
-                told = node(*[["commands", front + text, [["resize", *size]]]
+                told = node(*[["commands", front + text, [["setSizeAndSteps", *size]]]
                               for size in ((side + 2, 12, 3), (12, side + 2, 3), (12, 12, steps + 1))])
                 self.assertEqual(told,
                                  [f"Width and height are even numbers from 2 to {side}.{more}"] * 2
@@ -189,8 +189,8 @@ class Commands(unittest.TestCase):
     def test_line_of_limits_stays_first(self) -> None:
         """A text of the line and a layout gets its circuit between the two."""
         made = node(["commands", "limits 2\nlayout 1024 12 0\nend\n",
-                     [["addCellParts", [part("in", 900, 4, name="p")]],
-                      ["addCellParts", [part("out", 900, 4, name="p")]]]])[0]
+                     [["addBallsOrPorts", [part("in", 900, 4, name="p")]],
+                      ["addBallsOrPorts", [part("out", 900, 4, name="p")]]]])[0]
         self.assertEqual(made, "limits 2\ncircuit\ninput p\noutput p\nend\nlayout 1024 12 0\nin p 900 4\nout p 900 "
                          "4\nend\n")
         self.assertIsNone(support.read_document(made, "design").refusal)
@@ -206,8 +206,9 @@ class Commands(unittest.TestCase):
                                 (["add", [part("ball", 2, 2), part("ball", 2, 2)]],
                                  "Two of the parts take cell (2, 2)."),
                                 (["add", [part("in", 2, 2, name="1x")]], "`1x` is no name of a wire."),
-                                (["resize", 6, 6, 3], "ball at (7, 7) would be outside the layout of 6 by 6 cells."),
-                                (["resize", 13, 12, 3], "Width and height are even numbers from 2 to 512."),
+                                (["setSizeAndSteps", 6, 6, 3],
+                                 "ball at (7, 7) would be outside the layout of 6 by 6 cells."),
+                                (["setSizeAndSteps", 13, 12, 3], "Width and height are even numbers from 2 to 512."),
                                 (["move", [10], 20, 0], "ball at (27, 7) is outside the layout of 12 by 12 cells."),
                                 (["insertStandardCell", {"layout": {}, "circuit": []}, 1, 0, False],
                                  "A cell is moved by even numbers of columns and rows.")):
@@ -215,7 +216,7 @@ class Commands(unittest.TestCase):
 
     def test_a_text_without_a_layout(self) -> None:
         """Its size cannot be set."""
-        self.assertEqual(node(["commands", "circuit\nend\n", [["resize", 10, 10, 3]]])[0],
+        self.assertEqual(node(["commands", "circuit\nend\n", [["setSizeAndSteps", 10, 10, 3]]])[0],
                          "The text has no line `layout W H STEPS`.")
 
     def test_freely_written_words(self) -> None:
@@ -229,7 +230,7 @@ class Commands(unittest.TestCase):
     def test_outputs_follow(self) -> None:
         """With four more steps the output and waste cells of the NOT gate are four cells on: the layout is still right.
         """
-        text = node(["commands", example("not_gate"), [["resize", 12, 12, 5, True]]])[0]
+        text = node(["commands", example("not_gate"), [["setSizeAndSteps", 12, 12, 5, True]]])[0]
         self.assertIn("out b 2 2\n", text)
         self.assertEqual({line for line in text.split("\n") if line.startswith("waste")}, {"waste 9 2", "waste 2 9"})
         rows = node(["truth", text])[0]
@@ -241,7 +242,7 @@ class Commands(unittest.TestCase):
         lines = [number for number, line in enumerate(text.split("\n"))
                  if line.split(" ")[0] in ("mirror", "ball", "in", "out", "waste")]
         for how in ("rotate", "flip-x", "flip-y"):
-            turned = node(["commands", text, [["turn", lines, how]]])[0]
+            turned = node(["commands", text, [["rotateOrFlip", lines, how]]])[0]
             self.assertNotEqual(turned, text)
             rows = node(["truth", turned])[0]
             self.assertTrue(all(output["wanted"] == output["found"] for row in rows for output in row["outputs"]), how)

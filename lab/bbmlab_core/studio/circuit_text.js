@@ -19,14 +19,14 @@ const wordsOf = (line) => {
 };
 
 /** Returns a text without the byte order mark with which it begins. */
-const withoutMark = (text) => (text.startsWith("\ufeff") ? text.slice(1) : text);
+const withoutByteOrderMark = (text) => (text.startsWith("\ufeff") ? text.slice(1) : text);
 
 /**
  * Returns the words of each line of a text that has any, and the limits by the first of them, which is left out if it
  * is a line of limits.
  */
-function wordLines(text) {
-  const lines = withoutMark(text).split("\n").map(wordsOf).filter((words) => words.length);
+function linesAndLimits(text) {
+  const lines = withoutByteOrderMark(text).split("\n").map(wordsOf).filter((words) => words.length);
   const own = limits.limitsOf(lines[0] || []);
   return { lines: own.line ? lines.slice(1) : lines, limits: own };
 }
@@ -66,7 +66,8 @@ function addLine(circuit, known, words) {
  * boolean}}
  */
 function readCircuit(text) {
-  const circuit = { inputs: [], gates: [], outputs: [], spills: [] }, known = new Set(), { lines } = wordLines(text);
+  const circuit = { inputs: [], gates: [], outputs: [], spills: [] }, known = new Set();
+  const { lines } = linesAndLimits(text);
   const isWhole = lines.length > 0 && lines[0][0] === "circuit"
     && lines.map((words) => addLine(circuit, known, words)).every(Boolean);
   return { ...circuit, names: known, isWhole };
@@ -84,7 +85,7 @@ function circuitLines({ inputs, gates, outputs, spills }) {
 }
 
 /** Returns a new name for each wire of some lines: its own, unless it is taken. */
-function freshNames(lines, taken) {
+function newNameByWire(lines, taken) {
   const names = new Map(), used = new Set(taken);
   for (const name of readCircuit(lines.join("\n")).names) {
     let fresh = name;
@@ -118,4 +119,4 @@ function joinCircuit(rows, count, lines, names) {
   rows.splice(0, count, ...head);
 }
 
-export { readCircuit, freshNames, joinCircuit, wordsOf, withoutMark, circuitLines, wordLines };
+export { readCircuit, newNameByWire, joinCircuit, wordsOf, withoutByteOrderMark, circuitLines, linesAndLimits };

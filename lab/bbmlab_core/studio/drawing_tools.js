@@ -4,7 +4,7 @@
  */
 import { plural } from "../view/stage.js";
 import * as geometry from "./geometry.js";
-import { standardCellParts, refusalOf } from "./model.js";
+import { standardCellParts, refusalAfterTrying } from "./model.js";
 
 const CELL_PART_KINDS = ["ball", "in", "out", "waste"];
 const CLICK_MIRROR_SIZE = [4, 2];
@@ -64,7 +64,7 @@ class Tools {
    * Keeps the selection on its parts after a change, since their lines may have moved. Another file begins without one.
    */
   keepSelection() {
-    const { model } = this, lines = model.movedLines(model === this.followed ? this.selection : []);
+    const { model } = this, lines = model.takeMovedLines(model === this.followed ? this.selection : []);
     this.followed = model;
     this.select(model.partsOfLines(lines).map(({ line }) => line));
   }
@@ -79,7 +79,7 @@ class Tools {
 
   /** Does a command, and says why if it cannot be done. Returns whether it was done. */
   tryCommand(action) {
-    const reason = refusalOf(action);
+    const reason = refusalAfterTrying(action);
     if (reason !== null) this.say(reason, true);
     return reason === null;
   }
@@ -126,7 +126,8 @@ class Tools {
     else if (this.name === "connect") this.showConnection(cell);
     else {
       const parts = this.partsFor(cell);
-      this.show(parts && { parts, reason: this.model.whyNot(parts), time: this.steps, words: this.flightWords(parts) });
+      this.show(parts && { parts, reason: this.model.whyNoFit(parts), time: this.steps,
+        words: this.flightWords(parts) });
     }
   }
 
@@ -142,7 +143,7 @@ class Tools {
   showMirror(start, end) {
     const { wanted, parts } = this.mirrorFor(start, end), why = geometry.fallReason(wanted);
     const isClick = start[0] === end[0] && start[1] === end[1], box = parts.length ? parts[0].box : null;
-    const reason = box ? this.model.whyNot(parts) : "No mirror of this size stays here.";
+    const reason = box ? this.model.whyNoFit(parts) : "No mirror of this size stays here.";
     const words = why && !isClick
       ? `The dashed mirror would fall apart, since ${why}. The nearest one that stays: ${box ? box.join(" ") : "none"}.`
       : `Mirror ${box ? box.join(" ") : ""}`;
@@ -163,7 +164,7 @@ class Tools {
     const steps = Math.max(layout.steps, this.steps);
     const parts = standardCellParts(layout, x, y, this.hasWires ? (wire) => wire : null, steps);
     const isFit = layout.width <= this.desk.layout.width && layout.height <= this.desk.layout.height;
-    const reason = isFit ? this.model.whyNot(parts)
+    const reason = isFit ? this.model.whyNoFit(parts)
       : `The cell ${name} takes ${layout.width} by ${layout.height} cells. Press to make the layout larger.`;
     const shown = ports.map((port) => ({ ...port, cell: [port.cell[0] + x, port.cell[1] + y] }));
     this.show({ parts, reason, ports: shown, words: `${name} ${this.cell.about}; ${layout.steps} steps.` });
@@ -208,7 +209,7 @@ class Tools {
     const [left, top] = geometry.evenFrame(this.clipboard.map(({ box }) => box));
     const [dx, dy] = [x - x % 2 - left, y - y % 2 - top];
     const parts = geometry.shiftedParts(this.clipboard, dx, dy);
-    return { parts, reason: this.model.whyNot(parts), words: "Press to paste here." };
+    return { parts, reason: this.model.whyNoFit(parts), words: "Press to paste here." };
   }
 
   // ---- pressing and dragging
@@ -250,7 +251,7 @@ class Tools {
     else if (mode === "connect") {
       this.connectAt(end);
       return;
-    } else if (CELL_PART_KINDS.includes(mode)) this.tryCommand(() => this.model.addCellParts(this.partsFor(end)));
+    } else if (CELL_PART_KINDS.includes(mode)) this.tryCommand(() => this.model.addBallsOrPorts(this.partsFor(end)));
     this.sketch.ghost = null;
     this.sketch.frame2 = null;
     this.sketch.requestOver();
@@ -267,7 +268,7 @@ class Tools {
       const isLarger = await this.askLarger(
         `The cell ${name} takes ${layout.width} by ${layout.height} cells, and the layout has ${width} by ${height}.`,
         size);
-      if (!isLarger || !this.tryCommand(() => this.model.resize(...size, steps))) return;
+      if (!isLarger || !this.tryCommand(() => this.model.setSizeAndSteps(...size, steps))) return;
     }
     this.tryCommand(
       () => this.model.insertStandardCell({ layout, circuit }, ...this.cornerFor(cell, this.cell), this.hasWires));
@@ -316,7 +317,7 @@ class Tools {
     const words = why
       ? `Moved by (${x - u}, ${y - v}) the mirror would fall apart, since ${why}. It moves by (${dx}, ${dy}).`
       : `Moved by (${dx}, ${dy}).${isSnapped ? " Several parts move by whole blocks." : ""}`;
-    this.show({ parts: moved, reason: this.model.whyNot(moved, this.selection), time: this.steps, words,
+    this.show({ parts: moved, reason: this.model.whyNoFit(moved, this.selection), time: this.steps, words,
       wanted: why ? wanted.box : null });
   }
 
@@ -347,9 +348,9 @@ class Tools {
   }
 
   /** Rotates or reflects the selection. */
-  turn(how) {
+  rotateOrFlip(how) {
     let lines = [...this.selection];
-    if (lines.length && this.tryCommand(() => { lines = this.model.turn(lines, how); })) this.select(lines);
+    if (lines.length && this.tryCommand(() => { lines = this.model.rotateOrFlip(lines, how); })) this.select(lines);
   }
 
   copy() {

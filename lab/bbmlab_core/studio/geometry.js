@@ -55,7 +55,7 @@ function isMovingBlock(keys, x, y) {
 }
 
 /** Returns a corner cell of a mirror that a step moves, with all mirrors of the layout, or null. */
-function movingCorner([x, y, w, h], keys) {
+function movingMirrorCorner([x, y, w, h], keys) {
   for (const odd of [0, 1]) {
     for (const [u, v] of [[x, y], [x + w - 1, y], [x, y + h - 1], [x + w - 1, y + h - 1]]) {
       if (isMovingBlock(keys, u - (u + odd) % 2, v - (v + odd) % 2)) return [u, v];
@@ -70,7 +70,7 @@ function movingCorner([x, y, w, h], keys) {
 function fallingMirrors(mirrors) {
   if (mirrors.every(isStable)) return [];
   const keys = mirrorKeys(mirrors);
-  return mirrors.filter((box) => !isStable(box)).map((box) => ({ box, cell: movingCorner(box, keys) }))
+  return mirrors.filter((box) => !isStable(box)).map((box) => ({ box, cell: movingMirrorCorner(box, keys) }))
     .filter(({ cell }) => cell !== null);
 }
 
@@ -82,16 +82,16 @@ function evenFrame(boxes) {
   return [x, y, right + right % 2 - x, bottom + bottom % 2 - y];
 }
 
-const TURNS = {
+const BOX_TRANSFORMS = {
   "rotate": ([x, y, w, h], [left, top, , high]) => [left + top + high - y - h, top + x - left, h, w],
   "flip-x": ([x, y, w, h], [left, , wide]) => [2 * left + wide - x - w, y, w, h],
   "flip-y": ([x, y, w, h], [, top, , high]) => [x, 2 * top + high - y - h, w, h],
 };
 
-/** Returns parts turned by a quarter to the right ("rotate") or reflected ("flip-x", "flip-y") about their frame. */
-function turnedParts(parts, how) {
+/** Returns parts rotated by a quarter to the right ("rotate") or reflected ("flip-x", "flip-y") about their frame. */
+function rotatedOrFlippedParts(parts, how) {
   const frame = evenFrame(parts.map(({ box }) => box));
-  return parts.map((part) => ({ ...part, box: TURNS[how](part.box, frame) }));
+  return parts.map((part) => ({ ...part, box: BOX_TRANSFORMS[how](part.box, frame) }));
 }
 
 /** Returns parts that are moved by some cells. */
@@ -118,6 +118,6 @@ function flownParts(parts, time, steps) {
 }
 
 export {
-  isStable, fallReason, snapMirror, flightDirection, pairCells, fallingMirrors, evenFrame, turnedParts, shiftedParts,
-  snapMove, flownParts,
+  isStable, fallReason, snapMirror, flightDirection, pairCells, fallingMirrors, evenFrame, rotatedOrFlippedParts,
+  shiftedParts, snapMove, flownParts,
 };

@@ -8,7 +8,7 @@ import * as limits from "../view/limits.js";
 import * as circuitText from "./circuit_text.js";
 import * as geometry from "./geometry.js";
 
-const { wordsOf, withoutMark } = circuitText;
+const { wordsOf, withoutByteOrderMark } = circuitText;
 const KINDS = ["mirror", "ball", "in", "out", "waste"];
 const NUMBER_COUNTS = { mirror: 4, ball: 2, in: 2, out: 2, waste: 2 };
 const NAME = /^[a-z][a-z0-9_]{0,31}$/, NUMBER = /^(0|[1-9][0-9]{0,8})$/;
@@ -17,8 +17,8 @@ const LINE_PATTERN = /^(\ufeff?[ \t]*)([^#]*?)([ \t\r]*(?:#.*)?)$/s;
 /** A command that cannot be done. The message is for the user. */
 class ModelRefusal extends Error {}
 
-/** Returns why the model does not do a command, or null if it was done. */
-function refusalOf(command) {
+/** Does a command. Returns why the model refused it, or null if it was done. */
+function refusalAfterTrying(command) {
   try {
     command();
     return null;
@@ -152,7 +152,7 @@ class Model {
    */
   read() {
     const start = this.lines.findIndex((line, index) =>
-      line.includes("layout") && firstWord(index ? line : withoutMark(line)) === "layout");
+      line.includes("layout") && firstWord(index ? line : withoutByteOrderMark(line)) === "layout");
     const end = start < 0 ? -1
       : this.lines.findIndex((line, index) => index > start && /end|certificate/.test(line)
       && ["end", "certificate"].includes(firstWord(line)));
@@ -163,7 +163,7 @@ class Model {
     this.after = this.end + Number(isClosed);
     // The first lines of a long text are those of its circuit, so the first line with words is near.
     this.limits = limits.limitsOf(
-      wordsOf(withoutMark(this.lines.find((line) => wordsOf(withoutMark(line)).length > 0) || "")));
+      wordsOf(withoutByteOrderMark(this.lines.find((line) => wordsOf(withoutByteOrderMark(line)).length > 0) || "")));
     this.parts = [];
     this.filed = null;
     for (let line = start + 1; start >= 0 && line < this.end; line += 1) {
@@ -171,7 +171,7 @@ class Model {
       if (part) this.parts.push(part);
     }
     this.header = this.readHeader();
-    this.layout = this.header && this.readLayout();
+    this.layout = this.header && this.makeLayout();
     const head = this.headText;
     if (head !== this.readHead) {
       this.readHead = head;
@@ -181,7 +181,8 @@ class Model {
 
   /** Returns the size and the steps of the layout, or null if they are no numbers within the limits. */
   readHeader() {
-    const words = this.start < 0 ? [] : wordsOf(this.start ? this.lines[this.start] : withoutMark(this.lines[0]));
+    const words = this.start < 0 ? []
+      : wordsOf(this.start ? this.lines[this.start] : withoutByteOrderMark(this.lines[0]));
     if (words.length !== 4 || !words.slice(1).every((word) => NUMBER.test(word))) return null;
     const [width, height, steps] = words.slice(1).map(Number);
     const isSide = (side) => side % 2 === 0 && side >= 2 && side <= this.limits.maxSide;
@@ -189,7 +190,7 @@ class Model {
   }
 
   /** Returns the layout for the engine, with the parts that lie in the rectangle. */
-  readLayout() {
+  makeLayout() {
     const { width, height } = this.header;
     const inside = this.parts.filter(({ box: [x, y, w, h] }) => x + w <= width && y + h <= height);
     const cells = (kind) => inside.filter((part) => part.kind === kind).map(({ box }) => [box[0], box[1]]);
@@ -237,7 +238,7 @@ class Model {
    * Returns where lines are after the last change, which is taken into account once. If a change put more or fewer
    * lines in the place of some, these are left out.
    */
-  movedLines(lines) {
+  takeMovedLines(lines) {
     const { at, removed, added } = this.shift || { at: 0, removed: 0, added: 0 };
     this.shift = null;
     if (added === removed) return [...lines];
@@ -314,7 +315,7 @@ class Model {
    * @param {Part[]} parts
    * @param {Iterable<number>} without lines that go away
    */
-  whyNot(parts, without = []) {
+  whyNoFit(parts, without = []) {
     if (!this.header) return "The text has no layout whose size is allowed.";
     const { width, height } = this.header, gone = new Set(without);
     for (const part of parts) {
@@ -326,7 +327,7 @@ class Model {
     }
     const fresh = new Map();
     for (const part of parts) {
-      const other = takerOf(part, this.rows(), gone);
+      const other = takerOf(part, this.partsByRow(), gone);
       if (other) return `Cell (${sharedCell(part, other).join(", ")}) is taken by the ${partTitle(other)}.`;
       const twin = takerOf(part, fresh, new Set());
       if (twin) return `Two of the parts take cell (${sharedCell(part, twin).join(", ")}).`;
@@ -336,7 +337,7 @@ class Model {
   }
 
   /** Returns the parts by the rows that they are in, made once for each text. */
-  rows() {
+  partsByRow() {
     if (!this.filed) {
       this.filed = new Map();
       for (const part of this.parts) if (part.box[1] + part.box[3] <= this.limits.maxSide) fileByRows(this.filed, part);
@@ -345,32 +346,32 @@ class Model {
   }
 
   /** Raises the reason why parts cannot be in the layout. */
-  require(parts, without = []) {
-    const reason = this.whyNot(parts, without);
+  requireFit(parts, without = []) {
+    const reason = this.whyNoFit(parts, without);
     if (reason) throw new ModelRefusal(reason);
   }
 
   /** Adds parts, each behind the last part of its kind, and returns the numbers of their lines. */
   add(parts, label = "add") {
-    this.require(parts);
-    return this.edit(label, (rows) => this.insertRows(rows, parts));
+    this.requireFit(parts);
+    return this.edit(label, (rows) => this.insertPartLines(rows, parts));
   }
 
   /**
    * Adds balls, ports or waste cells. An input that the circuit does not have becomes one, and so does an output whose
    * wire is not used.
    */
-  addCellParts(parts) {
-    this.require(parts);
+  addBallsOrPorts(parts) {
+    this.requireFit(parts);
     const { kind, name } = parts[0], { names, inputs, outputs, spills, gates, isWhole } = this.circuit, lines = [];
     const used = new Set([...outputs, ...spills, ...gates.flatMap(({ ins }) => ins)]);
-    const isRead = isWhole || circuitText.wordLines(this.headText).lines.length === 0;
+    const isRead = isWhole || circuitText.linesAndLimits(this.headText).lines.length === 0;
     if (isRead && kind === "in" && !names.has(name)) lines.push(`input ${name}`);
     if (isRead && kind === "out" && names.has(name) && !used.has(name)) lines.push(`output ${name}`);
     if (isRead && kind === "in" && names.has(name)
         && !inputs.includes(name)) throw new ModelRefusal(`\`${name}\` is no input of the circuit.`);
     return this.edit(kind, (rows) => {
-      const added = this.insertRows(rows, parts);
+      const added = this.insertPartLines(rows, parts);
       circuitText.joinCircuit(rows, this.start, lines, new Map());
       return added;
     });
@@ -379,17 +380,17 @@ class Model {
   /** Puts other outputs and waste cells in the place of all of them. */
   replaceEnds(parts) {
     const old = new Set(this.parts.filter(({ kind }) => kind === "out" || kind === "waste").map(({ line }) => line));
-    this.require(parts, old);
+    this.requireFit(parts, old);
     this.edit("outputs", (rows) => {
       const gone = new Set([...old].map((line) => rows[line]));
-      this.insertRows(rows, parts);
+      this.insertPartLines(rows, parts);
       rows.splice(0, rows.length, ...rows.filter((row) => !gone.has(row)));
       return [];
     });
   }
 
   /** Puts rows for parts behind the last part of their kind, or of a kind that comes before it. */
-  insertRows(rows, parts) {
+  insertPartLines(rows, parts) {
     const end = wordsOf(this.lines[this.start]).length && this.lines[this.start].endsWith("\r") ? "\r" : "", added = [];
     for (const kind of [...KINDS].reverse()) {
       const fresh = parts.filter((part) => part.kind === kind).map((part) => ({ text: lineText(part) + end }));
@@ -415,7 +416,7 @@ class Model {
    * @param {Part[]} parts
    */
   replace(parts, label = "change") {
-    this.require(parts, parts.map(({ line }) => line));
+    this.requireFit(parts, parts.map(({ line }) => line));
     return this.edit(label, (rows) => parts.map((part) => {
       rows[part.line].text = withOtherWords(rows[part.line].text, lineText(part));
       return rows[part.line];
@@ -425,8 +426,8 @@ class Model {
   /** Moves the parts of some lines. */
   move(lines, dx, dy) { return this.replace(geometry.shiftedParts(this.partsOfLines(lines), dx, dy), "move"); }
 
-  /** Turns or reflects the parts of some lines about their frame. */
-  turn(lines, how) { return this.replace(geometry.turnedParts(this.partsOfLines(lines), how), how); }
+  /** Rotates or reflects the parts of some lines about their frame. */
+  rotateOrFlip(lines, how) { return this.replace(geometry.rotatedOrFlippedParts(this.partsOfLines(lines), how), how); }
 
   /** Gives the ports of some lines another wire. */
   rename(lines, name) {
@@ -438,7 +439,7 @@ class Model {
   // ---- the layout as a whole
 
   /** Sets size and steps. If `follows`, outputs and waste cells fly on by the change of the steps. */
-  resize(width, height, steps, follows = false) {
+  setSizeAndSteps(width, height, steps, follows = false) {
     const { maxSide, maxSteps } = this.limits;
     const isSide = (side) => Number.isInteger(side) && side % 2 === 0 && side >= 2 && side <= maxSide;
     if (this.start < 0) throw new ModelRefusal("The text has no line `layout W H STEPS`.");
@@ -454,7 +455,7 @@ class Model {
     const outside = all.find(({ box: [x, y, w, h] }) => x < 0 || y < 0 || x + w > width || y + h > height);
     if (outside)
         throw new ModelRefusal(`${partTitle(outside)} would be outside the layout of ${width} by ${height} cells.`);
-    if (fresh.length) this.require(fresh, flying.map(({ line }) => line));
+    if (fresh.length) this.requireFit(fresh, flying.map(({ line }) => line));
     this.edit("size", (rows) => {
       rows[this.start].text = withOtherWords(rows[this.start].text, `layout ${width} ${height} ${steps}`);
       for (const part of fresh) rows[part.line].text = withOtherWords(rows[part.line].text, lineText(part));
@@ -480,7 +481,7 @@ class Model {
           rows[part.line].text = withOtherWords(rows[part.line].text,
           lineText(part));
       if (most > this.limits.maxSide) {
-        rows[0].text = withoutMark(rows[0].text);
+        rows[0].text = withoutByteOrderMark(rows[0].text);
         rows.unshift({ text: limits.SECOND.line });
       }
       return [];
@@ -491,7 +492,7 @@ class Model {
   limitsLineHint(isAbove) { return isAbove ? limits.limitsLineHint("A larger layout", this.limits) : ""; }
 
   /** Puts other lines in the place of those before the layout. */
-  setHead(text, merge = null) {
+  setCircuitText(text, merge = null) {
     const head = text === "" ? [] : text.split("\n");
     this.commit([...head, ...this.lines.slice(this.start < 0 ? this.lines.length : this.start)], "circuit", merge);
   }
@@ -509,18 +510,18 @@ class Model {
    */
   insertStandardCell({ layout, circuit }, x, y, hasWires) {
     if (x % 2 || y % 2) throw new ModelRefusal("A cell is moved by even numbers of columns and rows.");
-    const names = circuitText.freshNames(circuit, this.circuit.names);
+    const names = circuitText.newNameByWire(circuit, this.circuit.names);
     const steps = Math.max(layout.steps, this.header ? this.header.steps : 0);
     const parts = standardCellParts(layout, x, y, hasWires ? (name) => names.get(name) : null, steps);
     const flying = hasWires && steps > this.header.steps
       ? this.parts.filter(({ kind }) => kind === "out" || kind === "waste") : [];
     const fresh = geometry.flownParts(flying, this.header.steps, steps - this.header.steps);
-    this.require([...parts, ...fresh], flying.map(({ line }) => line));
+    this.requireFit([...parts, ...fresh], flying.map(({ line }) => line));
     return this.edit("cell", (rows) => {
       for (const part of fresh) rows[part.line].text = withOtherWords(rows[part.line].text, lineText(part));
       if (hasWires) rows[this.start].text = withOtherWords(rows[this.start].text,
           `layout ${this.header.width} ${this.header.height} ${steps}`);
-      const added = this.insertRows(rows, parts);
+      const added = this.insertPartLines(rows, parts);
       if (hasWires) circuitText.joinCircuit(rows, this.start, circuit, names);
       return added;
     });
@@ -543,4 +544,4 @@ function standardCellParts(layout, x, y, nameOf, steps) {
   return geometry.shiftedParts([...firm, ...ins, ...flown], x, y);
 }
 
-export { Model, ModelRefusal, standardCellParts, refusalOf };
+export { Model, ModelRefusal, standardCellParts, refusalAfterTrying };

@@ -1,6 +1,6 @@
 /** The panels beside the picture: size, inputs, the circuit with its refusal, and the truth table. */
 import { fillBox, inputSwitch } from "../view/boxes.js";
-import { Model, refusalOf } from "./model.js";
+import { Model, refusalAfterTrying } from "./model.js";
 import { appendWords, ask, debounced, element, newElement } from "./page_parts.js";
 import { server } from "./server_link.js";
 import { wireInks } from "./sketch.js";
@@ -33,12 +33,12 @@ class SidePanels {
     for (const id of NUMBERS) {
       // The field in which a number is typed that is not taken yet.
       element(id).addEventListener("input", () => { this.typed = id; });
-      element(id).addEventListener("change", () => this.resize());
+      element(id).addEventListener("change", () => this.applyNumbers());
     }
     element("enlarge").addEventListener("click", () => this.chooseMargins());
     const pane = element("circuit");
     pane.addEventListener("input",
-      () => desk.model.setHead(pane.value === "" ? "" : pane.value.replace(/\n$/, ""), "typing"));
+      () => desk.model.setCircuitText(pane.value === "" ? "" : pane.value.replace(/\n$/, ""), "typing"));
     pane.addEventListener("blur", () => {
       desk.model.closeMerge();
       this.showPane(true);
@@ -87,12 +87,12 @@ class SidePanels {
         box],
       [["enlarge", () => fields.map((field) => Number(field.value))], ["cancel", () => null]]);
     if (!sides) return;
-    const reason = refusalOf(() => this.desk.model.enlarge(...sides));
+    const reason = refusalAfterTrying(() => this.desk.model.enlarge(...sides));
     this.say(reason || "Enlarged.", reason !== null);
   }
 
   /** Sets size and steps by the fields. */
-  resize() {
+  applyNumbers() {
     const [width, height, steps] = NUMBERS.map((id) => Number(element(id).value)), { layout, model } = this.desk;
     const isFollowed = element("follow").checked;
     this.typed = null;
@@ -100,7 +100,7 @@ class SidePanels {
       this.say("");
       return;
     }
-    const reason = refusalOf(() => model.resize(width, height, steps, isFollowed));
+    const reason = refusalAfterTrying(() => model.setSizeAndSteps(width, height, steps, isFollowed));
     this.say(reason || "", reason !== null);
     this.showNumbers();
   }
@@ -116,12 +116,12 @@ class SidePanels {
       : null;
     if (now === null || placesOf(now) !== placesOf(ends)) return false;
     const made = new Model(model.text);
-    if (refusalOf(() => {
+    if (refusalAfterTrying(() => {
       made.remove(ends.map(({ line }) => line));
-      made.resize(width, height, steps);
+      made.setSizeAndSteps(width, height, steps);
     }) !== null) return false;
     const parts = surveys.endsOf(made.layout, made.circuit, MAX_FOLLOW_MILLISECONDS);
-    if (parts === null || refusalOf(() => made.add(parts)) !== null) return false;
+    if (parts === null || refusalAfterTrying(() => made.add(parts)) !== null) return false;
     model.setText(made.text, "size");
     return true;
   }

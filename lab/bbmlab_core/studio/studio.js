@@ -143,8 +143,8 @@ const actions = {
 const CONTROL = { z: actions.undo, y: actions.redo, Z: actions.redo, c: () => tools.copy(), x: actions.cut,
   v: actions.paste, s: () => files.save() };
 const ARROWS = { ArrowLeft: [-1, 0], ArrowRight: [1, 0], ArrowUp: [0, -1], ArrowDown: [0, 1] };
-const PLAIN_KEYS = { Delete: () => tools.remove(), Backspace: () => tools.remove(), r: () => tools.turn("rotate"),
-  x: () => tools.turn("flip-x"), y: () => tools.turn("flip-y"),
+const PLAIN_KEYS = { Delete: () => tools.remove(), Backspace: () => tools.remove(),
+  r: () => tools.rotateOrFlip("rotate"), x: () => tools.rotateOrFlip("flip-x"), y: () => tools.rotateOrFlip("flip-y"),
   Escape: () => {
     tools.cancel();
     tools.select([]);
@@ -258,9 +258,9 @@ function listenToButtons() {
   const clicks = { undo: actions.undo, redo: actions.redo, play: actions.play, back: () => actions.step(-1),
     next: () => actions.step(1), first: actions.first,
     last: actions.last, fit: () => sketch.fit(), in: () => sketch.zoom(1.25), out: () => sketch.zoom(0.8),
-      rotate: () => tools.turn("rotate"),
-    "flip-x": () => tools.turn("flip-x"), "flip-y": () => tools.turn("flip-y"), copy: () => tools.copy(),
-      paste: actions.paste, delete: () => tools.remove() };
+      rotate: () => tools.rotateOrFlip("rotate"),
+    "flip-x": () => tools.rotateOrFlip("flip-x"), "flip-y": () => tools.rotateOrFlip("flip-y"),
+      copy: () => tools.copy(), paste: actions.paste, delete: () => tools.remove() };
   for (const [id, action] of Object.entries(clicks)) element(id).addEventListener("click", action);
   for (const [name, [title, key]] of Object.entries(TOOLS)) {
     buttons[name] = button(title, () => choose(name));
