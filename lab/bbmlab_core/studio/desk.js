@@ -89,7 +89,7 @@ class Desk {
   }
 
   /** Sets under which inputs the ways are shown: "all", "on" or "off". */
-  setWays(mode) {
+  setWaysMode(mode) {
     this.waysMode = mode;
     if (mode === "off") this.survey = null;
     this.askWorker();

@@ -151,7 +151,7 @@ class Tools {
   }
 
   /** Returns the even corner at which a standard cell is put so that a cell is near its middle. */
-  cornerFor([x, y], { layout }) {
+  standardCellCorner([x, y], { layout }) {
     const even = (value, most) => Math.max(0, Math.min(most - most % 2, value - (value % 2 + 2) % 2));
     const { width, height } = this.desk.layout;
     return [even(x - (layout.width >> 1), width - layout.width),
@@ -160,7 +160,7 @@ class Tools {
 
   /** Shows the standard cell at a place, with its ports and their times. */
   showStandardCell(cell) {
-    const { layout, ports, name } = this.cell, [x, y] = this.cornerFor(cell, this.cell);
+    const { layout, ports, name } = this.cell, [x, y] = this.standardCellCorner(cell, this.cell);
     const steps = Math.max(layout.steps, this.steps);
     const parts = standardCellParts(layout, x, y, this.hasWires ? (wire) => wire : null, steps);
     const isFit = layout.width <= this.desk.layout.width && layout.height <= this.desk.layout.height;
@@ -214,8 +214,8 @@ class Tools {
 
   // ---- pressing and dragging
 
-  /** Begins at a cell. */
-  down(cell, isMore = false) {
+  /** Begins at a cell that is pressed. */
+  beginPress(cell, isMore = false) {
     if (!this.model.header || cell === null) return;
     this.at = cell;
     const begin = { select: () => this.grab(cell, isMore), erase: () => this.erase(cell),
@@ -270,8 +270,8 @@ class Tools {
         size);
       if (!isLarger || !this.tryCommand(() => this.model.setSizeAndSteps(...size, steps))) return;
     }
-    this.tryCommand(
-      () => this.model.insertStandardCell({ layout, circuit }, ...this.cornerFor(cell, this.cell), this.hasWires));
+    const corner = this.standardCellCorner(cell, this.cell);
+    this.tryCommand(() => this.model.insertStandardCell({ layout, circuit }, ...corner, this.hasWires));
   }
 
   /** Puts the copied parts at a place, and selects them. */
@@ -362,8 +362,8 @@ class Tools {
     this.say(`Copied ${plural(this.clipboard.length, "part", "parts")}.`);
   }
 
-  /** Begins to paste. */
-  paste() {
+  /** Takes the tool that pastes: the copy goes where the next press is. */
+  beginPaste() {
     if (this.clipboard.length === 0) {
       this.say("Nothing was copied.", true);
       return;

@@ -41,23 +41,23 @@ class Files {
     this.say = say;
     this.keepSoon = debounced(DRAFT_DELAY, () => this.keepDraft());
     desk.listen("change", () => {
-      this.showName();
+      this.showFileState();
       this.keepSoon();
     });
-    for (const [id, action] of [["save", () => this.save()], ["open", () => this.chooseFile()],
-        ["new", () => this.chooseTemplate()],
-      ["export", () => this.chooseExport()]]) element(id).addEventListener("click", action);
+    for (const [id, action] of [["save", () => this.save()], ["open", () => this.askAndOpenFile()],
+      ["new", () => this.askAndMakeLayout()],
+      ["export", () => this.askAndExport()]]) element(id).addEventListener("click", action);
     addEventListener("beforeunload", (event) => {
       this.keepDraft();
       if (this.isChanged) event.preventDefault();
     });
-    server.draftWords = () => this.draftWords();
+    server.keepAndDescribeDraft = () => this.keepAndDescribeDraft();
   }
 
   /** Whether the text differs from the file. */
   get isChanged() { return this.saved !== null && this.desk.model.text !== this.saved; }
 
-  showName() {
+  showFileState() {
     const shown = `${this.name}${this.isChanged ? " *" : ""}`;
     if (element("name").textContent !== shown) {
       element("name").textContent = shown;
@@ -81,7 +81,7 @@ class Files {
     if (this.hasOffer) showNotice("");
     this.hasOffer = false;
     this.desk.open(text);
-    this.showName();
+    this.showFileState();
     this.offerDraft();
   }
 
@@ -99,8 +99,8 @@ class Files {
     return false;
   }
 
-  /** Says what becomes of the text if the server does not answer. */
-  draftWords() {
+  /** Keeps the draft if the server does not answer, and says what becomes of the text. */
+  keepAndDescribeDraft() {
     const isKept = this.keepDraft();
     if (!this.isChanged) return "";
     return isKept ? "Your draft is kept in this browser. "
@@ -186,7 +186,7 @@ class Files {
       if (opened !== this.opened) return;
     }
     this.keepDraft();
-    this.showName();
+    this.showFileState();
     this.say(`Saved ${name}.`);
   }
 
@@ -214,7 +214,7 @@ class Files {
   }
 
   /** Asks which file to open. */
-  async chooseFile() {
+  async askAndOpenFile() {
     const { files, error } = await server.request("files");
     if (error) {
       this.say(error, true);
@@ -228,7 +228,7 @@ class Files {
   }
 
   /** Asks for a template and a name. */
-  async chooseTemplate() {
+  async askAndMakeLayout() {
     const { list, frame } = choiceList("Begin with", [["Empty", [["empty", "an empty layout"]]],
       ["Standard cells", this.templates.filter((name) => name !== "empty").map((name) => [name, name])],
       ["Examples", this.examples.map((name) => [`example ${name}`, name])]]);
@@ -257,7 +257,7 @@ class Files {
   }
 
   /** Asks for a form, and downloads the text in it. */
-  async chooseExport() {
+  async askAndExport() {
     const forms = Object.entries(EXPORTS).map(([form, [title]]) => [form, title]);
     const { list, frame } = choiceList("As", [["Forms", forms]]);
     const form = await ask("Export", [frame], [["export", () => list.value], ["cancel", () => null]]);

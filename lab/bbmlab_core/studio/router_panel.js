@@ -26,11 +26,11 @@ class RouterPanel {
   constructor(desk, say) {
     this.desk = desk;
     this.say = say;
-    element("route").addEventListener("click", () => this.choose());
+    element("route").addEventListener("click", () => this.askAndBegin());
   }
 
   /** Asks how long to search, and begins. */
-  async choose() {
+  async askAndBegin() {
     const { circuit } = this.desk;
     if (this.isRunning) {
       this.say("A search is running.");
@@ -53,7 +53,7 @@ class RouterPanel {
     this.seed = seed + 1;
     const head = this.desk.model.headText;
     const answer = await this.search("route", { text: `${head}\n`, seconds, seed }, "Routing");
-    this.takeState(answer, () => this.desk.model.headText === head, { label: "route", none: "There is no route.",
+    this.takeResult(answer, () => this.desk.model.headText === head, { label: "route", none: "There is no route.",
       done: () => "Routed. The verdict is asked for the text as it is now." });
   }
 
@@ -65,7 +65,7 @@ class RouterPanel {
     }
     const { text } = this.desk.model, wanted = { text, seconds: CONNECT_SECONDS, seed: 1, output, input };
     const answer = await this.search("connect", wanted, `Leading the ball of ${output} to ${input}`);
-    this.takeState(answer, () => this.desk.model.text === text,
+    this.takeResult(answer, () => this.desk.model.text === text,
       { label: "connect", none: "Nothing is changed.", done: (said) => said.at(-1) });
   }
 
@@ -96,7 +96,7 @@ class RouterPanel {
   hide() { element("routing").hidden = true; }
 
   /** Takes the text that was found, or says why there is none. If the text is another one now, it asks first. */
-  async takeState({ state, text, said = [], error }, isCurrent, { label, none, done }) {
+  async takeResult({ state, text, said = [], error }, isCurrent, { label, none, done }) {
     if (state !== "found") {
       const why = error || (state === "cancelled" ? "The search was cancelled."
         : `${none} ${said.filter((line) => !/first side|verdict yes/.test(line)).join(" ")}`);

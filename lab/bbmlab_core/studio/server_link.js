@@ -3,10 +3,10 @@
  * of the tab.
  */
 
-const TAB = "bbmlab tab", KEY = "bbmlab key";
+const TAB_ENTRY = "bbmlab tab", KEY_ENTRY = "bbmlab key";
 // How long a page that is loaded again waits until the one before has let go of the tab's number, in milliseconds.
 const TAB_DELAY = 500;
-const lockName = (tab) => `${TAB} ${tab}`;
+const lockName = (tab) => `${TAB_ENTRY} ${tab}`;
 
 /**
  * Holds the lock of a tab's number until the page is closed. Resolves to whether no other page holds it, as far as the
@@ -25,11 +25,11 @@ function holdTab(tab, options = {}) {
  * Returns the number of this tab, which lasts as long as the tab. A tab that was duplicated begins with the other's
  * number, and takes a new one.
  */
-async function tabNow() {
-  const old = sessionStorage.getItem(TAB);
+async function claimTab() {
+  const old = sessionStorage.getItem(TAB_ENTRY);
   if (old && (!navigator.locks || await holdTab(old, { signal: AbortSignal.timeout(TAB_DELAY) }))) return old;
   const fresh = crypto.randomUUID();
-  sessionStorage.setItem(TAB, fresh);
+  sessionStorage.setItem(TAB_ENTRY, fresh);
   if (navigator.locks) await holdTab(fresh);
   return fresh;
 }
@@ -51,30 +51,30 @@ async function enter() {
   if (token) {
     history.replaceState(null, "", location.pathname);
     const { status, answer } = await send("enter", { token });
-    if (status === 200) localStorage.setItem(KEY, answer.key);
+    if (status === 200) localStorage.setItem(KEY_ENTRY, answer.key);
   }
-  return localStorage.getItem(KEY);
+  return localStorage.getItem(KEY_ENTRY);
 }
 
 // The address that was printed may be put into a tab that shows the page.
 addEventListener("hashchange", () => { if (location.hash) location.reload(); });
 // It is of the server that was asked first: a page does not go on with another one at the same address.
-const key = enter(), tab = tabNow();
-key.catch(() => {});
+const keyPromise = enter(), tabPromise = claimTab();
+keyPromise.catch(() => {});
 
 /** Returns the server's answer. Without one it has the member `gone`. */
 async function request(name, body = {}) {
-  server.tab = await tab;
+  server.tab = await tabPromise;
   try {
-    const { status, answer } = await send(name, { ...body, tab: server.tab }, await key);
+    const { status, answer } = await send(name, { ...body, tab: server.tab }, await keyPromise);
     return status === 403 ? { gone: true, error: `The studio does not let this page in: ${answer.error}.` } : answer;
   } catch {
     return { gone: true,
-      error: `The server of the studio does not answer. ${server.draftWords()}Run \`bbmlab studio\` again.` };
+      error: `The server of the studio does not answer. ${server.keepAndDescribeDraft()}Run \`bbmlab studio\` again.` };
   }
 }
 
-// `tab` is known when the first answer is there. `draftWords` says what becomes of the text without a server.
-const server = { request, tab: null, lockName, draftWords: () => "" };
+// `tab` is known when the first answer is there. `keepAndDescribeDraft` keeps the text, and says so, without a server.
+const server = { request, tab: null, lockName, keepAndDescribeDraft: () => "" };
 
 export { server };

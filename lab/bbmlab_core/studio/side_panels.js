@@ -11,7 +11,7 @@ const REFUSAL_DELAY = 80, MAX_LEGEND = 10, NUMBERS = ["width", "height", "steps"
 const MAX_FOLLOW_MILLISECONDS = 1500;
 
 /** Returns the kinds and cells of parts, in an order of their own. */
-const placesOf = (parts) => parts.map(({ kind, box }) => `${kind} ${box[0]} ${box[1]}`).sort().join("\n");
+const kindsAndCells = (parts) => parts.map(({ kind, box }) => `${kind} ${box[0]} ${box[1]}`).sort().join("\n");
 
 class SidePanels {
   desk;
@@ -35,16 +35,16 @@ class SidePanels {
       element(id).addEventListener("input", () => { this.typed = id; });
       element(id).addEventListener("change", () => this.applyNumbers());
     }
-    element("enlarge").addEventListener("click", () => this.chooseMargins());
+    element("enlarge").addEventListener("click", () => this.askAndEnlarge());
     const pane = element("circuit");
     pane.addEventListener("input",
       () => desk.model.setCircuitText(pane.value === "" ? "" : pane.value.replace(/\n$/, ""), "typing"));
     pane.addEventListener("blur", () => {
       desk.model.closeMerge();
-      this.showPane(true);
+      this.showCircuitText(true);
     });
     pane.addEventListener("scroll", () => { element("gutter").scrollTop = pane.scrollTop; });
-    element("ways").addEventListener("change", (event) => desk.setWays(event.target.value));
+    element("ways").addEventListener("change", (event) => desk.setWaysMode(event.target.value));
     desk.listen("change", () => this.show());
     desk.listen("ways", () => this.showLegend());
     desk.listen("table", () => this.showTable());
@@ -53,7 +53,7 @@ class SidePanels {
   /** Shows what follows from the text. */
   show() {
     this.showNumbers();
-    this.showPane(false);
+    this.showCircuitText(false);
     this.showInputs();
     this.askSoon();
   }
@@ -72,7 +72,7 @@ class SidePanels {
   }
 
   /** Asks how many columns and rows are added at each side, and adds them. */
-  async chooseMargins() {
+  async askAndEnlarge() {
     const fields = ["left", "above", "right", "below"].map(
       (side) =>
       Object.assign(newElement("input"), { type: "number", min: 0, max: 4096, step: 2, value: 16, ariaLabel: side }));
@@ -112,22 +112,22 @@ class SidePanels {
   resizeWithEnds(width, height, steps) {
     const { desk: { model } } = this, isEnd = ({ kind }) => kind === "out" || kind === "waste";
     const ends = model.parts.filter(isEnd);
-    const now = model.layout && ends.length ? surveys.endsOf(model.layout, model.circuit, MAX_FOLLOW_MILLISECONDS)
-      : null;
-    if (now === null || placesOf(now) !== placesOf(ends)) return false;
+    const now = model.layout && ends.length
+      ? surveys.runForEndParts(model.layout, model.circuit, MAX_FOLLOW_MILLISECONDS) : null;
+    if (now === null || kindsAndCells(now) !== kindsAndCells(ends)) return false;
     const made = new Model(model.text);
     if (refusalAfterTrying(() => {
       made.remove(ends.map(({ line }) => line));
       made.setSizeAndSteps(width, height, steps);
     }) !== null) return false;
-    const parts = surveys.endsOf(made.layout, made.circuit, MAX_FOLLOW_MILLISECONDS);
+    const parts = surveys.runForEndParts(made.layout, made.circuit, MAX_FOLLOW_MILLISECONDS);
     if (parts === null || refusalAfterTrying(() => made.add(parts)) !== null) return false;
     model.setText(made.text, "size");
     return true;
   }
 
   /** Shows the lines before the layout, unless one types in them. */
-  showPane(isForced) {
+  showCircuitText(isForced) {
     const pane = element("circuit"), text = this.desk.model.headText.replaceAll("\r", "");
     if (pane.value !== text && (isForced || document.activeElement !== pane || pane.value.replace(/\n$/, "") !== text))
         pane.value = text;

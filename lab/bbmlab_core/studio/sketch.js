@@ -109,7 +109,7 @@ class Sketch extends Stage {
   /** Draws the layout with its ways and marks. */
   paintLayout(place) {
     super.paintWhole(place, null);
-    if (this.desk.survey) this.paintMarks(place);
+    if (this.desk.survey) this.paintSurveyMarks(place);
     for (const { box } of this.desk.fallen) painting.paintOutline(place, box, place.inks.bad, [], -2, 2.5);
     for (const cell of this.faults) painting.paintRing(place, cell);
   }
@@ -162,7 +162,7 @@ class Sketch extends Stage {
   }
 
   /** Marks where balls meet, where one meets a mirror, where one breaks a mirror, and where one leaves. */
-  paintMarks(place) {
+  paintSurveyMarks(place) {
     const { pen, scale, left, top, inks } = place, { marks } = this.desk.survey;
     if (scale < 4) return;
     for (let index = 0; index < marks.length; index += 3) {
@@ -195,11 +195,11 @@ class Sketch extends Stage {
           geometry.flightDirection(box[0], box[1], kind === "out" ? time : 0), ink);
       if (name && ports.length === 0 && parts.length <= 2) this.paintWord(place, box, name, ink);
     }
-    if (ports.length) this.paintPorts(place, ports, parts);
+    if (ports.length) this.paintGhostPorts(place, ports, parts);
   }
 
   /** Draws the ports of a standard cell, each with its name and its time, off each other. */
-  paintPorts(place, ports, parts) {
+  paintGhostPorts(place, ports, parts) {
     const { pen, scale, left, top, inks } = place;
     const words = ports.map(({ role, name, time }) => `${role} ${name} at time ${time}`);
     const rect = ([x, y, w, h]) => ({ x: (x - left) * scale, y: (y - top) * scale, width: w * scale,

@@ -45,8 +45,8 @@ function say(text, isBad = false) {
 
 // ---- tools
 
-/** Shows which tool is taken, and its options. */
-function showTool() {
+/** Shows which tool is taken, and its options, and goes to the time at which it puts parts. */
+function prepareTool() {
   for (const [name, found] of Object.entries(buttons)) found.setAttribute("aria-pressed", String(name === tools.name));
   const isPort = tools.name === "in" || tools.name === "out";
   const isCells = ["ball", "in", "out", "waste"].includes(tools.name);
@@ -54,7 +54,7 @@ function showTool() {
   element("pair-part").hidden = !isCells;
   element("cell-part").hidden = element("wires-part").hidden = tools.name !== "cell";
   element("selection-part").hidden = tools.name !== "select" && tools.name !== "paste";
-  ends.hidden = tools.name !== "out" && tools.name !== "waste";
+  endsButton.hidden = tools.name !== "out" && tools.name !== "waste";
   element("tool-words").textContent = tools.name === "paste" ? "Press where the copy goes." : TOOLS[tools.name][2];
   canvasElements.whole.dataset.tool = tools.name;
   if (isPort) suggestWire();
@@ -84,7 +84,7 @@ function setWire(name) {
 function choose(name) {
   if (name === "hand" && buttons.hand.getAttribute("aria-pressed") === "true") name = "select";
   tools.choose(name);
-  showTool();
+  prepareTool();
 }
 
 // ---- time and picture
@@ -133,14 +133,14 @@ const actions = {
     tools.copy();
     tools.remove();
   }, paste: () => {
-    tools.paste();
-    showTool();
+    tools.beginPaste();
+    prepareTool();
   },
 };
 
 // ---- keys
 
-const CONTROL = { z: actions.undo, y: actions.redo, Z: actions.redo, c: () => tools.copy(), x: actions.cut,
+const CONTROL_KEYS = { z: actions.undo, y: actions.redo, Z: actions.redo, c: () => tools.copy(), x: actions.cut,
   v: actions.paste, s: () => files.save() };
 const ARROWS = { ArrowLeft: [-1, 0], ArrowRight: [1, 0], ArrowUp: [0, -1], ArrowDown: [0, 1] };
 const PLAIN_KEYS = { Delete: () => tools.remove(), Backspace: () => tools.remove(),
@@ -181,13 +181,13 @@ function pressCursor() {
   }
   if (tools.pressed) {
     tools.release(sketch.cursor);
-    showTool();
+    prepareTool();
     return;
   }
-  tools.down(sketch.cursor);
+  tools.beginPress(sketch.cursor);
   if (!["mirror", "select"].includes(tools.name)) {
     tools.release(sketch.cursor);
-    showTool();
+    prepareTool();
   }
 }
 
@@ -197,12 +197,12 @@ function onKey(event) {
   const isNumber = target.type === "number";
   if (element("dialog").open) return;
   if (event.ctrlKey || event.metaKey) {
-    if (!Object.hasOwn(CONTROL, key) || isField && !(target.id === "circuit" || isNumber ? "szyZ" : "s").includes(key))
-        return;
+    if (!Object.hasOwn(CONTROL_KEYS, key)
+        || isField && !(target.id === "circuit" || isNumber ? "szyZ" : "s").includes(key)) return;
     // Words that are marked, as in the report, are for the browser to copy.
     if (key === "c" && target !== canvasElements.whole && !getSelection().isCollapsed) return;
     // A number that is typed and not taken yet is the first thing to undo.
-    if (!(isNumber && "zyZ".includes(key) && panels.cancelTyping(target.id))) CONTROL[key]();
+    if (!(isNumber && "zyZ".includes(key) && panels.cancelTyping(target.id))) CONTROL_KEYS[key]();
   } else if (isField) return;
   else if (ARROWS[key] && target === canvasElements.whole) onArrow(event, ARROWS[key]);
   else if (Object.hasOwn(PLAIN_KEYS, key) && !(target.tagName === "BUTTON" && " Enter".includes(key))
@@ -234,13 +234,13 @@ function listenToPointers(canvas) {
     sketch.putFinger(event);
     sketch.cursor = null;
     if (sketch.fingers.size > 1) tools.cancel();
-    else if (!isHand(event)) tools.down(sketch.cellAt(event.offsetX, event.offsetY), event.shiftKey);
+    else if (!isHand(event)) tools.beginPress(sketch.cellAt(event.offsetX, event.offsetY), event.shiftKey);
   });
   canvas.addEventListener("pointermove", movePointer);
   canvas.addEventListener("pointerup", (event) => {
     sketch.fingers.delete(event.pointerId);
     tools.release(sketch.cellAt(event.offsetX, event.offsetY));
-    showTool();
+    prepareTool();
   });
   canvas.addEventListener("pointercancel", (event) => {
     sketch.fingers.delete(event.pointerId);
@@ -287,8 +287,8 @@ function listenToButtons() {
   element("keys").textContent = KEYS_TEXT;
 }
 
-const ends = button("put outputs and waste where the balls end", () => tools.placeEnds());
-ends.id = "ends";
+const endsButton = button("put outputs and waste where the balls end", () => tools.placeEnds());
+endsButton.id = "ends";
 
 /** Sets what follows from changes of the desk and the window. */
 function listenToChanges() {
@@ -299,7 +299,7 @@ function listenToChanges() {
   desk.listen("play", () => { element("play").textContent = desk.player.direction ? "■ stop" : "play ▶"; });
   sketch.onPaint = showCell;
   sketch.onPainted = () => minimap.paint();
-  tools.onTool = showTool;
+  tools.onTool = prepareTool;
   tools.askLarger = (words, size) => ask("The cell is larger than the layout", [newElement("p", words)],
     [[`make the layout ${size.join(" by ")}`, () => true], ["cancel", () => null]]);
   tools.onConnect = (output, input) => router.connect(output, input);
@@ -339,7 +339,7 @@ async function loadStandardCells() {
 }
 
 listenToButtons();
-element("choices-of-tool").append(ends);
+element("choices-of-tool").append(endsButton);
 listenToPointers(canvasElements.whole);
 listenToChanges();
 choose("mirror");

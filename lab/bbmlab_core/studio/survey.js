@@ -201,14 +201,14 @@ class Survey {
     if ((one !== 0 && (note & 1) === 0) || (other !== 0 && (note & 2) === 0)
         || (both !== 0 && (note & 4) === 0)) this.noteBlockWays(a, one, other, both);
     if ((note & 64) === 0) return;
-    if (diagonal !== 0) this.noteMirrorCells(a, d);
-    if (across !== 0) this.noteMirrorCells(b, c);
+    if (diagonal !== 0) this.noteChangedMirrorCells(a, d);
+    if (across !== 0) this.noteChangedMirrorCells(b, c);
     this.noteBroken(a);
     this.noteBounce(a, any & ~(one | other | both));
   }
 
   /** Notes which of two cells that changed are of mirrors. */
-  noteMirrorCells(one, two) {
+  noteChangedMirrorCells(one, two) {
     const { isMirror } = this;
     if (isMirror[one] === 1) isMirror[one] = 2;
     if (isMirror[two] === 1) isMirror[two] = 2;
@@ -387,7 +387,7 @@ class TruthTableRun {
 }
 
 /** Returns cells as balls: those of two cells first, and then the others. */
-function ballsOf(cells, time) {
+function cellsAsBalls(cells, time) {
   const left = new Map(cells.map((cell) => [String(cell), cell])), balls = [];
   for (const cell of cells) {
     const [, tail] = geometry.pairCells(cell, time), key = String(tail);
@@ -418,7 +418,7 @@ function ballEndParts({ live, isMirror, tables }, outputs, { width, height, step
   }
   for (const [table, found] of cells) {
     const names = wires.get(table) || [null];
-    ballsOf(found, steps).forEach((ball, index) => {
+    cellsAsBalls(found, steps).forEach((ball, index) => {
       const name = names[Math.min(index, names.length - 1)];
       parts.push(...ball.map((cell) => ({ kind: name ? "out" : "waste", name, box: [...cell, 1, 1], line: -1 })));
     });
@@ -427,10 +427,10 @@ function ballEndParts({ live, isMirror, tables }, outputs, { width, height, step
 }
 
 /**
- * Returns the ends of the balls of a layout as parts, or null if that takes too long, a ball leaves, or not all choices
- * can be run at once.
+ * Runs a layout, and returns the ends of its balls as parts, or null if that takes too long, a ball leaves, or not all
+ * choices can be run at once.
  */
-function endsOf(layout, circuit, milliseconds) {
+function runForEndParts(layout, circuit, milliseconds) {
   if (!circuit.isWhole || circuit.inputs.length > 5) return null;
   const run = new Survey(layout, circuit, allChoices(circuit.inputs)), until = performance.now() + milliseconds;
   while (!run.isEnded && performance.now() < until) run.advance(4);
@@ -438,5 +438,6 @@ function endsOf(layout, circuit, milliseconds) {
 }
 
 export {
-  Survey, TruthTableRun, endsOf, allChoices, sampledChoices, ballEndParts, CONSTANT_COLOUR, OTHER_COLOUR, LANE_COUNT,
+  Survey, TruthTableRun, runForEndParts, allChoices, sampledChoices, ballEndParts, CONSTANT_COLOUR, OTHER_COLOUR,
+  LANE_COUNT,
 };

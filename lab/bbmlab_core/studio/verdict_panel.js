@@ -25,7 +25,7 @@ function describeFault({ text, cell, time }, { width, height }) {
   return cell ? `${kind} at (${cell.join(", ")}), time ${time}` : kind;
 }
 
-const OTHER_PICTURE = {
+const OTHER_PICTURE_VERDICT = {
   verdict: "unknown", faults: [], by: "", is_last: true,
   words: ["The program says yes to a text that is not the one of this picture. "
     + "This is an error of the studio: please report it with the text."],
@@ -102,8 +102,8 @@ class VerdictPanel {
         is_last: true };
     else if (first && answer.verdict === "none") this.verdict = { ...first,
       words: [...first.words, "The lab found no other certificate:", ...answer.words], is_last: true };
-    else this.verdict = answer.verdict === "yes" && !this.isOfPicture(answer.bundle) ? { ...answer, ...OTHER_PICTURE }
-      : answer;
+    else this.verdict = answer.verdict === "yes" && !this.isOfPicture(answer.bundle)
+      ? { ...answer, ...OTHER_PICTURE_VERDICT } : answer;
     this.checked = text;
     this.explanation = null;
     this.seconds = [...(stage === "first" ? [] : this.seconds), (performance.now() - this.editedAt) / 1000];
@@ -191,12 +191,12 @@ class VerdictPanel {
   /** Shows the fix of the whole text, or what was tried. */
   showFix(box, { headline, fix, tried }) {
     for (const words of headline) box.append(appendWords(newElement("p"), words));
-    if (fix) box.append(this.fixButton(fix));
+    if (fix) box.append(this.fixBox(fix));
     for (const words of tried) box.append(appendWords(newElement("p", "", "soft"), words));
   }
 
   /** Returns what a fix changes, with a button that takes it. It was tried. */
-  fixButton({ words, text }) {
+  fixBox({ words, text }) {
     const box = newElement("div", "", "fix-box"), what = newElement("p");
     what.append(newElement("strong", "Fix: "));
     words.forEach((word, index) => appendWords(what, index ? ` ${word}` : word));
@@ -210,7 +210,7 @@ class VerdictPanel {
     const entry = this.explanation ? this.explanation.entries.find(({ line }) => line === fault.text) : null;
     box.append(button(fault.text, () => this.goTo(fault), "fault"));
     for (const words of entry ? entry.what : []) box.append(appendWords(newElement("p"), words));
-    if (entry && entry.fix) box.append(this.fixButton(entry.fix));
+    if (entry && entry.fix) box.append(this.fixBox(entry.fix));
   }
 
   /** Shows a fault where and when it is. */
