@@ -920,11 +920,11 @@ def see_large(studio: Studio) -> None:
     assert studio.is_shown("map"), "the small picture shows where one is"
     before = studio.script("return bbmlab.studio.sketch.seenRange()")
     studio.browser.find_element(By.ID, "map").click()
-    studio.script("bbmlab.studio.sketch.tiles.made.clear(); bbmlab.studio.sketch.centre(100, 100, "
+    studio.script("bbmlab.studio.sketch.tiles.made.clear(); bbmlab.studio.sketch.centreOn(100, 100, "
                   "bbmlab.studio.sketch.scale)")
     studio.rest()
     assert studio.script("return bbmlab.studio.sketch.seenRange()") != before
-    studio.script("bbmlab.studio.sketch.centre(300, 300, 1)")
+    studio.script("bbmlab.studio.sketch.centreOn(300, 300, 1)")
     studio.rest()
     made = studio.script("return [...bbmlab.studio.sketch.tiles.made.values()].length")
     kept = studio.script("const { sketch, desk } = bbmlab.studio, old = new Set(sketch.tiles.made.values()); "

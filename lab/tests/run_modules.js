@@ -70,18 +70,18 @@ function scene(data, on, time, { scale, left, top, pointed }) {
 
 const results = (data, on) => ended(data, on).results().map(({ name, isGood }) => [name, isGood]);
 const read = (hash, limits) => address.read(hash, limits);
-const write = (shown) => address.write(shown);
+const hashText = (shown) => address.hashText(shown);
 const places = (names, signs, ports) => placeNames(names, signs, ports).map(({ box, away }) => [box.x, box.y, away]);
 
 /**
  * Returns for each time, sought in this order, what differs from the mirrors, as the run knows it and as its cells say.
  */
-function different(data, on, times) {
+function cellsUnlikeMirrors(data, on, times) {
   const run = new WholeRun(data.layout, new Set(on)), { cells } = mirrorsOf(data.layout), found = [];
   for (const time of times) {
     run.seek(time);
     const wanted = [...cells.bytes.keys()].filter((key) => cells.bytes[key] !== run.live.bytes[key]);
-    found.push([[...run.different()].sort((a, b) => a - b), wanted]);
+    found.push([[...run.cellsUnlikeMirrors()].sort((a, b) => a - b), wanted]);
   }
   return found;
 }
@@ -152,7 +152,7 @@ const modulesAt = (modules, cells) => cells.map(([x, y]) => {
   return found;
 });
 
-const functions = { different, filed, linesAt, modulesAt, squares, states,
-  wireAt, tiles, trail, waves, scene, results, read, write, places };
+const functions = { cellsUnlikeMirrors, filed, linesAt, modulesAt, squares, states,
+  wireAt, tiles, trail, waves, scene, results, read, hashText, places };
 const jobs = JSON.parse(fs.readFileSync(0, "utf8"));
 console.log(JSON.stringify(jobs.map(([name, ...words]) => functions[name](...words))));

@@ -247,8 +247,9 @@ class Forms(unittest.TestCase):
     def test_studio_has_the_same_numbers(self) -> None:
         """The table of the pages is that of the lab."""
         support.require("node", "nodejs")
-        script = f"""import {{ FIRST, SECOND }} from {json.dumps((viewing.TEMPLATE_FOLDER / "limits.js").as_uri())};
-console.log(JSON.stringify([FIRST, SECOND]));"""
+        source = (viewing.TEMPLATE_FOLDER / "limits.js").as_uri()
+        script = f"""import {{ FIRST_LIMITS, SECOND_LIMITS }} from {json.dumps(source)};
+console.log(JSON.stringify([FIRST_LIMITS, SECOND_LIMITS]));"""
         ended = subprocess.run(["node", "--input-type=module", "-e", script], capture_output=True, text=True,
                                check=True)
         told = [(own["line"], own["maxSide"], own["maxSteps"]) for own in json.loads(ended.stdout)]

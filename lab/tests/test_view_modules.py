@@ -48,7 +48,7 @@ class Address(unittest.TestCase):
         """Each part comes back, and all of them together."""
         states = [{}, {"time": 7}, {"on": []}, {"on": ["p"]}, {"zoom": [2.5, 10, -3.25]}, {"fault": 2},
                   {"trails": False}, {"time": 30, "on": ["p", "q"], "zoom": [80, 0, 512], "fault": 1, "trails": False}]
-        written = node([["write", state] for state in states])
+        written = node([["hashText", state] for state in states])
         self.assertEqual(node([["read", f"#{text}", LIMITS] for text in written]), states)
 
     def test_a_hostile_address(self) -> None:
@@ -211,7 +211,7 @@ class Large(unittest.TestCase):
             (support.read_document("layout 24 24 300\nmirror 2 1 2 2\nmirror 12 9 2 2\nball 4 2\nend\n"), [])]
         for document, on in layouts:
             times = [3, 4, 2, document.layout.steps, 1, document.layout.steps // 2, 0, 130, 64, 65]
-            found = node([["different", data_of(document), on, times]])[0]
+            found = node([["cellsUnlikeMirrors", data_of(document), on, times]])[0]
             self.assertEqual([known for known, _ in found], [wanted for _, wanted in found])
             self.assertTrue(any(wanted for _, wanted in found) or not document.layout.of_kind("ball"))
 

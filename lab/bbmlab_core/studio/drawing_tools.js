@@ -2,7 +2,7 @@
  * The tools: what pressing, dragging and letting go at cells does, by mouse, finger or keyboard. It knows the model,
  * and of the page only the sketch, to which it gives what a tool would do.
  */
-import { plural } from "../view/stage.js";
+import { countWithNoun } from "../view/stage.js";
 import * as geometry from "./geometry.js";
 import { standardCellParts, refusalAfterTrying } from "./model.js";
 
@@ -359,7 +359,7 @@ class Tools {
       return;
     }
     this.clipboard = this.model.partsOfLines(this.selection).map((part) => ({ ...part, line: -1 }));
-    this.say(`Copied ${plural(this.clipboard.length, "part", "parts")}.`);
+    this.say(`Copied ${countWithNoun(this.clipboard.length, "part", "parts")}.`);
   }
 
   /** Takes the tool that pastes: the copy goes where the next press is. */

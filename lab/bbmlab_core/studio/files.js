@@ -1,5 +1,5 @@
 /** Opens, saves and exports texts, and keeps and offers drafts. */
-import { plural } from "../view/stage.js";
+import { countWithNoun } from "../view/stage.js";
 import * as drafts from "./drafts.js";
 import { ask, debounced, element, newElement, showNotice } from "./page_parts.js";
 import { server } from "./server_link.js";
@@ -145,7 +145,7 @@ class Files {
   async chooseSpelling() {
     const { model } = this.desk, { text, comments } = await server.request("spelling", { text: model.text });
     if (text === undefined || text === model.text || this.isFree) return true;
-    const more = comments ? `, with ${plural(comments, "comment", "comments")}` : "";
+    const more = comments ? `, with ${countWithNoun(comments, "comment", "comments")}` : "";
     const words = `The program reads texts of one spelling, and this is another one${more}.`;
     const what = await ask("How to write the text", [newElement("p", words)], [
       ["write it as it is", () => "free"],

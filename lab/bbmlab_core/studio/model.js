@@ -474,7 +474,8 @@ class Model {
     }
     const { width, height, steps } = this.header, wide = width + left + right, high = height + above + below;
     const most = Math.max(wide, high);
-    if (most > limits.SECOND.maxSide) throw new ModelRefusal(`A side is at most ${limits.SECOND.maxSide} cells.`);
+    if (most > limits.SECOND_LIMITS.maxSide)
+        throw new ModelRefusal(`A side is at most ${limits.SECOND_LIMITS.maxSide} cells.`);
     this.edit("enlarge", (rows) => {
       rows[this.start].text = withOtherWords(rows[this.start].text, `layout ${wide} ${high} ${steps}`);
       for (const part of geometry.shiftedParts(this.parts, left, above))
@@ -482,7 +483,7 @@ class Model {
           lineText(part));
       if (most > this.limits.maxSide) {
         rows[0].text = withoutByteOrderMark(rows[0].text);
-        rows.unshift({ text: limits.SECOND.line });
+        rows.unshift({ text: limits.SECOND_LIMITS.line });
       }
       return [];
     });

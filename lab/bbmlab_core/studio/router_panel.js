@@ -2,7 +2,7 @@
  * What searches in the background, with its progress and with cancel: the button that routes the circuit of the text,
  * and the tool that leads the ball of an output to an input.
  */
-import { plural } from "../view/stage.js";
+import { countWithNoun } from "../view/stage.js";
 import { ask, button, element, newElement } from "./page_parts.js";
 import { server } from "./server_link.js";
 
@@ -41,7 +41,8 @@ class RouterPanel {
       return;
     }
     const seconds = numberField("seconds", SECONDS, 1, 3600), seed = numberField("seed", this.seed, 0, 2147483647);
-    const words = `The lab searches a layout for the circuit with ${plural(circuit.gates.length, "gate", "gates")}. `
+    const gates = countWithNoun(circuit.gates.length, "gate", "gates");
+    const words = `The lab searches a layout for the circuit with ${gates}. `
       + "It takes the place of the text; undo brings the old one back.";
     const wanted = await ask("Route the circuit", [newElement("p", words), seconds.label, seed.label],
       [["route", () => [Number(seconds.field.value), Number(seed.field.value)]], ["cancel", () => null]]);

@@ -4,7 +4,7 @@
 import { placeNames } from "../view/labels.js";
 import * as painting from "../view/painting.js";
 import { Stage } from "../view/stage.js";
-import { Buckets, changedPlaces } from "../view/tiles.js";
+import { Buckets, changedIndexes } from "../view/tiles.js";
 import * as geometry from "./geometry.js";
 import * as surveys from "./survey.js";
 
@@ -111,7 +111,7 @@ class Sketch extends Stage {
     super.paintWhole(place, null);
     if (this.desk.survey) this.paintSurveyMarks(place);
     for (const { box } of this.desk.fallen) painting.paintOutline(place, box, place.inks.bad, [], -2, 2.5);
-    for (const cell of this.faults) painting.paintRing(place, cell);
+    for (const cell of this.faults) painting.paintCircle(place, cell);
   }
 
   /** Files the ways by the squares of the layout, once for each survey. */
@@ -129,7 +129,7 @@ class Sketch extends Stage {
     const { survey } = this.desk, fresh = survey ? survey.ways : [], old = this.shownWays || [];
     const changed = new Buckets();
     if (fresh === old) return;
-    const { gone, added } = changedPlaces(old, fresh, NUMBERS_PER_WAY);
+    const { gone, added } = changedIndexes(old, fresh, NUMBERS_PER_WAY);
     for (const [list, places] of [[old, gone], [fresh, added]]) for (const at of places) changed.addPiece(list[at],
         list[at + 1], list[at + 2], list[at + 3]);
     this.shownWays = fresh;

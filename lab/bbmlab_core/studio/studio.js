@@ -58,7 +58,7 @@ function prepareTool() {
   element("tool-words").textContent = tools.name === "paste" ? "Press where the copy goes." : TOOLS[tools.name][2];
   canvasElements.whole.dataset.tool = tools.name;
   if (isPort) suggestWire();
-  if (tools.name === "out" || tools.name === "waste") desk.player.goTo(desk.layout.steps);
+  if (tools.name === "out" || tools.name === "waste") desk.player.stopAndSeek(desk.layout.steps);
   else if (["mirror", "ball", "in", "cell"].includes(tools.name) && desk.player.run.time !== 0) desk.player.seek(0);
 }
 
@@ -98,7 +98,7 @@ function showTime() {
   sketch.requestPaint();
 }
 
-const showCell = () => sketch.showWords(element("cell"), sketch.cursor || sketch.pointed);
+const showCell = () => sketch.showCellWords(element("cell"), sketch.cursor || sketch.pointed);
 
 /** Shows the desk after a change. */
 function showChange() {
@@ -127,8 +127,8 @@ const actions = {
     tools.select([]);
   },
   play: () => desk.player.play(desk.player.direction ? 0 : 1),
-  step: (count) => desk.player.goTo(desk.player.run.time + count),
-  first: () => desk.player.goTo(0), last: () => desk.player.goTo(desk.layout.steps),
+  step: (count) => desk.player.stopAndSeek(desk.player.run.time + count),
+  first: () => desk.player.stopAndSeek(0), last: () => desk.player.stopAndSeek(desk.layout.steps),
   cut: () => {
     tools.copy();
     tools.remove();
@@ -268,7 +268,7 @@ function listenToButtons() {
     buttons[name].id = `tool-${name}`;
     element("palette").append(buttons[name]);
   }
-  element("slider").addEventListener("input", (event) => desk.player.goTo(Number(event.target.value)));
+  element("slider").addEventListener("input", (event) => desk.player.stopAndSeek(Number(event.target.value)));
   element("wire").addEventListener("input", (event) => { tools.wire = event.target.value.trim(); });
   element("pair").addEventListener("change", (event) => { tools.isPair = event.target.checked; });
   element("with-wires").addEventListener("change", (event) => { tools.hasWires = event.target.checked; });

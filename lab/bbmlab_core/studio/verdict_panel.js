@@ -4,7 +4,7 @@
 import { appendWords, button, debounced, element, newElement } from "./page_parts.js";
 import { server } from "./server_link.js";
 
-const VERDICT_DELAY = 200, MAX_RINGS = 40, RETRY_DELAY = 2000;
+const VERDICT_DELAY = 200, MAX_CIRCLES = 40, RETRY_DELAY = 2000;
 const TITLES = { yes: "yes", no: "no", refused: "refused", none: "no certificate found", unknown: "no answer" };
 const ORIGIN_WORDS = { own: "with the certificate of the text", earlier: "with the last certificate that got a yes",
   plain: "with a certificate of one module",
@@ -184,7 +184,7 @@ class VerdictPanel {
     if (!verdict.is_last) box.append(newElement("p", "The lab makes a certificate…", "soft"));
     for (const fault of verdict.faults) this.showFault(box, fault);
     this.sketch.faults = this.isCurrent
-      ? verdict.faults.filter(({ cell }) => cell).slice(0, MAX_RINGS).map(({ cell }) => cell) : [];
+      ? verdict.faults.filter(({ cell }) => cell).slice(0, MAX_CIRCLES).map(({ cell }) => cell) : [];
     this.sketch.requestPaint();
   }
 

@@ -8,7 +8,7 @@
 import * as limits from "./limits.js";
 
 const MAX_LENGTH = 65536;
-const MIN_SCALE = 0.05, MAX_SCALE = 80, MAX_PLACE = 2 * limits.SECOND.maxSide;
+const MIN_SCALE = 0.05, MAX_SCALE = 80, MAX_PLACE = 2 * limits.SECOND_LIMITS.maxSide;
 
 /** Returns a number that is written plainly and lies in a range, or undefined. */
 function readNumber(text, least, most) {
@@ -32,7 +32,7 @@ function readZoom(text) {
 }
 
 /**
- * Reads an address. Anybody may have written it: what is not as `write` writes it is left out.
+ * Reads an address. Anybody may have written it: what is not as `hashText` writes it is left out.
  * @type {(hash: string, limits: Limits) => Shown}
  */
 function read(hash, { steps, names, faults }) {
@@ -51,8 +51,8 @@ function read(hash, { steps, names, faults }) {
   return shown;
 }
 
-/** Writes an address. @type {(shown: Shown) => string} */
-function write({ time, on, zoom, fault, trails }) {
+/** Returns the part of an address behind "#". @type {(shown: Shown) => string} */
+function hashText({ time, on, zoom, fault, trails }) {
   const parts = [];
   if (time !== undefined) parts.push(`t=${time}`);
   if (on !== undefined) parts.push(`on=${on.join(",")}`);
@@ -62,4 +62,4 @@ function write({ time, on, zoom, fault, trails }) {
   return parts.join("&");
 }
 
-export { read, write, MIN_SCALE, MAX_SCALE };
+export { read, hashText, MIN_SCALE, MAX_SCALE };

@@ -92,7 +92,7 @@ class Cells {
 }
 
 // The number of the pass in which each block was last looked at.
-let blockPasses = new Int32Array(0), pass = 0;
+let lastPassOfBlock = new Int32Array(0), pass = 0;
 
 /**
  * Applies the block rule to the block at `a`. One ball crosses the block; two on a diagonal go to the other diagonal;
@@ -122,13 +122,13 @@ function applyBlockRule(bytes, row, a, changed) {
  */
 function applyBlockRules(live, lists, odd) {
   const changed = [], { bytes, grid } = live, { row } = grid;
-  if (blockPasses.length < bytes.length) blockPasses = new Int32Array(bytes.length);
-  pass = pass === 0x7fffffff ? (blockPasses.fill(0), 1) : pass + 1;
+  if (lastPassOfBlock.length < bytes.length) lastPassOfBlock = new Int32Array(bytes.length);
+  pass = pass === 0x7fffffff ? (lastPassOfBlock.fill(0), 1) : pass + 1;
   for (const cells of lists) {
     for (let index = 0; index < cells.length; index += 1) {
       const block = grid.blockOf(cells[index], odd);
-      if (blockPasses[block] === pass) continue;
-      blockPasses[block] = pass;
+      if (lastPassOfBlock[block] === pass) continue;
+      lastPassOfBlock[block] = pass;
       applyBlockRule(bytes, row, block, changed);
     }
   }
@@ -186,7 +186,7 @@ function differingCells(one, other) {
 }
 
 // How many changes a run notes between two looks at what differs from the mirrors. Above it a look compares all cells.
-const MAX_PENDING = 100000;
+const MAX_PENDING_CHANGES = 100000;
 
 /** Returns how many steps lie between two snapshots. */
 const snapshotSpacing = (steps) => Math.max(64, Math.ceil(steps / 64));
@@ -224,7 +224,7 @@ class WholeRun {
     this.every = snapshotSpacing(layout.steps);
     // Snapshots are the cells that differ from the mirrors.
     this.snapshots = new Map([[0, Int32Array.from(new Set(keys.filter((key) => !cells.has(key))))]]);
-    this.setDifferentCells(this.snapshots.get(0));
+    this.setCellsUnlikeMirrors(this.snapshots.get(0));
     this.leftAt = null;
     // The moves of some steps, which `lastMoves` notes.
     this.moves = new Map();
@@ -240,7 +240,7 @@ class WholeRun {
    * Takes the cells that differ from the mirrors now, without the steps before: balls, and cells of mirrors that fell
    * apart, are among them.
    */
-  setDifferentCells(keys) {
+  setCellsUnlikeMirrors(keys) {
     const first = [...keys, ...this.restless];
     this.recent = [first, first];
     this.differ = new Set(keys);
@@ -252,7 +252,7 @@ class WholeRun {
    * Returns the cells that differ from the mirrors: live ones that are no mirror's, and dead ones of mirrors.
    * @returns {Set<number>}
    */
-  different() {
+  cellsUnlikeMirrors() {
     if (this.pending === null) this.differ = new Set(differingCells(this.live, this.mirrors));
     else for (const changed of this.pending) for (const key of changed)
       if (!this.differ.delete(key)) this.differ.add(key);
@@ -276,7 +276,7 @@ class WholeRun {
     if (this.pending === null) return;
     this.pending.push(changed);
     this.pendingCount += changed.length;
-    if (this.pendingCount > MAX_PENDING) {
+    if (this.pendingCount > MAX_PENDING_CHANGES) {
       this.pending = null;
       this.differ = null;
     }
@@ -295,7 +295,7 @@ class WholeRun {
       }
     }
     if (this.time % this.every === 0 && !this.snapshots.has(this.time)) this.snapshots.set(this.time,
-        Int32Array.from(this.different()));
+        Int32Array.from(this.cellsUnlikeMirrors()));
     return true;
   }
 
@@ -312,11 +312,11 @@ class WholeRun {
     const near = [...this.snapshots.keys()].reduce(
       (best, at) => (Math.abs(at - time) < Math.abs(best - time) ? at : best), this.time);
     if (near === this.time) return;
-    const now = this.different(), then = new Set(this.snapshots.get(near));
+    const now = this.cellsUnlikeMirrors(), then = new Set(this.snapshots.get(near));
     for (const key of now) if (!then.has(key)) this.live.bytes[key] ^= 1;
     for (const key of then) if (!now.has(key)) this.live.bytes[key] ^= 1;
     this.time = near;
-    this.setDifferentCells(then);
+    this.setCellsUnlikeMirrors(then);
   }
 
   /** Goes to a time, or to the last time before a ball leaves the rectangle. */
@@ -366,7 +366,7 @@ function noteMoves(run, length) {
 /**
  * Returns the moves of the step that a run has just made forwards: the cells were live before it if they are not now.
  */
-function movesNow(run) {
+function movesOfLastStep(run) {
   const { live, recent } = run;
   return movesOf(recent[1], { has: (key) => !live.has(key) });
 }
@@ -478,14 +478,14 @@ class ModuleRun {
   }
 
   /** Returns the cells around the box that the module is told to be live now. */
-  heardNow() {
+  heardCellsNow() {
     if (this.time % 2 === 0 || this.time >= this.data.layout.steps) return [];
     return [...this.always, ...(this.timed.get(this.time) || [])];
   }
 
   /** Makes the next step: an even one in the box, an odd one with what is heard; then only the box is kept. */
   forward() {
-    const heard = this.heardNow();
+    const heard = this.heardCellsNow();
     for (const key of heard) this.live.add(key);
     const lists = this.recent === null ? [this.live.keys()] : [...this.recent, heard];
     const changed = applyBlockRules(this.live, lists, this.time % 2);
@@ -513,4 +513,4 @@ class ModuleRun {
   }
 }
 
-export { Grid, Cells, WholeRun, ModuleRun, circuitValues, startKeys, mirrorsOf, lastMoves, movesNow };
+export { Grid, Cells, WholeRun, ModuleRun, circuitValues, startKeys, mirrorsOf, lastMoves, movesOfLastStep };

@@ -3,7 +3,7 @@ import * as address from "./address.js";
 import { Minimap } from "./minimap.js";
 import * as panels from "./panels.js";
 import { Player } from "./player.js";
-import { plural, Stage } from "./stage.js";
+import { countWithNoun, Stage } from "./stage.js";
 
 const { element } = panels;
 const data = JSON.parse(element("data").textContent);
@@ -13,7 +13,7 @@ const parts = Object.fromEntries(
   waveRest: "wave-rest", waveCursor: "wave-cursor" }).map(([name, id]) => [name, element(id)]));
 const stage = new Stage(player, parts), minimap = new Minimap(stage, element("map"));
 const entries = data.explanation ? data.explanation.entries : [];
-const limits = { steps: layout.steps, names: player.names, faults: entries.length };
+const addressLimits = { steps: layout.steps, names: player.names, faults: entries.length };
 // The buttons of the report, which of them is shown, and timers.
 const pageState = { buttons: [], entry: null, addressTimer: 0, speechTimer: 0, place: null };
 // How long the page waits after a change before it is spoken, and before it is written to the address, in milliseconds.
@@ -27,19 +27,19 @@ function speakSoon() {
   if (player.direction !== 0) return;
   pageState.speechTimer = setTimeout(() => {
     const words = [`Time ${player.run.time} of ${layout.steps}.`, element("status").textContent,
-      panels.resultWords(player)];
+      panels.outputSummary(player)];
     if (player.own) words.push(element("beside-title").textContent, stage.differenceWords());
     element("spoken").textContent = words.join(" ");
   }, SPEECH_DELAY);
 }
 
 /** Returns what differs from the page as it is opened. */
-function stateNow() {
+function addressState() {
   const on = player.names.filter((name) => player.on.has(name));
   const isFirst = on.length === player.first.length && player.first.every((name) => player.on.has(name));
   const { entry } = pageState, { time } = player.run;
   return { time: time > 0 || entry !== null ? time : undefined, on: isFirst && entry === null ? undefined : on,
-    zoom: stage.isFit ? undefined : stage.zoomNow(), fault: entry === null ? undefined
+    zoom: stage.isFit ? undefined : stage.viewNow(), fault: entry === null ? undefined
       : entry + 1, trails: stage.hasTrails ? undefined : false };
 }
 
@@ -48,7 +48,7 @@ function writeAddressSoon() {
   clearTimeout(pageState.addressTimer);
   if (player.direction !== 0) return;
   pageState.addressTimer = setTimeout(() => {
-    const text = address.write(stateNow()), [page] = location.href.split("#");
+    const text = address.hashText(addressState()), [page] = location.href.split("#");
     // A page that a frame shows may have no address of its own.
     try { history.replaceState(null, "", text ? `${page}#${text}` : page); } catch { return; }
   }, ADDRESS_DELAY);
@@ -56,7 +56,7 @@ function writeAddressSoon() {
 
 /** Shows the state that the address says, and the first state for what it does not say. */
 function applyAddress() {
-  const { time, on, zoom, fault, trails = true } = address.read(location.hash, limits);
+  const { time, on, zoom, fault, trails = true } = address.read(location.hash, addressLimits);
   const names = new Set(on || player.first);
   setTrails(trails);
   // A line of the report brings inputs, a time and a place, which the address may then say otherwise.
@@ -66,7 +66,7 @@ function applyAddress() {
       || on) player.setInputs(Object.fromEntries(player.names.map((name) => [name, names.has(name)])));
   player.restart(time ?? (fault === undefined ? 0 : player.target));
   if (zoom) {
-    stage.centre(zoom[1], zoom[2], zoom[0]);
+    stage.centreOn(zoom[1], zoom[2], zoom[0]);
     stage.isFit = false;
   } else if (fault === undefined) stage.fit();
 }
@@ -92,7 +92,7 @@ function showPlay() {
 /** Shows the cell under the pointer with what there is. */
 function showCell() {
   stage.pointed = pageState.place ? stage.cellAt(...pageState.place) : stage.mark;
-  stage.showWords(element("cell"), stage.pointed);
+  stage.showCellWords(element("cell"), stage.pointed);
 }
 
 /** Lets the wire under the pointer stand out, or none while the picture moves. */
@@ -110,8 +110,8 @@ function showWireWords(found) {
   words.textContent = wire ? `${stage.wires.wordsOf(wire)}${when}.` : "";
 }
 
-/** Shows all ways of the wire whose name was typed. */
-function findWire() {
+/** Shows all ways of the wire whose name was typed, or says that there is none. */
+function showTypedWire() {
   const name = element("find-wire-name").value.trim(), wire = stage.wires.byName.get(name);
   pageState.place = null;
   pointAtWire(false);
@@ -141,17 +141,17 @@ function goToCell(x, y) {
 }
 
 /** Returns all stops of a wire in order of time. */
-const stopsOf = (wire) => player.modules.flatMap((module, number) => module.stops.filter((stop) => stop[1] === wire)
+const stopsOfWire = (wire) => player.modules.flatMap((module, number) => module.stops.filter((stop) => stop[1] === wire)
   .map(([time, , x, y]) => ({ time, cell: [x, y], module: number }))).sort((a, b) => a.time - b.time);
 
 /** Returns the stop that a line `delay` or `meet` speaks of, if there is one. */
-function stopOf(facts) {
+function stopOfFacts(facts) {
   if (facts.last_stops) {
     const late = Object.entries(facts.last_stops).sort((a, b) => b[1] - a[1])[0];
-    return late && stopsOf(late[0]).at(-1);
+    return late && stopsOfWire(late[0]).at(-1);
   }
   const gate = data.circuit && facts.gate !== undefined && data.circuit.gates[facts.gate];
-  return gate ? stopsOf(gate.outs[0])[0] || (gate.ins[0] && stopsOf(gate.ins[0]).at(-1)) : undefined;
+  return gate ? stopsOfWire(gate.outs[0])[0] || (gate.ins[0] && stopsOfWire(gate.ins[0]).at(-1)) : undefined;
 }
 
 /** Opens the run of a module by itself. */
@@ -187,7 +187,7 @@ function closeEntry() {
 
 /** Goes to the module, time, assignment and cell of a line of the report. */
 function showEntry(number) {
-  const { facts } = entries[number], stop = facts.cell || facts.assignment ? undefined : stopOf(facts);
+  const { facts } = entries[number], stop = facts.cell || facts.assignment ? undefined : stopOfFacts(facts);
   markEntry(number);
   player.play(0);
   stage.fault = facts.cell || (stop ? stop.cell : null);
@@ -224,29 +224,29 @@ function setTrails(isOn) {
 }
 
 /** Shows or hides the ways. */
-function setWays(isOn) {
+function setWaysShown(isOn) {
   element("ways").checked = isOn;
-  stage.setWays(isOn);
+  stage.setWaysShown(isOn);
 }
 
 /** Prepares what shows the ways, if the page has them. */
-function beginWays() {
+function setUpWays() {
   const { names, list } = stage.wires;
   element("ways-part").hidden = element("find-wire").hidden = element("wire-words").hidden = list.length === 0;
   // The first picture does not wait for 61,440 names.
   element("find-wire-name").addEventListener("focus", () => element("wire-names").replaceChildren(...names.map(
     (name) => Object.assign(document.createElement("option"), { value: name }))), { once: true });
-  if (list.length > 0) setWays(Math.max(layout.width, layout.height) > LARGE_SIDE);
-  element("ways").addEventListener("change", (event) => setWays(event.target.checked));
+  if (list.length > 0) setWaysShown(Math.max(layout.width, layout.height) > LARGE_SIDE);
+  element("ways").addEventListener("change", (event) => setWaysShown(event.target.checked));
   element("find-wire").addEventListener("submit", (event) => {
     event.preventDefault();
-    findWire();
+    showTypedWire();
   });
   if (stage.wires.sampled) element("ways-part").title += `, ${stage.wires.sampled}`;
 }
 
 /** Makes one step. */
-const makeStep = (direction) => player.goTo(player.target + direction);
+const makeStep = (direction) => player.stopAndSeek(player.target + direction);
 
 /** Plays in a direction, or stops if it plays so already. */
 const togglePlay = (direction) => player.play(player.direction === direction ? 0 : direction);
@@ -269,7 +269,7 @@ const ACTIONS = {
   Home: () => player.seek(0), End: () => player.seek(layout.steps), 0: () => stage.fit(), "+": () => stage.zoom(1.25),
     "=": () => stage.zoom(1.25),
   "-": () => stage.zoom(0.8), n: () => goToNextFault(1), p: () => goToNextFault(-1),
-  t: () => setTrails(!stage.hasTrails), w: () => { if (stage.wires.list.length) setWays(!stage.hasWays); },
+  t: () => setTrails(!stage.hasTrails), w: () => { if (stage.wires.list.length) setWaysShown(!stage.hasWays); },
 };
 
 /** Whether the element that has the focus uses a key itself. */
@@ -321,7 +321,7 @@ function listenToPointers() {
     pointAtWire(false);
     stage.requestPaint();
   });
-  const seek = (event) => { if (event.buttons & 1) player.goTo(stage.timeAt(event.offsetX)); };
+  const seek = (event) => { if (event.buttons & 1) player.stopAndSeek(stage.timeAt(event.offsetX)); };
   wave.addEventListener("pointerdown", seek);
   wave.addEventListener("pointermove", seek);
   parts.waveBox.addEventListener("scroll", () => stage.paintWave());
@@ -335,7 +335,7 @@ function listenToButtons() {
     last: ACTIONS.End, fit: () => stage.fit(), in: () => stage.zoom(1.25), out: () => stage.zoom(0.8),
       "close-own": closeModuleRun,
     "previous-fault": () => goToNextFault(-1), "next-fault": () => goToNextFault(1),
-      png: () => stage.png((file) => saveFile(file, "png")),
+      png: () => stage.makePng((file) => saveFile(file, "png")),
     svg: () => saveFile(new Blob([stage.svgText(`${document.title}, time ${player.run.time}`)],
       { type: "image/svg+xml" }), "svg") };
   for (const [id, action] of Object.entries(clicks)) element(id).addEventListener("click", () => {
@@ -344,7 +344,7 @@ function listenToButtons() {
   });
   element("slider").max = layout.steps;
   element("slider").addEventListener("input", (event) => player.seek(Number(event.target.value)));
-  element("speed").addEventListener("input", showRate);
+  element("speed").addEventListener("input", setRate);
   element("trails").addEventListener("change", (event) => setTrails(event.target.checked));
   element("skip").addEventListener("click", (event) => {
     event.preventDefault();
@@ -358,10 +358,10 @@ function listenToButtons() {
   });
 }
 
-/** Sets how many steps a second are made. */
-function showRate() {
+/** Sets how many steps a second are made by the slider, and shows it. */
+function setRate() {
   player.rate = 2 ** Number(element("speed").value);
-  element("rate").textContent = `${plural(player.rate, "step", "steps")}/s`;
+  element("rate").textContent = `${countWithNoun(player.rate, "step", "steps")}/s`;
 }
 
 /** Sets what follows from changes of the player, the window and the address. */
@@ -404,11 +404,11 @@ function listenToChanges() {
 panels.makeInputs(player);
 panels.showSigns(player.modules.length > 0);
 element("wave-part").hidden = player.probes.length === 0;
-beginWays();
+setUpWays();
 listenToPointers();
 listenToButtons();
 listenToChanges();
-showRate();
+setRate();
 showPlay();
 if (panels.showVerdict(data.explanation, player.modules.length > 0))
     pageState.buttons = panels.showReport(data.explanation, (number) => {

@@ -21,7 +21,7 @@ class Obstacles {
   rects = [];
 
   /** Calls an action with each square that a rectangle touches. */
-  visit(rect, action) {
+  visitSquares(rect, action) {
     for (let row = Math.floor(rect.y / BUCKET); row <= Math.floor((rect.y + rect.height) / BUCKET); row += 1) {
       const last = Math.floor((rect.x + rect.width) / BUCKET);
       for (let column = Math.floor(rect.x / BUCKET); column <= last; column += 1) action(row * 65536 + column);
@@ -29,7 +29,7 @@ class Obstacles {
   }
 
   add(rect, cost) {
-    this.visit(rect, (square) => {
+    this.visitSquares(rect, (square) => {
       if (!this.filed.has(square)) this.filed.set(square, []);
       this.filed.get(square).push(this.rects.length);
     });
@@ -39,7 +39,7 @@ class Obstacles {
   /** Returns what it costs to cover what lies below a rectangle. */
   cost(rect) {
     const near = new Set();
-    this.visit(rect, (square) => { for (const number of this.filed.get(square) || []) near.add(number); });
+    this.visitSquares(rect, (square) => { for (const number of this.filed.get(square) || []) near.add(number); });
     let sum = 0;
     for (const number of near) sum += this.rects[number][1] * sharedArea(rect, this.rects[number][0]);
     return sum;

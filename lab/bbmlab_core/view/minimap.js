@@ -24,7 +24,7 @@ class Minimap {
 
   /** Puts a place of the small picture into the middle of the large one. */
   centreAt(x, y) {
-    this.stage.centre(x / this.scale, y / this.scale, this.stage.scale);
+    this.stage.centreOn(x / this.scale, y / this.scale, this.stage.scale);
     this.stage.noteMoved();
   }
 
@@ -37,7 +37,7 @@ class Minimap {
     // A style that is written, even its own, has the page laid out again.
     if (canvas.style.width !== wide || canvas.style.height !== high) Object.assign(canvas.style, { width: wide,
       height: high });
-    const place = painting.clearCanvas(canvas, scale, 0, 0), { pen, inks } = place;
+    const place = painting.clearedPlace(canvas, scale, 0, 0), { pen, inks } = place;
     stage.tiles.paint(place);
     pen.strokeStyle = inks.box;
     pen.lineWidth = 2;

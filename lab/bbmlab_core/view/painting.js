@@ -7,15 +7,15 @@
  */
 import { placeNames } from "./labels.js";
 import { isMany, paintSquares } from "./squares.js";
-import { Buckets, squaresOf, visitModules, visitPorts, maxShortSide } from "./tiles.js";
+import { Buckets, squaresInRange, visitModules, visitPorts, maxShortSide } from "./tiles.js";
 
-const INKS = ["ink", "soft", "paper", "plane", "grid", "border", "mirror", "ball", "box", "good", "bad", "edge", "halo",
-  "stop", "wave"];
+const INK_NAMES = ["ink", "soft", "paper", "plane", "grid", "border", "mirror", "ball", "box", "good", "bad", "edge",
+  "halo", "stop", "wave"];
 const LINE_LETTERS = { edge: "E", halo: "H", stop: "S" };
 const RULER = { wide: 32, high: 18 }, WIRE_INK_COUNT = 8;
 // Below this scale tiles show what is still. Where modules are more than a few, borders that are closer, or more, hide
 // what is in them.
-const TILE_SCALE = 4, CLOSE_BORDERS = 20, FEW_MODULES = 64, MANY_BORDERS = 3000;
+const TILES_BELOW_SCALE = 4, CLOSE_BORDERS = 20, FEW_MODULES = 64, MANY_BORDERS = 3000;
 // Below this scale no lines of modules are drawn.
 const LINES_SCALE = 4;
 // A mirror so many cells from all ports does not matter for the places of their names.
@@ -31,7 +31,7 @@ const dark = globalThis.matchMedia?.("(prefers-color-scheme: dark)"), read = { i
 function inksNow() {
   if (read.isDark === dark.matches) return read.inks;
   const style = getComputedStyle(document.documentElement);
-  read.inks = Object.fromEntries(INKS.map((name) => [name, style.getPropertyValue(`--${name}`).trim()]));
+  read.inks = Object.fromEntries(INK_NAMES.map((name) => [name, style.getPropertyValue(`--${name}`).trim()]));
   read.isDark = dark.matches;
   return read.inks;
 }
@@ -42,8 +42,8 @@ function wireInks() {
   return [...Array(WIRE_INK_COUNT).keys(), "none"].map((index) => style.getPropertyValue(`--wire-${index}`).trim());
 }
 
-/** Clears a canvas with its real number of pixels. @returns {Place} */
-function clearCanvas(canvas, scale, left, top) {
+/** Clears a canvas with its real number of pixels, and returns the place to draw on. @returns {Place} */
+function clearedPlace(canvas, scale, left, top) {
   const ratio = window.devicePixelRatio || 1, wide = canvas.clientWidth, high = canvas.clientHeight;
   const size = { width: Math.max(1, Math.floor(wide * ratio)), height: Math.max(1, Math.floor(high * ratio)) };
   const pen = canvas.getContext("2d");
@@ -58,7 +58,7 @@ const px = (place, x) => (x - place.left) * place.scale;
 const py = (place, y) => (y - place.top) * place.scale;
 
 /** Whether a cell can be seen. */
-const isSeen = (place, x, y) => px(place, x + 1) >= 0 && py(place, y + 1) >= 0 && px(place, x) <= place.wide
+const isCellSeen = (place, x, y) => px(place, x + 1) >= 0 && py(place, y + 1) >= 0 && px(place, x) <= place.wide
   && py(place, y) <= place.high;
 
 /** Strokes the outline of a rectangle of cells, drawn inwards by some pixels. */
@@ -73,7 +73,7 @@ function paintOutline(place, [x, y, w, h], ink, dash, inset, width) {
 }
 
 /** Strokes the outlines of cells, x, y, x, y…, of which each can be seen. */
-function paintOutlines(place, found, ink, dash, inset, width) {
+function paintCellOutlines(place, found, ink, dash, inset, width) {
   const { pen, scale } = place, side = Math.max(1, scale - 2 * inset);
   if (scale < 1 && isMany(pen, found.length / 2)) {
     // A pen draws a thin outline about one pixel as a dot that begins at a whole pixel.
@@ -90,7 +90,7 @@ function paintOutlines(place, found, ink, dash, inset, width) {
 }
 
 /** Strokes the lines between the blocks of the next step that can be seen. */
-function paintGrid(place, [x, y, w, h], odd) {
+function paintBlockGrid(place, [x, y, w, h], odd) {
   if (place.scale < 5) return;
   const { pen, left, top, wide, high, scale } = place;
   const first = (start, seen) => start + odd + 2 * Math.max(0, Math.floor((seen - start - odd) / 2));
@@ -116,7 +116,7 @@ function seenRange({ left, top, wide, high, scale }, { width, height }) {
 }
 
 /** Returns the live cells that can be seen: mirrors as rectangles x, y, w, h, and balls as x, y, x, y… */
-function seenCells(place, live, mirrors) {
+function seenLiveCells(place, live, mirrors) {
   const [x0, y0, x1, y1] = seenRange(place, live.grid), balls = [], bars = [], open = new Map(), { bytes, grid } = live;
   for (let y = y0; y < y1; y += 1) {
     for (let x = x0, key = grid.keyOf(x0, y); x < x1; x += 1, key += 1) {
@@ -156,12 +156,12 @@ function paintMirrors(place, found, least) {
  * Draws what differs from the mirrors, by the numbers of cells: a dot for each ball, and holes where cells of mirrors
  * are dead.
  */
-function paintBallsAndHoles(place, different, mirrors) {
+function paintBallsAndHoles(place, cellsUnlikeMirrors, mirrors) {
   const { pen, scale } = place, balls = [], { grid } = mirrors;
   pen.fillStyle = place.inks.plane;
-  for (const key of different) {
+  for (const key of cellsUnlikeMirrors) {
     const x = grid.xOf(key), y = grid.yOf(key);
-    if (!isSeen(place, x, y)) continue;
+    if (!isCellSeen(place, x, y)) continue;
     if (mirrors.has(key)) pen.fillRect(px(place, x), py(place, y), Math.max(1, scale), Math.max(1, scale));
     else balls.push(x, y);
   }
@@ -170,7 +170,7 @@ function paintBallsAndHoles(place, different, mirrors) {
 
 /** Draws the live cells that can be seen: mirrors, and a disc or a dot for each ball. */
 function paintCells(place, live, mirrors) {
-  const { pen, scale, inks } = place, { bars: found, balls } = seenCells(place, live, mirrors);
+  const { pen, scale, inks } = place, { bars: found, balls } = seenLiveCells(place, live, mirrors);
   pen.fillStyle = inks.mirror;
   pen.beginPath();
   // Half a pixel more, so that no seam shows between the parts of one mirror.
@@ -212,7 +212,7 @@ function paintTrails(place, steps, cellsOf) {
     for (let index = 0; index < moves.length; index += 2) {
       const x = cellsOf.xOf(moves[index]), y = cellsOf.yOf(moves[index]), u = cellsOf.xOf(moves[index + 1]);
       const v = cellsOf.yOf(moves[index + 1]);
-      if (!isSeen(place, x, y) && !isSeen(place, u, v)) continue;
+      if (!isCellSeen(place, x, y) && !isCellSeen(place, u, v)) continue;
       pen.moveTo(px(place, x + 0.5), py(place, y + 0.5));
       pen.lineTo(px(place, u + 0.5), py(place, v + 0.5));
     }
@@ -234,14 +234,14 @@ function paintLabel(place, text, x, y, ink, align, [top, high] = [y - 10, 13]) {
 }
 
 // The ports of layouts with their names, and the states of outputs, which are made once.
-const portNamesByLayout = new WeakMap(), outStates = new WeakMap();
+const namedPortsByLayout = new WeakMap(), outStates = new WeakMap();
 
 /** Returns the names of a layout's ports with their cells. A layout that was changed has to be another object. */
-function portNames(layout) {
-  if (!portNamesByLayout.has(layout)) portNamesByLayout.set(layout,
+function namedPorts(layout) {
+  if (!namedPortsByLayout.has(layout)) namedPortsByLayout.set(layout,
     [...layout.ins.map(({ name, cell }) => ({ name: `→${name}`, cell, isIn: true })),
     ...layout.outs.map(({ name, cell }) => ({ name: `${name}→`, cell, isIn: false }))]);
-  return portNamesByLayout.get(layout);
+  return namedPortsByLayout.get(layout);
 }
 
 /** Returns for each output whether it is as it should be; undefined if that is not known. */
@@ -315,8 +315,8 @@ function portsIn(ports, [x0, y0, x1, y1]) {
  * @returns {{port: Port, at: NamePlace}[]}
  */
 function placedNames(place, layout, size) {
-  const ports = portNames(layout), isWhole = ports.length <= MANY_PORTS;
-  const squares = isWhole ? [[]] : squaresOf(seenRange(place, layout));
+  const ports = namedPorts(layout), isWhole = ports.length <= MANY_PORTS;
+  const squares = isWhole ? [[]] : squaresInRange(seenRange(place, layout));
   if (placed.layout !== layout || placed.scale !== place.scale) placed = { layout, scale: place.scale,
     squares: new Map() };
   return squares.flatMap((square) => {
@@ -355,15 +355,16 @@ const outputLook = (inks, state) => (state === undefined ? { ink: inks.ink, sign
 function paintPorts(place, layout, good) {
   const { inks, scale } = place, isSmall = scale < 4, states = outputStates(layout.outs, good);
   const range = seenRange(place, layout), ins = [], outs = new Map([[undefined, []], [true, []], [false, []]]);
-  visitPorts(layout.ins, range, (_, [x, y]) => { if (isSeen(place, x, y)) ins.push(x, y); });
-  visitPorts(layout.outs, range, (number, [x, y]) => { if (isSeen(place, x, y)) outs.get(states[number]).push(x, y); });
-  paintOutlines(place, ins, inks.ink, [], isSmall ? 0 : 1, isSmall ? scale / 3 : 1.5);
+  visitPorts(layout.ins, range, (_, [x, y]) => { if (isCellSeen(place, x, y)) ins.push(x, y); });
+  visitPorts(layout.outs, range,
+    (number, [x, y]) => { if (isCellSeen(place, x, y)) outs.get(states[number]).push(x, y); });
+  paintCellOutlines(place, ins, inks.ink, [], isSmall ? 0 : 1, isSmall ? scale / 3 : 1.5);
   // Where cells are small, thick outlines would cover each other: only those that differ are thick, and come last.
   for (const [state, found] of outs) {
     const { ink, width } = outputLook(inks, state), isThin = isSmall && state !== false;
-    paintOutlines(place, found, ink, isSmall ? [] : [4, 3], isSmall ? 0 : -1, isThin ? scale / 3 : width);
+    paintCellOutlines(place, found, ink, isSmall ? [] : [4, 3], isSmall ? 0 : -1, isThin ? scale / 3 : width);
   }
-  paintWastes(place, layout.wastes);
+  paintCrosses(place, layout.wastes);
   const portCount = layout.ins.length + layout.outs.length;
   if (scale >= (portCount > MANY_PORTS ? MANY_SCALE : NAMED_SCALE)) paintPortNames(place, layout, good);
 }
@@ -377,7 +378,7 @@ function paintPortNames(place, layout, good) {
   const top = py(place, 0);
   pen.font = `600 ${size}px system-ui, sans-serif`;
   const shown = placedNames(place, layout, size)
-    .filter(({ port: { cell }, at }) => isSeen(place, ...cell) && at.away <= MAX_LINES_AWAY)
+    .filter(({ port: { cell }, at }) => isCellSeen(place, ...cell) && at.away <= MAX_LINES_AWAY)
     .map(({ port, at }) => ({ ...port, at,
       ...outputLook(inks, port.isIn || !good ? undefined : good.get(String(port.cell))) }));
   for (const { at, cell, ink } of shown) paintLeader(place, at, cell, ink);
@@ -389,12 +390,12 @@ function paintPortNames(place, layout, good) {
 }
 
 /** Draws a cross in each cell. */
-function paintWastes(place, found, ink = place.inks.soft) {
+function paintCrosses(place, found, ink = place.inks.soft) {
   const { pen } = place;
   pen.strokeStyle = ink;
   pen.lineWidth = 1.5;
   pen.beginPath();
-  for (const [x, y] of found.filter(([u, v]) => isSeen(place, u, v))) {
+  for (const [x, y] of found.filter(([u, v]) => isCellSeen(place, u, v))) {
     pen.moveTo(px(place, x + 0.2), py(place, y + 0.2));
     pen.lineTo(px(place, x + 0.8), py(place, y + 0.8));
     pen.moveTo(px(place, x + 0.8), py(place, y + 0.2));
@@ -446,7 +447,7 @@ function paintCertificateLines(place, found) {
   if (scale < LINES_SCALE) return;
   pen.font = "600 10px ui-monospace, monospace";
   for (const { kind, x, y, signal } of found) {
-    if (!isSeen(place, x, y)) continue;
+    if (!isCellSeen(place, x, y)) continue;
     paintOutline(place, [x, y, 1, 1], inks[kind], kind === "halo" ? [2, 2] : [], Math.min(offsets[kind], scale / 4),
       kind === "stop" ? 2.5 : 1.5);
     const bottom = py(place, y) + (kind === "edge" ? 11 : scale - 4);
@@ -455,8 +456,8 @@ function paintCertificateLines(place, found) {
   }
 }
 
-/** Draws a ring about a cell. */
-function paintRing(place, [x, y], ink = place.inks.bad) {
+/** Draws a circle about a cell. */
+function paintCircle(place, [x, y], ink = place.inks.bad) {
   const { pen } = place;
   pen.strokeStyle = ink;
   pen.lineWidth = 3;
@@ -469,7 +470,7 @@ function paintRing(place, [x, y], ink = place.inks.bad) {
 function markDifferences(place, more, less) {
   for (const cell of less) paintOutline(place, [...cell, 1, 1], place.inks.bad, [], 2, 2.5);
   for (const cell of more) paintOutline(place, [...cell, 1, 1], place.inks.bad, [], 0, 2.5);
-  paintWastes(place, more, place.inks.bad);
+  paintCrosses(place, more, place.inks.bad);
 }
 
 /** Writes a number of a ruler, on a plate if the pointer is there. */
@@ -539,26 +540,26 @@ function paintRulers(place, { width, height }, pointed) {
  */
 function paintScene(place, shown) {
   const { layout, modules: boxes, live, mirrors, odd, trail, chosen, lines: said, fault, mark, good, pointed } = shown;
-  const { ways = null, still = null, different = null, over = null } = shown;
-  const box = [0, 0, layout.width, layout.height], hasTiles = still !== null && place.scale < TILE_SCALE;
-  paintGrid(place, box, odd);
+  const { ways = null, still = null, cellsUnlikeMirrors = null, over = null } = shown;
+  const box = [0, 0, layout.width, layout.height], hasTiles = still !== null && place.scale < TILES_BELOW_SCALE;
+  paintBlockGrid(place, box, odd);
   paintOutline(place, box, place.inks.soft, [], 0, 1.5);
   if (hasTiles) still(place);
   else if (ways) ways(place, seenRange(place, layout));
   paintTrails(place, trail, live.grid);
-  if (hasTiles) paintBallsAndHoles(place, different(), mirrors);
+  if (hasTiles) paintBallsAndHoles(place, cellsUnlikeMirrors(), mirrors);
   else paintCells(place, live, mirrors);
   if (over) over(place);
   paintModules(place, boxes, chosen);
   paintCertificateLines(place, said);
-  if (fault) paintRing(place, fault);
-  if (mark) paintRing(place, mark, place.inks.box);
+  if (fault) paintCircle(place, fault);
+  if (mark) paintCircle(place, mark, place.inks.box);
   paintPorts(place, layout, good);
   paintRulers(place, layout, pointed);
 }
 
 export {
-  clearCanvas, inksNow, paintScene, paintOutline, paintGrid, paintCells, paintPorts, paintModules,
-  paintCertificateLines, paintRing, markDifferences, paintRulers, rulerStep, paintTrails, paintMirrors, wireInks,
+  clearedPlace, inksNow, paintScene, paintOutline, paintBlockGrid, paintCells, paintPorts, paintModules,
+  paintCertificateLines, paintCircle, markDifferences, paintRulers, rulerStep, paintTrails, paintMirrors, wireInks,
   seenRange, RULER, LINES_SCALE,
 };

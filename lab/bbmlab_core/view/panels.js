@@ -1,6 +1,6 @@
 /** Fills the panels beside the picture: inputs, outputs, the report, the lines of the certificate. */
 import { element, fillBox, inputSwitch, newElement } from "./boxes.js";
-import { plural } from "./stage.js";
+import { countWithNoun } from "./stage.js";
 
 const MAX_LINES_SHOWN = 200;
 
@@ -61,19 +61,19 @@ function makeInputs(player) {
 }
 
 /** Says how many outputs differ. */
-function resultWords(player) {
+function outputSummary(player) {
   const results = player.results();
   if (!player.values) return "The text has no circuit to compare with.";
   if (!results) return `Running to the last time: ${player.ahead.time} of ${player.layout.steps}.`;
   const count = results.filter((result) => !result.isGood).length;
   if (results.length === 0) return "The layout has no outputs.";
-  if (count > 0) return `${count} of ${plural(results.length, "output differs", "outputs differ")}`;
+  if (count > 0) return `${count} of ${countWithNoun(results.length, "output differs", "outputs differ")}`;
   return results.length === 1 ? "The output is as the circuit says."
     : `All ${results.length} outputs are as the circuit says.`;
 }
 
 /** Says what is wrong with an output. */
-function faultWords(player, { wanted, cells }) {
+function wrongOutputWords(player, { wanted, cells }) {
   if (wanted === undefined) return "has no value in the circuit";
   if (player.ahead.leftAt !== null) return "the run ends early";
   return cells.filter((found) => !found.isGood).map(
@@ -82,14 +82,15 @@ function faultWords(player, { wanted, cells }) {
 
 /** Shows the outputs at the last time, those that differ first. `cell` is what a click on a cell does. */
 function showResults(player, cell) {
-  const results = player.results() || [], text = resultWords(player), isBad = results.some((result) => !result.isGood);
+  const results = player.results() || [], text = outputSummary(player);
+  const isBad = results.some((result) => !result.isGood);
   element("outputs-count").textContent = text;
   element("outputs-count").className = isBad ? "bad" : results.length ? "good" : "";
   fillBox(element("outputs"), results, (result) => {
     const label = newElement("span",
       `${result.isGood ? "✓" : "✗"} ${result.name}=${result.wanted === undefined ? "?" : Number(result.wanted)}`);
     label.className = result.isGood ? "good" : "bad";
-    if (!result.isGood) appendCellLinks(label, ` (${faultWords(player, result)})`, cell);
+    if (!result.isGood) appendCellLinks(label, ` (${wrongOutputWords(player, result)})`, cell);
     return label;
   });
 }
@@ -127,7 +128,7 @@ function showVerdict(explanation, hasCertificate) {
 }
 
 /** Writes the words above the lines of the report: the headline, the fix of the text, and what was tried. */
-function showHeadline(explanation, actions) {
+function showReportIntro(explanation, actions) {
   const { headline, fix, tried } = explanation;
   const words = [...headline.slice(1), ...(fix && fix.words.length ? [`Fix: ${fix.words.join(" ")}`] : []),
     ...(fix ? fix.others : []).map((other) => `Or: ${other.join(" ")}`), ...tried];
@@ -144,7 +145,7 @@ function showReport(explanation, show, cell) {
   const actions = { lines: new Map(explanation.entries.map((entry, number) => [entry.report_line, () => show(number)])),
     cell };
   const fix = explanation.fix ? explanation.fix.words.join(" ") : "";
-  showHeadline(explanation, actions);
+  showReportIntro(explanation, actions);
   return explanation.entries.map((entry, number) => {
     const button = newElement("button", `${entry.is_against ? "✗" : "✓"} ${entry.report_line}`);
     const own = entry.fixes.join(" ");
@@ -166,4 +167,4 @@ function showSigns(hasModules) {
   element("signs").replaceChildren(...signs.map((text) => newElement("li", text)));
 }
 
-export { element, makeInputs, resultWords, showResults, showLines, showVerdict, showReport, showSigns };
+export { element, makeInputs, outputSummary, showResults, showLines, showVerdict, showReport, showSigns };

@@ -1,5 +1,5 @@
 /** Holds the inputs, the time and the runs of a layout, and says when they change. It knows nothing of the page. */
-import { circuitValues, ModuleRun, movesNow, WholeRun } from "./automaton.js";
+import { circuitValues, ModuleRun, movesOfLastStep, WholeRun } from "./automaton.js";
 import * as waveform from "./waveform.js";
 
 // How long the runs may take before the page gets its turn, in milliseconds. `slice` of a player sets another time for
@@ -121,7 +121,7 @@ class Player {
   }
 
   /** Stops, and goes to a time. */
-  goTo(time) {
+  stopAndSeek(time) {
     this.play(0);
     this.seek(time);
   }
@@ -142,7 +142,7 @@ class Player {
       const isForward = run.time < target;
       moved = isForward ? run.forward() : run.backward();
       if (!moved || !isForward || target - run.time > NOTED_STEPS) continue;
-      run.moves.set(run.time - 1, movesNow(run));
+      run.moves.set(run.time - 1, movesOfLastStep(run));
       run.moves.delete(run.time - 1 - 3 * NOTED_STEPS);
     }
     this.isSeeking = moved && run.time !== target;

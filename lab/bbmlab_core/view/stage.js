@@ -3,7 +3,7 @@ import * as address from "./address.js";
 import { mirrorsOf, lastMoves } from "./automaton.js";
 import * as painting from "./painting.js";
 import { SvgPen } from "./svg_pen.js";
-import { Buckets, changedPlaces, Tiles, visitModules, visitPorts } from "./tiles.js";
+import { Buckets, changedIndexes, Tiles, visitModules, visitPorts } from "./tiles.js";
 import * as waveform from "./waveform.js";
 import { Wires } from "./wires.js";
 
@@ -13,7 +13,7 @@ const { RULER } = painting;
 const TRAIL_STEPS = 24, MAX_MOVES = 8000, FIT_SCALE = 60;
 
 /** Writes a number with its noun. */
-const plural = (count, one, several) => `${count} ${count === 1 ? one : several}`;
+const countWithNoun = (count, one, several) => `${count} ${count === 1 ? one : several}`;
 
 class Stage {
   player;
@@ -71,7 +71,7 @@ class Stage {
       this.tiles = new Tiles(layout, (place, range) => this.drawTile(place, range));
       return;
     }
-    const { gone, added } = changedPlaces(boxes.flat(), layout.mirrors.flat(), 4);
+    const { gone, added } = changedIndexes(boxes.flat(), layout.mirrors.flat(), 4);
     const fresh = added.map((at) => layout.mirrors[at / 4]);
     const filedOf = (list) => {
       const filed = new Buckets();
@@ -98,7 +98,7 @@ class Stage {
   drawWays(place, range) { if (this.hasWays) this.wires.drawWays(place, range, painting.wireInks()); }
 
   /** Shows or hides the ways. */
-  setWays(isOn) {
+  setWaysShown(isOn) {
     this.hasWays = isOn;
     this.redraw();
   }
@@ -111,7 +111,7 @@ class Stage {
 
   /** Returns the range of places that is seen: x, y, x, y. */
   seenRange() {
-    const { wide, high } = this.pictureSizes();
+    const { wide, high } = this.viewSize();
     const x = this.left + RULER.wide / this.scale, y = this.top + RULER.high / this.scale;
     return [x, y, x + wide / this.scale, y + high / this.scale];
   }
@@ -124,22 +124,22 @@ class Stage {
   showWire(wire) {
     this.wire = wire;
     if (wire) {
-      const [x, y, w, h] = this.wires.boxOf(wire), { wide, high } = this.pictureSizes();
-      this.centre(x + w / 2, y + h / 2, Math.min(28, wide / (w + 8), high / (h + 8)));
+      const [x, y, w, h] = this.wires.boxOf(wire), { wide, high } = this.viewSize();
+      this.centreOn(x + w / 2, y + h / 2, Math.min(28, wide / (w + 8), high / (h + 8)));
       this.noteMoved();
     }
     this.requestPaint();
   }
 
-  /** Returns the size of the whole picture, and of its part beside the rulers, in pixels. */
-  pictureSizes() {
+  /** Returns the size of the picture without its rulers, in pixels. */
+  viewSize() {
     const { clientWidth, clientHeight } = this.parts.whole;
     return { wide: Math.max(1, clientWidth - RULER.wide), high: Math.max(1, clientHeight - RULER.high) };
   }
 
   /** Puts a place of the layout in the middle, at a scale in pixels for a cell. */
-  centre(x, y, scale) {
-    const { wide, high } = this.pictureSizes();
+  centreOn(x, y, scale) {
+    const { wide, high } = this.viewSize();
     this.scale = Math.max(address.MIN_SCALE, Math.min(address.MAX_SCALE, scale));
     this.left = x - (RULER.wide + wide / 2) / this.scale;
     this.top = y - (RULER.high + high / 2) / this.scale;
@@ -147,17 +147,17 @@ class Stage {
   }
 
   /** Returns the scale and the place in the middle. */
-  zoomNow() {
-    const { wide, high } = this.pictureSizes();
+  viewNow() {
+    const { wide, high } = this.viewSize();
     return [this.scale, this.left + (RULER.wide + wide / 2) / this.scale,
       this.top + (RULER.high + high / 2) / this.scale];
   }
 
   /** Shows the whole layout. */
   fit() {
-    const { width, height } = this.layout, { wide, high } = this.pictureSizes();
+    const { width, height } = this.layout, { wide, high } = this.viewSize();
     this.isFit = true;
-    this.centre(width / 2, height / 2, Math.min(FIT_SCALE, wide / (width + 1), high / (height + 1)));
+    this.centreOn(width / 2, height / 2, Math.min(FIT_SCALE, wide / (width + 1), high / (height + 1)));
   }
 
   /** Zooms about a place of the canvas, its middle if none is given. */
@@ -228,7 +228,7 @@ class Stage {
   }
 
   /** Shows in an element what there is at a cell, if one is given. */
-  showWords(element, cell) {
+  showCellWords(element, cell) {
     const words = cell ? this.wordsOf(cell) : "";
     if (element.textContent !== words) element.textContent = words;
   }
@@ -244,8 +244,8 @@ class Stage {
   lookAt([x, y], box) {
     this.fit();
     if (this.scale >= 12) return;
-    const { wide, high } = this.pictureSizes(), side = box ? Math.max(box[2], box[3]) + 8 : 24;
-    this.centre(x, y, Math.max(this.scale, Math.min(28, Math.max(8, Math.min(wide, high) / side))));
+    const { wide, high } = this.viewSize(), side = box ? Math.max(box[2], box[3]) + 8 : 24;
+    this.centreOn(x, y, Math.max(this.scale, Math.min(28, Math.max(8, Math.min(wide, high) / side))));
     this.noteMoved();
   }
 
@@ -282,7 +282,7 @@ class Stage {
       this.frame = null;
       if (this.onPaint) this.onPaint();
       this.isWhole = true;
-      this.paintWhole(painting.clearCanvas(this.parts.whole, this.scale, this.left, this.top));
+      this.paintWhole(painting.clearedPlace(this.parts.whole, this.scale, this.left, this.top));
       if (this.player.own) this.paintModuleRun();
       if (this.onPainted) this.onPainted();
       // Tiles for which there was no time come with the next frames.
@@ -310,7 +310,8 @@ class Stage {
       good: run.time === layout.steps ? this.good : null, pointed,
       ways: (where, range) => this.drawWays(where, range), still: place.pen instanceof SvgPen ? null
         : (where) => this.drawStill(where),
-      different: () => run.different(), over: wire ? (where) => this.wires.drawInFront(where, wire) : null });
+      cellsUnlikeMirrors: () => run.cellsUnlikeMirrors(),
+      over: wire ? (where) => this.wires.drawInFront(where, wire) : null });
   }
 
   /** Draws what is still from tiles. */
@@ -330,9 +331,9 @@ class Stage {
   }
 
   /** Calls an action with what is seen as a PNG file. */
-  png(action) {
+  makePng(action) {
     const { whole } = this.parts, canvas = document.createElement("canvas");
-    this.paintWhole(painting.clearCanvas(whole, this.scale, this.left, this.top), null);
+    this.paintWhole(painting.clearedPlace(whole, this.scale, this.left, this.top), null);
     canvas.width = whole.width;
     canvas.height = whole.height;
     const pen = canvas.getContext("2d");
@@ -348,15 +349,15 @@ class Stage {
     const canvas = this.parts.own, { own, run } = this.player, [x, y, w, h] = own.module.box;
     const { clientWidth, clientHeight } = canvas;
     const scale = Math.min(48, clientWidth / (w + 4), clientHeight / (h + 4));
-    const place = painting.clearCanvas(canvas, scale, x + w / 2 - clientWidth / scale / 2,
+    const place = painting.clearedPlace(canvas, scale, x + w / 2 - clientWidth / scale / 2,
       y + h / 2 - clientHeight / scale / 2);
-    const heard = own.heardNow().map((key) => own.grid.cellOf(key)), { more, less } = this.differences();
-    painting.paintGrid(place, own.module.box, own.time % 2);
+    const heard = own.heardCellsNow().map((key) => own.grid.cellOf(key)), { more, less } = this.differences();
+    painting.paintBlockGrid(place, own.module.box, own.time % 2);
     painting.paintOutline(place, own.module.box, place.inks.box, [6, 4], 0, 1.5);
     painting.paintCells(place, own.live, this.mirrors);
     for (const cell of heard) painting.paintOutline(place, [...cell, 1, 1], place.inks.halo, [2, 2], 3, 2.5);
     painting.markDifferences(place, more, less);
-    if (this.fault) painting.paintRing(place, this.fault);
+    if (this.fault) painting.paintCircle(place, this.fault);
     const told = heard.length ? ` Dotted: ${heard.length} live around the box, as the module is told.` : "";
     this.parts.note.textContent = own.time === run.time ? this.differenceWords() + told : "";
   }
@@ -376,8 +377,9 @@ class Stage {
   /** Says how many cells differ. */
   differenceWords() {
     const { more, less } = this.differences(), count = more.length + less.length;
-    return count === 0 ? "No cell differs from the whole run now."
-      : `${plural(count, "cell differs", "cells differ")} from the whole run: ✗ is live only here, ☐ only there.`;
+    if (count === 0) return "No cell differs from the whole run now.";
+    const cells = countWithNoun(count, "cell differs", "cells differ");
+    return `${cells} from the whole run: ✗ is live only here, ☐ only there.`;
   }
 
   /** Draws the rows of the waveform that can be seen. */
@@ -385,7 +387,7 @@ class Stage {
     const { wave, waveBox, waveRest } = this.parts, { probes, recorder, layout, values } = this.player;
     if (wave.clientHeight === 0) return;
     waveRest.style.height = `${Math.max(0, waveform.waveformHeight(probes) - waveBox.clientHeight)}px`;
-    const place = painting.clearCanvas(wave, 1, 0, 0);
+    const place = painting.clearedPlace(wave, 1, 0, 0);
     this.axis = waveform.paintRows(place,
       { probes, recorder, steps: layout.steps, values, scrolled: waveBox.scrollTop });
     this.moveWaveCursor();
@@ -401,4 +403,4 @@ class Stage {
   timeAt(x) { return this.axis ? Math.floor((x - this.axis.left) / this.axis.unit) : 0; }
 }
 
-export { Stage, plural };
+export { Stage, countWithNoun };

@@ -52,16 +52,16 @@ class SvgPen {
   rect(x, y, wide, high) { this.path.push(`M${short(x)} ${short(y)}h${short(wide)}v${short(high)}h${short(-wide)}z`); }
 
   /** Files an element, unless its path is empty. */
-  add(attributes) {
+  addPath(attributes) {
     const opacity = this.globalAlpha === 1 ? "" : ` opacity="${short(this.globalAlpha)}"`;
     if (this.path.length) this.parts.push(`<path d="${this.path.join("")}" ${attributes}${opacity}/>`);
   }
 
-  fill() { this.add(`fill="${escaped(this.fillStyle)}"`); }
+  fill() { this.addPath(`fill="${escaped(this.fillStyle)}"`); }
 
   stroke() {
     const dash = this.dash.length ? ` stroke-dasharray="${this.dash.map(short).join(" ")}"` : "";
-    this.add(`fill="none" stroke="${escaped(this.strokeStyle)}" stroke-width="${short(this.lineWidth)}"${dash}`);
+    this.addPath(`fill="none" stroke="${escaped(this.strokeStyle)}" stroke-width="${short(this.lineWidth)}"${dash}`);
   }
 
   fillRect(...box) {

@@ -102,7 +102,7 @@ function visitPorts(ports, range, action) {
 }
 
 /** Returns the squares by which cells are filed that a range touches: x, y, x, y, the ends included. */
-function squaresOf([x0, y0, x1, y1]) {
+function squaresInRange([x0, y0, x1, y1]) {
   const found = [], side = 1 << BUCKET_BITS;
   for (let y = Math.max(0, y0) >> BUCKET_BITS << BUCKET_BITS; y <= y1; y += side) {
     for (let x = Math.max(0, x0) >> BUCKET_BITS << BUCKET_BITS; x <= x1; x += side) found.push([x, y, x + side - 1,
@@ -115,7 +115,7 @@ function squaresOf([x0, y0, x1, y1]) {
  * Returns the places in two flat lists of the groups of numbers that are only in one of them. A group has at most five
  * numbers below 8192.
  */
-function changedPlaces(old, fresh, size) {
+function changedIndexes(old, fresh, size) {
   const keysOf = (list) => {
     const keys = new Map();
     for (let at = 0; at < list.length; at += size) {
@@ -215,7 +215,7 @@ class Tiles {
   }
 
   /** Copies a tile, or the part of a coarser one that is made, to its place. */
-  copy({ pen, left, top, scale }, level, column, row) {
+  copyTile({ pen, left, top, scale }, level, column, row) {
     const cells = SIDE / 2 ** level, x = (column * cells - left) * scale, y = (row * cells - top) * scale;
     const side = cells * scale;
     for (let up = 0; level - up >= this.coarsest; up += 1) {
@@ -239,9 +239,9 @@ class Tiles {
       if (performance.now() < until) this.makeTile(level, column, row);
       else missing += 1;
     }
-    for (const [column, row] of wanted) this.copy(place, level, column, row);
+    for (const [column, row] of wanted) this.copyTile(place, level, column, row);
     return missing === 0;
   }
 }
 
-export { Tiles, Buckets, changedPlaces, visitModules, visitPorts, maxShortSide, squaresOf };
+export { Tiles, Buckets, changedIndexes, visitModules, visitPorts, maxShortSide, squaresInRange };

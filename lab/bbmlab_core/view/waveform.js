@@ -93,7 +93,7 @@ function liveSpans({ isLive, changes }, until) {
  * Returns where the time axis lies.
  * @type {(place: Object, probes: Probe[], steps: number) => {left: number, unit: number}}
  */
-function axisPlace(place, probes, steps) {
+function axisGeometry(place, probes, steps) {
   place.pen.font = "12px ui-monospace, monospace";
   const widest = probes.slice(0, 400).reduce((most, probe) =>
     Math.max(most, place.pen.measureText(rowName(probe)).width), 0);
@@ -165,7 +165,7 @@ function paintMark(place, x, y, isGood) {
  * @param {{probes: Probe[], recorder: Recorder, steps: number, values: ?Map<string, boolean>, scrolled: number}} wave
  */
 function paintRows(place, { probes, recorder, steps, values, scrolled }) {
-  const axis = axisPlace(place, probes, steps), first = Math.max(0, Math.floor(scrolled / ROW_HEIGHT));
+  const axis = axisGeometry(place, probes, steps), first = Math.max(0, Math.floor(scrolled / ROW_HEIGHT));
   const last = Math.min(probes.length, Math.ceil((scrolled + place.high) / ROW_HEIGHT));
   for (let row = first; row < last; row += 1) {
     const probe = probes[row], top = row * ROW_HEIGHT - scrolled, wanted = values ? values.get(probe.wire) : undefined;

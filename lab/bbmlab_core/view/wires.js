@@ -106,7 +106,7 @@ class Wires {
   }
 
   /** Returns the first and the last time at which a ball of a wire flies. */
-  timesOf({ pieces }) {
+  firstAndLastTime({ pieces }) {
     let first = Infinity, last = 0;
     for (let at = 0; at < pieces.length; at += NUMBERS_PER_PIECE) {
       first = Math.min(first, pieces[at + 4]);
@@ -131,7 +131,7 @@ class Wires {
 
   /** Says what is known of a wire: its names, its gates, its level and its times. */
   wordsOf(wire) {
-    const [first, last] = this.timesOf(wire);
+    const [first, last] = this.firstAndLastTime(wire);
     const makers = wire.name === "" || wire.name === "1" ? "" : `: ${this.gateWords(wire)}, level ${wire.level}`;
     return `${wireTitle(wire)}${makers.replace(": , ", ": ")}; flies from time ${first} to ${last}`;
   }
