@@ -2,7 +2,7 @@
 // use modules of the page that need no browser.
 import fs from "node:fs";
 import * as address from "../bbmlab_core/view/address.js";
-import { Cells, circuitValues, Grid, mirrorsOf, ModuleRun, startKeys, lastMoves,
+import { CellNumbering, Cells, circuitValues, mirrorsOf, ModuleRun, startKeys, lastMoves,
   WholeRun } from "../bbmlab_core/view/automaton.js";
 import { placeNames } from "../bbmlab_core/view/labels.js";
 import * as painting from "../bbmlab_core/view/painting.js";
@@ -23,7 +23,8 @@ function runAt(data, on, time) {
 /** Returns the live cells of a run of the layout, or of a module, at these times, sought in this order. */
 function states({ data, on, times, module, assignment }) {
   const run = module === undefined ? new WholeRun(data.layout, new Set(on)) : new ModuleRun(data, module, assignment);
-  const cells = () => [...run.live].map((key) => run.live.grid.cellOf(key)).sort((a, b) => a[1] - b[1] || a[0] - b[0]);
+  const cells = () => [...run.live].map((key) => run.live.numbering.cellOf(key))
+    .sort((a, b) => a[1] - b[1] || a[0] - b[0]);
   const found = times.map((time) => {
     run.seek(time);
     return [run.time, cells()];
@@ -43,7 +44,8 @@ function ended(data, on) {
 
 /** Returns the moves of each of the last steps, the latest first. */
 const trail = (data, on, time, length) =>
-  lastMoves(runAt(data, on, time), length).map((moves) => moves.map((key) => new Grid(data.layout).cellOf(key)));
+  lastMoves(runAt(data, on, time), length)
+    .map((moves) => moves.map((key) => new CellNumbering(data.layout).cellOf(key)));
 
 /** Returns what is watched, when the cells are live, and what the marks say. */
 function waves(data, on) {
@@ -59,8 +61,8 @@ function scene(data, on, time, { scale, left, top, pointed }) {
   const measure = (words, font) => 0.6 * Number(font.match(/([\d.]+)px/)[1]) * words.length;
   const pen = new SvgPen(900, 600, measure), inks = new Proxy({}, { get: (_, name) => `var(--${String(name)})` });
   const run = runAt(data, on, time);
-  const mirrors = new Cells(startKeys({ mirrors: data.layout.mirrors, balls: [], ins: [] }, () => false, run.grid),
-    run.grid);
+  const mirrors = new Cells(startKeys({ mirrors: data.layout.mirrors, balls: [], ins: [] }, () => false, run.numbering),
+    run.numbering);
   const good = new Map(data.layout.outs.map((port) => [String(port.cell), true]));
   painting.paintScene({ pen, scale, left, top, wide: 900, high: 600, inks },
     { layout: data.layout, modules: [], live: run.live, mirrors,

@@ -104,9 +104,9 @@ function ends(text) {
   const run = new Survey(layout, circuit, choices);
   run.advance(1e6);
   const keys = [...Array(layout.width * layout.height).keys()].map(
-    (index) => run.grid.keyOf(index % layout.width, Math.floor(index / layout.width)));
+    (index) => run.numbering.keyOf(index % layout.width, Math.floor(index / layout.width)));
   const states = choices.map((on, lane) => ({ on: [...on],
-    live: keys.filter((key) => run.live[key] >>> lane & 1).map((key) => run.grid.cellOf(key)) }));
+    live: keys.filter((key) => run.live[key] >>> lane & 1).map((key) => run.numbering.cellOf(key)) }));
   return { states, leftAt: run.leftAt, marks: [...new Set(run.marks.filter((_, index) => index % 3 === 2))].sort() };
 }
 

@@ -4,7 +4,7 @@
  *
  * @typedef {Set<string>} Choice the inputs that are true
  */
-import { circuitValues, Grid } from "../view/automaton.js";
+import { CellNumbering, circuitValues } from "../view/automaton.js";
 import * as geometry from "./geometry.js";
 
 const LANE_COUNT = 32;
@@ -54,7 +54,7 @@ class Survey {
   full;
   tables;
   colours;
-  grid;
+  numbering;
   noted;
   down;
   up;
@@ -86,8 +86,8 @@ class Survey {
       this.colours.set(table, index + 1); });
     // Which ways of each block are noted, with the colours of those on its two diagonals; the ways by its sides; marks
     // x, y, kind.
-    this.grid = new Grid(layout);
-    const { count } = this.grid;
+    this.numbering = new CellNumbering(layout);
+    const { count } = this.numbering;
     this.noted = new Uint8Array(count);
     this.down = new Uint8Array(count);
     this.up = new Uint8Array(count);
@@ -100,9 +100,9 @@ class Survey {
 
   /** Makes the cells live that are live at the start. */
   begin() {
-    const { layout, live, full, grid } = this, { row } = grid, first = [];
+    const { layout, live, full, numbering } = this, { row } = numbering, first = [];
     for (const [x, y, w, h] of layout.mirrors) {
-      for (let v = y; v < y + h; v += 1) for (let u = x; u < x + w; u += 1) first.push(grid.keyOf(u, v));
+      for (let v = y; v < y + h; v += 1) for (let u = x; u < x + w; u += 1) first.push(numbering.keyOf(u, v));
     }
     // Bit 6 of the note of a block: it contains a cell of a mirror.
     for (const key of first) {
@@ -111,12 +111,12 @@ class Survey {
       for (const before of [0, 1, row, row + 1]) this.noted[key - before] |= 64;
     }
     for (const cell of layout.balls) {
-      live[grid.keyOf(...cell)] = full;
-      first.push(grid.keyOf(...cell));
+      live[numbering.keyOf(...cell)] = full;
+      first.push(numbering.keyOf(...cell));
     }
     for (const { name, cell } of layout.ins) {
-      live[grid.keyOf(...cell)] |= this.tables.get(name) || 0;
-      first.push(grid.keyOf(...cell));
+      live[numbering.keyOf(...cell)] |= this.tables.get(name) || 0;
+      first.push(numbering.keyOf(...cell));
     }
     // The cells that the next step looks at, and those that it leaves for the step after it; and at which step a cell
     // changed last.
@@ -145,10 +145,10 @@ class Survey {
    * ball that it left where it is. At the start these are all blocks, and so they are for the second step.
    */
   step() {
-    const odd = this.time & 1, pass = this.time + 1, { passes, now, nowCount, grid } = this;
+    const odd = this.time & 1, pass = this.time + 1, { passes, now, nowCount, numbering } = this;
     this.nextCount = 0;
     for (let index = 0; index < nowCount; index += 1) {
-      const block = grid.blockOf(now[index], odd);
+      const block = numbering.blockOf(now[index], odd);
       if (passes[block] === pass) continue;
       passes[block] = pass;
       this.applyBlockRule(block);
@@ -169,8 +169,8 @@ class Survey {
    * other diagonal; everything else stays (Margolus 1984, block rule).
    */
   applyBlockRule(a) {
-    const { live, next } = this, b = a + 1, c = a + this.grid.row, d = c + 1, la = live[a], lb = live[b], lc = live[c];
-    const ld = live[d], any = la | lb | lc | ld;
+    const { live, next } = this, b = a + 1, c = a + this.numbering.row, d = c + 1;
+    const la = live[a], lb = live[b], lc = live[c], ld = live[d], any = la | lb | lc | ld;
     if (any === 0) return;
     const one = (la ^ ld) & ~lb & ~lc, other = (lb ^ lc) & ~la & ~ld, both = la & ld & ~lb & ~lc | lb & lc & ~la & ~ld;
     const note = this.noted[a];
@@ -242,7 +242,7 @@ class Survey {
     if (other && !(bits & 2)) this.up[a] = this.colourOf(other);
     if (both && !(bits & 4)) {
       this.sides.push(a, this.colourOf(both));
-      this.marks.push(...this.grid.cellOf(a), "meet");
+      this.marks.push(...this.numbering.cellOf(a), "meet");
     }
     noted[a] = bits | (one ? 1 : 0) | (other ? 2 : 0) | (both ? 4 : 0);
   }
@@ -250,11 +250,11 @@ class Survey {
   /** Notes that a step changed a cell of a mirror. */
   noteBroken(a) {
     if (this.noted[a] & 16) return;
-    const { row } = this.grid;
+    const { row } = this.numbering;
     const isHit = [a, a + 1, a + row, a + row + 1].some((key) => this.isMirror[key] && this.live[key] !== this.full);
     if (!isHit) return;
     this.noted[a] |= 16;
-    this.marks.push(...this.grid.cellOf(a), "broken");
+    this.marks.push(...this.numbering.cellOf(a), "broken");
   }
 
   /**
@@ -264,18 +264,18 @@ class Survey {
   noteBounce(a, bits) {
     const { isMirror, live, noted } = this;
     if (noted[a] & 8 || bits === 0) return;
-    const { row } = this.grid, cells = [a, a + 1, a + row, a + row + 1];
+    const { row } = this.numbering, cells = [a, a + 1, a + row, a + row + 1];
     const mirrors = cells.filter((key) => isMirror[key]).length;
     if (mirrors === 0 || mirrors === 4 || !cells.some((key) => !isMirror[key] && live[key])) return;
     noted[a] |= 8;
-    this.marks.push(...this.grid.cellOf(a), "bounce");
+    this.marks.push(...this.numbering.cellOf(a), "bounce");
   }
 
   /** Takes away what left the rectangle, and notes the first time. */
   dropOutside() {
-    const { width, height } = this.layout, { live, now, nowCount, grid } = this;
+    const { width, height } = this.layout, { live, now, nowCount, numbering } = this;
     for (let index = 0; index < nowCount; index += 1) {
-      const key = now[index], x = grid.xOf(key), y = grid.yOf(key);
+      const key = now[index], x = numbering.xOf(key), y = numbering.yOf(key);
       if (x >= 0 && y >= 0 && x < width && y < height || live[key] === 0) continue;
       this.leftLanes |= live[key];
       live[key] = 0;
@@ -290,19 +290,19 @@ class Survey {
    * Returns the ways as lines: x, y, x, y and a colour for each. The ways of one colour that lie in a row are one line.
    */
   wayLines() {
-    const { blocks, sides, down, up, grid } = this, { row } = grid, lines = [];
+    const { blocks, sides, down, up, numbering } = this, { row } = numbering, lines = [];
     for (const [colours, on, dx] of [[down, row + 1, 1], [up, row - 1, -1]]) {
       for (const block of blocks) {
         const colour = colours[block];
         if (colour === 0 || colours[block - on] === colour) continue;
         let last = block;
         while (colours[last + on] === colour) last += on;
-        const x = grid.xOf(block) + (dx < 0 ? 1 : 0), y = grid.yOf(block), far = grid.yOf(last) - y + 1;
+        const x = numbering.xOf(block) + (dx < 0 ? 1 : 0), y = numbering.yOf(block), far = numbering.yOf(last) - y + 1;
         lines.push(x, y, x + dx * far, y + far, colour);
       }
     }
     for (let index = 0; index < sides.length; index += 2) {
-      const x = grid.xOf(sides[index]), y = grid.yOf(sides[index]), colour = sides[index + 1];
+      const x = numbering.xOf(sides[index]), y = numbering.yOf(sides[index]), colour = sides[index + 1];
       lines.push(x, y, x + 1, y, colour, x, y + 1, x + 1, y + 1, colour);
     }
     return lines;
@@ -354,7 +354,7 @@ class TruthTableRun {
         this.run.advance(4);
       }
       this.ends.push({ left: this.run.leftLanes,
-        states: new Map(this.layout.outs.map((out) => [out, this.run.live[this.run.grid.keyOf(...out.cell)]])) });
+        states: new Map(this.layout.outs.map((out) => [out, this.run.live[this.run.numbering.keyOf(...out.cell)]])) });
       this.run = null;
     }
     return true;
@@ -405,14 +405,14 @@ function cellsAsBalls(cells, time) {
  * the cell is live if and only if its wire is true, and else waste.
  */
 function ballEndParts({ live, isMirror, tables }, outputs, { width, height, steps }) {
-  const grid = new Grid({ width, height }), wires = new Map(), cells = new Map(), parts = [];
+  const numbering = new CellNumbering({ width, height }), wires = new Map(), cells = new Map(), parts = [];
   for (const name of outputs) {
     const table = tables.get(name) || 0;
     wires.set(table, [...(wires.get(table) || []), name]);
   }
   for (let y = 0; y < height; y += 1) {
     for (let x = 0; x < width; x += 1) {
-      const key = grid.keyOf(x, y), table = live[key];
+      const key = numbering.keyOf(x, y), table = live[key];
       if (table !== 0 && !isMirror[key]) cells.set(table, [...(cells.get(table) || []), [x, y]]);
     }
   }

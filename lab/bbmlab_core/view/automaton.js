@@ -17,7 +17,7 @@
  * The numbers of the cells of a layout and of those next to it, such that a block's other cells are 1, `row` and `row`
  * + 1 further.
  */
-class Grid {
+class CellNumbering {
   bits;
   width;
   height;
@@ -55,19 +55,19 @@ class Grid {
  * a Set.
  */
 class Cells {
-  grid;
+  numbering;
   bytes;
 
-  /** @param {Iterable<number>} keys @param {Grid} grid */
-  constructor(keys, grid) {
-    this.grid = grid;
-    this.bytes = new Uint8Array(grid.count);
+  /** @param {Iterable<number>} keys @param {CellNumbering} numbering */
+  constructor(keys, numbering) {
+    this.numbering = numbering;
+    this.bytes = new Uint8Array(numbering.count);
     for (const key of keys) this.bytes[key] = 1;
   }
 
   /** @returns {Cells} */
   copy() {
-    const same = new Cells([], this.grid);
+    const same = new Cells([], this.numbering);
     same.bytes.set(this.bytes);
     return same;
   }
@@ -121,12 +121,12 @@ function applyBlockRule(bytes, row, a, changed) {
  * @returns {number[]}
  */
 function applyBlockRules(live, lists, odd) {
-  const changed = [], { bytes, grid } = live, { row } = grid;
+  const changed = [], { bytes, numbering } = live, { row } = numbering;
   if (lastPassOfBlock.length < bytes.length) lastPassOfBlock = new Int32Array(bytes.length);
   pass = pass === 0x7fffffff ? (lastPassOfBlock.fill(0), 1) : pass + 1;
   for (const cells of lists) {
     for (let index = 0; index < cells.length; index += 1) {
-      const block = grid.blockOf(cells[index], odd);
+      const block = numbering.blockOf(cells[index], odd);
       if (lastPassOfBlock[block] === pass) continue;
       lastPassOfBlock[block] = pass;
       applyBlockRule(bytes, row, block, changed);
@@ -139,16 +139,16 @@ function applyBlockRules(live, lists, odd) {
  * Returns the cells that are live at the start.
  * @param {Layout} layout
  * @param {(name: string) => boolean} isOn whether a wire is true
- * @param {Grid} grid
+ * @param {CellNumbering} numbering
  * @returns {number[]}
  */
-function startKeys(layout, isOn, grid) {
+function startKeys(layout, isOn, numbering) {
   const keys = [];
   for (const [x, y, w, h] of layout.mirrors) {
-    for (let v = y; v < y + h; v += 1) for (let u = x; u < x + w; u += 1) keys.push(grid.keyOf(u, v));
+    for (let v = y; v < y + h; v += 1) for (let u = x; u < x + w; u += 1) keys.push(numbering.keyOf(u, v));
   }
-  for (const [x, y] of layout.balls) keys.push(grid.keyOf(x, y));
-  for (const port of layout.ins) if (isOn(port.name)) keys.push(grid.keyOf(...port.cell));
+  for (const [x, y] of layout.balls) keys.push(numbering.keyOf(x, y));
+  for (const port of layout.ins) if (isOn(port.name)) keys.push(numbering.keyOf(...port.cell));
   return keys;
 }
 
@@ -162,8 +162,9 @@ const mirrorCellsByLayout = new WeakMap();
  */
 function mirrorsOf(layout) {
   if (!mirrorCellsByLayout.has(layout)) {
-    const grid = new Grid(layout), keys = startKeys({ mirrors: layout.mirrors, balls: [], ins: [] }, () => false, grid);
-    const cells = new Cells(keys, grid);
+    const numbering = new CellNumbering(layout);
+    const keys = startKeys({ mirrors: layout.mirrors, balls: [], ins: [] }, () => false, numbering);
+    const cells = new Cells(keys, numbering);
     const copy = cells.copy(), restless = [0, 1].flatMap((odd) => {
       const found = applyBlockRules(copy, [keys], odd);
       for (const key of found) copy.bytes[key] ^= 1;
@@ -174,7 +175,7 @@ function mirrorsOf(layout) {
   return mirrorCellsByLayout.get(layout);
 }
 
-/** Returns the cells that differ in two sets of one grid. */
+/** Returns the cells that differ in two sets of one numbering. */
 function differingCells(one, other) {
   const found = [], { buffer } = one.bytes, words = buffer.byteLength >> 2, left = new Uint32Array(buffer, 0, words);
   const right = new Uint32Array(other.bytes.buffer, 0, words);
@@ -194,7 +195,7 @@ const snapshotSpacing = (steps) => Math.max(64, Math.ceil(steps / 64));
 /** A run of a whole layout. The rule undoes itself on each block, so steps go back as well as forward. */
 class WholeRun {
   layout;
-  grid;
+  numbering;
   mirrors;
   restless;
   live;
@@ -212,9 +213,9 @@ class WholeRun {
   /** @param {Layout} layout @param {Set<string>} on the inputs that are true */
   constructor(layout, on) {
     const { cells, restless } = mirrorsOf(layout);
-    const keys = startKeys({ ...layout, mirrors: [] }, (name) => on.has(name), cells.grid);
+    const keys = startKeys({ ...layout, mirrors: [] }, (name) => on.has(name), cells.numbering);
     this.layout = layout;
-    this.grid = cells.grid;
+    this.numbering = cells.numbering;
     this.mirrors = cells;
     this.restless = restless;
     this.live = cells.copy();
@@ -263,7 +264,7 @@ class WholeRun {
 
   /** Whether a cell lies in the rectangle. */
   isInside(key) {
-    const x = this.grid.xOf(key), y = this.grid.yOf(key);
+    const x = this.numbering.xOf(key), y = this.numbering.yOf(key);
     return x >= 0 && y >= 0 && x < this.layout.width && y < this.layout.height;
   }
 
@@ -433,7 +434,7 @@ class ModuleRun {
   module;
   number;
   assignment;
-  grid;
+  numbering;
   values;
   every;
   always;
@@ -450,7 +451,7 @@ class ModuleRun {
     this.module = module;
     this.number = number;
     this.assignment = assignment;
-    this.grid = new Grid(data.layout);
+    this.numbering = new CellNumbering(data.layout);
     this.values = addGateValues(data.circuit, module.uses,
       new Map(module.cuts.map((name, index) => [name, Boolean(assignment >> index & 1)])));
     this.values.set("1", true);
@@ -458,8 +459,8 @@ class ModuleRun {
     this.always = [];
     this.timed = new Map();
     for (const line of heardLines(data, number)) if (this.values.get(line[3])) this.fileHeardLine(line);
-    const keys = startKeys(data.layout, (name) => Boolean(this.values.get(name)), this.grid);
-    this.live = new Cells(keys.filter((key) => this.isInside(key)), this.grid);
+    const keys = startKeys(data.layout, (name) => Boolean(this.values.get(name)), this.numbering);
+    this.live = new Cells(keys.filter((key) => this.isInside(key)), this.numbering);
     this.time = 0;
     this.recent = null;
     this.snapshots = new Map([[0, Int32Array.from(this.live.keys())]]);
@@ -468,12 +469,12 @@ class ModuleRun {
   /** Files a line whose signal is true. */
   fileHeardLine([time, x, y]) {
     if (time !== null && !this.timed.has(time)) this.timed.set(time, []);
-    (time === null ? this.always : this.timed.get(time)).push(this.grid.keyOf(x, y));
+    (time === null ? this.always : this.timed.get(time)).push(this.numbering.keyOf(x, y));
   }
 
   /** Whether a cell lies in the box. */
   isInside(key) {
-    const [x, y, w, h] = this.module.box, u = this.grid.xOf(key), v = this.grid.yOf(key);
+    const [x, y, w, h] = this.module.box, u = this.numbering.xOf(key), v = this.numbering.yOf(key);
     return u >= x && v >= y && u < x + w && v < y + h;
   }
 
@@ -505,7 +506,7 @@ class ModuleRun {
   seek(time) {
     const start = Math.max(...[...this.snapshots.keys()].filter((at) => at <= time));
     if (time < this.time || start > this.time) {
-      this.live = new Cells(this.snapshots.get(start), this.grid);
+      this.live = new Cells(this.snapshots.get(start), this.numbering);
       this.time = start;
       this.recent = null;
     }
@@ -513,4 +514,4 @@ class ModuleRun {
   }
 }
 
-export { Grid, Cells, WholeRun, ModuleRun, circuitValues, startKeys, mirrorsOf, lastMoves, movesOfLastStep };
+export { CellNumbering, Cells, WholeRun, ModuleRun, circuitValues, startKeys, mirrorsOf, lastMoves, movesOfLastStep };

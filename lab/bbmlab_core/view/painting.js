@@ -117,9 +117,10 @@ function seenRange({ left, top, wide, high, scale }, { width, height }) {
 
 /** Returns the live cells that can be seen: mirrors as rectangles x, y, w, h, and balls as x, y, x, y… */
 function seenLiveCells(place, live, mirrors) {
-  const [x0, y0, x1, y1] = seenRange(place, live.grid), balls = [], bars = [], open = new Map(), { bytes, grid } = live;
+  const { bytes, numbering } = live, [x0, y0, x1, y1] = seenRange(place, numbering);
+  const balls = [], bars = [], open = new Map();
   for (let y = y0; y < y1; y += 1) {
-    for (let x = x0, key = grid.keyOf(x0, y); x < x1; x += 1, key += 1) {
+    for (let x = x0, key = numbering.keyOf(x0, y); x < x1; x += 1, key += 1) {
       if (bytes[key] === 0) continue;
       if (!mirrors.has(key)) {
         balls.push(x, y);
@@ -131,7 +132,7 @@ function seenLiveCells(place, live, mirrors) {
         key += 1;
       }
       // A row of mirror cells below an equal one makes that one higher: fewer rectangles take less time.
-      const size = start * grid.row + x + 1 - start, above = open.get(size);
+      const size = start * numbering.row + x + 1 - start, above = open.get(size);
       if (above && above[1] + above[3] === y) above[3] += 1;
       else {
         open.set(size, [start, y, x + 1 - start, 1]);
@@ -157,10 +158,10 @@ function paintMirrors(place, found, least) {
  * are dead.
  */
 function paintBallsAndHoles(place, cellsUnlikeMirrors, mirrors) {
-  const { pen, scale } = place, balls = [], { grid } = mirrors;
+  const { pen, scale } = place, balls = [], { numbering } = mirrors;
   pen.fillStyle = place.inks.plane;
   for (const key of cellsUnlikeMirrors) {
-    const x = grid.xOf(key), y = grid.yOf(key);
+    const x = numbering.xOf(key), y = numbering.yOf(key);
     if (!isCellSeen(place, x, y)) continue;
     if (mirrors.has(key)) pen.fillRect(px(place, x), py(place, y), Math.max(1, scale), Math.max(1, scale));
     else balls.push(x, y);
@@ -546,7 +547,7 @@ function paintScene(place, shown) {
   paintOutline(place, box, place.inks.soft, [], 0, 1.5);
   if (hasTiles) still(place);
   else if (ways) ways(place, seenRange(place, layout));
-  paintTrails(place, trail, live.grid);
+  paintTrails(place, trail, live.numbering);
   if (hasTiles) paintBallsAndHoles(place, cellsUnlikeMirrors(), mirrors);
   else paintCells(place, live, mirrors);
   if (over) over(place);

@@ -232,7 +232,7 @@ class Player {
     if (!this.values || !this.isEnded) return null;
     const found = new Map(), isWhole = this.ahead.time === this.layout.steps;
     for (const { name, cell } of this.layout.outs) {
-      const wanted = this.values.get(name), isLive = this.ahead.live.has(this.ahead.grid.keyOf(...cell));
+      const wanted = this.values.get(name), isLive = this.ahead.live.has(this.ahead.numbering.keyOf(...cell));
       if (!found.has(name)) found.set(name, { name, wanted, isGood: true, cells: [] });
       const isGood = isWhole && isLive === wanted, result = found.get(name);
       result.cells.push({ cell, isLive, isGood });

@@ -258,7 +258,7 @@ class Stage {
 
   /** Says what there is at a cell now: "(99, 82): ball, in p, module 3". */
   wordsOf([x, y]) {
-    const { layout, mirrors, player } = this, key = mirrors.grid.keyOf(x, y), words = [];
+    const { layout, mirrors, player } = this, key = mirrors.numbering.keyOf(x, y), words = [];
     const isLive = player.run.live.has(key);
     if (mirrors.has(key)) words.push(isLive ? "mirror" : "dead mirror cell");
     else if (isLive) words.push("ball");
@@ -351,7 +351,7 @@ class Stage {
     const scale = Math.min(48, clientWidth / (w + 4), clientHeight / (h + 4));
     const place = painting.clearedPlace(canvas, scale, x + w / 2 - clientWidth / scale / 2,
       y + h / 2 - clientHeight / scale / 2);
-    const heard = own.heardCellsNow().map((key) => own.grid.cellOf(key)), { more, less } = this.differences();
+    const heard = own.heardCellsNow().map((key) => own.numbering.cellOf(key)), { more, less } = this.differences();
     painting.paintBlockGrid(place, own.module.box, own.time % 2);
     painting.paintOutline(place, own.module.box, place.inks.box, [6, 4], 0, 1.5);
     painting.paintCells(place, own.live, this.mirrors);
@@ -371,7 +371,7 @@ class Stage {
     if (!own || own.time !== run.time) return { more: [], less: [] };
     const more = own.live.keys().filter((key) => !run.live.has(key));
     const less = run.live.keys().filter((key) => own.isInside(key) && !own.live.has(key));
-    return { more: more.map((key) => own.grid.cellOf(key)), less: less.map((key) => run.grid.cellOf(key)) };
+    return { more: more.map((key) => own.numbering.cellOf(key)), less: less.map((key) => run.numbering.cellOf(key)) };
   }
 
   /** Says how many cells differ. */

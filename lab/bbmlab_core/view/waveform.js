@@ -5,7 +5,7 @@
  * true
  * @typedef {{wire: string, cell: Cell, key: number, marks: Mark[]}} Probe `key` is the number of the cell
  */
-import { Grid } from "./automaton.js";
+import { CellNumbering } from "./automaton.js";
 
 const ROW_HEIGHT = 20, AXIS_HEIGHT = 18, MAX_NAMES = 260;
 
@@ -14,9 +14,9 @@ const ROW_HEIGHT = 20, AXIS_HEIGHT = 18, MAX_NAMES = 260;
  * @type {(data: Data) => Probe[]}
  */
 function probesOf(data) {
-  const { layout, circuit, certificate } = data, grid = new Grid(layout), found = new Map();
+  const { layout, circuit, certificate } = data, numbering = new CellNumbering(layout), found = new Map();
   const file = (wire, cell, time, kind) => {
-    const key = grid.keyOf(...cell), id = `${wire} ${key}`;
+    const key = numbering.keyOf(...cell), id = `${wire} ${key}`;
     if (!found.has(id)) found.set(id, { wire, cell, key, marks: [] });
     const { marks } = found.get(id);
     if (!marks.some((mark) => mark.time === time && mark.kind === kind)) marks.push({ time, kind });
