@@ -10,9 +10,11 @@ import subprocess
 import sys
 import time
 from pathlib import Path
+from unittest import mock
 
 import support
 from bbmlab_core.explain.diagnosis import Diagnosis, Tristate
+from bbmlab_core.host.program import BadProgramError, Executable, RunningPrograms, open_program
 from bbmlab_core.studio.jobs import Jobs
 from support import processes, wait_for
 
@@ -265,6 +267,22 @@ class Signals(Room):
                  "    hang_up()\n"
                  "subprocess.Popen._execute_child = patched")
         self.assertEqual(self.run_with(start, "explain", support.example("wrong_edge")), 129)
+
+    def test_stop_while_a_program_starts(self) -> None:
+        """A program that was starting when all were stopped is killed, and its caller hears that it was stopped."""
+        running, start = RunningPrograms(), Executable.start
+        started: list[subprocess.Popen[bytes]] = []
+
+        def start_and_stop(program: Executable, *words: str) -> "subprocess.Popen[bytes]":
+            started.append(start(program, *words))
+            self.addCleanup(running.kill, started[0])
+            running.kill_all()
+            return started[0]
+
+        with mock.patch.object(Executable, "start", start_and_stop), self.assertRaisesRegex(BadProgramError, "stopped"):
+            running.start(open_program(self.sleeper), "check")
+        self.assertEqual(started[0].returncode, -signal.SIGKILL)
+        self.assertEqual(running.processes, set())
 
     def test_two_signals(self) -> None:
         """A second SIGHUP, as the shell sends it behind the kernel's, comes before the program is ended, and does not

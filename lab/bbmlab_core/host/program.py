@@ -143,7 +143,7 @@ class RunningPrograms:
             is_stopped = self.is_stopped
         if is_stopped:
             # It was stopped while it started.
-            self.end(process)
+            self.kill(process)
             raise BadProgramError("stopped")
         return process
 
