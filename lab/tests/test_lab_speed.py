@@ -306,7 +306,7 @@ class Once(support.InRoom):
             self.assertIsNone(BorderCheck(diagnosis, -1.0).ring_tables)
             self.assertLessEqual(step.call_count, 1)
             with self.assertRaises(LabError):
-                certified_text(document, None, CertificateOptions(until=0.0))
+                certified_text(document, None, CertificateOptions(processor_deadline=0.0))
             self.assertLessEqual(step.call_count, 2)
             self.assertIsNotNone(BorderCheck(Diagnosis(document), 30.0).ring_tables)
             self.assertGreater(step.call_count, 5)

@@ -21,7 +21,7 @@ def run(options: argparse.Namespace) -> int:
     # A plain certificate has no cuts to choose: the program's no to it is about the layout, and shows where it is
     # wrong.
     plan = CertificateOptions(options.version_of_text, "safe" if options.plain else options.cuts,
-                              is_tried=not options.plain)
+                              runs_modules=not options.plain)
     # Only the stops of an old certificate are kept.
     old = read_document(text, "check") if "\nstop " in text else document
     if old.certificate and not old.refusal:

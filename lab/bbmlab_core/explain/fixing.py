@@ -249,7 +249,7 @@ class Fixer:
                 return None
             try:
                 until = processor_seconds() + self.trial.seconds_left() * CERTIFY_SHARE
-                text = certified_text(document, boxes, CertificateOptions(version, until=until))
+                text = certified_text(document, boxes, CertificateOptions(version, processor_deadline=until))
             except LabError:
                 continue
             report = self.trial.report(text)

@@ -292,7 +292,7 @@ class PathFinder:
                 on = BOUNCE_STEPS + world.free_steps(clear, min(60, rest - BOUNCE_STEPS))
                 if on < min(LEAST_LEG, rest) or goal and not self.can_reach(after, goal):
                     continue
-                new = world.new_cell_count(trail.ball, steps) + world.new_cell_count(clear, on - BOUNCE_STEPS)
+                new = world.flight_cost(trail.ball, steps) + world.flight_cost(clear, on - BOUNCE_STEPS)
                 cost = (new + settings.mirror_cost) / (steps + on) + chance.random() * 0.5
                 found.append(WanderOption(cost, steps, turn))
         found.sort(key=lambda option: option.cost)

@@ -379,7 +379,7 @@ class World:
         bits &= (1 << x + 1) - 1
         return max(0, min(most, x - bits.bit_length())) if bits else most
 
-    def new_cell_count(self, ball: Ball, steps: int) -> int:
+    def flight_cost(self, ball: Ball, steps: int) -> int:
         """Returns how many cells that nothing touches yet a straight flight would touch, about."""
         x, y, dx, dy, _ = ball
         low, high = (x, x + steps) if dx > 0 else (x - steps, x)

@@ -17,7 +17,7 @@ from ..host.terminal import LabError
 from ..joining.command import SETTINGS
 from ..joining.composing import NamedPart
 from ..joining.modules import JoinedModules
-from ..joining.parts import ALWAYS_SIGNAL, PartText
+from ..joining.parts import ALWAYS_SIGNAL, PartBundle
 from ..joining.planning import BallJob, JoinPlan, PlacedPart
 from ..joining.wiring import JoinWiring, ball_words
 from ..route.balls import Ball, Leg
@@ -50,7 +50,7 @@ class ModulesWithRoom(JoinedModules):
     def __init__(self) -> None:
         """There is nothing to keep."""
 
-    def modules_of(self, path: BallPath) -> set[int]:
+    def modules_hearing(self, path: BallPath) -> set[int]:
         """Returns no modules."""
         return set()
 
@@ -72,7 +72,7 @@ class ConnectionWiring(JoinWiring):
 
     def closed_end_words(self) -> str:
         """Says which open end no ball can leave even if no other ball is led, or returns nothing."""
-        for index, ball, sign in self.blocked_ends():
+        for index, ball, sign in self.closed_ends():
             where = "behind it" if sign > 0 else "before it"
             words = ball_words(self.plan.jobs[index])
             return (f"{words} at ({ball.x}, {ball.y}) at time {ball.time} has no room for a "
@@ -127,8 +127,8 @@ class PortConnection:
         soon = {run.machine_of_ball(number) for number in range(len(run.starts))} - late
         placed = []
         for numbers, own_time in ((soon, 0), (late, delay)):
-            text = PartText(self.circuit, Layout(layout.width, layout.height, layout.steps), Certificate(), [], [],
-                            run.machines_footprint(numbers, own_time == 0))
+            text = PartBundle(self.circuit, Layout(layout.width, layout.height, layout.steps), Certificate(), [], [],
+                              run.machines_footprint(numbers, own_time == 0))
             placed.append(PlacedPart(NamedPart("", text), room, room, own_time))
         jobs = [BallJob(self.output, placed[0].placed_ball(self.out.ball), placed[1].placed_ball(self.goal), delay)]
         jobs += [BallJob(port.wire, None, placed[1].placed_ball(port.ball), delay) for number,

@@ -8,7 +8,7 @@ from array import array
 from dataclasses import dataclass, replace
 
 from ..host.terminal import LabError
-from ..joining.flight_claims import flights_in
+from ..joining.flight_claims import pop_flight_ranges
 from ..joining.lone_ways import whole_balls_of
 from ..joining.parts import part_footprint, start_ports
 from ..pictures.drawing import wire_tables
@@ -99,5 +99,5 @@ class MachineRun:
         """Returns what some machines take. Mirrors, which are nobody's, are in one of the items."""
         claims = {claim for number, own in enumerate(self.claims) if self.machine_of_ball(number) in numbers
                   for claim in own}
-        machines_item = part_footprint(frozenset(map(cell_number, self.mirrors)), list(flights_in(claims)))
+        machines_item = part_footprint(frozenset(map(cell_number, self.mirrors)), list(pop_flight_ranges(claims)))
         return machines_item if is_for_mirrors else replace(machines_item, mirrors=frozenset())

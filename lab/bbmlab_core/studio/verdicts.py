@@ -151,7 +151,7 @@ class Judge:
         """Returns the verdict with a certificate that `certify` makes: first without runs of its modules, which the
         program repeats."""
         try:
-            plan = CertificateOptions(until=self.until, is_tried=False)
+            plan = CertificateOptions(processor_deadline=self.until, runs_modules=False)
             quick = self.bundle_verdict(certified_text(design, None, plan), "certify")
             if quick.verdict == "yes":
                 return quick
@@ -159,7 +159,8 @@ class Judge:
             if outcome.is_right is Tristate.NO:
                 quick.words.append(outcome.why_no_yes)
                 return quick
-            return self.bundle_verdict(certified_text(design, None, CertificateOptions(until=self.until)), "certify")
+            return self.bundle_verdict(certified_text(design, None, CertificateOptions(processor_deadline=self.until)),
+                                       "certify")
         except LabError as error:
             reason = str(error)
             return Verdict("none", [f"{reason[:1].upper()}{reason[1:]}."], "certify")
