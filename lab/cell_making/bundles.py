@@ -3,7 +3,7 @@
 from dataclasses import dataclass, field, replace
 
 from bbmlab_core.certify.certifier import CertificateOptions, certified_text, grid_boxes
-from bbmlab_core.route.balls import Ball, BallRun, Mirror, block_cells, mirror_cells, run_exactly, start_state
+from bbmlab_core.route.balls import Ball, ExactRun, Mirror, block_cells, mirror_cells, run_exactly, start_state
 from bbmlab_core.texts.certificates import MAX_BOX_SIDE, Certificate, Stop, local_wires, whole_module
 from bbmlab_core.texts.circuits import Circuit, evaluate_all
 from bbmlab_core.texts.documents import read_document
@@ -57,7 +57,7 @@ def read_circuit(text: str) -> Circuit:
     return document.circuit
 
 
-def run_machine(machine: Machine, tables: dict[str, Table], full: Table) -> BallRun:
+def run_machine(machine: Machine, tables: dict[str, Table], full: Table) -> ExactRun:
     """Returns the run of a machine under all its inputs. Raises ValueError if a mirror breaks or an output is wrong."""
     start = [(ball.at(0), tables[name]) for name, ball in machine.ins.items()] + [(ball.at(0), full)
                                                                                   for ball in machine.constants]
@@ -71,7 +71,7 @@ def run_machine(machine: Machine, tables: dict[str, Table], full: Table) -> Ball
     return run
 
 
-def offset_and_size(machine: Machine, run: BallRun) -> tuple[int, int, int, int]:
+def offset_and_size(machine: Machine, run: ExactRun) -> tuple[int, int, int, int]:
     """Returns how far to move the machine, by even numbers, and the even width and height of its layout."""
     cells = mirror_cells(machine.mirrors) | {cell for corners in run.blocks for corner in corners
                                              for cell in block_cells(corner)}

@@ -31,7 +31,7 @@ from bbmlab_core.route.balls import BOUNCE_STEPS, Ball, Turn, bounce, follow_leg
 from bbmlab_core.route.command import ProgressLine
 from bbmlab_core.route.netlist import RouterNetlist
 from bbmlab_core.route.paths import PathFinder
-from bbmlab_core.route.settings import OPEN_STEPS, Settings
+from bbmlab_core.route.settings import OPEN_END_STEPS, Settings
 from bbmlab_core.route.world import (MARGIN_CELLS, ROW_STRIDE, STEP_STRIDE, TILE, Footprint, World, cell_number,
                                      cell_of_number, path_item)
 from bbmlab_core.texts.certificates import Module
@@ -441,7 +441,7 @@ class Joining(unittest.TestCase):
             for cells in wiring.GOAL_STEP_COSTS:
                 search = coil_ways.OpenSearch(finder, ground, inner, other, is_backward, lambda _: True, cells)
                 legs = next(search.ways())
-                first = finder.ball_before(inner, legs) if is_backward else inner
+                first = finder.start_of_legs(inner, legs) if is_backward else inner
                 item, last = path_item(first, legs), follow_legs(first, legs)[0]
                 assert item
                 self.assertTrue(world.can_add(item))
@@ -517,8 +517,8 @@ class Joining(unittest.TestCase):
         """An end that is to be open takes the room of one more mirror than its path has, and no other end does."""
         circuit = read_document(BLOCK, "circuit").circuit
         assert circuit
-        for steps in (OPEN_STEPS, 0):
-            design = Attempt(RouterNetlist(circuit), 160, 1, Settings(open_steps=steps)).run()
+        for steps in (OPEN_END_STEPS, 0):
+            design = Attempt(RouterNetlist(circuit), 160, 1, Settings(open_end_steps=steps)).run()
             ends = [path for path in design.paths if path.end.time == design.end]
             kept = sum(len(path.item.mirrors) > len(mirror_cells(path.mirrors())) for path in ends)
             self.assertEqual(kept > 0, steps > 0)

@@ -114,8 +114,8 @@ class Runs(unittest.TestCase):
             while run.time < layout.steps and run.step():
                 states.append(run.field.state())
             self.assertEqual(trace.states, states)
-            self.assertEqual(trace.left, run.left and run.left[0])
-            broken += any(moment.gone for moment in trace.moments)
+            self.assertEqual(trace.leaving_step, run.left and run.left[0])
+            broken += any(moment.dead_mirror_cells for moment in trace.moments)
             time = chooser.randrange(len(states))
             self.assertEqual(tracing.state_at(layout, on, time), states[time])
         self.assertGreater(broken, 20)

@@ -349,7 +349,7 @@ class Runs(unittest.TestCase):
         layouts = [[[chooser.randrange(12), chooser.randrange(12), chooser.randrange(1, 5), chooser.randrange(1, 5)]
                     for _ in range(count)]
                    for count in (1, 2, 3, 5) for _ in range(150)]
-        wanted = [[[mirror.part.x, mirror.part.y, mirror.part.width, mirror.part.height] for mirror in
+        wanted = [[[mirror.mirror.x, mirror.mirror.y, mirror.mirror.width, mirror.mirror.height] for mirror in
                    falling_mirrors(Layout(20, 20, 3, tuple(Box(*box) for box in boxes)))]
                   for boxes in layouts]
         self.assertEqual(node(*[["fallen", boxes] for boxes in layouts]), wanted)

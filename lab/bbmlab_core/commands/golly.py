@@ -13,7 +13,7 @@ def run(options: argparse.Namespace) -> int:
     document, layout = read_design(options.file, False)
     on = tracing.chosen_inputs(document, options.on)
     start = tracing.state_at(layout, on, 0)
-    write_text(options.output, golly.golly_text(layout, start, on, tracing.layout_lines(document)))
+    write_text(options.output, golly.golly_text(layout, start, on, tracing.layout_section_lines(document)))
     return 0
 
 

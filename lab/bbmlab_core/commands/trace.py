@@ -21,11 +21,11 @@ def run(options: argparse.Namespace) -> int:
     else:
         on = tracing.chosen_inputs(document, options.on)
         trace = tracing.trace_layout(layout, on, options.start, last)
-        warn_of_difference(options, trace, tracing.text_for_run(tracing.layout_lines(document), on))
+        warn_of_difference(options, trace, tracing.run_input(tracing.layout_section_lines(document), on))
     mirrors = layout.mirror_cells()
     write_text(options.output, tracing.as_json(trace, mirrors) if options.json
                else tracing.as_text(trace, mirrors, options.pictures))
-    return 1 if trace.left is not None else 0
+    return 1 if trace.leaving_step is not None else 0
 
 
 def warn_of_difference(options: argparse.Namespace, trace: tracing.Trace, text: bytes) -> None:
@@ -39,7 +39,7 @@ def warn_of_difference(options: argparse.Namespace, trace: tracing.Trace, text: 
     if answer.status >= 3:
         tell(f"the last state was not compared: {answer.errors or answer.output.strip()}")
         return
-    differs = tracing.compare_with_run(trace, answer.output)
+    differs = tracing.difference_from_run(trace, answer.output)
     if differs:
         raise LabError(f"the lab's run is wrong: {differs}")
     tell("the last state is what the program's run says")

@@ -172,9 +172,9 @@ def yes_words(count: int) -> str:
 def falling_mirror_words(diagnosis: Diagnosis) -> list[str]:
     """Returns which mirrors fall apart by themselves."""
     fallen = falling_mirrors(diagnosis.layout)
-    words = [f"The mirror of line {mirror.part.line} (`{diagnosis.document.line(mirror.part.line)}`) falls apart by "
-             f"itself: step {mirror.step} "
-             f"moves its cell {cell_words(mirror.cell)}." for mirror in fallen[:MAX_NAMED_MIRRORS]]
+    words = [f"The mirror of line {own.mirror.line} (`{diagnosis.document.line(own.mirror.line)}`) falls apart by "
+             f"itself: step {own.step} "
+             f"moves its cell {cell_words(own.cell)}." for own in fallen[:MAX_NAMED_MIRRORS]]
     if len(fallen) > MAX_NAMED_MIRRORS:
         words.append(f"{len(fallen) - MAX_NAMED_MIRRORS} more mirrors do.")
     if fallen:

@@ -14,7 +14,7 @@ MAX_PLACES = 6
 def mirror_place_changes(bench: Testbench) -> Iterator[DesignChange]:
     """Yields the layout with each mirror that falls apart at a legal place next to it; a few of them together, then
     each by itself."""
-    fallen = sorted((mirror.part for mirror in falling_mirrors(bench.layout)), key=bench.distance_to_fault)
+    fallen = sorted((own.mirror for own in falling_mirrors(bench.layout)), key=bench.distance_to_fault)
     if not fallen:
         return
     if len(fallen) <= MAX_TOGETHER:

@@ -250,7 +250,7 @@ class CoilSearch:
         self.finder, self.world, self.is_backward, self.end = finder, finder.world, is_backward, end
         # Whether the modules where a leg passes have room for its wire.
         self.has_room = has_room
-        self.first = CoilBounce(ball.reversed() if is_backward else ball)
+        self.first = CoilBounce(ball.time_reversed() if is_backward else ball)
         self.width = width or least_width(end - self.first.ball.time)
         self.squares = ground.squares(self.width + 1, ball.y)
         self.distances = self.squares.tile_distances()
@@ -350,8 +350,8 @@ class CoilSearch:
         if not self.is_backward:
             return path_item(bend.ball, [leg], begun)
         legs = reversed_legs([Leg(leg.steps - begun, leg.turn), Leg(BOUNCE_STEPS, None)])
-        goal = bend.ball.flown(begun).reversed()
-        return path_item(self.finder.ball_before(goal, legs), legs)
+        goal = bend.ball.flown(begun).time_reversed()
+        return path_item(self.finder.start_of_legs(goal, legs), legs)
 
     def coils_ahead(self, bend: CoilBounce, room: int) -> Iterator[Coil]:
         """Yields the first coils that have room on the straight way behind a bounce."""
@@ -375,7 +375,7 @@ class OpenSearch(CoilSearch):
 
     def __init__(self, finder: PathFinder, ground: CoilGround, ball: Ball, goal: Ball, is_backward: bool,
                  has_room: Callable[[Footprint], bool], goal_cells: float) -> None:
-        self.goal, self.goal_cells = goal.reversed() if is_backward else goal, goal_cells
+        self.goal, self.goal_cells = goal.time_reversed() if is_backward else goal, goal_cells
         super().__init__(finder, ground, ball, self.goal.time, is_backward, has_room, OPEN_SQUARE_SIDE)
         self.most_bounces = MAX_TRIED_OPEN_BOUNCES
 

@@ -29,7 +29,7 @@ from .wiring import JoinWiring, TightError, ball_words
 
 PART_NAME_PATTERN = re.compile(r"[a-z][a-z0-9_]{0,15}")
 CONNECTION_PATTERN = re.compile(r"(\w+)\.(\w+)=(\w+)\.(\w+)")
-SETTINGS = Settings(wander_detour=0.07, wander_options=16)
+SETTINGS = Settings(wander_spare_per_cell=0.07, wander_options=16)
 # By how much the plane grows after an attempt that failed.
 PLANE_GROWTH = 1.12
 
@@ -266,7 +266,7 @@ def join_command(options: argparse.Namespace) -> int:
     write_text(options.output, routed.text)
     spent = time.monotonic() - begun
     print(f"parts {len(made.parts)}, connections {len(connections)}, size {routed.width} by {routed.height}, "
-          f"steps {routed.steps}, gates placed {routed.gates}, mirror cells {routed.mirrors}, "
+          f"steps {routed.steps}, gates placed {routed.gates}, mirror cells {routed.mirror_cell_count}, "
           f"modules {routed.modules}, most cuts {routed.most_cuts}, attempts {attempts}, seconds {spent:.1f}",
           file=sys.stderr)
     verdict = verdict_line(answer)

@@ -111,7 +111,7 @@ class LoneRun:
     def __init__(self, mirrors: set[Cell], ball: Ball, steps: int, is_output: bool) -> None:
         self.is_output, self.bound = is_output, 0 if is_output else steps
         # The rule is run backwards from the last time, which is made time 1: blocks alternate, so it must be odd.
-        first = ball.reversed().moved(0, 0, 1) if is_output else ball
+        first = ball.time_reversed().moved(0, 0, 1) if is_output else ball
         run = run_exactly(mirrors, start_state([(first, 1)]), first.time, first.time + steps)
         # A run backwards has the last state first.
         order = -1 if is_output else 1

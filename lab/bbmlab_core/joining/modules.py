@@ -10,7 +10,7 @@ from typing import Callable, Iterable, Iterator
 
 from ..circuits.cones import few_cuts_and_uses
 from ..host.terminal import LabError
-from ..route.balls import moving_cells
+from ..route.balls import moving_path_cells
 from ..route.board import FailureKind, NoRouteError
 from ..route.netlist import RouterNetlist
 from ..route.paths import Path
@@ -129,7 +129,7 @@ class JoinedModules:
 
     def ring_cells_of_path(self, path: Path) -> Iterator[tuple[int, Cell, int]]:
         """Yields the cells of a path on rings at odd times, with the numbers of their modules."""
-        for time, cells in moving_cells(path.start, path.legs, 1):
+        for time, cells in moving_path_cells(path.start, path.legs, 1):
             for cell in cells:
                 number = self.owners.owner_at(cell)
                 if self.boxes[number].has_in_ring(cell):

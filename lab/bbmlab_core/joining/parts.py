@@ -132,7 +132,7 @@ def lone_runs(circuit: Circuit, layout: Layout, certificate: Certificate,
     runs = {}
     for (kind, wire), own in cells.items():
         balls = whole_balls_of(own, layout.steps if kind == "out" else 0) or []
-        if len(balls) == 1 and not netlist.is_zero(wire):
+        if len(balls) == 1 and not netlist.has_no_ball(wire):
             runs[kind, wire] = LoneRun(mirrors, balls[0], layout.steps, kind == "out")
     return runs
 
@@ -151,7 +151,7 @@ def end_ports(circuit: Circuit, layout: Layout, wastes: dict[Cell, str | None]) 
     cells: dict[str, list[Cell]] = defaultdict(list)
     netlist = RouterNetlist(circuit)
     for part in layout.of_kind("out"):
-        if not netlist.is_zero(part.name or ""):
+        if not netlist.has_no_ball(part.name or ""):
             cells[part.name or ""].append(part.cell)
     for cell, wire in wastes.items():
         if wire is None:

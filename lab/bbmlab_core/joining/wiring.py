@@ -295,7 +295,7 @@ class JoinWiring:
             return coiled
         if job.goal is None:
             assert job.start is not None
-            return self.finder.path_on_from(job.wire, job.start, job.end)
+            return self.finder.lead_on_from(job.wire, job.start, job.end)
         if job.start is None:
             return self.finder.path_from_anywhere(job.wire, job.goal)
         is_deep = max(self.world.depth(ball.x, ball.y) for ball in (job.start, job.goal)) > SHALLOW_CELLS
@@ -316,7 +316,7 @@ class JoinWiring:
         for coil, legs in search.coils_with_legs():
             if job.start is None:
                 legs = reversed_legs(legs)
-            start = job.start or self.finder.ball_before(ball, legs)
+            start = job.start or self.finder.start_of_legs(ball, legs)
             path = self.finder.path_of_legs(job.wire, start, follow_legs(start, legs)[0], legs)
             if path is not None:
                 sealed = sealed_item(path.item, coil.box)
@@ -339,7 +339,7 @@ class JoinWiring:
         """Returns a path between two parts whose ends are led to open ground by a search, and joined there."""
         has_room = self.modules.room_test(wire)
         for cells, behind in self.ways_from_open(start, goal, has_room):
-            back, last = Trail(self.world, goal, is_backward=True), self.finder.ball_before(goal, behind)
+            back, last = Trail(self.world, goal, is_backward=True), self.finder.start_of_legs(goal, behind)
             turns = [leg.turn for leg in reversed(behind[:-1])]
             is_free = all(back.push_leg(leg.steps, turn) for leg, turn in zip(reversed(behind), [*turns, None]))
             legs = self.legs_to_open(start, last, has_room, cells) if is_free else None
@@ -383,7 +383,7 @@ class JoinWiring:
             legs = [Leg(0, None)]
             if stop > start.time and self.finder.wander(on, stop, last):
                 legs = on.legs()
-            middle = self.finder.connect_short(on.ball, last, self.settings.path_tries)
+            middle = self.finder.find_direct_legs(on.ball, last, self.settings.path_tries)
             on.clear_legs()
             if middle:
                 return linked_legs(legs, middle)
@@ -396,12 +396,12 @@ class JoinWiring:
         before = goal.time - chance.randint(STEPS_BACK_RANGE[0] + deep, STEPS_BACK_RANGE[1] + 2 * deep)
         if before <= start.time or not finder.wander(back, -before):
             return None
-        last, behind = back.ball.reversed(), back.legs()
+        last, behind = back.ball.time_reversed(), back.legs()
         stop = last.time - chance.randint(*JOIN_STEPS_RANGE)
         if stop <= start.time or not finder.can_reach(start, last) or not finder.wander(on, stop, last):
             return None
         finder.known_departures.clear()
-        middle = finder.connect_short(on.ball, last, self.settings.path_tries)
+        middle = finder.find_direct_legs(on.ball, last, self.settings.path_tries)
         return linked_legs(linked_legs(on.legs(), middle), behind) if middle else None
 
     def take_back(self, index: int) -> None:
@@ -431,7 +431,7 @@ class JoinWiring:
 
     def straight_way_cells(self, ball: Ball, sign: int) -> set[int]:
         """Returns the cells of the straight way behind a ball, or before it, up to the first mirror and a little on."""
-        room = 6 + self.world.free_steps(ball if sign > 0 else ball.reversed(), STRAIGHT_WAY_STEPS)
+        room = 6 + self.world.free_steps(ball if sign > 0 else ball.time_reversed(), STRAIGHT_WAY_STEPS)
         way = path_item(ball if sign > 0 else ball.flown(-room), [Leg(room, None)])
         return way.touched if way else set()
 

@@ -83,7 +83,7 @@ class ConnectionWiring(JoinWiring):
         """Returns a path between two balls."""
         steps = goal.time - start.time
         straight = [Leg(steps, None)] if start.flown(steps) == goal else None
-        legs = straight or self.finder.connect_short(start, goal, self.settings.path_tries)
+        legs = straight or self.finder.find_direct_legs(start, goal, self.settings.path_tries)
         path = self.finder.path_of_legs(wire, start, goal, legs) if legs else None
         return path or super().find_connecting_path(wire, start, goal)
 

@@ -71,7 +71,7 @@ def export(job: dict[str, Any], asked: Executable, seconds: float) -> dict[str, 
     if form == "golly":
         on = tracing.chosen_inputs(document, ",".join(job["on"]) or None)
         start = tracing.state_at(document.layout, on, 0)
-        return {"text": golly.golly_text(document.layout, start, on, tracing.layout_lines(document))}
+        return {"text": golly.golly_text(document.layout, start, on, tracing.layout_section_lines(document))}
     explanation = None
     if document.certificate:
         answer = program.ask(asked, "check", document.text.encode("latin-1"), seconds)
