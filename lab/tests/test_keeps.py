@@ -80,7 +80,7 @@ class Keeps(unittest.TestCase):
             sets = (core | set(more) for count in range(len(others) + 1)
                     for more in itertools.combinations(others, count))
             least = min(len(search.wires_into(gates)) for gates in sets)
-            found = search.minimum_cut_gates(core)
+            found = search.gates_inside_minimum_cut(core)
             self.assertTrue(core <= found)
             self.assertEqual(len(search.wires_into(found)), least, index)
             larger += len(search.wires_into(core)) > least

@@ -276,7 +276,7 @@ class Once(support.InRoom):
         """When the effort is used up nothing more is tried, for no line of the report."""
         text = support.text_of("wrong_edge")
         trial = TrialRunner(support.program(), Budget(seconds=30))
-        report = trial.report(text)
+        report = trial.try_text(text)
         fixer, diagnosis = Fixer(text, report, trial), Diagnosis(read(text))
         trial.budget = Budget(seconds=0)
         with mock.patch.object(fixer, "text_after_or_none") as applied:
@@ -290,7 +290,7 @@ class Once(support.InRoom):
         text = support.text_of("wrong_edge")
         output = ask(support.program(), "check", text.encode()).output
         for is_of_search in (True, False):
-            trial = TrialRunner(support.program(), Budget(is_of_search=is_of_search))
+            trial = TrialRunner(support.program(), Budget(is_counted_from_search=is_of_search))
             trial.started -= 1000.0
             self.assertEqual(explain_answer(text, "check", output, "text", trial).fix is not None, is_of_search)
 

@@ -15,7 +15,8 @@ from unittest import mock
 
 import support
 from bbmlab_core.circuits.cones import cone_for_inverse_gate
-from bbmlab_core.circuits.netlists import NetlistError, NetlistFormat, circuit_from_netlist, map_netlist, netlist_format
+from bbmlab_core.circuits.netlists import (NetlistError, NetlistFormat, circuit_text_from_netlist, map_netlist,
+                                           netlist_format)
 from bbmlab_core.texts.circuits import Circuit, evaluate, values_under
 
 # Fewer tries than users get, which save time: each try is one that a search can end with.
@@ -67,7 +68,7 @@ def words_of(text: str, keyword: str) -> list[str]:
 
 def circuit_of(text: str) -> Circuit:
     """Returns the circuit that a netlist is mapped to, as the lab reads it."""
-    return support.circuit_of(circuit_from_netlist(text))
+    return support.circuit_of(circuit_text_from_netlist(text))
 
 
 def random_table(chooser: random.Random, name: str, known: list[str]) -> list[str]:
@@ -340,7 +341,7 @@ class Sentences(unittest.TestCase):
         """Each text is refused with its sentence."""
         for name, (text, sentence) in REFUSED.items():
             with self.subTest(name):
-                self.assertRaisesRegex(NetlistError, sentence, circuit_from_netlist, text)
+                self.assertRaisesRegex(NetlistError, sentence, circuit_text_from_netlist, text)
 
     def test_a_circuit_too_large(self) -> None:
         """A chain that needs more than 16,384 gates is refused with the limit, and so are 20,000 copies of one input.
@@ -352,9 +353,9 @@ class Sentences(unittest.TestCase):
                                                                                   for name in copies)
         for text in (wide_xor(4200), wide_xor(40_000), fan_out):
             with self.subTest(len(text)):
-                self.assertRaisesRegex(NetlistError, "A circuit has at most 16384", circuit_from_netlist, text)
+                self.assertRaisesRegex(NetlistError, "A circuit has at most 16384", circuit_text_from_netlist, text)
         for count, front in ((250, "circuit\n"), (700, "limits 2\ncircuit\n")):
-            self.assertTrue(circuit_from_netlist(wide_xor(count)).startswith(front))
+            self.assertTrue(circuit_text_from_netlist(wide_xor(count)).startswith(front))
 
     def test_names(self) -> None:
         """Names become legal and stay different, and a note names each change."""
@@ -377,4 +378,4 @@ class Sentences(unittest.TestCase):
 
     def test_same_text_each_time(self) -> None:
         """The same netlist gets the same circuit."""
-        self.assertEqual(circuit_from_netlist(full_adder_blif()), circuit_from_netlist(full_adder_blif()))
+        self.assertEqual(circuit_text_from_netlist(full_adder_blif()), circuit_text_from_netlist(full_adder_blif()))

@@ -308,11 +308,11 @@ class Words(Room):
         self.assertRegex(" ".join(ended.stdout.split()), r"the cell \(\d+, 0\) of the rim is live at time 1\. .* no "
                          r"certificate gets a yes before the layout is changed")
         outcome = Diagnosis(support.read_document(text, "check")).whole_outcome
-        self.assertEqual((outcome.is_right, outcome.is_rim), (Tristate.NO, True))
+        self.assertEqual((outcome.correctness, outcome.is_rim_fault), (Tristate.NO, True))
         for name, wanted in (("gate_and_mirror", Tristate.YES), ("not_gate", None)):
             document = support.read_document(support.text_of(name), "check")
             if document.certificate and not document.refusal:
-                self.assertEqual(Diagnosis(document).whole_outcome.is_right, wanted, name)
+                self.assertEqual(Diagnosis(document).whole_outcome.correctness, wanted, name)
 
     def test_table_of_a_netlist(self) -> None:
         """A `$lut` whose table has another number of bits than its inputs make is refused by its name."""

@@ -14,7 +14,7 @@ SAMPLE_COUNT = 256
 MAX_NAMED_INPUTS = 12
 
 
-def first_gate_without_row(circuit: Circuit) -> str | None:
+def first_missing_row_words(circuit: Circuit) -> str | None:
     """Returns the first gate that has no row, with the values that it gets and inputs that give them.
 
     None if none was found.

@@ -15,7 +15,7 @@ MAX_EXHAUSTIVE_INPUTS = 16
 SAMPLE_COUNT = 4096
 
 
-def table_rows(circuit: Circuit, on: list[str] | None) -> Iterator[list[str]]:
+def table_with_header(circuit: Circuit, on: list[str] | None) -> Iterator[list[str]]:
     """Yields the names of the columns, and then each row: inputs and outputs, or the gate without a row.
 
     The first input changes last.
@@ -79,7 +79,7 @@ def circuit_figures(circuit: Circuit) -> list[tuple[str, str]]:
             ("depth", str(depth(circuit))), ("width", str(peak_wire_count(circuit)))]
 
 
-def section_figures(document: Document) -> list[tuple[str, str]]:
+def document_figures(document: Document) -> list[tuple[str, str]]:
     """Returns the figures of a text's sections."""
     found = circuit_figures(document.circuit) if document.circuit else []
     layout = document.layout
@@ -102,7 +102,7 @@ def values_of_both(one: Circuit, other: Circuit) -> tuple[Valuation, Valuation]:
     return values, evaluate_under(other, free, values.full, range(len(other.gates)))
 
 
-def output_difference(one: Circuit, other: Circuit, is_of_common: bool = False) -> tuple[str, str]:
+def difference_and_scope_words(one: Circuit, other: Circuit, is_of_common: bool = False) -> tuple[str, str]:
     """Returns how two circuits differ, or nothing, and in which inputs they were compared. Inputs and outputs are
     matched by their names.
 

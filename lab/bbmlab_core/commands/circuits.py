@@ -49,7 +49,7 @@ def agreement_words(change: Callable[[Circuit], Circuit], before: Circuit, after
     Raises LabError where it has others.
     """
     differs, scope = (inverse_difference(before, after) if change is inverse
-                      else truth.output_difference(before, after, True))
+                      else truth.difference_and_scope_words(before, after, True))
     if differs:
         raise LabError(f"the new circuit is wrong: {differs}. This is a fault of the lab", 1)
     return scope
@@ -78,7 +78,7 @@ def run_table(options: argparse.Namespace) -> int:
     """Writes the rows of a circuit's values."""
     _, circuit = read_circuit(options.file, ReadingOptions.from_options(options))
     on = None if options.on is None else [name for name in options.on.split(",") if name]
-    rows = truth.table_rows(circuit, on)
+    rows = truth.table_with_header(circuit, on)
     out = io.StringIO()
     if options.csv:
         csv.writer(out, lineterminator="\n").writerows(rows)
@@ -105,7 +105,7 @@ def run_stats(options: argparse.Namespace) -> int:
     if document.circuit is None or document.layout is None or not document.layout.width:
         found = truth.circuit_figures(read_circuit(options.file, ReadingOptions.from_options(options), text)[1])
     else:
-        found = truth.section_figures(document)
+        found = truth.document_figures(document)
     longest = max(len(name) for name, _ in found)
     write_text(options.output, "".join(f"{name.ljust(longest)} {value}\n" for name, value in found))
     return 0
@@ -116,6 +116,6 @@ def run_equal(options: argparse.Namespace) -> int:
     if options.file == "-" and options.other == "-":
         raise LabError("only one of two files can be standard input", 2)
     one, other = read_circuit(options.file)[1], read_circuit(options.other)[1]
-    differs, scope = truth.output_difference(one, other, options.common)
+    differs, scope = truth.difference_and_scope_words(one, other, options.common)
     print(f"not equal: {differs}" if differs else f"equal {scope}")
     return 1 if differs else 0

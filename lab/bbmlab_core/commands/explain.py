@@ -41,8 +41,8 @@ def run(options: argparse.Namespace) -> int:
             find_program(options.program)
             raise LabError("The lab's reader takes the text, but only the program gives a verdict.")
         output, by_lab = f"refused {refusal.line} {refusal.code}\n", True
-    explanation = explaining.explain_answer(text, command, output, options.file,
-                                            TrialRunner(program, Budget(seconds=options.effort, is_of_search=True)))
+    trial = TrialRunner(program, Budget(seconds=options.effort, is_counted_from_search=True))
+    explanation = explaining.explain_answer(text, command, output, options.file, trial)
     if by_lab:
         explanation.headline.append("The program was not found: this is the lab's reading, and no verdict.")
     return write_explanation(explanation, options)
@@ -74,7 +74,7 @@ def write_fix(text: str, command: str, program: Executable | None, options: argp
         raise LabError("--fix takes a text with a circuit and a layout", 2)
     if options.in_place and (options.output or options.file == "-"):
         raise LabError("-i writes the file itself: it goes with a file, and without -o", 2)
-    report, trial = TrialRunner(program).report(text), TrialRunner(program, Budget(seconds=options.effort))
+    report, trial = TrialRunner(program).try_text(text), TrialRunner(program, Budget(seconds=options.effort))
     if report is None:
         raise LabError(f"{trial.judge_words} gave no answer")
     fixer = Fixer(text, report, trial)

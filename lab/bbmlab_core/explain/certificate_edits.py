@@ -50,7 +50,7 @@ class CertificateEditor:
         if finding.word == "local":
             yield from self.proposals_for_local(finding)
         elif finding.word == "keep":
-            yield from self.propose_gates_for_cuts(self.certificate.modules[finding.number("module")])
+            yield from self.proposals_replacing_cuts(self.certificate.modules[finding.number("module")])
         elif finding.word == "border":
             yield from self.proposals_for_border(finding)
         elif finding.word == "unkept":
@@ -65,24 +65,25 @@ class CertificateEditor:
     def proposals_for_local(self, finding: ReportLine) -> Iterator[Proposal]:
         """Yields edits for a `local` line: the borders of its module up to its time, its stop, and gates in place of
         cuts."""
-        module, time = self.diagnosis.module_of(finding), finding.number("time")
+        module, time = self.diagnosis.module_of_finding(finding), finding.number("time")
         cell = finding.number("x"), finding.number("y")
         if finding.values["kind"] == "stop":
             stop = next((stop for stop in module.stops if (stop.time, stop.cell) == (time, cell)), None)
             if stop:
                 yield from self.proposals_for_stop(module, stop)
-        near = [group for group in self.groups if module.number in group.modules and group.time <= time]
-        near.sort(key=lambda group: (group.cell != cell, group.time))
+        near = [group for group in self.groups if module.number in group.module_numbers
+                and group.first_wrong_time <= time]
+        near.sort(key=lambda group: (group.cell != cell, group.first_wrong_time))
         for group in near[:6]:
-            for edits in (group.edits, *group.others):
+            for edits in (group.edits, *group.other_edits):
                 yield Proposal("border lines as the whole run has them", tuple(edits))
         if len(near) > 1:
             yield Proposal("border lines as the whole run has them",
                            tuple(dict.fromkeys(edit for group in near for edit in group.edits)))
-        if self.diagnosis.occurring_assignments(module) != (1 << (1 << len(module.cuts))) - 1:
-            yield from self.propose_gates_for_cuts(module)
+        if self.diagnosis.occurring_assignment_table(module) != (1 << (1 << len(module.cuts))) - 1:
+            yield from self.proposals_replacing_cuts(module)
 
-    def propose_gates_for_cuts(self, module: Module) -> Iterator[Proposal]:
+    def proposals_replacing_cuts(self, module: Module) -> Iterator[Proposal]:
         """Yields `use` lines in place of `cut` lines: for one gate whose outputs are cut, then for all gates back to
         the inputs."""
         makers = {self.circuit.maker[name].number for name in module.cuts if name in self.circuit.maker}
@@ -114,12 +115,12 @@ class CertificateEditor:
 
     def proposals_for_border(self, finding: ReportLine) -> Iterator[Proposal]:
         """Yields edits of the `halo` line or the `edge` line of a border that do not agree."""
-        module, time = self.diagnosis.module_of(finding), finding.number("time")
+        module, time = self.diagnosis.module_of_finding(finding), finding.number("time")
         cell = finding.number("x"), finding.number("y")
         owner = self.certificate.owner(cell)
         halo, edge = module.line_at("halo", time, cell), owner.line_at("edge", time, cell) if owner else None
         for group in (group for group in self.groups if group.cell == cell):
-            for edits in (group.edits, *group.others):
+            for edits in (group.edits, *group.other_edits):
                 yield Proposal("border lines as the whole run has them", tuple(edits))
         for line, other, kind, place in ((edge, halo, "halo", module), (halo, edge, "edge", owner)):
             if place is None:

@@ -54,7 +54,7 @@ class AssignmentOccurrence:
 
 
 @dataclass
-class Difference:
+class RunDifference:
     """The first time at which a module's own run differs from the whole one, a cell of it, and the cells that were not
     heard so."""
 
@@ -62,7 +62,7 @@ class Difference:
     cell: Cell
     heard_time: int
     # Cells of the halo whose state differs from what the module hears: the cell, and whether the whole run has it live.
-    unheard: list[tuple[Cell, bool]]
+    misheard: list[tuple[Cell, bool]]
 
 
 @dataclass(frozen=True)
@@ -81,24 +81,22 @@ class WholeOutcome:
     """Whether some certificate may get a yes: the whole run ends as the layout asks, and its rim is dead at odd times
     before.
 
-    `fault` says what is wrong, where `is_right` is NO; `is_rim` that it is a live cell of the rim, whatever the circuit
-    asks.
+    `fault_words` says what is wrong, where `correctness` is NO; `is_rim_fault` that it is a live cell of the rim,
+    whatever the circuit asks.
     """
 
-    is_right: Tristate
-    fault: str = ""
-    is_rim: bool = False
+    correctness: Tristate
+    fault_words: str = ""
+    is_rim_fault: bool = False
 
     @property
     def why_no_yes(self) -> str:
-        """Why no certificate gets a yes, where `is_right` is NO."""
-        if self.is_rim:
-            return (f"In the whole run {self.fault}. At odd times before the end the outermost cells must be dead, so "
-                    "no certificate gets a yes "
-                    "before the layout is changed.")
-        return (f"The layout itself does not do what the circuit asks: {self.fault}. No certificate gets a yes before "
-                "the layout or the circuit "
-                "is changed.")
+        """Why no certificate gets a yes, where `correctness` is NO."""
+        if self.is_rim_fault:
+            return (f"In the whole run {self.fault_words}. At odd times before the end the outermost cells must be "
+                    "dead, so no certificate gets a yes before the layout is changed.")
+        return (f"The layout itself does not do what the circuit asks: {self.fault_words}. No certificate gets a yes "
+                "before the layout or the circuit is changed.")
 
 
 class RimWatch:
@@ -172,7 +170,7 @@ class Diagnosis:
         given = {name: values.tables[name] >> chosen & 1 for name in inputs}
         return AssignmentOccurrence(Tristate.YES, given, table.bit_count() if is_all else 0, total)
 
-    def occurring_assignments(self, module: Module) -> Table:
+    def occurring_assignment_table(self, module: Module) -> Table:
         """Returns a table of assignments of the module's cuts that occur: all of them, or those that occur in the
         samples."""
         inputs, gates = self.circuit.cone(module.cuts)
@@ -194,10 +192,10 @@ class Diagnosis:
         """Returns the least fault of a module's own run under assignments that are known to occur, or None if there is
         none."""
         run = ModuleRun(self.circuit, self.layout, self.certificate, module)
-        run.restrict_assignments(self.occurring_assignments(module))
+        run.restrict_assignments(self.occurring_assignment_table(module))
         return run.run_to_fault() if run.full else None
 
-    def module_state(self, module: Module, assignment: int, time: int) -> tuple[set[Cell], set[Cell]]:
+    def live_and_heard_cells(self, module: Module, assignment: int, time: int) -> tuple[set[Cell], set[Cell]]:
         """Returns the live cells of a module's own run, and the cells of its halo that it hears to be live then."""
         run = ModuleRun(self.circuit, self.layout, self.certificate, module)
         run.run_to(time)
@@ -205,7 +203,7 @@ class Diagnosis:
         return run.field.state(assignment), {cell_of(key) for key, table in heard.items() if table >> assignment & 1}
 
     def first_difference(self, module: Module, assignment: int, inputs: dict[str, int],
-                         until: int) -> Difference | None:
+                         until: int) -> RunDifference | None:
         """Returns where a module's own run first differs from the whole one, up to a time."""
         own = ModuleRun(self.circuit, self.layout, self.certificate, module)
         whole = WholeRun(self.layout, {name: value for name, value in inputs.items() if value}, 1)
@@ -217,7 +215,7 @@ class Diagnosis:
             differ = [cell_of(key) for key in candidates
                       if (own.field.live.get(key, 0) >> assignment & 1) != whole.field.live.get(key, 0)]
             if differ:
-                return Difference(time, min(differ, key=row_order_key), time - 1, unheard)
+                return RunDifference(time, min(differ, key=row_order_key), time - 1, unheard)
             if time % 2 and time < self.layout.steps:
                 said = own.halos.tables_at(time)
                 unheard = [(cell, bool(whole.field.live.get(key_of(cell)))) for cell in halo
@@ -315,6 +313,6 @@ class Diagnosis:
         more = " .." if len(on) > MAX_EXHAUSTIVE_INPUTS else ""
         return f"{len(on)} of the {len(names)} inputs on" + (f" ({shown}{more})" if on else "")
 
-    def module_of(self, finding: ReportLine) -> Module:
+    def module_of_finding(self, finding: ReportLine) -> Module:
         """Returns the module of a line of a report."""
         return self.certificate.modules[finding.number("module")]

@@ -134,7 +134,7 @@ def explain_report(document: Document, report: ReportOrRefusal, file: str,
                    trial: TrialRunner | None = None) -> ExplainedAnswer:
     """Returns a report in words, with fixes if there is somebody who tries them."""
     if report.refused:
-        return explain_refused(document, report, file, trial)
+        return explain_refused_text(document, report, file, trial)
     if document.certificate is None or document.refusal:
         raise ReportError("the report is not of this text: the lab's reader refuses the text")
     require_report_of(document, report)
@@ -206,8 +206,8 @@ def add_fixes(explanation: ExplainedAnswer, diagnosis: Diagnosis, report: Report
 
 def fix_document(before: ReportOrRefusal, fix: Fix) -> FixDocument:
     """Returns a fix as a document has it."""
-    return FixDocument(fix.edits, fix.remakes, fix.judge, fix.report.verdict, [*fix.words, outcome_words(before, fix)],
-                       fix.others)
+    return FixDocument(fix.edits, fix.has_new_certificate, fix.judge, fix.report.verdict,
+                       [*fix.words, outcome_words(before, fix)], fix.others)
 
 
 def tried_in_vain_words(fixer: Fixer, trial: TrialRunner) -> list[str]:
@@ -223,7 +223,7 @@ def whole_run_words(diagnosis: Diagnosis, faults: list[ReportLine]) -> list[str]
     """Returns whether the whole run ends as the layout asks with a dead rim: a sentence for yes, no, and what was not
     found out."""
     outcome, values = diagnosis.whole_outcome, diagnosis.wire_tables
-    if outcome.is_right is Tristate.NO:
+    if outcome.correctness is Tristate.NO:
         return [outcome.why_no_yes]
     if not diagnosis.can_run_whole():
         why = "it takes too long" if diagnosis.is_slow else f"it is longer than {MAX_STEPS} steps"
@@ -233,7 +233,7 @@ def whole_run_words(diagnosis: Diagnosis, faults: list[ReportLine]) -> list[str]
                 f"({diagnosis.choices_words}) the whole run "
                 "ends as the layout asks."]
     tried = f"The whole run was tried here {diagnosis.choices_words}: it ends as the layout asks"
-    if outcome.is_right is Tristate.UNKNOWN:
+    if outcome.correctness is Tristate.UNKNOWN:
         return [f"{tried}. The other choices were not tried."]
     is_certificate = any(finding.word in ("local", "border") for finding in faults)
     return [f"{tried}, so the fault is in the certificate." if is_certificate else f"{tried}."]
@@ -246,14 +246,14 @@ def missing_certificate_words(document: Document) -> list[str]:
     if design.circuit is None or design.layout is None or document.certificate and document.certificate.modules:
         return []
     outcome = Diagnosis(design).whole_outcome
-    if outcome.is_right is Tristate.NO:
+    if outcome.correctness is Tristate.NO:
         return [outcome.why_no_yes]
     return ["The text has no certificate. In the choices of the inputs that were tried the whole run ends as the "
             "layout asks."]
 
 
-def explain_refused(document: Document, report: ReportOrRefusal, file: str,
-                    trial: TrialRunner | None = None) -> ExplainedAnswer:
+def explain_refused_text(document: Document, report: ReportOrRefusal, file: str,
+                         trial: TrialRunner | None = None) -> ExplainedAnswer:
     """Returns a refusal in words. Where the lab's reader does not come to the same line and code, only these are told.
     """
     assert report.refused

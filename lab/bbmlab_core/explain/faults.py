@@ -9,7 +9,7 @@ from ..texts.certificates import Border, Module, Stop, line_words
 from ..texts.circuits import evaluate
 from ..texts.layouts import Cell
 from ..texts.reports import ReportLine, parse_finding
-from .diagnosis import Diagnosis, Difference, AssignmentOccurrence, Signal, Tristate
+from .diagnosis import Diagnosis, RunDifference, AssignmentOccurrence, Signal, Tristate
 
 
 @dataclass
@@ -113,7 +113,7 @@ def occurrence_words(diagnosis: Diagnosis, occurrence: AssignmentOccurrence, nam
 
 def explain_local(diagnosis: Diagnosis, finding: ReportLine) -> ExplainedLine:
     """Returns a `local` line in words."""
-    module, time = diagnosis.module_of(finding), finding.number("time")
+    module, time = diagnosis.module_of_finding(finding), finding.number("time")
     cell, assignment = (finding.number("x"), finding.number("y")), finding.number("assignment")
     wanted = wanted_state(diagnosis, module, finding)
     values = module.cut_values(assignment)
@@ -131,7 +131,7 @@ def explain_local(diagnosis: Diagnosis, finding: ReportLine) -> ExplainedLine:
                    "inputs": occurrence.inputs, "text": wanted.text, "box": list(module.box)}
     if diagnosis.detailed is not None and finding.text not in diagnosis.detailed:
         return entry
-    live, heard = diagnosis.module_state(module, assignment, time)
+    live, heard = diagnosis.live_and_heard_cells(module, assignment, time)
     box = module.box
     entry.picture = [f"Module {module.number} by itself at time {time} with {names}:",
                      *text_picture((box.x, box.y, box.width, box.height), live, diagnosis.mirrors, heard, cell)]
@@ -140,15 +140,15 @@ def explain_local(diagnosis: Diagnosis, finding: ReportLine) -> ExplainedLine:
         entry.what.append(f"The cell is of the mirror of line {part.line} (`{diagnosis.document.line(part.line)}`), "
                           "which by itself does not stay as it is.")
     if occurrence.occurs is Tristate.NO:
-        add_cause_if_never_occurring(diagnosis, module, entry)
+        add_never_occurring_cause(diagnosis, module, entry)
     elif occurrence.occurs is Tristate.YES:
-        add_cause_if_occurring(diagnosis, module, finding, entry, occurrence)
+        add_occurring_cause(diagnosis, module, finding, entry, occurrence)
     else:
         entry.what.append("So it was not tried whether the run of the whole layout has this state too.")
     return entry
 
 
-def add_cause_if_never_occurring(diagnosis: Diagnosis, module: Module, entry: ExplainedLine) -> None:
+def add_never_occurring_cause(diagnosis: Diagnosis, module: Module, entry: ExplainedLine) -> None:
     """Adds the cause of a fault under an assignment that never occurs: the cuts, or a fault under assignments that do
     occur."""
     fault = diagnosis.occurring_fault(module)
@@ -164,11 +164,11 @@ def add_cause_if_never_occurring(diagnosis: Diagnosis, module: Module, entry: Ex
     entry.facts["fault_that_occurs"] = {"kind": fault.kind, "time": fault.time, "cell": [fault.x, fault.y],
                                         "assignment": module.cut_values(fault.assignment)}
     finding = parse_finding(f"local {module.number} {fault.report_words()}")
-    add_cause_if_occurring(diagnosis, module, finding, entry, diagnosis.occurrence(module, fault.assignment))
+    add_occurring_cause(diagnosis, module, finding, entry, diagnosis.occurrence(module, fault.assignment))
 
 
-def add_cause_if_occurring(diagnosis: Diagnosis, module: Module, finding: ReportLine, entry: ExplainedLine,
-                           occurrence: AssignmentOccurrence) -> None:
+def add_occurring_cause(diagnosis: Diagnosis, module: Module, finding: ReportLine, entry: ExplainedLine,
+                        occurrence: AssignmentOccurrence) -> None:
     """Adds the cause of a fault under an assignment that occurs: what the module hears, its line, or the layout."""
     assignment, time = finding.number("assignment"), finding.number("time")
     cell = finding.number("x"), finding.number("y")
@@ -192,18 +192,18 @@ def add_cause_if_occurring(diagnosis: Diagnosis, module: Module, finding: Report
         entry.what += signal_words(diagnosis, diagnosis.signal_of(cell, time), "the cell")
 
 
-def add_difference(diagnosis: Diagnosis, module: Module, entry: ExplainedLine, difference: Difference) -> None:
+def add_difference(diagnosis: Diagnosis, module: Module, entry: ExplainedLine, difference: RunDifference) -> None:
     """Adds where a module's run leaves the whole one, and the cells of its halo that it does not hear so."""
     entry.cause = "not_heard"
     entry.facts["differs"] = {"time": difference.time, "cell": list(difference.cell)}
     entry.what.append("In the run of the whole layout it is not so. The two runs first differ at time "
                       f"{difference.time}, at {cell_words(difference.cell)}: what comes in over the border is not told "
                       "to the module, or told wrongly.")
-    for cell, is_live in difference.unheard[:3]:
-        entry.what += unheard_words(diagnosis, module, cell, difference.heard_time, is_live)
+    for cell, is_live in difference.misheard[:3]:
+        entry.what += misheard_words(diagnosis, module, cell, difference.heard_time, is_live)
 
 
-def unheard_words(diagnosis: Diagnosis, module: Module, cell: Cell, time: int, is_live: bool) -> list[str]:
+def misheard_words(diagnosis: Diagnosis, module: Module, cell: Cell, time: int, is_live: bool) -> list[str]:
     """Returns how the whole run has a cell next to a module, and which line says otherwise."""
     certificate, owner = diagnosis.certificate, diagnosis.certificate.owner(cell)
     if owner is None:
@@ -233,7 +233,7 @@ def signal_words(diagnosis: Diagnosis, signal: Signal, cell: str) -> list[str]:
 
 def explain_keep(diagnosis: Diagnosis, finding: ReportLine) -> ExplainedLine:
     """Returns a `keep` line in words."""
-    module, gate = diagnosis.module_of(finding), diagnosis.circuit.gates[finding.number("gate")]
+    module, gate = diagnosis.module_of_finding(finding), diagnosis.circuit.gates[finding.number("gate")]
     assignment = finding.number("assignment")
     values = module.cut_values(assignment)
     occurrence = diagnosis.occurrence(module, assignment)
@@ -266,7 +266,7 @@ def border_line_words(line: Border | None, kind: str, module: Module) -> str:
 
 def explain_border(diagnosis: Diagnosis, finding: ReportLine) -> ExplainedLine:
     """Returns a `border` line in words."""
-    module, time = diagnosis.module_of(finding), finding.number("time")
+    module, time = diagnosis.module_of_finding(finding), finding.number("time")
     cell = finding.number("x"), finding.number("y")
     owner = diagnosis.certificate.owner(cell)
     assert owner is not None

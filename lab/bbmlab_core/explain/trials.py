@@ -21,13 +21,13 @@ MAX_OWN_STEPS = 50_000
 class Budget:
     """How many texts are tried, and for how many seconds of the processor, those of the program included.
 
-    If `is_of_search`, what was done before the search for fixes does not count: reading and explaining a large text
-    takes long.
+    If `is_counted_from_search`, what was done before the search for fixes does not count: reading and explaining a
+    large text takes long.
     """
 
     tries: int = 600
     seconds: float = 30.0
-    is_of_search: bool = False
+    is_counted_from_search: bool = False
 
 
 class TrialRunner:
@@ -47,7 +47,7 @@ class TrialRunner:
 
     def begin_search(self) -> None:
         """Counts the seconds from now on, if they are those of the search."""
-        if self.budget.is_of_search:
+        if self.budget.is_counted_from_search:
             self.started = processor_seconds()
 
     def seconds_left(self) -> float:
@@ -58,7 +58,7 @@ class TrialRunner:
         """Whether the tries or the seconds are used up."""
         return self.tries >= self.budget.tries or self.seconds_left() <= 0
 
-    def report(self, text: str) -> ReportOrRefusal | None:
+    def try_text(self, text: str) -> ReportOrRefusal | None:
         """Returns the report of a text, or None if there is none: the budget is used up, or the program did not answer.
         """
         if text not in self._known:
@@ -100,7 +100,7 @@ def fault_times(report: ReportOrRefusal) -> dict[int, int]:
     return {finding.number("module"): finding.number("time") for finding in report.findings if finding.word == "local"}
 
 
-def other_findings(report: ReportOrRefusal) -> set[str]:
+def faults_besides_local(report: ReportOrRefusal) -> set[str]:
     """Returns the lines against the text that are not about a module's own run, without the numbers that later edits
     move."""
     return {finding.text for finding in report.faults if finding.word != "local"}
@@ -118,7 +118,7 @@ def has_removed_fault(before: ReportOrRefusal, after: ReportOrRefusal | None, fi
         return True
     was, now = fault_times(before), fault_times(after)
     if (any(module not in was or time < was[module] for module, time in now.items())
-            or other_findings(after) - other_findings(before)):
+            or faults_besides_local(after) - faults_besides_local(before)):
         return False
     left = {other.text for other in after.faults}
     if finding is None:

@@ -156,7 +156,7 @@ class Judge:
             if quick.verdict == "yes":
                 return quick
             outcome = Diagnosis(read_document(quick.bundle, "check")).whole_outcome
-            if outcome.is_right is Tristate.NO:
+            if outcome.correctness is Tristate.NO:
                 quick.words.append(outcome.why_no_yes)
                 return quick
             return self.bundle_verdict(certified_text(design, None, CertificateOptions(processor_deadline=self.until)),
@@ -274,7 +274,7 @@ def fix_json(fix: Fix | None, report: ReportOrRefusal, has_own: bool) -> dict[st
 def fixes_of_design(text: str, program: Executable, seconds: float) -> dict[str, Any]:
     """Returns fixes of a text for which no certificate was found."""
     trial, head = TrialRunner(program, Budget(200, seconds)), design_text(spelling_of(text).text)
-    report = trial.report(head)
+    report = trial.try_text(head)
     fixer = Fixer(head, report, trial) if report else None
     whole = fixer.find_fix() if fixer else None
     assert fixer is None or report is not None

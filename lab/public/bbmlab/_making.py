@@ -10,7 +10,7 @@ from typing import Callable, Iterable
 
 from bbmlab_core.certify.certifier import CertificateOptions, certified_text, legal_grid_boxes
 from bbmlab_core.circuits.netlists import NetlistError, map_netlist, netlist_format
-from bbmlab_core.circuits.row_check import first_gate_without_row
+from bbmlab_core.circuits.row_check import first_missing_row_words
 from bbmlab_core.host.terminal import LabError
 from bbmlab_core.route.certificate import circuit_section
 from bbmlab_core.route.command import require_all_keeps, require_legal_side
@@ -108,7 +108,7 @@ def route(circuit: Circuit | str, *, seed: int = 1, size: int | None = None, eff
     assert model is not None
     try:
         require_legal_side(size)
-        why = first_gate_without_row(model)
+        why = first_missing_row_words(model)
         if why:
             raise NotFoundError(why)
         require_all_keeps("the circuit", model)
