@@ -35,7 +35,7 @@ from bbmlab_core.route.settings import OPEN_END_STEPS, Settings
 from bbmlab_core.route.world import (MARGIN_CELLS, ROW_STRIDE, STEP_STRIDE, TILE, Footprint, World, cell_number,
                                      cell_of_number, path_item)
 from bbmlab_core.texts.certificates import Module
-from bbmlab_core.texts.circuits import values_under
+from bbmlab_core.texts.circuits import values_and_undefined_gate
 from bbmlab_core.texts.documents import Document, read_document
 from bbmlab_core.texts.layouts import Box
 
@@ -95,7 +95,7 @@ class Joining(unittest.TestCase):
             on = {name for name in circuit.inputs if chance.random() < 0.6}
             run = layout_run(layout, on)
             self.assertTrue(run.run_to(layout.steps))
-            live, values = run.field.state(), values_under(circuit, on)[0]
+            live, values = run.field.state(), values_and_undefined_gate(circuit, on)[0]
             for part in layout.of_kind("out"):
                 self.assertEqual(part.cell in live, values[part.name or ""], (part, on))
 
@@ -110,7 +110,7 @@ class Joining(unittest.TestCase):
         self.assertEqual(circuit.outputs, ("a_carry", "b_sum", "b_carry"))
         for number in range(8):
             on = {name for index, name in enumerate(circuit.inputs) if number >> index & 1}
-            values = values_under(circuit, on)[0]
+            values = values_and_undefined_gate(circuit, on)[0]
             self.assertEqual(values["b_sum"] + 2 * (values["a_carry"] + values["b_carry"]), len(on))
         self.assert_runs(document)
 

@@ -29,7 +29,7 @@ from bbmlab_core.texts import designs
 from bbmlab_core.texts.assigns import AssignReader
 from bbmlab_core.texts.certificates import Certificate, CertificateReader
 from bbmlab_core.texts.circuits import Circuit, CircuitReader, Gate, evaluate_samples, sampled_tables
-from bbmlab_core.texts.documents import HEADER_LINE_PATTERN, HEADERS, Document
+from bbmlab_core.texts.documents import HEADER_LINE_PATTERN, HEADER_WORDS, Document
 from bbmlab_core.texts.json_form import indented_json
 from bbmlab_core.texts.layouts import Box, Layout, LayoutReader, Part
 from bbmlab_core.texts.lines import LineForm, Values, match_line, word_value
@@ -227,7 +227,7 @@ class Forms(unittest.TestCase):
         for _ in range(5000):
             text = "".join(chance.choice(parts) for _ in range(chance.randrange(1, 14)))
             lines = [line.strip().split(" ")[0] for line in text.split("\n")]
-            self.assertEqual(HEADER_LINE_PATTERN.findall(text), [word for word in lines if word in HEADERS], text)
+            self.assertEqual(HEADER_LINE_PATTERN.findall(text), [word for word in lines if word in HEADER_WORDS], text)
 
     def test_what_needs_no_certificate(self) -> None:
         """`trace` of a whole layout and `golly` do not read the certificate of a long text."""

@@ -9,7 +9,7 @@ from bbmlab_core.route.balls import (BOUNCE_STEPS, Ball, Leg, Turn, bounce, boun
 from bbmlab_core.route.cells import GATE_PORTS, GateCell, base_cells, cell_library
 from bbmlab_core.route.world import path_item
 from bbmlab_core.texts.circuits import Gate
-from bbmlab_core.texts.gates import gate_row, input_tables
+from bbmlab_core.texts.gates import gate_tables, input_tables
 
 EACH_DIRECTION = [Ball(40 + (dx < 0), 40 + (dy < 0), dx, dy, 0) for dx in (1, -1) for dy in (1, -1)]
 
@@ -68,7 +68,7 @@ class Balls(unittest.TestCase):
         """Returns the last state of a run of a moved cell, and the state that the gate's rule asks for."""
         inputs, outputs = GATE_PORTS[cell.word]
         tables = input_tables(len(inputs))
-        outs, rows = gate_row(cell.word, None, tables, (1 << (1 << len(inputs))) - 1)
+        outs, rows = gate_tables(cell.word, None, tables, (1 << (1 << len(inputs))) - 1)
         table = dict(zip(inputs + outputs, tables + outs))
         ports = {port: ball.moved(*shift) for port, ball in (cell.ins | cell.outs).items()}
         first = min(ports[port].time for port in inputs)
@@ -117,4 +117,4 @@ class Balls(unittest.TestCase):
         for word, (inputs, outputs) in GATE_PORTS.items():
             gate = Gate(word, tuple(inputs), tuple(outputs))
             self.assertEqual(gate.is_inverse, word.startswith("un"))
-            self.assertEqual(len(gate_row(word, None, input_tables(len(inputs)), 1)[0]), len(outputs))
+            self.assertEqual(len(gate_tables(word, None, input_tables(len(inputs)), 1)[0]), len(outputs))

@@ -12,7 +12,7 @@ from typing import Any, Callable
 from unittest import mock
 
 import support
-from bbmlab_core.host.program import find_program
+from bbmlab_core.host.program import find_and_open_program
 from bbmlab_core.route import partial
 from bbmlab_core.route.attempt import Attempt, OutOfTimeError
 from bbmlab_core.route.balls import Ball, Leg
@@ -146,7 +146,7 @@ class Parts(support.InRoom):
             with mock.patch.object(partial, "design_or_lost_wire", slow_above(3)), \
                     mock.patch.object(partial, "finishable_placement_count", lambda *_: 3), \
                     contextlib.redirect_stderr(said):
-                report_failure(part.circuit, outcome, options, find_program(support.program()))
+                report_failure(part.circuit, outcome, options, find_and_open_program(support.program()))
             kept = sum(line.split(" ")[0] in GATE_SIZES for line in Path(options.output).read_text().split("\n"))
             with self.subTest(is_interrupted=is_interrupted):
                 self.assertEqual(re.findall(r"[0-9]+ of [0-9]+ gates", said.getvalue()), [f"{kept} of 12 gates"],

@@ -14,7 +14,7 @@ from ..host.processor import processor_seconds
 from ..host.terminal import LabError
 from ..physics.simulation import Fault, ModuleRun, Table, cell_of, key_of, keys_of
 from ..texts.certificates import (MAX_BOX_SIDE, MAX_BORDER_LINES, MAX_CUTS, MAX_USES, Border, Certificate, Module,
-                                  ModuleDraft, Stop, line_words)
+                                  ModuleDraft, Stop, certificate_line_text)
 from ..texts.circuits import Circuit, Gate
 from ..texts.documents import Document, pause_garbage_collection
 from ..texts.layouts import Box, Cell, Layout, row_order_key
@@ -154,9 +154,9 @@ class CertificateMaker:
         for y in range(box.y, box.y + box.height):
             for x in range(box.x, box.x + box.width):
                 if self.observer.wires_carried_by(key_of((x, y))) is None:
-                    return (f"each line through the rectangle {box.words} meets a cell without a wire: "
+                    return (f"each line through the rectangle {box.numbers_text} meets a cell without a wire: "
                             f"{self.observer.moment_without_wire_words(key_of((x, y)))}")
-        return f"the rectangle {box.words} can't be cut further"
+        return f"the rectangle {box.numbers_text} can't be cut further"
 
     # ---- one module
 
@@ -170,7 +170,7 @@ class CertificateMaker:
         module = ModuleDraft(box, edges=self.border_lines(ring), halos=self.border_lines(halo))
         module.stops = [stop for stop in self.stops if box.has(stop.cell)]
         if len(module.edges) + max(len(module.halos), len(module.stops)) > MAX_BORDER_LINES:
-            raise ImpossibleModuleError(f"the box {box.words} takes more than {MAX_BORDER_LINES} lines")
+            raise ImpossibleModuleError(f"the box {box.numbers_text} takes more than {MAX_BORDER_LINES} lines")
         needed = {line.signal for line in (*module.edges, *module.halos)} - {"1"}
         inside = keys_of(box)
         needed |= {self.ports[key] for key in self.ports.keys() & inside} | {stop.name for stop in module.stops}
@@ -182,10 +182,10 @@ class CertificateMaker:
                 if fault is None:
                     return module
         if fault is None:
-            raise ImpossibleModuleError(f"the box {box.words} needs {len(needed)} wires, and no cuts that were "
+            raise ImpossibleModuleError(f"the box {box.numbers_text} needs {len(needed)} wires, and no cuts that were "
                                         "tried fit one module")
         raise ImpossibleModuleError(
-            f"with the last cuts that were tried the cell ({fault.x}, {fault.y}) in the box {box.words} is "
+            f"with the last cuts that were tried the cell ({fault.x}, {fault.y}) in the box {box.numbers_text} is "
                                     f"wrong at time {fault.time}")
 
     def fault_of(self, module: Module) -> Fault | None:
@@ -220,7 +220,7 @@ class CertificateMaker:
                 if before == incoming:
                     break
                 incoming = before
-        cuts, uses = self.circuit.cone(sorted(needed))
+        cuts, uses = self.circuit.cone_inputs_and_gates(sorted(needed))
         yield CutsAndUses(cuts, uses)
 
     def incoming_wires(self, box: Box, needed: set[str], inside: list[int], halo: list[int]) -> set[str]:
@@ -233,7 +233,7 @@ class CertificateMaker:
 
     def incoming_cuts_and_uses(self, needed: set[str], incoming: set[str]) -> Iterable[CutsAndUses]:
         """Yields the wiring that cuts the incoming wires, and one that uses the gates between them too."""
-        cuts, uses = self.circuit.cone(sorted(needed), frozenset(incoming))
+        cuts, uses = self.circuit.cone_inputs_and_gates(sorted(needed), frozenset(incoming))
         made = {name for number in uses for name in self.circuit.gates[number].outs}
         if not set(cuts) & made:
             yield CutsAndUses(cuts, uses)
@@ -273,7 +273,8 @@ class CertificateMaker:
                   for stop in self.user_stops_with_wrong_delay(gate)]
         if not wrong:
             return self.plan.stops
-        self.notes.append(f"the old stops are left out: `{line_words('stop', wrong[0])}` does not hold in the layout")
+        line = certificate_line_text("stop", wrong[0])
+        self.notes.append(f"the old stops are left out: `{line}` does not hold in the layout")
         return self.delay_stops()
 
     def is_correct_stop(self, stop: Stop) -> bool:

@@ -7,7 +7,7 @@ from dataclasses import dataclass, field
 from ..host.processor import processor_seconds
 from ..host.terminal import LabError
 from ..physics.simulation import Table, WholeRun, cell_of, key_of, lowest_bit
-from ..texts.circuits import Circuit, evaluate_choices
+from ..texts.circuits import Circuit, evaluate_all_or_samples
 from ..texts.layouts import Box, Cell, Layout, row_order_key
 from ..texts.refusals import names_words
 
@@ -42,7 +42,7 @@ class Observer:
         self.circuit, self.layout, self.until = circuit, layout, until
         # Whether the cells are remembered at each time, for stops.
         self.remembers = remembers or any(gate.kind == "delay" for gate in circuit.gates)
-        self.values = evaluate_choices(circuit, MAX_EXHAUSTIVE_INPUTS, SAMPLE_COUNT)
+        self.values = evaluate_all_or_samples(circuit, MAX_EXHAUSTIVE_INPUTS, SAMPLE_COUNT)
         self.require_rows()
         self.signals: dict[Table, str] = {}
         for name, table in self.values.tables.items():
@@ -66,9 +66,9 @@ class Observer:
 
     def require_rows(self) -> None:
         """Raises LabError if some gate has no row under a choice of the inputs."""
-        for number, table in self.values.rows.items():
+        for number, table in self.values.defined_columns_by_gate.items():
             if table != self.values.full:
-                on = self.values.true_names(lowest_bit(self.values.full ^ table))
+                on = self.values.true_free_wires(lowest_bit(self.values.full ^ table))
                 raise LabError(f"gate {number} has no row with {names_words(on) or 'none of the inputs'} on: no "
                                "certificate gets a yes", 1)
 
@@ -94,7 +94,7 @@ class Observer:
             if self.until is not None and processor_seconds() > self.until:
                 raise LabError("no certificate was found in the time that was given", 1)
             if not run.step():
-                on = values.true_names(lowest_bit(run.left[1])) if run.left else []
+                on = values.true_free_wires(lowest_bit(run.left[1])) if run.left else []
                 raise LabError(f"step {run.time} leaves the rectangle with {names_words(on) or 'none of the inputs'} on"
                                ": no certificate gets a yes", 1)
             for key in run.field.changed:
@@ -144,7 +144,7 @@ class Observer:
         """Says when a cell carries no wire."""
         time, y, x = self.first_moment_without_wire(key)
         table = dict(self.observed.timed_tables[key])[time]
-        on = names_words(self.values.true_names(lowest_bit(table))) or "none of the inputs"
+        on = names_words(self.values.true_free_wires(lowest_bit(table))) or "none of the inputs"
         return (f"at time {time} the cell ({x}, {y}) is live with {on} on, and no wire of the circuit is true in just "
                 "the cases in which it is live")
 

@@ -3,7 +3,7 @@ Toffoli 1982).
 """
 
 from ..host.terminal import LabError
-from ..texts.circuits import Circuit, Gate, Valuation, evaluate_choices
+from ..texts.circuits import Circuit, Gate, WireTables, evaluate_all_or_samples
 from .gate_lines import reread_circuit, constant_gate
 from .row_check import first_missing_row_words
 
@@ -14,20 +14,20 @@ INVERSES = {"fredkin": "fredkin", "cswap": "cswap", "delay": "delay", "switch": 
             "interact": "uninteract", "uninteract": "interact"}
 
 
-def values_of(circuit: Circuit) -> Valuation:
+def values_of(circuit: Circuit) -> WireTables:
     """Returns the values of a circuit's wires, in all choices of up to 16 inputs, or in samples."""
-    return evaluate_choices(circuit, MAX_EXHAUSTIVE_INPUTS, SAMPLE_COUNT)
+    return evaluate_all_or_samples(circuit, MAX_EXHAUSTIVE_INPUTS, SAMPLE_COUNT)
 
 
-def bit_if_constant(values: Valuation, name: str) -> int | None:
+def bit_if_constant(values: WireTables, name: str) -> int | None:
     """Returns the bit that a wire always is, or None if it changes."""
     return 1 if values.tables[name] == values.full else 0 if values.tables[name] == 0 else None
 
 
-def example_inputs_words(values: Valuation, name: str, bit: int) -> str:
+def example_inputs_words(values: WireTables, name: str, bit: int) -> str:
     """Says with which inputs on a wire is a bit."""
     table = values.tables[name] if bit else values.full ^ values.tables[name]
-    on = values.true_names((table & -table).bit_length() - 1)
+    on = values.true_free_wires((table & -table).bit_length() - 1)
     return f"with {' '.join(on[:12])}{' and more' if len(on) > 12 else ''} on" if on else "with no input on"
 
 

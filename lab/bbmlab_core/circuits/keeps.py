@@ -9,7 +9,7 @@ import random
 from typing import Iterable, Iterator
 
 from ..texts.certificates import MAX_CUTS, MAX_USES
-from ..texts.circuits import Circuit, evaluate, evaluate_under
+from ..texts.circuits import Circuit, evaluate_gates, evaluate_under
 from .cones import few_cuts_and_uses, cone_for_inverse_gate
 
 # The assignments that are sampled, the sets of gates of one size that are looked at further, and the gates that are run
@@ -43,7 +43,7 @@ class KeepSearch:
 
     def __init__(self, circuit: Circuit, number: int) -> None:
         self.circuit, self.number = circuit, number
-        self.before = circuit.cone(circuit.gates[number].ins)[1]
+        self.before = circuit.cone_inputs_and_gates(circuit.gates[number].ins)[1]
         chance = random.Random(1)
         # A sample of assignments for each wire, if it is cut.
         self.samples = {wire: chance.getrandbits(SAMPLE_COUNT) for wire in circuit.wires}
@@ -70,7 +70,7 @@ class KeepSearch:
         self.runs += len(gates)
         full, order = (1 << SAMPLE_COUNT) - 1, sorted(gates)
         rows = evaluate_under(self.circuit, {wire: self.samples[wire] for wire in self.wires_into(gates)}, full,
-                              order).rows
+                              order).defined_columns_by_gate
         return ((rows[order[-2]] if len(order) > 1 else full) & ~rows[self.number]).bit_count()
 
     def cone_if_valid(self, gates: GateSet) -> Cone | None:
@@ -79,8 +79,9 @@ class KeepSearch:
         cuts, order = sorted(self.wires_into(gates)), sorted(gates)
         if len(cuts) > MAX_CUTS or len(order) > MAX_USES or self.rowless_sample_count(gates):
             return None
-        values = evaluate(self.circuit, cuts, order)
-        if values.rows[self.number] != (values.rows[order[-2]] if len(order) > 1 else values.full):
+        values = evaluate_gates(self.circuit, cuts, order)
+        if values.defined_columns_by_gate[self.number] != (values.defined_columns_by_gate[order[-2]] if len(order) > 1
+                                                           else values.full):
             return None
         least, uses = few_cuts_and_uses(self.circuit, cuts, order)
         return (cuts, order) if len(least) <= MAX_CUTS and len(uses) <= MAX_USES else None

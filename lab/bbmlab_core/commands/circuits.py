@@ -34,7 +34,7 @@ def run_circuit(options: argparse.Namespace) -> int:
             lines, before = change(circuit), circuit
             text, circuit = text_of_section(lines), reread_circuit(lines)
             if before.outputs:
-                tell(f"the new circuit was compared with the one before {agreement_words(change, before, circuit)}")
+                tell(f"the new circuit was compared with the one before {require_agreement(change, before, circuit)}")
     except LabError as error:
         raise LabError(f"{options.file}: {error}", error.status) from error
     if options.clean and any(name.endswith("_not") for name in circuit.outputs):
@@ -43,7 +43,7 @@ def run_circuit(options: argparse.Namespace) -> int:
     return 0
 
 
-def agreement_words(change: Callable[[Circuit], Circuit], before: Circuit, after: Circuit) -> str:
+def require_agreement(change: Callable[[Circuit], Circuit], before: Circuit, after: Circuit) -> str:
     """Returns in which inputs a changed circuit has the values that it should have, in words.
 
     Raises LabError where it has others.

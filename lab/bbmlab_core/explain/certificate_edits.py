@@ -4,7 +4,7 @@ from dataclasses import dataclass
 from typing import Iterator, Sequence
 
 from ..physics.simulation import Table, key_of
-from ..texts.certificates import MAX_CUTS, MAX_USES, Module, Stop, line_words
+from ..texts.certificates import MAX_CUTS, MAX_USES, Module, Stop, certificate_line_text
 from ..texts.layouts import Cell
 from ..texts.reports import ReportLine
 from .diagnosis import MAX_SECONDS, Diagnosis
@@ -92,7 +92,7 @@ class CertificateEditor:
             cuts = [name for name in module.cuts if name not in gate.outs]
             cuts += [name for name in gate.ins if name not in self.diagnosis.local_wires_of(module)]
             yield from self.propose_cuts_and_uses(module, cuts, sorted({*module.uses, number}))
-        free, used = self.circuit.cone(module.cuts)
+        free, used = self.circuit.cone_inputs_and_gates(module.cuts)
         if makers:
             yield from self.propose_cuts_and_uses(module, free, sorted({*used, *module.uses}))
 
@@ -127,7 +127,7 @@ class CertificateEditor:
                 continue
             at = place.line_number(kind, other) if other else None
             if line:
-                text = line_words(kind, line)
+                text = certificate_line_text(kind, line)
                 yield Proposal("lines that agree", (replacement(at, text) if at else self.line_addition(place, text),))
             elif at:
                 yield Proposal("lines that agree", (deletion(at),))
@@ -155,7 +155,7 @@ class CertificateEditor:
 
     def stop_renaming(self, module: Module, stop: Stop, name: str) -> Edit:
         """Returns the edit that gives a stop another wire."""
-        return replacement(module.line_number("stop", stop), line_words("stop", stop._replace(name=name)))
+        return replacement(module.line_number("stop", stop), certificate_line_text("stop", stop._replace(name=name)))
 
     def table_at(self, time: int, cell: Cell) -> Table | None:
         """Returns the table of a cell in the whole run at a time."""
@@ -164,7 +164,7 @@ class CertificateEditor:
 
     def stop_move_edits(self, module: Module, old: Stop, new: Stop) -> Edits:
         """Returns the edits that move a stop to its place in the list."""
-        at, text = module.line_number("stop", old), line_words("stop", new)
+        at, text = module.line_number("stop", old), certificate_line_text("stop", new)
         rest = [stop for stop in module.stops if stop is not old]
         before = [stop for stop in module.stops if stop.order_key < old.order_key]
         if all((stop.order_key < new.order_key) == (stop in before) for stop in rest):
@@ -214,7 +214,8 @@ class CertificateEditor:
         """Yields a stop of a wire at a time, in a module that knows it."""
         for module in (module for module in self.certificate.modules if name in self.diagnosis.local_wires_of(module)):
             for cell in self.cells_carrying(name, time, module, (module.box.x, module.box.y))[:1]:
-                yield Proposal("stops", (self.line_addition(module, line_words("stop", Stop(time, name, *cell))),))
+                yield Proposal("stops",
+                               (self.line_addition(module, certificate_line_text("stop", Stop(time, name, *cell))),))
 
     def proposals_for_meet(self, finding: ReportLine) -> Iterator[Proposal]:
         """Yields stops after which the inputs of a gate have their last stops at one time, or only one of them has

@@ -13,7 +13,7 @@ from typing import Callable
 from ..host.processor import processor_seconds
 from ..physics.simulation import Fault, LiveCells, ModuleRun, Table, WholeRun, cell_of, end_tables, key_of, lowest_bit
 from ..texts.certificates import Module, local_wires
-from ..texts.circuits import Circuit, Valuation, evaluate, evaluate_choices
+from ..texts.circuits import Circuit, WireTables, evaluate_gates, evaluate_all_or_samples
 from ..texts.documents import Document
 from ..texts.layouts import Cell, Layout, row_order_key
 from ..texts.reports import ReportLine
@@ -144,9 +144,9 @@ class Diagnosis:
         return self._local[module.number]
 
     @cached_property
-    def wire_tables(self) -> Valuation:
+    def wire_tables(self) -> WireTables:
         """The tables of all wires over all choices of the inputs, or over samples of them."""
-        return evaluate_choices(self.circuit, MAX_EXHAUSTIVE_INPUTS, SAMPLE_COUNT)
+        return evaluate_all_or_samples(self.circuit, MAX_EXHAUSTIVE_INPUTS, SAMPLE_COUNT)
 
     @property
     def choices_words(self) -> str:
@@ -155,14 +155,14 @@ class Diagnosis:
 
     def occurrence(self, module: Module, assignment: int) -> AssignmentOccurrence:
         """Returns whether the circuit gives the module's cuts these values, and for which inputs."""
-        inputs, gates = self.circuit.cone(module.cuts)
+        inputs, gates = self.circuit.cone_inputs_and_gates(module.cuts)
         is_all = len(inputs) <= MAX_EXHAUSTIVE_INPUTS
-        values = evaluate(self.circuit, inputs, gates) if is_all else self.wire_tables
+        values = evaluate_gates(self.circuit, inputs, gates) if is_all else self.wire_tables
         table = values.full
         for name, value in module.cut_values(assignment).items():
             table &= values.tables[name] if value else values.full ^ values.tables[name]
         for number in gates:
-            table &= values.rows[number]
+            table &= values.defined_columns_by_gate[number]
         total = 1 << len(inputs) if is_all else 0
         if not table:
             return AssignmentOccurrence(Tristate.NO if is_all else Tristate.UNKNOWN, total=total)
@@ -173,11 +173,12 @@ class Diagnosis:
     def occurring_assignment_table(self, module: Module) -> Table:
         """Returns a table of assignments of the module's cuts that occur: all of them, or those that occur in the
         samples."""
-        inputs, gates = self.circuit.cone(module.cuts)
-        values = evaluate(self.circuit, inputs, gates) if len(inputs) <= MAX_EXHAUSTIVE_INPUTS else self.wire_tables
+        inputs, gates = self.circuit.cone_inputs_and_gates(module.cuts)
+        values = evaluate_gates(self.circuit, inputs,
+                                gates) if len(inputs) <= MAX_EXHAUSTIVE_INPUTS else self.wire_tables
         columns = values.full
         for number in gates:
-            columns &= values.rows[number]
+            columns &= values.defined_columns_by_gate[number]
         groups = [(columns, 0)]
         for index, name in enumerate(module.cuts):
             table = values.tables[name]
@@ -308,7 +309,7 @@ class Diagnosis:
             return "no inputs"
         if len(names) <= MAX_EXHAUSTIVE_INPUTS:
             return " ".join(f"{name}={self.wire_tables.tables[name] >> column & 1}" for name in names)
-        on = self.wire_tables.true_names(column)
+        on = self.wire_tables.true_free_wires(column)
         shown = " ".join(f"{name}=1" for name in on[:MAX_EXHAUSTIVE_INPUTS])
         more = " .." if len(on) > MAX_EXHAUSTIVE_INPUTS else ""
         return f"{len(on)} of the {len(names)} inputs on" + (f" ({shown}{more})" if on else "")

@@ -6,7 +6,7 @@ from dataclasses import asdict, dataclass, field, replace
 
 from ..host.terminal import escape_controls
 from ..physics.mirrors import falling_mirrors
-from ..texts.certificates import Certificate, line_words
+from ..texts.certificates import Certificate, certificate_line_text
 from ..texts.circuits import Circuit
 from ..texts.code_names import CODE_NAMES
 from ..texts.designs import require_report_of
@@ -71,7 +71,8 @@ def stop_words(diagnosis: Diagnosis, wire: str, which: int) -> str:
         return f"`{wire}` has no stop"
     name = "first" if which == 0 else "last"
     module, stop = stops[which]
-    return f"the {name} stop of `{wire}` is line {module.line_number('stop', stop)} (`{line_words('stop', stop)}`)"
+    text = certificate_line_text("stop", stop)
+    return f"the {name} stop of `{wire}` is line {module.line_number('stop', stop)} (`{text}`)"
 
 
 def explain_delay(diagnosis: Diagnosis, finding: ReportLine) -> ExplainedLine:
@@ -152,8 +153,8 @@ def explain_report(document: Document, report: ReportOrRefusal, file: str,
             headline.append(f"Begin with `{faults[0].text}`, which has the least time: others may come of it.")
         headline += falling_mirror_words(diagnosis)
         headline += whole_run_words(diagnosis, report.faults)
-    headline.append(f"The certificate has {report.modules} module{'s' if report.modules != 1 else ''}; its digest is "
-                    f"{report.digest[:16]}..")
+    headline.append(f"The certificate has {report.module_count} module{'s' if report.module_count != 1 else ''}; its "
+                    f"digest is {report.digest[:16]}..")
     explanation = ExplainedAnswer(file, "check", headline, report.verdict, entries)
     if trial and report.verdict == "no":
         add_fixes(explanation, diagnosis, report, trial)

@@ -5,8 +5,8 @@ from typing import Any
 
 from ..physics.mirrors import is_stable
 from ..texts.cell_pictures import text_picture
-from ..texts.certificates import Border, Module, Stop, line_words
-from ..texts.circuits import evaluate
+from ..texts.certificates import Border, Module, Stop, certificate_line_text
+from ..texts.circuits import evaluate_gates
 from ..texts.layouts import Cell
 from ..texts.reports import ReportLine, parse_finding
 from .diagnosis import Diagnosis, RunDifference, AssignmentOccurrence, Signal, Tristate
@@ -53,7 +53,7 @@ def wire_value(diagnosis: Diagnosis, module: Module, name: str, assignment: int)
     """Returns the value of a local wire under an assignment of the cuts."""
     if name == "1":
         return 1
-    values = evaluate(diagnosis.circuit, module.cuts, module.uses)
+    values = evaluate_gates(diagnosis.circuit, module.cuts, module.uses)
     return values.tables[name] >> assignment & 1
 
 
@@ -75,7 +75,7 @@ def wanted_state(diagnosis: Diagnosis, module: Module, finding: ReportLine) -> W
         return WantedState(False, why, None)
     name = line.name if isinstance(line, Stop) else line.signal
     value = wire_value(diagnosis, module, name, assignment)
-    at, text = module.line_number(str(kind), line), line_words(str(kind), line)
+    at, text = module.line_number(str(kind), line), certificate_line_text(str(kind), line)
     why = f"line {at} (`{text}`) says: live if and only if `{name}` is true, and `{name}` is {value} here"
     if name == "1":
         why = f"line {at} (`{text}`) says: always live"
@@ -122,7 +122,7 @@ def explain_local(diagnosis: Diagnosis, finding: ReportLine) -> ExplainedLine:
     found, want = ("dead", "live") if wanted.is_live else ("live", "dead")
     last = ", the last time," if finding.values["kind"] == "end" else ""
     entry = ExplainedLine(finding.text, True, [
-        f"Module {module.number} (line {module.line}, box {module.box.words}) was run by itself with {names}.",
+        f"Module {module.number} (line {module.line}, box {module.box.numbers_text}) was run by itself with {names}.",
         f"At time {time}{last} the cell {cell_words(cell)} is {found} and should be {want}: {wanted.why}.",
         occurrence_words(diagnosis, occurrence, names)], line=wanted.line)
     entry.facts = {"module": module.number, "module_line": module.line, "kind": finding.values["kind"], "time": time,
@@ -211,7 +211,7 @@ def misheard_words(diagnosis: Diagnosis, module: Module, cell: Cell, time: int, 
     kind, teller = ("halo", module) if certificate.version == 1 else ("edge", owner)
     line = teller.line_at(kind, time, cell)
     state = "live" if is_live else "dead"
-    against = (f"against line {teller.line_number(kind, line)} (`{line_words(kind, line)}`)" if line
+    against = (f"against line {teller.line_number(kind, line)} (`{certificate_line_text(kind, line)}`)" if line
                else f"and module {teller.number} has no `{kind}` line for it")
     return [f"At time {time} the cell {cell_words(cell)} of module {owner.number} is {state} in the whole run, "
             f"{against}.",
@@ -260,8 +260,10 @@ def explain_keep(diagnosis: Diagnosis, finding: ReportLine) -> ExplainedLine:
 
 def border_line_words(line: Border | None, kind: str, module: Module) -> str:
     """Returns what a line about a border says."""
-    return (f"line {module.line_number(kind, line)} of module {module.number} says `{line_words(kind, line)}`" if line
-            else f"module {module.number} has no `{kind}` line for it")
+    if line is None:
+        return f"module {module.number} has no `{kind}` line for it"
+    text = certificate_line_text(kind, line)
+    return f"line {module.line_number(kind, line)} of module {module.number} says `{text}`"
 
 
 def explain_border(diagnosis: Diagnosis, finding: ReportLine) -> ExplainedLine:
@@ -278,7 +280,7 @@ def explain_border(diagnosis: Diagnosis, finding: ReportLine) -> ExplainedLine:
         line=module.line_number("halo", halo) if halo else owner.line_number("edge", edge) if edge else None,
         cause="border")
     entry.facts = {"module": module.number, "owner": owner.number, "time": time, "cell": list(cell),
-                   "halo": line_words("halo", halo) if halo else None,
-                   "edge": line_words("edge", edge) if edge else None}
+                   "halo": certificate_line_text("halo", halo) if halo else None,
+                   "edge": certificate_line_text("edge", edge) if edge else None}
     entry.what += signal_words(diagnosis, diagnosis.signal_of(cell, time), "the cell")
     return entry

@@ -12,7 +12,7 @@ from typing import Iterable, Iterator
 
 from ..host.processor import processor_seconds
 from ..physics.simulation import Table, WholeRun, cell_of, end_tables, key_of
-from ..texts.circuits import Circuit, Gate, Valuation, evaluate_all, evaluate_choices
+from ..texts.circuits import Circuit, Gate, WireTables, evaluate_all, evaluate_all_or_samples
 from ..texts.layouts import Cell, Layout, Part, cells_of
 from ..texts.limits import limits_of
 from .diagnosis import MAX_EXHAUSTIVE_INPUTS, MAX_STEPS
@@ -38,12 +38,12 @@ class DesignChange:
     layout: Layout
 
 
-def values_in_few_choices(circuit: Circuit) -> Valuation:
+def values_in_few_choices(circuit: Circuit) -> WireTables:
     """Returns the tables of all wires in at most 20 choices of the inputs, all of them if they are few."""
-    return evaluate_choices(circuit, FEW_EXHAUSTIVE_INPUTS, SAMPLE_COUNT)
+    return evaluate_all_or_samples(circuit, FEW_EXHAUSTIVE_INPUTS, SAMPLE_COUNT)
 
 
-def wrong_cells(circuit_values: Valuation, layout: Layout, live: dict[int, Table]) -> dict[int, Table]:
+def wrong_cells(circuit_values: WireTables, layout: Layout, live: dict[int, Table]) -> dict[int, Table]:
     """Returns the cells that do not end as the layout asks, with the columns in which they do not."""
     wanted = {key_of(cell): table for cell,
               table in end_tables(layout, circuit_values.tables, circuit_values.full).items()}
@@ -76,7 +76,7 @@ class Testbench:
         """Whether the seconds are used up, or a run would be too long."""
         return processor_seconds() > self.end or self.layout.steps > MAX_STEPS
 
-    def last_state(self, layout: Layout, values: Valuation, notes: bool = False) -> dict[int, Table] | None:
+    def last_state(self, layout: Layout, values: WireTables, notes: bool = False) -> dict[int, Table] | None:
         """Returns the live cells after the last step, or None if a step leaves the rectangle or the seconds are used
         up."""
         run = WholeRun(layout, values.tables, values.full)

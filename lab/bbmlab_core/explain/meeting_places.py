@@ -5,7 +5,7 @@ missing or wrong, the two runs agree nearly everywhere at the time at which a ba
 """
 
 from ..physics.simulation import LiveCells, Table, cell_of, end_tables, key_of, start_tables
-from ..texts.circuits import Valuation
+from ..texts.circuits import WireTables
 from ..texts.layouts import Cell, Layout
 
 # The most cells that are kept over all times, and how many places are enough.
@@ -15,14 +15,14 @@ MAX_PLACES = 24
 LiveTables = dict[int, Table]
 
 
-def wanted_end(layout: Layout, values: Valuation, last: LiveTables | None) -> LiveTables:
+def wanted_end(layout: Layout, values: WireTables, last: LiveTables | None) -> LiveTables:
     """Returns the end that the layout asks for; waste cells are as the run left them."""
     wanted = end_tables(layout, values.tables, values.full)
     return {key_of(cell): (last or {}).get(key_of(cell), 0) if table is None else table for cell,
             table in wanted.items()}
 
 
-def start_of_wanted_end(layout: Layout, values: Valuation, last: LiveTables | None) -> LiveTables:
+def start_of_wanted_end(layout: Layout, values: WireTables, last: LiveTables | None) -> LiveTables:
     """Returns the start that leads to the end that the layout asks for."""
     field = LiveCells(wanted_end(layout, values, last))
     for time in range(layout.steps - 1, -1, -1):
@@ -31,7 +31,7 @@ def start_of_wanted_end(layout: Layout, values: Valuation, last: LiveTables | No
     return field.live
 
 
-def states_without_still_mirrors(layout: Layout, values: Valuation) -> list[LiveTables] | None:
+def states_without_still_mirrors(layout: Layout, values: WireTables) -> list[LiveTables] | None:
     """Returns the live cells at each time, without mirror cells that never change.
 
     A ball that leaves the rectangle flies on.
@@ -52,7 +52,7 @@ def states_without_still_mirrors(layout: Layout, values: Valuation) -> list[Live
         field.step()
 
 
-def cells_where_runs_differ_least(layout: Layout, values: Valuation) -> list[Cell]:
+def cells_where_runs_differ_least(layout: Layout, values: WireTables) -> list[Cell]:
     """Returns the cells by which the two runs differ at the times, and under the inputs, at which they differ the
     least.
 

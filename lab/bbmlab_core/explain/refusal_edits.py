@@ -195,7 +195,7 @@ def trailing_lines_deletion(document: Document, number: int, _facts: dict[str, A
 def gap_edits(document: Document, number: int, facts: dict[str, Any]) -> Iterator[Edits]:
     """Yields a module for each part of a gap that is small enough."""
     if all(max(gap.width, gap.height) <= 64 for gap in facts["gaps"]):
-        yield tuple(addition(number - 1, f"module {gap.words}") for gap in facts["gaps"])
+        yield tuple(addition(number - 1, f"module {gap.numbers_text}") for gap in facts["gaps"])
 
 
 def no_module_edits(document: Document, number: int, facts: dict[str, Any]) -> Iterator[Edits]:

@@ -4,7 +4,7 @@ and seconds.
 
 from dataclasses import dataclass
 
-from ..farm.answering import EXIT_STATUS_OF
+from ..farm.answering import PROGRAM_STATUS_OF
 from ..host.processor import processor_seconds
 from ..host.program import Executable, BadProgramError, ProgramTimeout, ask, open_program
 from ..physics.own_report import own_report
@@ -77,7 +77,8 @@ class TrialRunner:
             answer = ask(self.program, "check", text.encode("latin-1"),
                          min(MAX_RUN_SECONDS, max(1.0, self.seconds_left())))
             report = parse_report(answer.output)
-            return report if answer.status == EXIT_STATUS_OF["refused" if report.refused else report.verdict] else None
+            return report if answer.status == PROGRAM_STATUS_OF["refused" if report.refused
+                                                                else report.verdict] else None
         except (BadProgramError, ProgramTimeout, ReportError):
             return None
 

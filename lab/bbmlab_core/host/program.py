@@ -103,7 +103,7 @@ def program_behind_wrapper(found: str) -> str:
     return os.fsdecode(asked.stdout.removesuffix(b"\n"))
 
 
-def find_program(given: str | None = None) -> Executable:
+def find_and_open_program(given: str | None = None) -> Executable:
     """Opens the program:
 
     `given`, else $BBMCHECK, else the repository's wrapper or that of the same installation, else PATH's.

@@ -8,7 +8,7 @@ import time
 from dataclasses import dataclass
 from typing import Collection
 
-from ..host.program import Executable, ask, find_program
+from ..host.program import Executable, ask, find_and_open_program
 from ..host.terminal import LabError, coloured, escape_controls, read_bytes, require_output, write_text
 from ..route.balls import Ball
 from ..route.board import NoRouteError
@@ -247,7 +247,7 @@ def join_command(options: argparse.Namespace) -> int:
     files = part_files(options.files)
     require_output(options.output, list(files.values()))
     connections = [parse_connection(word) for word in options.connect]
-    program, begun = find_program(options.program), time.monotonic()
+    program, begun = find_and_open_program(options.program), time.monotonic()
     line = ProgressLine(options.effort, "balls led", "writing the bundle")
     with pause_garbage_collection():
         connected = {wire for own in connections for wire in (own.output, own.input)}

@@ -183,7 +183,7 @@ class JoinedModules:
         extra = sorted(({*+self.extra.get(number, Counter()), *more}) - self.own_local_wires(number),
                        key=self.circuit.rank)
         constants = [wire for wire in extra if self.netlist.root(wire) in self.netlist.constants]
-        used = {*own_uses, *self.circuit.cone(constants)[1]} if constants else set(own_uses)
+        used = {*own_uses, *self.circuit.cone_inputs_and_gates(constants)[1]} if constants else set(own_uses)
         plain = [wire for wire in extra if wire not in constants]
         if len(own) + len(plain) <= MAX_CUTS and not any(self.is_delay_of_known(wire, number) for wire in plain):
             return [*own, *plain], sorted(used)

@@ -241,7 +241,7 @@ class PartRun:
             return {}
         values = local_values(self.circuit, module)
         full = values.full
-        for table in values.rows.values():
+        for table in values.defined_columns_by_gate.values():
             full &= table
         tables = {name: table & full for name, table in values.tables.items()} | {ALWAYS_SIGNAL: full}
         live = {cell: tables[wire] for cell, wire in starts.items() if tables[wire]}
@@ -276,7 +276,7 @@ class PartRun:
             module, table = last[part.cell]
             values = local_values(self.circuit, module)
             full = values.full
-            for rows in values.rows.values():
+            for rows in values.defined_columns_by_gate.values():
                 full &= rows
             names = [name for name, own in values.tables.items() if own & full == table]
             names.sort(key=lambda name: (name not in spills, self.circuit.rank(name)))

@@ -31,11 +31,11 @@ def keep_fault_lines(circuit: Circuit, module: Module) -> Iterator[str]:
     values = local_values(circuit, module)
     before = values.full
     for number in module.uses:
-        missing = before & ~values.rows[number]
+        missing = before & ~values.defined_columns_by_gate[number]
         if number in module.keeps and missing:
             yield f"keep {module.number} {number} {lowest_bit(missing)}"
             return
-        before = values.rows[number]
+        before = values.defined_columns_by_gate[number]
 
 
 def border_fault_lines(layout: Layout, certificate: Certificate, module: Module) -> Iterator[str]:

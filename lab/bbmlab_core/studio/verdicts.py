@@ -15,7 +15,7 @@ from ..host.processor import processor_seconds
 from ..host.program import Answer, Executable, BadProgramError, ProgramTimeout, ask
 from ..host.terminal import LabError
 from ..texts.certificates import MAX_BOX_SIDE, MAX_CUTS, MAX_USES, Certificate, whole_module
-from ..texts.circuits import Circuit, values_under
+from ..texts.circuits import Circuit, values_and_undefined_gate
 from ..texts.documents import Document, read_document
 from ..texts.layouts import Cell, Layout
 from ..texts.refusals import explain_code, explain_refusal
@@ -198,7 +198,7 @@ def wrong_cell(circuit: Circuit, layout: Layout, on: set[str], live: set[Cell]) 
 
     None if a gate lacks its row.
     """
-    values, missing = values_under(circuit, on)
+    values, missing = values_and_undefined_gate(circuit, on)
     if missing is not None:
         return None
     wanted = {part.cell for part in layout.of_kind("out") if values.get(part.name or "")}
@@ -234,7 +234,7 @@ def fault_json(cuts: list[list[str]], inputs: Sequence[str], finding: ReportLine
 # ---- explanations and fixes
 
 
-def explained_answer(text: str, bundle: str, output: str, program: Executable, seconds: float) -> dict[str, Any]:
+def explanation_json(text: str, bundle: str, output: str, program: Executable, seconds: float) -> dict[str, Any]:
     """Returns a no or a refusal in words, with fixes that were tried.
 
     `text` is the page's, `bundle` is what the program read.
@@ -271,7 +271,7 @@ def fix_json(fix: Fix | None, report: ReportOrRefusal, has_own: bool) -> dict[st
     return {"words": [*fix.words, outcome_words(report, fix)], "verdict": fix.report.verdict, "text": text}
 
 
-def fixes_of_design(text: str, program: Executable, seconds: float) -> dict[str, Any]:
+def design_explanation_json(text: str, program: Executable, seconds: float) -> dict[str, Any]:
     """Returns fixes of a text for which no certificate was found."""
     trial, head = TrialRunner(program, Budget(200, seconds)), design_text(spelling_of(text).text)
     report = trial.try_text(head)

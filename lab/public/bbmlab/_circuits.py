@@ -13,7 +13,7 @@ from bbmlab_core.circuits.inverting import inverse as inverse_lines
 from bbmlab_core.circuits.netlists.model import LogicNetlist as CoreNetlist
 from bbmlab_core.circuits.simplifying import simplify as simple_lines
 from bbmlab_core.host.terminal import LabError
-from bbmlab_core.texts.circuits import Circuit, values_under
+from bbmlab_core.texts.circuits import Circuit, values_and_undefined_gate
 from bbmlab_core.texts.sections import Bundle, text_of_section
 
 from ._errors import NotFoundError
@@ -131,7 +131,7 @@ def table(circuit: Circuit) -> tuple[Row, ...]:
         raise ValueError(str(error)) from error
     rows = []
     for on in choices:
-        values, gate = values_under(model, on)
+        values, gate = values_and_undefined_gate(model, on)
         true = frozenset(name for name in model.outputs if values[name]) if gate is None else None
         rows.append(Row(frozenset(on), true, gate))
     return tuple(rows)

@@ -28,15 +28,15 @@ from ._errors import NotFoundError, RefusedError
 from ._reading import document_of, read
 
 # The status of a LabError for wrong arguments.
-WRONG_ARGUMENTS = 2
+WRONG_ARGUMENTS_STATUS = 2
 
 
 def api_error(error: LabError) -> Exception:
     """Returns the error of the API for one of `bbmlab_core`."""
-    return ValueError(str(error)) if error.status == WRONG_ARGUMENTS else NotFoundError(str(error))
+    return ValueError(str(error)) if error.status == WRONG_ARGUMENTS_STATUS else NotFoundError(str(error))
 
 
-def known_stops(bundle: Bundle) -> list[Stop]:
+def stops_of_bundle(bundle: Bundle) -> list[Stop]:
     """Returns the stops of a bundle's certificate, if the bundle is not refused."""
     if bundle.certificate is None or read_document(str(bundle), "check").refusal:
         return []
@@ -61,7 +61,7 @@ def certify(bundle: Bundle, *, grid: tuple[int, int] | None = None,
     try:
         if grid is not None:
             chosen = legal_grid_boxes(document.layout, *grid)
-        text = certified_text(document, chosen, CertificateOptions(version, cuts, known_stops(bundle)))
+        text = certified_text(document, chosen, CertificateOptions(version, cuts, stops_of_bundle(bundle)))
     except LabError as error:
         raise api_error(error) from error
     try:
@@ -113,7 +113,7 @@ def route(circuit: Circuit | str, *, seed: int = 1, size: int | None = None, eff
             raise NotFoundError(why)
         require_all_keeps("the circuit", model)
     except LabError as error:
-        raise ValueError(str(error).removeprefix("--")) if error.status == WRONG_ARGUMENTS else api_error(
+        raise ValueError(str(error).removeprefix("--")) if error.status == WRONG_ARGUMENTS_STATUS else api_error(
             error) from error
     is_cancelled = False
 
