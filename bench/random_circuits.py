@@ -13,7 +13,7 @@ from pathlib import Path
 
 sys.path.insert(0, str(Path(__file__).resolve().parent.parent / "lab"))
 sys.dont_write_bytecode = True
-from bbmlab_core.texts.gates import GATE_SIZES, INVERSE_GATES, gate_row, input_tables  # noqa: E402
+from bbmlab_core.texts.gates import GATE_SIZES, INVERSE_GATES, gate_tables, input_tables  # noqa: E402
 
 EACH_GATE = ["switch", "interact", "fredkin", "cswap", "unswitch", "uninteract", "delay", "source"]
 KINDS = {
@@ -49,7 +49,7 @@ class Maker:
         self.lines.append(" ".join([word, *number, *ins, "->", *outs]))
         self.live = [wire for wire in self.live if wire not in ins] + outs
         if self.tables is not None:
-            rows, _ = gate_row(word, parameter, [self.tables[wire] for wire in ins], self.full)
+            rows, _ = gate_tables(word, parameter, [self.tables[wire] for wire in ins], self.full)
             self.tables.update((wire, table & self.full) for wire, table in zip(outs, rows))
         if word in self.groups:
             self.groups[word].append(outs)
@@ -70,8 +70,8 @@ class Maker:
         for _ in range(200 if self.tables is not None and len(self.live) >= size else 0):
             ins = chance.sample(self.live, size)
             tables = [self.tables[wire] for wire in ins]
-            if gate_row(word, None, tables,
-                        self.full)[1] & self.full == self.full and sum(table != 0 for table in tables) >= 2:
+            if gate_tables(word, None, tables,
+                           self.full)[1] & self.full == self.full and sum(table != 0 for table in tables) >= 2:
                 return ins
         return None
 

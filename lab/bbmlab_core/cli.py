@@ -36,7 +36,7 @@ def late_command(module: str, function: str = "run") -> Callable[[argparse.Names
     return run
 
 
-def parse_grid_sides(word: str) -> tuple[int, int]:
+def parse_box_sides(word: str) -> tuple[int, int]:
     """Returns the sides of boxes, written W,H or WxH."""
     sides = word.lower().replace("x", ",").split(",")
     if len(sides) != 2 or not all(side.isdigit() for side in sides):
@@ -243,7 +243,7 @@ COMMANDS: dict[str, tuple[str, str, str, list[Any]]] = {
         arg("--release", "the MANIFEST of another release that counts", action="append", default=[],
             metavar="MANIFEST"),
         *PROGRAM_OPTIONS]),
-    "summary": ("verify.run_summary", "Count the receipts of a folder; exit 0 only if all are of a yes.",
+    "summary": ("verify.summarise_receipts", "Count the receipts of a folder; exit 0 only if all are of a yes.",
                 "summary receipts/", [arg("folder", "a folder of receipts", metavar="DIR")]),
     "explain": ("explain", "Explain each line of the report, or the refusal, in plain English.",
                 "explain examples/wrong_edge.txt", [
@@ -303,7 +303,7 @@ COMMANDS: dict[str, tuple[str, str, str, list[Any]]] = {
                 "certify design.txt -o bundle.txt", [
         file_argument("a text that begins with a circuit and a layout"), OUTPUT_OPTION,
         ExclusiveArguments([arg("--grid", "take boxes of W by H cells, even and at most 64 (default: the lab chooses)",
-                                type=parse_grid_sides, metavar="W,H"),
+                                type=parse_box_sides, metavar="W,H"),
                             arg("--boxes", "take the boxes of the lines `module X Y W H` of this text", metavar="FILE"),
                             flag("--plain", "one module for the whole layout, without edge lines")]),
         arg("--version", "certificate version (default: 2)", dest="version_of_text", type=int, choices=[1, 2],

@@ -3,7 +3,7 @@
 from dataclasses import dataclass, field, replace
 
 from bbmlab_core.certify.certifier import CertificateOptions, certified_text, grid_boxes
-from bbmlab_core.route.balls import Ball, BallRun, Mirror, block_cells, mirror_cells, run_exactly, start_state
+from bbmlab_core.route.balls import Ball, ExactRun, Mirror, block_cells, mirror_cells, run_exactly, start_state
 from bbmlab_core.texts.certificates import MAX_BOX_SIDE, Certificate, Stop, local_wires, whole_module
 from bbmlab_core.texts.circuits import Circuit, evaluate_all
 from bbmlab_core.texts.documents import read_document
@@ -20,7 +20,7 @@ class Machine:
 
     An input's ball has the time at which the wire arrives, and an output's ball the time at which it leaves, as garbage
     does. `inner` has the wires from one gate to another that get stops too. The run begins at time 0, at which all
-    inputs and constants are on their way, and ends `rest` steps after the last output or garbage has left.
+    inputs and constants are on their way, and ends `rest_steps` steps after the last output or garbage has left.
     """
 
     name: str
@@ -31,14 +31,14 @@ class Machine:
     constants: list[Ball] = field(default_factory=list)
     garbage: dict[str, Ball] = field(default_factory=dict)
     inner: dict[str, Ball] = field(default_factory=dict)
-    rest: int = 2
+    rest_steps: int = 2
 
     @property
     def last_time(self) -> int:
         """The last time of the run."""
-        return max(ball.time for ball in [*self.outs.values(), *self.garbage.values()]) + self.rest
+        return max(ball.time for ball in [*self.outs.values(), *self.garbage.values()]) + self.rest_steps
 
-    def stop_balls(self) -> list[tuple[str, Ball]]:
+    def balls_with_stops(self) -> list[tuple[str, Ball]]:
         """Returns the wires that get stops, with their balls."""
         return [*self.ins.items(), *self.inner.items(), *self.outs.items(), *self.garbage.items()]
 
@@ -57,21 +57,21 @@ def read_circuit(text: str) -> Circuit:
     return document.circuit
 
 
-def run_machine(machine: Machine, tables: dict[str, Table], full: Table) -> BallRun:
+def run_machine(machine: Machine, tables: dict[str, Table], full: Table) -> ExactRun:
     """Returns the run of a machine under all its inputs. Raises ValueError if a mirror breaks or an output is wrong."""
     start = [(ball.at(0), tables[name]) for name, ball in machine.ins.items()] + [(ball.at(0), full)
                                                                                   for ball in machine.constants]
     run = run_exactly(mirror_cells(machine.mirrors), start_state(start), 0, machine.last_time)
     if not run.is_stable:
         raise ValueError(f"{machine.name}: a mirror breaks in the step from time {len(run.blocks)}")
-    for name, ball in machine.stop_balls():
+    for name, ball in machine.balls_with_stops():
         for cell in ball.cells():
             if run.state(ball.time).get(cell, 0) != tables[name]:
                 raise ValueError(f"{machine.name}: the ball of {name} is not at {cell} at time {ball.time}")
     return run
 
 
-def offset_and_size(machine: Machine, run: BallRun) -> tuple[int, int, int, int]:
+def offset_and_size(machine: Machine, run: ExactRun) -> tuple[int, int, int, int]:
     """Returns how far to move the machine, by even numbers, and the even width and height of its layout."""
     cells = mirror_cells(machine.mirrors) | {cell for corners in run.blocks for corner in corners
                                              for cell in block_cells(corner)}
@@ -119,7 +119,7 @@ def bundle_text(machine: Machine) -> str:
     layout = Layout(width, height, machine.last_time,
                     tuple(Box(mirror.x, mirror.y, mirror.width, mirror.height) for mirror in mirrors), balls,
                     ports(machine.ins, 0), outs, tuple(sorted(wastes, key=row_order_key)))
-    stops = [Stop(ball.time, name, *cell) for name, ball in machine.stop_balls() for cell in shifted(ball)]
+    stops = [Stop(ball.time, name, *cell) for name, ball in machine.balls_with_stops() for cell in shifted(ball)]
     certificate = with_stops(certificate_for(circuit, layout), circuit, stops)
     return f"{circuit}{layout}{certificate}"
 
@@ -141,7 +141,7 @@ def with_stops(certificate: Certificate, circuit: Circuit, stops: list[Stop]) ->
         own = sorted((stop for stop in stops if module.box.has(stop.cell)),
                      key=lambda stop: (stop.order_key, stop.name))
         if own:
-            cuts, uses = circuit.cone({*local_wires(circuit, module), *(stop.name for stop in own)})
+            cuts, uses = circuit.cone_inputs_and_gates({*local_wires(circuit, module), *(stop.name for stop in own)})
             module = replace(module, cuts=tuple(cuts), uses=tuple(uses), stops=tuple(own))
         modules.append(module)
     return Certificate(certificate.version, tuple(modules))

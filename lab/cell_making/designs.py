@@ -71,7 +71,7 @@ def renamed_machine(machine: Machine, name: str, names: dict[str, str], gates: l
     return replace(machine, name=name, gates=gates, ins=ins, outs=outs, constants=constants, garbage=garbage)
 
 
-def mirrors_of(sides: list[tuple[int, int, int, int]]) -> list[Mirror]:
+def mirrors_from_numbers(sides: list[tuple[int, int, int, int]]) -> list[Mirror]:
     """Returns mirrors from their corners, widths and heights."""
     return [Mirror(*side) for side in sides]
 
@@ -91,7 +91,7 @@ def unswitch_machine() -> Machine:
     inner = {"d": Ball(-4, -6, 1, 1, 56), "y": Ball(-3, -6, -1, 1, 56), "z": Ball(-7, 4, -1, 1, 82).at(56)}
     outs = {"e": Ball(-11, 1, -1, -1, 86), "w": Ball(-11, 8, -1, 1, 86)}
     gates = ["switch c x -> d y z", "unswitch d y z -> e w"]
-    return Machine("unswitch", gates, ins, outs, mirrors_of(UNSWITCH_MIRRORS), inner=inner)
+    return Machine("unswitch", gates, ins, outs, mirrors_from_numbers(UNSWITCH_MIRRORS), inner=inner)
 
 
 UNINTERACT_MIRRORS = [
@@ -108,7 +108,7 @@ def uninteract_machine() -> Machine:
              "d": Ball(6, 23, -1, 1, 37)}
     outs = {"r": Ball(2, 25, -1, 1, 41), "s": Ball(9, 25, 1, 1, 41)}
     gates = ["interact p q -> a b c d", "uninteract a b c d -> r s"]
-    return Machine("uninteract", gates, ins, outs, mirrors_of(UNINTERACT_MIRRORS), inner=inner)
+    return Machine("uninteract", gates, ins, outs, mirrors_from_numbers(UNINTERACT_MIRRORS), inner=inner)
 
 
 HALF_ADDER_MIRRORS = [
@@ -133,7 +133,8 @@ def half_adder_machine() -> Machine:
     outs = {"sum": Ball(-21, -31, -1, -1, 98).at(96), "carry": Ball(4, -23, 1, -1, 98).at(76)}
     garbage = {"not_a": Ball(34, 2, 1, 1, 98).at(66), "again": Ball(2, -22, 1, 1, 98).at(84),
                "a3": Ball(-10, -31, 1, -1, 98).at(96)}
-    return Machine("half_adder", gates, ins, outs, mirrors_of(HALF_ADDER_MIRRORS), [Ball(6, 15, 1, -1, 0)], garbage)
+    return Machine("half_adder", gates, ins, outs, mirrors_from_numbers(HALF_ADDER_MIRRORS), [Ball(6, 15, 1, -1, 0)],
+                   garbage)
 
 
 def xor_machine() -> Machine:

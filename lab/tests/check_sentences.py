@@ -291,7 +291,7 @@ def main() -> int:
     program, texts = support.program(), right_texts()
     counts: Counter[bool | None] = Counter()
     for family in FAMILIES:
-        for name, text in mutants(family, texts, count, seed, lambda text: is_yes(TrialRunner(program).report(text))):
+        for name, text in mutants(family, texts, count, seed, lambda text: is_yes(TrialRunner(program).try_text(text))):
             explanation = explained(text)
             if explanation["verdict"] != "no" or not Whole(text).is_small():
                 continue

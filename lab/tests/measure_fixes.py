@@ -22,7 +22,7 @@ def right_texts(most: int = MAX_BYTES) -> dict[str, str]:
              *(support.TOP / "conformance" / "data").glob("cascade*.txt")]
     texts = {path.stem: path.read_text() for path in sorted(files) if path.stat().st_size <= most
              or "cascade" in path.stem and most >= MAX_BYTES}
-    return {name: text for name, text in texts.items() if is_yes(TrialRunner(program).report(text))}
+    return {name: text for name, text in texts.items() if is_yes(TrialRunner(program).try_text(text))}
 
 
 def rounds_to_yes(text: str, program: str) -> tuple[int | None, list[str]]:
@@ -30,7 +30,7 @@ def rounds_to_yes(text: str, program: str) -> tuple[int | None, list[str]]:
     refused = []
     for number in range(1, ROUNDS + 1):
         trial = TrialRunner(program, Budget(600, 30))
-        report = trial.report(text)
+        report = trial.try_text(text)
         assert report
         fix = Fixer(text, report, trial).find_fix()
         if fix is None:
@@ -38,7 +38,7 @@ def rounds_to_yes(text: str, program: str) -> tuple[int | None, list[str]]:
         if fix.report.refused:
             refused.append(" ".join(fix.words))
         text = fix.text
-        if is_yes(TrialRunner(program).report(text)):
+        if is_yes(TrialRunner(program).try_text(text)):
             return number, refused
     return None, refused
 
@@ -51,7 +51,7 @@ def main() -> int:
     fixed = total = 0
     for family in FAMILIES:
         started, good, made, rounds = time.monotonic(), 0, 0, {1: 0, 2: 0}
-        for name, text in mutants(family, texts, count, seed, lambda text: is_yes(TrialRunner(program).report(text))):
+        for name, text in mutants(family, texts, count, seed, lambda text: is_yes(TrialRunner(program).try_text(text))):
             begun = time.monotonic()
             number, refused = rounds_to_yes(text, program)
             made += 1

@@ -28,7 +28,7 @@ import cases  # noqa: E402
 from bbmlab_core.host.program import ask  # noqa: E402
 from bbmlab_core.texts.circuits import Circuit  # noqa: E402
 from bbmlab_core.texts.documents import Document, decode, read_document  # noqa: E402
-from bbmlab_core.texts.json_form import document_json  # noqa: E402
+from bbmlab_core.texts.json_form import document_json_text  # noqa: E402
 
 # Fewer tries than users get, which save time: each try is one that a search can end with.
 FEW_TRIES = mock.patch("bbmlab_core.circuits.netlists.search.MAX_TRIES", 8)
@@ -201,7 +201,7 @@ def node(script: str, jobs: Any) -> Any:
 
 def data_of(document: Document) -> dict[str, Any]:
     """Returns the page's data of a text."""
-    data: dict[str, Any] = json.loads(document_json(document, None))
+    data: dict[str, Any] = json.loads(document_json_text(document, None))
     return data
 
 

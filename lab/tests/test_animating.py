@@ -7,7 +7,7 @@ import xml.etree.ElementTree as ET
 import support
 from bbmlab_core.physics import tracing
 from bbmlab_core.pictures import animating
-from bbmlab_core.texts.designs import read_design
+from bbmlab_core.texts.designs import read_layout_file
 
 CELLS = ["fredkin", "switch", "interact", "half_adder", "crossing", "delay_10", "unswitch"]
 
@@ -18,18 +18,18 @@ class Animation(unittest.TestCase):
     def test_tracks_are_live_cells(self) -> None:
         """At each time, under all inputs, the cells of the tracks are the live cells outside of mirrors."""
         for name in CELLS:
-            layout = read_design(str(support.LAB / "cells" / f"{name}.txt"))[1]
-            names = animating.input_names(layout)
+            layout = read_layout_file(str(support.LAB / "cells" / f"{name}.txt"))[1]
+            names = animating.layout_input_names(layout)
             for bits in itertools.product((False, True), repeat=len(names)):
                 on = [name for name, bit in zip(names, bits) if bit]
-                found = animating.ball_tracks(layout, on)
+                found = animating.ball_paths(layout, on)
                 for time in range(0, layout.steps + 1, 7):
                     live = tracing.state_at(layout, on, time) - layout.mirror_cells()
                     self.assertEqual({cells[time] for _, cells in found}, live, (name, on, time))
 
     def test_attributes_move_together(self) -> None:
         """Each ball has as many places as there are steps in all runs, and is out of sight in the runs of others."""
-        layout = read_design(str(support.LAB / "cells" / "fredkin.txt"))[1]
+        layout = read_layout_file(str(support.LAB / "cells" / "fredkin.txt"))[1]
         picture = ET.fromstring(animating.animation(layout, [["c"], ["x", "y"]], "two runs"))
         space = "{http://www.w3.org/2000/svg}"
         values = [it.attrib["values"].split(";") for it in picture.iter(f"{space}animate")
@@ -44,6 +44,6 @@ class Animation(unittest.TestCase):
 
     def test_captions(self) -> None:
         """Each run has a caption with the values of all inputs."""
-        layout = read_design(str(support.LAB / "cells" / "fredkin.txt"))[1]
+        layout = read_layout_file(str(support.LAB / "cells" / "fredkin.txt"))[1]
         found = re.findall(r">(c = \d, x = \d, y = \d)\n", animating.animation(layout, [["c"], ["x", "y"]], ""))
         self.assertEqual(found, ["c = 1, x = 0, y = 0", "c = 0, x = 1, y = 1"])

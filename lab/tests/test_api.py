@@ -94,7 +94,7 @@ class Import(unittest.TestCase):
 
     def test_unknown_name(self) -> None:
         """A name that is not public is not there."""
-        self.assertFalse(hasattr(bbmlab, "find_program"))
+        self.assertFalse(hasattr(bbmlab, "find_and_open_program"))
 
     def test_round_trips(self) -> None:
         """Each worked text that is taken is read and written byte for byte, and read again as the same value."""

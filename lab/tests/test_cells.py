@@ -7,7 +7,7 @@ import sys
 import support
 from bbmlab_core.host.program import ask
 from bbmlab_core.physics.simulation import layout_run
-from bbmlab_core.texts.circuits import values_under
+from bbmlab_core.texts.circuits import values_and_undefined_gate
 from bbmlab_core.texts.layouts import Cell, Layout
 from bbmlab_core.physics.standard_cells import CELLS_FOLDER, CELL_DESCRIPTIONS, cell_names, read_cell
 
@@ -66,7 +66,7 @@ class Cells(support.Case):
             circuit = read_cell(name).document.circuit
             for bits in itertools.product((False, True), repeat=len(circuit.inputs)):
                 on = dict(zip(circuit.inputs, bits))
-                values, undefined = values_under(circuit, {wire for wire, value in on.items() if value})
+                values, undefined = values_and_undefined_gate(circuit, {wire for wire, value in on.items() if value})
                 with self.subTest(name, on=on):
                     self.assertIsNone(undefined)
                     self.assertEqual({wire: values[wire] for wire in circuit.outputs},
@@ -82,7 +82,7 @@ class Cells(support.Case):
             circuit, layout = cell.document.circuit, cell.document.layout
             for bits in itertools.product((False, True), repeat=len(circuit.inputs)):
                 on = {wire for wire, bit in zip(circuit.inputs, bits) if bit}
-                values, _ = values_under(circuit, on)
+                values, _ = values_and_undefined_gate(circuit, on)
                 states = states_of(layout, on)
                 for port in cell.ports:
                     step = 1 if port.role in ("out", "spill") else -1

@@ -9,7 +9,7 @@ import unittest
 import support
 from bbmlab_core.circuits import circuit_forms, truth
 from bbmlab_core.circuits.netlists import ReadingOptions, map_netlist
-from bbmlab_core.texts.circuits import values_under
+from bbmlab_core.texts.circuits import values_and_undefined_gate
 from support import circuit_of
 from test_reworking import random_text
 
@@ -33,8 +33,8 @@ class Forms(support.InRoom):
                 continue
             back = circuit_of(map_netlist(circuit_forms.blif_text(circuit)).text)
             for bits in itertools.product((False, True), repeat=len(circuit.inputs)):
-                mine, _ = values_under(circuit, {name for name, bit in zip(circuit.inputs, bits) if bit})
-                theirs, _ = values_under(back, {name for name, bit in zip(back.inputs, bits) if bit})
+                mine, _ = values_and_undefined_gate(circuit, {name for name, bit in zip(circuit.inputs, bits) if bit})
+                theirs, _ = values_and_undefined_gate(back, {name for name, bit in zip(back.inputs, bits) if bit})
                 self.assertEqual([mine[name] for name in circuit.outputs], [theirs[name] for name in back.outputs])
 
     def test_yosys_and_abc_agree(self) -> None:
@@ -130,7 +130,7 @@ class Examples(unittest.TestCase):
         circuit = circuit_of(map_netlist((CIRCUITS / name).read_text(), reading=ReadingOptions(None, cycles)).text)
         found = []
         for bits in itertools.product((0, 1), repeat=len(circuit.inputs)):
-            values, _ = values_under(circuit, {name for name, bit in zip(circuit.inputs, bits) if bit})
+            values, _ = values_and_undefined_gate(circuit, {name for name, bit in zip(circuit.inputs, bits) if bit})
             found.append((list(bits), [int(values[name]) for name in circuit.outputs]))
         return found
 

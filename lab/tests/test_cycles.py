@@ -11,7 +11,7 @@ from typing import Callable
 
 import support
 from bbmlab_core.circuits.netlists import NetlistError, ReadingOptions, map_netlist
-from bbmlab_core.texts.circuits import Circuit, values_under
+from bbmlab_core.texts.circuits import Circuit, values_and_undefined_gate
 from test_netlists import blif_values, random_table
 
 INITIAL = False
@@ -37,7 +37,7 @@ def yosys(room: Path, verilog: str, steps: str) -> None:
 
 def outputs_of(circuit: Circuit, on: set[str]) -> dict[str, bool]:
     """Returns the values of the outputs."""
-    values, undefined = values_under(circuit, on)
+    values, undefined = values_and_undefined_gate(circuit, on)
     assert undefined is None
     return {name: values[name] for name in circuit.outputs}
 

@@ -10,7 +10,7 @@ from bbmlab_core.explain.diagnosis import Diagnosis, Tristate
 from bbmlab_core.explain.explaining import as_gcc, explain_answer
 from bbmlab_core.explain.trials import TrialRunner
 from bbmlab_core.texts.skimming import certificate_digest
-from bbmlab_core.texts.circuits import values_under
+from bbmlab_core.texts.circuits import values_and_undefined_gate
 from bbmlab_core.texts.reports import ReportError, parse_report
 
 
@@ -173,7 +173,7 @@ class Explained(unittest.TestCase):
 
 def gives(document: support.Document, inputs: dict[str, int], wanted: dict[str, int]) -> bool:
     """Whether the circuit's values under these inputs are the wanted ones."""
-    values, _ = values_under(document.circuit, {name for name, value in inputs.items() if value})
+    values, _ = values_and_undefined_gate(document.circuit, {name for name, value in inputs.items() if value})
     return all(name in values and values[name] == bool(value) for name, value in wanted.items())
 
 

@@ -7,7 +7,7 @@ import time
 from pathlib import Path
 
 import support
-from bbmlab_core.circuits.row_check import first_gate_without_row
+from bbmlab_core.circuits.row_check import first_missing_row_words
 from bbmlab_core.texts.code_names import CODE_NAMES
 
 UNSWITCH = "circuit\ninput c\ninput y\ninput z\nunswitch c y z -> d x\noutput d\noutput x\nend\n"
@@ -45,7 +45,7 @@ class FirstAnswers(support.InRoom):
         for text, wanted in circuits:
             document = support.read_document(text, "circuit")
             assert document.circuit and document.refusal is None, text
-            found = first_gate_without_row(document.circuit)
+            found = first_missing_row_words(document.circuit)
             self.assertEqual(found and found[:6], wanted, text)
 
     def test_plain_certificate_of_a_no(self) -> None:

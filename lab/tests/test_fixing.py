@@ -79,11 +79,11 @@ class Edits(unittest.TestCase):
             self.assertGreater(len(numbers), 5)
             for number in numbers:
                 text = "\n".join(lines[:number] + lines[number + 1:])
-                report = TrialRunner(support.program()).report(text)
+                report = TrialRunner(support.program()).try_text(text)
                 assert report
                 if not is_yes(report):
                     fix = Fixer(text, report, TrialRunner(support.program())).find_fix()
-                    self.assertEqual((len(fix.edits), fix.remakes, is_yes(fix.report)), (1, False, True),
+                    self.assertEqual((len(fix.edits), fix.has_new_certificate, is_yes(fix.report)), (1, False, True),
                                      (lines[number], fix.words))
 
     def test_nearest_line(self) -> None:
@@ -280,7 +280,7 @@ class Reports(support.InRoom):
             document = support.read_document(text, "check")
             self.assertIsNone(document.refusal)
             outcome = Diagnosis(document).whole_outcome
-            self.assertIs(outcome.is_right, Tristate.UNKNOWN if is_right else Tristate.NO)
+            self.assertIs(outcome.correctness, Tristate.UNKNOWN if is_right else Tristate.NO)
         told = explained(self.many_inputs(False))
         self.assertIn("The layout itself does not do what the circuit asks", " ".join(told.headline))
         self.assertEqual([edit.text for edit in told.fix.edits], ["out i4 20 4"])
@@ -350,7 +350,8 @@ class Command(support.InRoom):
         count = int(os.environ.get("BBMLAB_MUTANTS", "3"))
         total, failed = 0, []
         for family in FAMILIES:
-            for name, text in mutants(family, texts, count, 7, lambda text: is_yes(TrialRunner(program).report(text))):
+            for name, text in mutants(family, texts, count, 7,
+                                      lambda text: is_yes(TrialRunner(program).try_text(text))):
                 rounds, refused = rounds_to_yes(text, program)
                 total += 1
                 self.assertEqual(refused, [], f"{family} {name}")
@@ -366,7 +367,7 @@ class Command(support.InRoom):
                      "outside_domain", "not_kept"):
             text = text_of(name)
             trial = TrialRunner(program, Budget(200, 20))
-            report = trial.report(text)
+            report = trial.try_text(text)
             fixer, diagnosis = Fixer(text, report, trial), Diagnosis(support.read_document(text, "check"))
             for finding in report.faults:
                 fix = fixer.find_fix_of_line(diagnosis, finding)

@@ -5,8 +5,8 @@ import unittest
 from typing import Iterable
 
 import support  # noqa: F401
-from bbmlab_core.joining.flight_claims import DIRECTIONS, FlightClaims, flights_in, flights_without
-from bbmlab_core.joining.lone_ways import LoneBalls
+from bbmlab_core.joining.flight_claims import DIRECTIONS, FlightClaims, pop_flight_ranges, ranges_without
+from bbmlab_core.joining.lone_ways import PackedBalls
 from bbmlab_core.joining.parts import BlockCounts, part_footprint
 from bbmlab_core.route.balls import Ball
 from bbmlab_core.route.world import ROW_STRIDE, STEP_STRIDE
@@ -56,11 +56,11 @@ class FlightClaimsTest(unittest.TestCase):
         for _ in range(20):
             given = [some_flight(chance) for _ in range(15)]
             numbers = set[int]().union(*given)
-            flights = list(flights_in(set(numbers)))
+            flights = list(pop_flight_ranges(set(numbers)))
             self.assertEqual(sorted(number for flight in flights for number in flight), sorted(numbers))
             self.assertLess(len(flights), 3 * len(given))
             left_out = set(chance.sample(sorted(numbers), len(numbers) // 5))
-            left = [own for flight in flights for own in flights_without(flight, left_out)]
+            left = [own for flight in flights for own in ranges_without(flight, left_out)]
             self.assertEqual(sorted(number for flight in left for number in flight), sorted(numbers - left_out))
 
     def test_part_item(self) -> None:
@@ -75,14 +75,14 @@ class FlightClaimsTest(unittest.TestCase):
             self.assertEqual((item.touched, item.mirrors), (around - mirrors, mirrors))
             self.assertEqual(item.claims, {number for flight in flights for number in flight})
             counts = BlockCounts(Layout(128, 128, 64), (number for flight in flights for number in flight))
-            self.assertTrue(all(counts.count(corner) == corners.count(corner) for corner in (*around, -1, 128)))
+            self.assertTrue(all(counts.claim_count(corner) == corners.count(corner) for corner in (*around, -1, 128)))
 
     def test_lone_balls(self) -> None:
         """Balls are as they were."""
         balls = [Ball(40 + time + (dx < 0), 60 + time + (dy < 0), dx, dy, time)
                  for time in range(9) for dx in (1, -1) for dy in (1, -1)]
         self.assertTrue(all(ball.is_legal for ball in balls))
-        own = LoneBalls(balls)
+        own = PackedBalls(balls)
         self.assertEqual([*own], balls)
         self.assertEqual([*reversed(own)], balls[::-1])
         self.assertEqual((len(own), own[-1]), (len(balls), balls[-1]))

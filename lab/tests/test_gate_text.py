@@ -6,7 +6,7 @@ from typing import Callable
 
 import support
 from bbmlab_core.circuits.netlists import NetlistError, NetlistFormat, map_netlist, netlist_format
-from bbmlab_core.texts.circuits import values_under
+from bbmlab_core.texts.circuits import values_and_undefined_gate
 
 RULES: dict[str, Callable[[list[bool]], bool]] = {
     "and": all, "or": any, "xor": lambda bits: sum(bits) % 2 == 1, "nand": lambda bits: not all(bits),
@@ -48,7 +48,8 @@ class Gates(support.InRoom):
                 values = dict(zip(inputs, bits))
                 for word, ins, out in gates:
                     values[out] = RULES[word]([values[name] for name in ins])
-                own, undefined = values_under(circuit, {name for name, bit in zip(circuit.inputs, bits) if bit})
+                own, undefined = values_and_undefined_gate(circuit,
+                                                           {name for name, bit in zip(circuit.inputs, bits) if bit})
                 self.assertIsNone(undefined)
                 self.assertEqual([own[name] for name in circuit.outputs], [values[name] for name in outputs], text)
 
@@ -60,7 +61,8 @@ class Gates(support.InRoom):
                                                                for name in "u v copy inverse p q r both zero".split()))
         circuit = support.circuit_of(map_netlist(text, NetlistFormat.GATES).text)
         for c, x, y in itertools.product((False, True), repeat=3):
-            values, _ = values_under(circuit, {name for name, bit in (("c", c), ("x", x), ("y", y)) if bit})
+            values, _ = values_and_undefined_gate(circuit,
+                                                  {name for name, bit in (("c", c), ("x", x), ("y", y)) if bit})
             wanted = [x if c else y, y if c else x, c, not c, x and y, y and not x, x and not y, c, False]
             self.assertEqual([values[name] for name in circuit.outputs], wanted)
 

@@ -31,11 +31,11 @@ from bbmlab_core.route.balls import BOUNCE_STEPS, Ball, Turn, bounce, follow_leg
 from bbmlab_core.route.command import ProgressLine
 from bbmlab_core.route.netlist import RouterNetlist
 from bbmlab_core.route.paths import PathFinder
-from bbmlab_core.route.settings import OPEN_STEPS, Settings
+from bbmlab_core.route.settings import OPEN_END_STEPS, Settings
 from bbmlab_core.route.world import (MARGIN_CELLS, ROW_STRIDE, STEP_STRIDE, TILE, Footprint, World, cell_number,
                                      cell_of_number, path_item)
 from bbmlab_core.texts.certificates import Module
-from bbmlab_core.texts.circuits import values_under
+from bbmlab_core.texts.circuits import values_and_undefined_gate
 from bbmlab_core.texts.documents import Document, read_document
 from bbmlab_core.texts.layouts import Box
 
@@ -95,7 +95,7 @@ class Joining(unittest.TestCase):
             on = {name for name in circuit.inputs if chance.random() < 0.6}
             run = layout_run(layout, on)
             self.assertTrue(run.run_to(layout.steps))
-            live, values = run.field.state(), values_under(circuit, on)[0]
+            live, values = run.field.state(), values_and_undefined_gate(circuit, on)[0]
             for part in layout.of_kind("out"):
                 self.assertEqual(part.cell in live, values[part.name or ""], (part, on))
 
@@ -110,7 +110,7 @@ class Joining(unittest.TestCase):
         self.assertEqual(circuit.outputs, ("a_carry", "b_sum", "b_carry"))
         for number in range(8):
             on = {name for index, name in enumerate(circuit.inputs) if number >> index & 1}
-            values = values_under(circuit, on)[0]
+            values = values_and_undefined_gate(circuit, on)[0]
             self.assertEqual(values["b_sum"] + 2 * (values["a_carry"] + values["b_carry"]), len(on))
         self.assert_runs(document)
 
@@ -164,12 +164,12 @@ class Joining(unittest.TestCase):
         made = self.made()
         ways = {(part.name, wire): way for part in made.parts for wire, way in part.ways.items()}
         self.assertEqual(set(ways), {("a", "sum"), ("b", "a")})
-        self.assertGreater(ways["b", "a"].ball.time, 0)
-        self.assertLess(ways["a", "sum"].ball.time, made.parts[0].text.layout.steps)
+        self.assertGreater(ways["b", "a"].inner_ball.time, 0)
+        self.assertLess(ways["a", "sum"].inner_ball.time, made.parts[0].bundle.layout.steps)
         for way in ways.values():
-            self.assertTrue(way.ball.is_legal)
-            self.assertFalse(way.mirrors - made.parts[0].text.layout.mirror_cells())
-        parts = {part.name: part.text for part in made.parts}
+            self.assertTrue(way.inner_ball.is_legal)
+            self.assertFalse(way.mirrors - made.parts[0].bundle.layout.mirror_cells())
+        parts = {part.name: part.bundle for part in made.parts}
         with mock.patch.object(planning, "fitting_orientations", lambda placed: [UPRIGHT]):
             whole = planning.make_plan(compose(parts, made.connections, set(ways)), 512, [0])
             plan = planning.make_plan(made, 512, [0])
@@ -196,7 +196,7 @@ class Joining(unittest.TestCase):
         slack = LoneWayCuts(made, late, [0], set())
         before, job = plan.jobs[0], slack.plan_with_cuts().jobs[0]
         assert before.start and job.start and job.goal
-        self.assertEqual(slack.moved[0], WayCut(0, True, first.part.text.layout.steps))
+        self.assertEqual(slack.moved[0], WayCut(0, True, first.part.bundle.layout.steps))
         self.assertGreater(job.start.time, before.start.time)
         self.assertGreaterEqual(job.steps, planning.steps_needed(last, job.start, job.goal, 0))
         self.assertNotIn(slack.moved[0], LoneWayCuts(made, late, [0], set(slack.moved)).moved)
@@ -239,7 +239,7 @@ class Joining(unittest.TestCase):
 
         change = mock.patch.object(wiring.JoinWorld, "add_part", add_mirrors)
         # Balls wander through the parts, which cost nothing.
-        with mock.patch.multiple(wiring, INSIDE_STEP_COST=0, OUTWARD_STEP_COST=0, LEAST_COIL_STEPS=10 ** 6):
+        with mock.patch.multiple(wiring, INSIDE_STEP_COST=0, INWARD_STEP_COST=0, LEAST_COIL_STEPS=10 ** 6):
             self.assertIn("verdict no", self.verdict_with(change))
 
     def test_a_lost_wire(self) -> None:
@@ -249,7 +249,7 @@ class Joining(unittest.TestCase):
 
     def test_lines_of_a_lone_way(self) -> None:
         """A part that keeps the lines of a ball that comes another way gets no yes."""
-        change = mock.patch.object(NamedPart, "left_out_lines", set[object]())
+        change = mock.patch.object(NamedPart, "left_out_line_numbers", set[object]())
         self.assertRegex(self.verdict_with(change), "verdict no|^refused")
 
     # --- time and room between parts ----------------------------------------------------------------------------------
@@ -362,10 +362,10 @@ class Joining(unittest.TestCase):
         """If a ball gets no more time by itself, since another one decides when its part begins, all get more."""
         made = self.made("abc", ("a.sum=b.a", "b.sum=c.a", "a.carry=c.b"), "sum carry a b")
         search = command.JoinSearch(made, command.JoinOptions(1, 800, 60), ProgressLine(60))
-        before = search.steps_between()
+        before = search.planned_ball_steps()
         search.add_spare_steps([2])
         self.assertEqual(search.spares, [1, 1, 2])
-        self.assertTrue(all(more > steps for more, steps in zip(search.steps_between(), before)))
+        self.assertTrue(all(more > steps for more, steps in zip(search.planned_ball_steps(), before)))
         search.spares = [0, 0, 0]
         search.add_spare_steps([1])
         self.assertEqual(search.spares, [0, 1, 0])
@@ -417,13 +417,13 @@ class Joining(unittest.TestCase):
                                           is_backward)
             first = search.first
             room = world.free_steps(first.ball, coil_ways.LONGEST_LEG)
-            with mock.patch.object(search, "bounce_steps", lambda *words, most=room: range(most + 1)):
+            with mock.patch.object(search, "tried_leg_steps", lambda *words, most=room: range(most + 1)):
                 found = list(search.options_behind(first, room))
             self.assertEqual([(option.steps, option.turn) for option in found], [
                 (steps, turn) for steps in range(room + 1) for turn in Turn
                 if world.can_hold(bounce(first.ball.flown(steps), turn)[1])])
             search.queue, on = found, coil_ways.LEAST_STEPS_ON
-            for bend in iter(search.next_bounce, None):
+            for bend in iter(search.pop_next_bounce, None):
                 self.assertEqual(world.free_steps(bend.ball.flown(BOUNCE_STEPS), on), on)
                 item, left, right, top, bottom = bend.spans[-1]
                 for x, y in map(cell_of_number, item.mirrors | item.touched):
@@ -441,7 +441,7 @@ class Joining(unittest.TestCase):
             for cells in wiring.GOAL_STEP_COSTS:
                 search = coil_ways.OpenSearch(finder, ground, inner, other, is_backward, lambda _: True, cells)
                 legs = next(search.ways())
-                first = finder.ball_before(inner, legs) if is_backward else inner
+                first = finder.start_of_legs(inner, legs) if is_backward else inner
                 item, last = path_item(first, legs), follow_legs(first, legs)[0]
                 assert item
                 self.assertTrue(world.can_add(item))
@@ -456,7 +456,7 @@ class Joining(unittest.TestCase):
         taken = [(30, 100), (100, 60), *part.ring()]
         world.add(Footprint(frozenset(map(cell_number, taken[:2]))))
         ground, side, street = coil_ways.CoilGround(world, [part]), 40, coil_ways.PATH_STREET_CELLS
-        ground.take_coil(Box(130, 120, 20, 20))
+        ground.take_box_and_street(Box(130, 120, 20, 20))
         squares = ground.squares(side, 80)
         for x, y in itertools.product(range(0, size, 3), repeat=2):
             own, around = Box(x, y, side, side), Box(x - street, y - street, side + 2 * street, side + 2 * street)
@@ -485,7 +485,7 @@ class Joining(unittest.TestCase):
                                  (time + 40, placing.placed_box(Box(x, y, 2, 2))[:2]))
                 flight = range(number, number + 5 * (STEP_STRIDE + ROW_STRIDE + 1), STEP_STRIDE + ROW_STRIDE + 1)
                 for part in (flight, list(flight), flight[:1]):
-                    self.assertEqual(list(blocks.of_part(part)), [blocks(each) for each in part])
+                    self.assertEqual(list(blocks.map_item_part(part)), [blocks(each) for each in part])
                 dx, dy = chance.choice((-1, 1)), chance.choice((-1, 1))
                 ball = Ball(2 * (x // 2) + (dx < 0), 2 * (y // 2) + (dy < 0), dx, dy, 2 * time)
                 there = placing.placed_ball(ball)
@@ -517,8 +517,8 @@ class Joining(unittest.TestCase):
         """An end that is to be open takes the room of one more mirror than its path has, and no other end does."""
         circuit = read_document(BLOCK, "circuit").circuit
         assert circuit
-        for steps in (OPEN_STEPS, 0):
-            design = Attempt(RouterNetlist(circuit), 160, 1, Settings(open_steps=steps)).run()
+        for steps in (OPEN_END_STEPS, 0):
+            design = Attempt(RouterNetlist(circuit), 160, 1, Settings(open_end_steps=steps)).run()
             ends = [path for path in design.paths if path.end.time == design.end]
             kept = sum(len(path.item.mirrors) > len(mirror_cells(path.mirrors())) for path in ends)
             self.assertEqual(kept > 0, steps > 0)

@@ -9,7 +9,7 @@ import support
 from bbmlab_core.circuits.cones import cone_for_inverse_gate
 from bbmlab_core.circuits.keeps import KeepSearch, search_keeping_cone, why_not_kept
 from bbmlab_core.texts.certificates import MAX_CUTS, MAX_USES
-from bbmlab_core.texts.circuits import Circuit, evaluate
+from bbmlab_core.texts.circuits import Circuit, evaluate_gates
 from support import circuit_of as read_circuit
 
 sys.path.insert(0, str(support.TOP / "bench"))
@@ -21,7 +21,7 @@ def lacks_a_row(circuit: Circuit, gates: list[int]) -> bool:
     have theirs."""
     made = {wire for number in gates for wire in circuit.gates[number].outs}
     cuts = sorted({wire for number in gates for wire in circuit.gates[number].ins} - made)
-    rows = evaluate(circuit, cuts, gates).rows
+    rows = evaluate_gates(circuit, cuts, gates).defined_columns_by_gate
     return bool((rows[gates[-2]] if len(gates) > 1 else (1 << (1 << len(cuts))) - 1) & ~rows[gates[-1]])
 
 
@@ -74,13 +74,12 @@ class Keeps(unittest.TestCase):
             circuit = read_circuit(made_circuit("forward", 9, 4, index))
             search = KeepSearch(circuit, 8)
             core = frozenset({8, *chance.sample(search.before, min(len(search.before), 1))})
-            others = [number
-                      for number in circuit.cone([wire for number in core for wire in circuit.gates[number].ins])[1]
-                      if number not in core]
+            _, cone = circuit.cone_inputs_and_gates([wire for number in core for wire in circuit.gates[number].ins])
+            others = [number for number in cone if number not in core]
             sets = (core | set(more) for count in range(len(others) + 1)
                     for more in itertools.combinations(others, count))
             least = min(len(search.wires_into(gates)) for gates in sets)
-            found = search.minimum_cut_gates(core)
+            found = search.gates_inside_minimum_cut(core)
             self.assertTrue(core <= found)
             self.assertEqual(len(search.wires_into(found)), least, index)
             larger += len(search.wires_into(core)) > least

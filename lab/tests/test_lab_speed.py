@@ -29,7 +29,7 @@ from bbmlab_core.texts import designs
 from bbmlab_core.texts.assigns import AssignReader
 from bbmlab_core.texts.certificates import Certificate, CertificateReader
 from bbmlab_core.texts.circuits import Circuit, CircuitReader, Gate, evaluate_samples, sampled_tables
-from bbmlab_core.texts.documents import HEADER_LINE_PATTERN, HEADERS, Document
+from bbmlab_core.texts.documents import HEADER_LINE_PATTERN, HEADER_WORDS, Document
 from bbmlab_core.texts.json_form import indented_json
 from bbmlab_core.texts.layouts import Box, Layout, LayoutReader, Part
 from bbmlab_core.texts.lines import LineForm, Values, match_line, word_value
@@ -114,8 +114,8 @@ class Runs(unittest.TestCase):
             while run.time < layout.steps and run.step():
                 states.append(run.field.state())
             self.assertEqual(trace.states, states)
-            self.assertEqual(trace.left, run.left and run.left[0])
-            broken += any(moment.gone for moment in trace.moments)
+            self.assertEqual(trace.leaving_step, run.left and run.left[0])
+            broken += any(moment.dead_mirror_cells for moment in trace.moments)
             time = chooser.randrange(len(states))
             self.assertEqual(tracing.state_at(layout, on, time), states[time])
         self.assertGreater(broken, 20)
@@ -227,7 +227,7 @@ class Forms(unittest.TestCase):
         for _ in range(5000):
             text = "".join(chance.choice(parts) for _ in range(chance.randrange(1, 14)))
             lines = [line.strip().split(" ")[0] for line in text.split("\n")]
-            self.assertEqual(HEADER_LINE_PATTERN.findall(text), [word for word in lines if word in HEADERS], text)
+            self.assertEqual(HEADER_LINE_PATTERN.findall(text), [word for word in lines if word in HEADER_WORDS], text)
 
     def test_what_needs_no_certificate(self) -> None:
         """`trace` of a whole layout and `golly` do not read the certificate of a long text."""
@@ -276,7 +276,7 @@ class Once(support.InRoom):
         """When the effort is used up nothing more is tried, for no line of the report."""
         text = support.text_of("wrong_edge")
         trial = TrialRunner(support.program(), Budget(seconds=30))
-        report = trial.report(text)
+        report = trial.try_text(text)
         fixer, diagnosis = Fixer(text, report, trial), Diagnosis(read(text))
         trial.budget = Budget(seconds=0)
         with mock.patch.object(fixer, "text_after_or_none") as applied:
@@ -290,7 +290,7 @@ class Once(support.InRoom):
         text = support.text_of("wrong_edge")
         output = ask(support.program(), "check", text.encode()).output
         for is_of_search in (True, False):
-            trial = TrialRunner(support.program(), Budget(is_of_search=is_of_search))
+            trial = TrialRunner(support.program(), Budget(is_counted_from_search=is_of_search))
             trial.started -= 1000.0
             self.assertEqual(explain_answer(text, "check", output, "text", trial).fix is not None, is_of_search)
 
@@ -306,7 +306,7 @@ class Once(support.InRoom):
             self.assertIsNone(BorderCheck(diagnosis, -1.0).ring_tables)
             self.assertLessEqual(step.call_count, 1)
             with self.assertRaises(LabError):
-                certified_text(document, None, CertificateOptions(until=0.0))
+                certified_text(document, None, CertificateOptions(processor_deadline=0.0))
             self.assertLessEqual(step.call_count, 2)
             self.assertIsNotNone(BorderCheck(Diagnosis(document), 30.0).ring_tables)
             self.assertGreater(step.call_count, 5)

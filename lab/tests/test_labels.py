@@ -9,7 +9,7 @@ from pathlib import Path
 import support
 from bbmlab_core.commands.draw import picture_of
 from bbmlab_core.pictures.label_places import NameToPlace, Rect, place_names
-from bbmlab_core.texts.designs import read_design
+from bbmlab_core.texts.designs import read_layout_file
 
 SVG = "{http://www.w3.org/2000/svg}"
 # Less than the width of any bold letter, as a part of the size, so that names that meet here meet in any font.
@@ -51,7 +51,7 @@ class Labels(unittest.TestCase):
             layout = support.read_document(Path(support.TOP, file).read_text()).layout
             size = 8 * max(1.0, max(layout.width, layout.height) / 64)
             with self.subTest(file):
-                self.assertEqual(covered(picture_of(read_design(str(support.TOP / file)), None, None), size), [])
+                self.assertEqual(covered(picture_of(read_layout_file(str(support.TOP / file)), None, None), size), [])
 
     def test_alone_a_name_keeps_its_side(self) -> None:
         """With nothing near, an input's name is above its cell and an output's below, both in the middle."""

@@ -193,10 +193,10 @@ class Forms(unittest.TestCase):
         Older documents have none.
         """
         for text in (EMPTY + layout(512), LINE + EMPTY + layout(512), LINE + EMPTY + layout(4096)):
-            made = json_form.document_json(read_document(text), None)
+            made = json_form.document_json_text(read_document(text), None)
             self.assertEqual(json.loads(made).get("limits"), 2 if text.startswith(LINE) else None)
             self.assertEqual(json_form.text_from_json(made), text)
-        without = json.loads(json_form.document_json(read_document(EMPTY + layout()), None))
+        without = json.loads(json_form.document_json_text(read_document(EMPTY + layout()), None))
         self.assertEqual(json_form.text_from_json(json.dumps({**without, "limits": 1})), EMPTY + layout())
         for wrong in (0, 3, "2", True, None, 2.0):
             with self.assertRaisesRegex(Exception, "limits is .* and not 1 or 2"):
@@ -221,14 +221,14 @@ class Forms(unittest.TestCase):
         text = LINE + layout(4096, 64, 7, "mirror 2001 30 2 2", "ball 4000 40")
         document = read_document(text)
         assert document.layout
-        lines = tracing.layout_lines(document)
+        lines = tracing.layout_section_lines(document)
         self.assertEqual("\n".join(lines) + "\n", text)
         start = tracing.trace_layout(document.layout, [], 0, 0).states[0]
         pattern = golly.golly_text(document.layout, start, [], lines)
-        self.assertEqual(golly.layout_from_golly(pattern), text)
+        self.assertEqual(golly.layout_text_from_golly(pattern), text)
         bare = "\n".join(line for line in pattern.split("\n") if not line.startswith("#C"))
-        self.assertRegex(golly.layout_from_golly(bare), r"\Alimits 2\nlayout \d+ \d+ 0\n")
-        self.assertTrue(tracing.text_for_run(lines, []).startswith(b"limits 2\nlayout 4096 "))
+        self.assertRegex(golly.layout_text_from_golly(bare), r"\Alimits 2\nlayout \d+ \d+ 0\n")
+        self.assertTrue(tracing.run_input(lines, []).startswith(b"limits 2\nlayout 4096 "))
 
     def test_certify_writes_the_line_only_if_asked(self) -> None:
         """A certificate of a layout within the first limits comes without the line, and any other with it."""

@@ -8,7 +8,7 @@ import unittest
 import support
 from bbmlab_core.host.program import ask
 from bbmlab_core.physics.longer_runs import spare_run_steps
-from bbmlab_core.texts.circuits import values_under
+from bbmlab_core.texts.circuits import values_and_undefined_gate
 from bbmlab_core.texts.documents import read_document
 from bbmlab_core.texts.layouts import Cell
 from bbmlab_core.physics.standard_cells import StandardCell, cell_names, layout_and_circuit, longer_runs_text, read_cell
@@ -61,7 +61,7 @@ def is_good(program: str, cell: StandardCell, before: int, after: int) -> bool:
         answer = ask(program, "run", (text + assign).encode())
         live = {(int(x), int(y)) for x,
                 y in (line.split() for line in answer.output.splitlines()[1:])} if answer.status == 0 else set()
-        values, _ = values_under(circuit, on)
+        values, _ = values_and_undefined_gate(circuit, on)
         outs = {part.cell for part in layout.of_kind("out") if values[part.name or ""]}
         if live - wastes != mirrors | outs:
             return False

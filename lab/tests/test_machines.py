@@ -10,7 +10,7 @@ import unittest
 
 import support
 from bbmlab_core.physics.simulation import WholeRun, key_of
-from bbmlab_core.texts.circuits import Circuit, values_under
+from bbmlab_core.texts.circuits import Circuit, values_and_undefined_gate
 from bbmlab_core.texts.documents import Document, read_document
 from bbmlab_core.texts.layouts import Layout
 
@@ -60,7 +60,7 @@ class Machines(unittest.TestCase):
         for name in OUTPUTS:
             _, circuit, _ = self.read(name)
             for on in self.choices(circuit, random.randrange(10**6)):
-                values, missing = values_under(circuit, on)
+                values, missing = values_and_undefined_gate(circuit, on)
                 self.assertIsNone(missing)
                 self.assertEqual({wire: values[wire] for wire in circuit.outputs}, outputs_of(name, on), (name, on))
 

@@ -18,7 +18,7 @@ from bbmlab_core.certify.certifier import (CertificateMaker, ImpossibleModuleErr
 from bbmlab_core.host.terminal import LabError
 from bbmlab_core.physics.simulation import layout_run
 from bbmlab_core.pictures import golly
-from bbmlab_core.pictures.drawing import cell_centre, module_parts
+from bbmlab_core.pictures.drawing import cell_centre, module_elements
 from bbmlab_core.texts import json_form
 from bbmlab_core.texts.certificates import Module
 from bbmlab_core.texts.layouts import Box
@@ -196,12 +196,13 @@ class Json(unittest.TestCase):
             if case.status in (0, 1) and len(case.input) < 20000:
                 document = support.document_of(case)
                 with self.subTest(case.name):
-                    self.assertEqual(json_form.text_from_json(json_form.document_json(document, None)), document.text)
+                    self.assertEqual(json_form.text_from_json(json_form.document_json_text(document, None)),
+                                     document.text)
 
     def test_report_is_in_it(self) -> None:
         """The report is in the document with its verdict and its lines."""
         report = parse_report("bbmcheck 1\ncertificate " + "0" * 64 + "\nmodules 1\nverdict no\nlocal 0 end 3 2 2 2\n")
-        text = json_form.document_json(support.read_document(support.text_of("wrong_border")), report)
+        text = json_form.document_json_text(support.read_document(support.text_of("wrong_border")), report)
         self.assertIn('"verdict": "no"', text)
         self.assertIn('"assignment": 2', text)
 
@@ -213,8 +214,8 @@ class Json(unittest.TestCase):
             live = layout_run(document.layout, ["p"]).field.state()
             text = golly.golly_text(document.layout, live, ["p"], lines)
             with self.subTest(name):
-                self.assertEqual(golly.layout_from_golly(text), "\n".join(lines) + "\n")
-                self.assertEqual(golly.live_cells(golly.golly_states(text)[0]), live)
+                self.assertEqual(golly.layout_text_from_golly(text), "\n".join(lines) + "\n")
+                self.assertEqual(golly.live_cells(golly.golly_states_and_comments(text)[0]), live)
 
     def test_same_states_as_golly(self) -> None:
         """Golly's run of a pattern file has our live cells at each of some times."""
@@ -231,7 +232,7 @@ class Json(unittest.TestCase):
 
     def test_free_patterns_keep_their_phase(self) -> None:
         """Live cells without comments become balls whose blocks are even ones."""
-        section = golly.layout_from_golly("x = 2, y = 2, rule = BBM-Margolus-emulated\nCB$2B!\n")
+        section = golly.layout_text_from_golly("x = 2, y = 2, rule = BBM-Margolus-emulated\nCB$2B!\n")
         self.assertEqual(section, "layout 6 6 0\nball 2 2\nend\n")
 
 
@@ -247,8 +248,8 @@ def golly_run(document: support.Document, on: list[str], time: int) -> set:
             subprocess.run(["bgolly", "-q", "-q", "-a", "RuleLoader", "-s", "/usr/share/golly/Rules/", "-m", str(time),
                             "-o", str(after), str(before)], check=True, capture_output=True)
         # bgolly does not write where the pattern lies; its dead margin stays as it was.
-        return golly.live_cells(golly.golly_states(f"#CXRLE Pos={-golly.MARGIN},{-golly.MARGIN}\n"
-                                                   + after.read_text())[0])
+        return golly.live_cells(golly.golly_states_and_comments(f"#CXRLE Pos={-golly.MARGIN},{-golly.MARGIN}\n"
+                                                                + after.read_text())[0])
 
 
 class Pictures(unittest.TestCase):
@@ -288,8 +289,8 @@ class Pictures(unittest.TestCase):
         size = float(re.search(r"g\.plan text\{font-size:([\d.]+)px", large)[1])
         self.assertAlmostEqual(size, 7 * 144 / 64, delta=0.1)
         modules = [Module(Box(2 * number, 0, 2, 2), number=number) for number in range(65)]
-        self.assertIn("text", "".join(module_parts(modules[:64])))
-        self.assertNotIn("text", "".join(module_parts(modules)))
+        self.assertIn("text", "".join(module_elements(modules[:64])))
+        self.assertNotIn("text", "".join(module_elements(modules)))
 
     def test_faults_are_marked(self) -> None:
         """The cells of a report's faults are marked. A report of another certificate is refused."""

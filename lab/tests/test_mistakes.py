@@ -10,11 +10,11 @@ from unittest.mock import patch
 import support
 from bbmlab_core.explain.edits import addition, deletion, edits_between, text_after
 from bbmlab_core.explain.explaining import as_gcc, explain_answer
-from bbmlab_core.farm.checking import files_below
+from bbmlab_core.farm.checking import text_files_below
 from bbmlab_core.farm.receipts import ReceiptError, parse_receipt
 from bbmlab_core.host.terminal import LabError, replace_file
 from bbmlab_core.texts.skimming import certificate_digest
-from bbmlab_core.pictures.golly import layout_from_golly
+from bbmlab_core.pictures.golly import layout_text_from_golly
 from bbmlab_core.texts.certificates import Module
 from bbmlab_core.texts.designs import require_report_of
 from bbmlab_core.texts.reports import ReportError, parse_report
@@ -78,7 +78,7 @@ class Words(InRoom):
 
     def test_folders(self) -> None:
         """A folder that cannot be listed is no folder without files."""
-        self.assertRaisesRegex(LabError, "No such file", files_below, str(self.room / "none"))
+        self.assertRaisesRegex(LabError, "No such file", text_files_below, str(self.room / "none"))
         self.ends(4, "No such file", "summary", str(self.room / "none"))
         self.ends(4, "there is no folder", "studio", str(self.room / "none" / "x.txt"), "--no-open")
         self.ends(4, "this is a folder", "studio", str(self.room), "--no-open")
@@ -150,7 +150,7 @@ class Texts(InRoom):
     def test_patterns_far_away(self) -> None:
         """A place with thousands of digits is no place."""
         far = f"#CXRLE Pos={'9' * 5000},0\nx = 2, y = 2, rule = BBM-Margolus-emulated\noo$oo!\n"
-        self.assertEqual(layout_from_golly(far), layout_from_golly(far.replace("9" * 5000, "0")))
+        self.assertEqual(layout_text_from_golly(far), layout_text_from_golly(far.replace("9" * 5000, "0")))
 
     def test_hints_are_true(self) -> None:
         """`fmt` takes out `#` comments alone, and the hint says so."""

@@ -15,8 +15,9 @@ from unittest import mock
 
 import support
 from bbmlab_core.circuits.cones import cone_for_inverse_gate
-from bbmlab_core.circuits.netlists import NetlistError, NetlistFormat, circuit_from_netlist, map_netlist, netlist_format
-from bbmlab_core.texts.circuits import Circuit, evaluate, values_under
+from bbmlab_core.circuits.netlists import (NetlistError, NetlistFormat, circuit_text_from_netlist, map_netlist,
+                                           netlist_format)
+from bbmlab_core.texts.circuits import Circuit, evaluate_gates, values_and_undefined_gate
 
 # Fewer tries than users get, which save time: each try is one that a search can end with.
 FEW_TRIES = mock.patch("bbmlab_core.circuits.netlists.search.MAX_TRIES", 60)
@@ -67,7 +68,7 @@ def words_of(text: str, keyword: str) -> list[str]:
 
 def circuit_of(text: str) -> Circuit:
     """Returns the circuit that a netlist is mapped to, as the lab reads it."""
-    return support.circuit_of(circuit_from_netlist(text))
+    return support.circuit_of(circuit_text_from_netlist(text))
 
 
 def random_table(chooser: random.Random, name: str, known: list[str]) -> list[str]:
@@ -98,9 +99,10 @@ class Equivalence(support.InRoom):
         """Compares a mapped netlist with its values at all inputs, and asks that each inverse gate has a row there and
         a cone."""
         circuit = circuit_of(text)
-        tables = evaluate(circuit, circuit.inputs, list(range(len(circuit.gates))))
+        tables = evaluate_gates(circuit, circuit.inputs, list(range(len(circuit.gates))))
         self.assertEqual(len(circuit.inputs), len(inputs))
-        self.assertEqual(set(tables.rows.values()) - {tables.full}, set(), "an inverse gate has no row at some inputs")
+        self.assertEqual(set(tables.defined_columns_by_gate.values()) - {tables.full}, set(),
+                         "an inverse gate has no row at some inputs")
         for number, bits in enumerate(itertools.product((False, True), repeat=len(inputs))):
             # The first input is bit 0 of an assignment.
             wanted = values_of(dict(zip(inputs, bits[::-1])))
@@ -155,7 +157,7 @@ class Equivalence(support.InRoom):
         circuit = circuit_of(text)
         for a, b in itertools.product((False, True), repeat=2):
             on = {name for name, value in (("a", a), ("n0", b)) if value}
-            self.assertEqual(values_under(circuit, on)[0]["y"], a and b)
+            self.assertEqual(values_and_undefined_gate(circuit, on)[0]["y"], a and b)
 
     def test_constants_copies_and_plain_wires(self) -> None:
         """Constant outputs, an input that is several outputs, and unused inputs."""
@@ -182,7 +184,7 @@ class Equivalence(support.InRoom):
                 self.assertEqual(set(circuit.inputs), {"a_0", "a_1", "a_2", "b_4", "b_5", "b_6"})
                 for on, wanted in (({"a_0", "b_4"}, {"y_1"}), ({"a_2"}, {"y_0"}), ({"b_6"}, {"y_0"}),
                                    ({"a_0", "a_1", "b_5"}, set())):
-                    values, _ = values_under(circuit, on)
+                    values, _ = values_and_undefined_gate(circuit, on)
                     self.assertEqual({wire for wire in circuit.outputs if values[wire]}, wanted, on)
 
     @FEW_TRIES
@@ -196,7 +198,7 @@ class Equivalence(support.InRoom):
         for left, right in pairs:
             on = {f"{name}{index}" for name, number in (("a", left), ("b", right)) for index in range(width)
                   if number >> index & 1}
-            values, undefined = values_under(circuit, on)
+            values, undefined = values_and_undefined_gate(circuit, on)
             with self.subTest(seed=seed, left=left, right=right):
                 self.assertIsNone(undefined)
                 self.assertEqual(sum(values[f"s{index}"] << index for index in range(width + 1)), left + right)
@@ -340,7 +342,7 @@ class Sentences(unittest.TestCase):
         """Each text is refused with its sentence."""
         for name, (text, sentence) in REFUSED.items():
             with self.subTest(name):
-                self.assertRaisesRegex(NetlistError, sentence, circuit_from_netlist, text)
+                self.assertRaisesRegex(NetlistError, sentence, circuit_text_from_netlist, text)
 
     def test_a_circuit_too_large(self) -> None:
         """A chain that needs more than 16,384 gates is refused with the limit, and so are 20,000 copies of one input.
@@ -352,9 +354,9 @@ class Sentences(unittest.TestCase):
                                                                                   for name in copies)
         for text in (wide_xor(4200), wide_xor(40_000), fan_out):
             with self.subTest(len(text)):
-                self.assertRaisesRegex(NetlistError, "A circuit has at most 16384", circuit_from_netlist, text)
+                self.assertRaisesRegex(NetlistError, "A circuit has at most 16384", circuit_text_from_netlist, text)
         for count, front in ((250, "circuit\n"), (700, "limits 2\ncircuit\n")):
-            self.assertTrue(circuit_from_netlist(wide_xor(count)).startswith(front))
+            self.assertTrue(circuit_text_from_netlist(wide_xor(count)).startswith(front))
 
     def test_names(self) -> None:
         """Names become legal and stay different, and a note names each change."""
@@ -377,4 +379,4 @@ class Sentences(unittest.TestCase):
 
     def test_same_text_each_time(self) -> None:
         """The same netlist gets the same circuit."""
-        self.assertEqual(circuit_from_netlist(full_adder_blif()), circuit_from_netlist(full_adder_blif()))
+        self.assertEqual(circuit_text_from_netlist(full_adder_blif()), circuit_text_from_netlist(full_adder_blif()))

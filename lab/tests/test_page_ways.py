@@ -8,7 +8,7 @@ from unittest import mock
 
 import support
 from bbmlab_core.physics.simulation import WholeRun, key_of
-from bbmlab_core.pictures.drawing import ball_ways, wire_tables
+from bbmlab_core.pictures.drawing import ball_ways_and_labels, wire_tables_and_column
 from bbmlab_core.texts.documents import Document, read_document
 from bbmlab_core.view import page_ways, viewing
 from test_ways import random_layout, steps_of
@@ -24,7 +24,7 @@ class Ways(unittest.TestCase):
         """
         layout, found = document.layout, page_ways.page_ways(document)
         assert layout and found
-        tables, full, _ = wire_tables(document, [])
+        tables, full, _ = wire_tables_and_column(document, [])
         wanted: dict[int, list[tuple[int, int, int]]] = {}
         for wire in found["wires"]:
             numbers, table = wire["pieces"], tables.get(wire["name"], full if wire["name"] == "1" else 0)
@@ -62,7 +62,7 @@ class Ways(unittest.TestCase):
         ways = {wire["name"]: [tuple(sorted(((x, y), (u, v)))) for x, y, u, v,
                                _ in zip(*(wire["pieces"][place::5] for place in range(5)))]
                 for wire in found["wires"]}
-        wanted, _ = ball_ways(document, None, document.layout.steps)
+        wanted, _ = ball_ways_and_labels(document, None, document.layout.steps)
         self.assertEqual({name: steps_of(pieces) for name, pieces in ways.items()},
                          {name: steps_of(pieces) for name, pieces in wanted.items()})
 
@@ -82,5 +82,5 @@ class Ways(unittest.TestCase):
         """The level of a wire counts the gates before it, but for sources and delays."""
         circuit = support.circuit_of("circuit\ninput p\nsource 1 -> k\nswitch p k -> a b c\ndelay 3 a -> d\n"
                                      "switch d b -> e f g\noutput e\nspill f\nspill g\nspill c\nend\n")
-        self.assertEqual(page_ways.levels_of(circuit),
+        self.assertEqual(page_ways.wire_levels(circuit),
                          {"p": 0, "k": 0, "a": 1, "b": 1, "c": 1, "d": 1, "e": 2, "f": 2, "g": 2})

@@ -21,9 +21,10 @@ except ImportError as missing:
 
 import properties as pr  # noqa: E402
 from bbmlab_core import cli  # noqa: E402
-from bbmlab_core.pictures.golly import golly_states, golly_text, layout_from_golly, live_cells  # noqa: E402
+from bbmlab_core.pictures.golly import (golly_states_and_comments, golly_text, layout_text_from_golly,  # noqa: E402
+                                        live_cells)
 from bbmlab_core.texts.documents import read_document  # noqa: E402
-from bbmlab_core.texts.json_form import document_json, text_from_json  # noqa: E402
+from bbmlab_core.texts.json_form import document_json_text, text_from_json  # noqa: E402
 from bbmlab_core.texts.spelling import spelling_of  # noqa: E402
 
 bbmlab = pr.bbmlab
@@ -89,7 +90,7 @@ class RoundTrips(unittest.TestCase):
         """The JSON form of a text gives it back, byte for byte; of one with an assign section too."""
         on = tuple(name for name in dict.fromkeys(port.name for port in bundle.layout.ins) if data.draw(st.booleans()))
         for part in (bundle, bbmlab.Bundle(bundle.circuit), bbmlab.Bundle(None, bundle.layout, None, on)):
-            form = document_json(read_document(str(part)), None)
+            form = document_json_text(read_document(str(part)), None)
             self.assertEqual(text_from_json(form), str(part))
             self.assertEqual(json.loads(form)["format"], "bbmlab bundle 1")
 
@@ -103,10 +104,10 @@ class RoundTrips(unittest.TestCase):
         model = read_document(text, "layout").layout
         assert model
         form = golly_text(model, set(start), sorted(on), text.splitlines())
-        self.assertEqual(layout_from_golly(form), text)
-        self.assertEqual(live_cells(golly_states(form)[0]), set(start))
+        self.assertEqual(layout_text_from_golly(form), text)
+        self.assertEqual(live_cells(golly_states_and_comments(form)[0]), set(start))
         bare = "\n".join(line for line in form.splitlines() if not line.startswith("#C ")) + "\n"
-        again = bbmlab.read(layout_from_golly(bare)).layout
+        again = bbmlab.read(layout_text_from_golly(bare)).layout
         assert again
         if start:
             moves = {(x - u, y - v) for (x, y), (u, v) in zip(sorted(again.balls), sorted(start))}

@@ -9,7 +9,7 @@ import unittest
 
 import support
 from bbmlab_core.circuits.netlists import NetlistError, NetlistFormat, map_netlist, netlist_format, read_netlist
-from bbmlab_core.texts.circuits import values_under
+from bbmlab_core.texts.circuits import values_and_undefined_gate
 
 # A gate of the simulators: controls with their values, and one target, or two that change places.
 Gate = tuple[list[tuple[int, bool]], list[int]]
@@ -98,7 +98,8 @@ class Mapped(unittest.TestCase):
             begun = list(starts)
             for line, bit in zip(inputs, bits):
                 begun[line] = bit
-            values, undefined = values_under(circuit, {name for name, bit in zip(circuit.inputs, bits) if bit})
+            values, undefined = values_and_undefined_gate(circuit,
+                                                          {name for name, bit in zip(circuit.inputs, bits) if bit})
             self.assertIsNone(undefined)
             ended = run_gates(gates, begun)
             self.assertEqual([values[name] for name in circuit.outputs], [ended[line] for line in kept], text)
@@ -162,7 +163,7 @@ class Mapped(unittest.TestCase):
         """Returns the outputs for all inputs, the first input changing last."""
         with support.FEW_TRIES:
             circuit = support.circuit_of(map_netlist(text).text)
-        rows = [values_under(circuit, on)[0] for on in support.choices(circuit.inputs)]
+        rows = [values_and_undefined_gate(circuit, on)[0] for on in support.choices(circuit.inputs)]
         return [tuple(int(row[name]) for name in circuit.outputs) for row in rows]
 
     def test_pla(self) -> None:

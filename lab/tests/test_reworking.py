@@ -183,11 +183,11 @@ class Inverse(unittest.TestCase):
         wrong = circuit_of("circuit\ninput a\ninput b\ndelay 1 b -> c\ndelay 1 a -> d\noutput c\noutput d\nend\n")
         right = circuit_of("circuit\ninput a\ninput b\ndelay 1 a -> c\ndelay 1 b -> d\noutput c\noutput d\nend\n")
         back = circuit_of("circuit\ninput c\ninput d\ndelay 1 d -> a\ndelay 1 c -> b\noutput a\noutput b\nend\n")
-        self.assertEqual(circuit_commands.agreement_words(simplify, before, right), "in all 4 choices of the inputs")
+        self.assertEqual(circuit_commands.require_agreement(simplify, before, right), "in all 4 choices of the inputs")
         for change, after, said in ((simplify, wrong, "with a on, c differs"),
                                     (inverse, back, "it does not give `a` back")):
             with self.assertRaisesRegex(LabError, f"the new circuit is wrong: {said}. This is a fault of the lab"):
-                circuit_commands.agreement_words(change, before, after)
+                circuit_commands.require_agreement(change, before, after)
 
 
 class Clean(support.InRoom):

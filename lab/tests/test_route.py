@@ -176,7 +176,7 @@ class Yes(Routing):
                 self.assertLessEqual(height, plan.side)
                 self.assertEqual(plan.side, plan.most_side)
         plans = list(search.compact_plans(RouterNetlist(circuit), options, Settings(), routed, 7))
-        self.assertEqual(len(plans), len(search.COMPACT_SHARES))
+        self.assertEqual(len(plans), len(search.COMPACT_AREA_SHARES))
 
     def test_attempts_on_a_rectangle(self) -> None:
         """A layout of a plane that is no square lies on it."""
@@ -199,28 +199,28 @@ class Mistakes(Routing):
 
     def test_swapped_outputs(self) -> None:
         """Two outputs are swapped in the layout."""
-        right = certificate.Certifier.end_lines
+        right = certificate.BundleMaker.make_end_lines
 
-        def wrong(self: certificate.Certifier) -> list[str]:
+        def wrong(self: certificate.BundleMaker) -> list[str]:
             names = {" y ": " z ", " z ": " y "}
             return [re.sub(" [yz] ", lambda found: names[found[0]], line) for line in right(self)]
 
-        with mock.patch.object(certificate.Certifier, "end_lines", wrong):
+        with mock.patch.object(certificate.BundleMaker, "make_end_lines", wrong):
             self.assert_found(gate_circuit("switch"))
 
     def test_wrong_wire_of_an_edge_line(self) -> None:
         """The first edge line of an input names another input."""
-        right = certificate.Certifier.add_edge
+        right = certificate.BundleMaker.add_edge_if_on_ring
         others = {"a": "b", "b": "c", "c": "a"}
         done: list[int] = []
 
-        def wrong(self: certificate.Certifier, at: int, cell: tuple[int, int], wire: str | None) -> None:
+        def wrong(self: certificate.BundleMaker, at: int, cell: tuple[int, int], wire: str | None) -> None:
             count = sum(len(module.edges) for module in self.modules)
             right(self, at, cell, wire if done or wire is None else others.get(wire, wire))
             if wire in others and sum(len(module.edges) for module in self.modules) > count:
                 done.append(at)
 
-        with mock.patch.object(certificate.Certifier, "add_edge", wrong):
+        with mock.patch.object(certificate.BundleMaker, "add_edge_if_on_ring", wrong):
             self.assert_found(gate_circuit("fredkin"))
         self.assertTrue(done)
 

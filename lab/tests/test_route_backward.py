@@ -90,7 +90,7 @@ class Backward(unittest.TestCase):
         """Asserts that the world has exactly the items of the board."""
         world = World(board.width)
         items = [item for step in board.steps for item in [step.gate.item,
-                                                           *(path.item for path in [*step.paths, *step.parked])]]
+                                                           *(path.item for path in [*step.paths, *step.parking_paths])]]
         items += [path.item for path in board.ends]
         for item in [*items, *(own.item for own in board.waiting.values() if own.item)]:
             self.assertTrue(world.can_add(item))
@@ -100,13 +100,13 @@ class Backward(unittest.TestCase):
 
     def test_books(self) -> None:
         """After each way that was made, and after each that was not, no two items meet and the books agree."""
-        right, results = WayMaker.make_way, []
+        right, results = WayMaker.place_by_ripping, []
 
         def checked(self: WayMaker, gate: object) -> bool:
             results.append(right(self, gate))  # type: ignore[arg-type]
             return results[-1]
 
-        with mock.patch.object(WayMaker, "make_way", checked):
+        with mock.patch.object(WayMaker, "place_by_ripping", checked):
             for seed in range(40):
                 attempt = Attempt(RouterNetlist(read_circuit(made_circuit("forward", 14, 8, 3))), 160, seed, Settings())
                 before = len(results)

@@ -4,12 +4,12 @@ import random
 import unittest
 
 import support  # noqa: F401
-from bbmlab_core.route.balls import (BOUNCE_STEPS, Ball, Leg, Turn, bounce, bounce_before, cells_at, follow_legs,
-                                     moving_cells, path_run, run_exactly, start_state)
+from bbmlab_core.route.balls import (BOUNCE_STEPS, Ball, Leg, Turn, bounce, bounce_before, path_cells_at, follow_legs,
+                                     moving_path_cells, path_run, run_exactly, start_state)
 from bbmlab_core.route.cells import GATE_PORTS, GateCell, base_cells, cell_library
 from bbmlab_core.route.world import path_item
 from bbmlab_core.texts.circuits import Gate
-from bbmlab_core.texts.gates import gate_row, input_tables
+from bbmlab_core.texts.gates import gate_tables, input_tables
 
 EACH_DIRECTION = [Ball(40 + (dx < 0), 40 + (dy < 0), dx, dy, 0) for dx in (1, -1) for dy in (1, -1)]
 
@@ -50,11 +50,11 @@ class Balls(unittest.TestCase):
                 continue
             run, count = path_run(start, legs), count + 1
             wanted = {run.first + index: set(state) for index, state in enumerate(run.states)}
-            self.assertEqual({time: set(cells_at(start, legs, time)) for time in wanted}, wanted, f"seed {seed}")
+            self.assertEqual({time: set(path_cells_at(start, legs, time)) for time in wanted}, wanted, f"seed {seed}")
             del wanted[max(wanted)]
-            found = {time: set(cells) for odd in (0, 1) for time, cells in moving_cells(start, legs, odd)}
+            found = {time: set(cells) for odd in (0, 1) for time, cells in moving_path_cells(start, legs, odd)}
             self.assertEqual(found, wanted, f"seed {seed}")
-            self.assertTrue(all(time % 2 == odd for odd in (0, 1) for time, _ in moving_cells(start, legs, odd)))
+            self.assertTrue(all(time % 2 == odd for odd in (0, 1) for time, _ in moving_path_cells(start, legs, odd)))
         self.assertGreater(count, 150)
 
     def test_free_flight(self) -> None:
@@ -62,13 +62,13 @@ class Balls(unittest.TestCase):
         for ball in EACH_DIRECTION:
             self.assertTrue(ball.is_legal)
             self.assertEqual(set(path_run(ball, [Leg(9, None)]).states[-1]), set(ball.flown(9).cells()))
-            self.assertEqual(set(ball.reversed().cells()), set(ball.cells()))
+            self.assertEqual(set(ball.time_reversed().cells()), set(ball.cells()))
 
     def ends(self, cell: GateCell, shift: tuple[int, int, int]) -> tuple[dict, dict]:
         """Returns the last state of a run of a moved cell, and the state that the gate's rule asks for."""
         inputs, outputs = GATE_PORTS[cell.word]
         tables = input_tables(len(inputs))
-        outs, rows = gate_row(cell.word, None, tables, (1 << (1 << len(inputs))) - 1)
+        outs, rows = gate_tables(cell.word, None, tables, (1 << (1 << len(inputs))) - 1)
         table = dict(zip(inputs + outputs, tables + outs))
         ports = {port: ball.moved(*shift) for port, ball in (cell.ins | cell.outs).items()}
         first = min(ports[port].time for port in inputs)
@@ -110,11 +110,11 @@ class Balls(unittest.TestCase):
             for time, state in enumerate(run.states[:-1]):
                 flying = {own for ball in cell.ins.values() if time < ball.time for own in ball.at(time).cells()}
                 flying |= {own for ball in cell.outs.values() if time >= ball.time for own in ball.at(time).cells()}
-                self.assertEqual(set(state) - flying, set(cell.names[time]), (word, time))
+                self.assertEqual(set(state) - flying, set(cell.port_names[time]), (word, time))
 
     def test_port_counts(self) -> None:
         """Each gate has as many ports as wires."""
         for word, (inputs, outputs) in GATE_PORTS.items():
             gate = Gate(word, tuple(inputs), tuple(outputs))
             self.assertEqual(gate.is_inverse, word.startswith("un"))
-            self.assertEqual(len(gate_row(word, None, input_tables(len(inputs)), 1)[0]), len(outputs))
+            self.assertEqual(len(gate_tables(word, None, input_tables(len(inputs)), 1)[0]), len(outputs))

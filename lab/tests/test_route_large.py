@@ -86,7 +86,7 @@ class BitRows(unittest.TestCase):
             ball, goal = random_pair(chance)
             joiner = BitJoiner(world, chance, Settings())
             found = {(bend.steps, bend.turn) for bend in joiner.first_bends(ball, 0)}
-            wanted = {(steps, turn) for steps in range(joiner.steps_inside(ball) + 1) for turn in Turn
+            wanted = {(steps, turn) for steps in range(joiner.most_steps_to_bounce(ball) + 1) for turn in Turn
                       if world.can_hold(bounce(ball.flown(steps), turn)[1])}
             self.assertEqual(found, wanted, f"seed {seed}")
             for bend in joiner.last_bends(goal):
@@ -146,7 +146,7 @@ class BitRows(unittest.TestCase):
         for most, is_grown in ((4096, True), (160, False)):
             attempt = Attempt(RouterNetlist(read_circuit(text)), 160, 1, Settings(), most_size=most)
             attempt.make_room_for_ends()
-            side, least = attempt.board.width, (30 * 300 * Settings().step_cells / Settings().end_fill) ** 0.5
+            side, least = attempt.board.width, (30 * 300 * Settings().step_cells / Settings().end_fill_share) ** 0.5
             self.assertEqual(side > 160, is_grown)
             self.assertLess(side, 1.3 * least)
             self.assertEqual(side >= least, is_grown)

@@ -8,7 +8,7 @@ from pathlib import Path
 
 import support
 from bbmlab_core.route.board import Board
-from bbmlab_core.route.crowding import COLOURS, class_runs, crowding_of, tile_class, half_taken_counts
+from bbmlab_core.route.crowding import COLOURS, class_runs, crowding_of, tile_class, halved_taken_counts
 from bbmlab_core.route.netlist import RouterNetlist
 from bbmlab_core.route.settings import Settings
 from bbmlab_core.route.world import ROW_STRIDE, TILE, Footprint, World
@@ -39,14 +39,14 @@ class Counts(support.InRoom):
             wanted = [[0] * (size // TILE) for _ in range(size // TILE)]
             for x, y in set(cells):
                 wanted[y // TILE][x // TILE] += 1
-            found = [list(row) for row in half_taken_counts(world_with(size, cells))]
+            found = [list(row) for row in halved_taken_counts(world_with(size, cells))]
             self.assertEqual(found, [[count // 2 for count in row] for row in wanted])
 
     def test_full_tile(self) -> None:
         """A full tile is in the last class, an empty one in the first, and half a full one in the middle."""
         cells = [(x, y) for x in range(TILE) for y in range(TILE)] + [(x, y) for x in range(TILE, 2 * TILE)
                                                                       for y in range(TILE // 2)]
-        row = next(half_taken_counts(world_with(48, cells)))
+        row = next(halved_taken_counts(world_with(48, cells)))
         self.assertEqual([tile_class(half) for half in row], [len(COLOURS) - 1, 4, 0])
 
     def test_runs(self) -> None:

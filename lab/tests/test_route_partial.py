@@ -12,7 +12,7 @@ from typing import Any, Callable
 from unittest import mock
 
 import support
-from bbmlab_core.host.program import find_program
+from bbmlab_core.host.program import find_and_open_program
 from bbmlab_core.route import partial
 from bbmlab_core.route.attempt import Attempt, OutOfTimeError
 from bbmlab_core.route.balls import Ball, Leg
@@ -21,7 +21,7 @@ from bbmlab_core.route.command import report_failure
 from bbmlab_core.route.design import Design
 from bbmlab_core.route.netlist import RouterNetlist
 from bbmlab_core.route.partial import (PartialRoute, finishable_placement_count, partial_circuit, partial_design,
-                                       circuit_section_text, placements_without)
+                                       circuit_section_text, placements_without_maker)
 from bbmlab_core.route.paths import Path as BallPath
 from bbmlab_core.route.search import Search, SearchOptions, SearchOutcome, routed_bundle
 from bbmlab_core.route.settings import Settings
@@ -49,7 +49,7 @@ def placed_part(text: str, side: int, seed: int, failures: int = 0) -> PartialRo
 
 def slow_above(most: int) -> Callable[..., Design | str]:
     """Returns a leading to the end whose time is over for more gates than some."""
-    right = partial.led_design
+    right = partial.design_or_lost_wire
 
     def led(part: PartialRoute, steps: list[Placement], *words: Any) -> Design | str:
         if len(steps) > most:
@@ -76,8 +76,8 @@ class Parts(support.InRoom):
         for kind, inputs, seed in (("inverse", 10, 1), ("forward", 8, 2), ("any", 6, 2)):
             part = placed_part(made_circuit(kind, 40, inputs, seed), 256, 1)
             with self.subTest(kind=kind):
-                self.assertGreater(len(part.steps), 4)
-                self.assert_yes(part, len(part.steps))
+                self.assertGreater(len(part.placements), 4)
+                self.assert_yes(part, len(part.placements))
 
     def test_paths_make_way(self) -> None:
         """Some ball of these parts has a way to the end only since paths to gates were led again."""
@@ -92,7 +92,7 @@ class Parts(support.InRoom):
         with mock.patch.object(partial.Attempt, "add_path_making_way", counted):
             for seed in range(1, 30):
                 part = placed_part(made_circuit("inverse", 40, 10, 1), 256, seed)
-                self.assert_yes(part, len(part.steps))
+                self.assert_yes(part, len(part.placements))
                 if made[True]:
                     break
         self.assertTrue(made[True])
@@ -101,33 +101,33 @@ class Parts(support.InRoom):
         """If the time is over for many gates, as many are kept as it is enough for, and not half of them."""
         part = placed_part(made_circuit("forward", 12, 8, 1), 512, 1)
         for most in (3, 9, 11):
-            with self.subTest(most=most), mock.patch.object(partial, "led_design", slow_above(most)):
+            with self.subTest(most=most), mock.patch.object(partial, "design_or_lost_wire", slow_above(most)):
                 self.assert_yes(part, most)
 
     def test_affordable_count(self) -> None:
         """Without time no gate is kept after an interrupt, with much time all are, and with more time never fewer."""
         part = placed_part(made_circuit("forward", 12, 8, 1), 512, 1)
-        counts = [finishable_placement_count(part.circuit, part.steps, seconds)
+        counts = [finishable_placement_count(part.circuit, part.placements, seconds)
                   for seconds in (0.0, 0.05, 0.1, 0.2, 100.0)]
-        self.assertEqual((counts[0], counts[-1], counts), (0, len(part.steps), sorted(counts)))
+        self.assertEqual((counts[0], counts[-1], counts), (0, len(part.placements), sorted(counts)))
 
     def test_which_gate_is_left_out(self) -> None:
         """The maker of a wire if nothing follows from it, and else the last gate."""
         part = placed_part(circuit_text("abc", "switch a b -> d e f\nswitch d c -> g h i", "efghi"), 384, 1)
-        first, second = part.steps
-        self.assertEqual(placements_without(part.steps, "g"), [first])
-        self.assertEqual(placements_without(part.steps, "e"), [first])
-        self.assertEqual(placements_without([second, first], "e"), [second])
+        first, second = part.placements
+        self.assertEqual(placements_without_maker(part.placements, "g"), [first])
+        self.assertEqual(placements_without_maker(part.placements, "e"), [first])
+        self.assertEqual(placements_without_maker([second, first], "e"), [second])
 
     def test_no_room_to_wait(self) -> None:
         """A ball whose way was given to a path that was led later is named, and does not take it as well."""
         part = placed_part(circuit_text("ab", "switch a b -> x y z", "xyz"), 384, 1)
-        step = part.steps[0]
+        step = part.placements[0]
         ball = step.outs["x"].ball
         way = path_item(ball.flown(2), [Leg(20, None)])
         assert way
         other = BallPath("y", ball.flown(2), ball.flown(22), (Leg(20, None),), way)
-        own = Placement(step.gate, step.paths, {"x": step.outs["x"]}, [*step.parked, other])
+        own = Placement(step.gate, step.paths, {"x": step.outs["x"]}, [*step.parking_paths, other])
         attempt = Attempt(RouterNetlist(part.circuit), 384, 1, Settings())
         self.assertEqual(attempt.adopt_placements([own]), "x")
         self.assertIsInstance(attempt.board.waiting["x"], WaitingBall)
@@ -141,12 +141,12 @@ class Parts(support.InRoom):
         options = argparse.Namespace(keep_partial=True, map=None, output=f"{self.room}/part.txt", seed=1, size=512,
                                      effort=1.0, jobs=1, compact=False, timeout=60, late=[])
         for is_interrupted in (False, True):
-            outcome = SearchOutcome(None, "", Counter(), 1, 12, 12, part.steps, 512, is_interrupted)
+            outcome = SearchOutcome(None, "", Counter(), 1, 12, 12, part.placements, 512, is_interrupted)
             said = io.StringIO()
-            with mock.patch.object(partial, "led_design", slow_above(3)), \
+            with mock.patch.object(partial, "design_or_lost_wire", slow_above(3)), \
                     mock.patch.object(partial, "finishable_placement_count", lambda *_: 3), \
                     contextlib.redirect_stderr(said):
-                report_failure(part.circuit, outcome, options, find_program(support.program()))
+                report_failure(part.circuit, outcome, options, find_and_open_program(support.program()))
             kept = sum(line.split(" ")[0] in GATE_SIZES for line in Path(options.output).read_text().split("\n"))
             with self.subTest(is_interrupted=is_interrupted):
                 self.assertEqual(re.findall(r"[0-9]+ of [0-9]+ gates", said.getvalue()), [f"{kept} of 12 gates"],
@@ -162,7 +162,7 @@ class Parts(support.InRoom):
         for keeps, count in ((True, 1), (False, 11)):
             search = Search(circuit, text, SearchOptions(keeps_partial=keeps), Settings(), lambda *_: None)
             search.note_partial(11, [], 384)
-            search.note_partial(1, placed_part(text, 384, 1).steps[:1], 384)
+            search.note_partial(1, placed_part(text, 384, 1).placements[:1], 384)
             self.assertEqual(search.outcome.placed, count)
 
     def test_what_no_gate_needs_is_left_out(self) -> None:

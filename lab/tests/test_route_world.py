@@ -4,11 +4,11 @@ import random
 import unittest
 
 import support  # noqa: F401
-from bbmlab_core.route.balls import (BOUNCE_STEPS, Ball, BallRun, Leg, Turn, follow_legs, mirror_cells, path_run,
+from bbmlab_core.route.balls import (BOUNCE_STEPS, Ball, ExactRun, Leg, Turn, follow_legs, mirror_cells, path_run,
                                      run_exactly, start_state)
 from bbmlab_core.route.cells import cell_library
-from bbmlab_core.route.world import (LEAST_RANGE, ROW_STRIDE, STEP_STRIDE, Footprint, World, cell_item, cell_number,
-                                     path_item)
+from bbmlab_core.route.world import (LEAST_BULK_COUNT, ROW_STRIDE, STEP_STRIDE, Footprint, World, cell_item,
+                                     cell_number, path_item)
 from bbmlab_core.texts.layouts import Cell
 
 # The steps of the runs that are compared.
@@ -22,7 +22,7 @@ class Piece:
     def __init__(self, item: Footprint, mirrors: set[Cell], balls: list[Ball]) -> None:
         self.item, self.mirrors, self.balls = item, mirrors, balls
 
-    def run(self) -> BallRun:
+    def run(self) -> ExactRun:
         """Runs the piece alone."""
         return run_exactly(self.mirrors, start_state([(ball, 1) for ball in self.balls]), 0, LAST)
 
@@ -149,7 +149,7 @@ class Claims(unittest.TestCase):
         chance, plane, plain = random.Random(7), World(300), World(300)
         items = [piece.item for piece in (random_path(chance) for _ in range(60)) if piece]
         flights = [part for item in items for part in item.touched_parts if isinstance(part, range)]
-        self.assertEqual({part.step for part in flights if len(part) >= LEAST_RANGE},
+        self.assertEqual({part.step for part in flights if len(part) >= LEAST_BULK_COUNT},
                          {ROW_STRIDE + 1, ROW_STRIDE - 1, -ROW_STRIDE - 1, 1 - ROW_STRIDE})
         for change in (World.add, World.remove):
             for item in items:

@@ -7,7 +7,7 @@ from dataclasses import replace
 
 import support
 from bbmlab_core.physics.simulation import ModuleRun, layout_run
-from bbmlab_core.physics.tracing import layout_lines, text_for_run
+from bbmlab_core.physics.tracing import layout_section_lines, run_input
 
 # The runs of this bundle take some seconds each; it is one of many.
 SLOW = {"bundle_bouncers_64_v1"}
@@ -56,9 +56,9 @@ class Simulation(unittest.TestCase):
                 document.on = tuple(name for name in names if chooser.random() < 0.5)
                 most = chooser.randrange(most + 1)
                 document.layout = replace(document.layout, steps=most)
-                lines = layout_lines(document)
+                lines = layout_section_lines(document)
                 lines[0] = f"layout {document.layout.width} {document.layout.height} {document.layout.steps}"
-                ended = subprocess.run([program, "run"], input=text_for_run(lines, document.on), capture_output=True,
+                ended = subprocess.run([program, "run"], input=run_input(lines, document.on), capture_output=True,
                                        check=False)
                 if ended.returncode != 3:
                     with self.subTest(f"{path.name} with {document.on} up to {document.layout.steps}"):

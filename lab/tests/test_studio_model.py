@@ -13,7 +13,7 @@ from bbmlab_core.physics.mirrors import falling_mirrors, is_stable
 from bbmlab_core.physics.simulation import layout_run
 from bbmlab_core.studio import answers, server
 from bbmlab_core.texts import json_form
-from bbmlab_core.texts.circuits import values_under
+from bbmlab_core.texts.circuits import values_and_undefined_gate
 from bbmlab_core.texts.layouts import Box, Layout, Part
 from bbmlab_core.texts.spelling import spelling_of
 from support import text_of as example
@@ -315,7 +315,7 @@ class Runs(unittest.TestCase):
                              [list(values) for values in itertools.product((False, True), repeat=len(inputs))])
             for number, row in enumerate(rows):
                 on = {wire for wire, value in zip(inputs, row["inputs"]) if value}
-                run, values = layout_run(document.layout, on), values_under(document.circuit, on)[0]
+                run, values = layout_run(document.layout, on), values_and_undefined_gate(document.circuit, on)[0]
                 run.run_to(document.layout.steps)
                 for output in row["outputs"]:
                     states = {port.cell in run.field.state() for port in document.layout.of_kind("out")
@@ -350,7 +350,7 @@ class Runs(unittest.TestCase):
         layouts = [[[chooser.randrange(12), chooser.randrange(12), chooser.randrange(1, 5), chooser.randrange(1, 5)]
                     for _ in range(count)]
                    for count in (1, 2, 3, 5) for _ in range(150)]
-        wanted = [[[mirror.part.x, mirror.part.y, mirror.part.width, mirror.part.height] for mirror in
+        wanted = [[[mirror.mirror.x, mirror.mirror.y, mirror.mirror.width, mirror.mirror.height] for mirror in
                    falling_mirrors(Layout(20, 20, 3, tuple(Box(*box) for box in boxes)))]
                   for boxes in layouts]
         self.assertEqual(node(*[["fallen", boxes] for boxes in layouts]), wanted)

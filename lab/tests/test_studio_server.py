@@ -457,7 +457,7 @@ class Searches(Served):
         self.assertIn("Another search is running",
                       self.ask("route", tab="b", text=self.CIRCUIT, seconds=60, seed=1)["error"])
         self.assertEqual(self.ask("routed", tab="b")["state"], "none")
-        process, room = self.routes.found["a"].process, Path(self.routes.found["a"].room.name)
+        process, room = self.routes.found["a"].process, Path(self.routes.found["a"].work_folder.name)
         self.assertEqual(self.ask("unroute", tab="a")["state"], "cancelled")
         self.assertIsNotNone(process.poll())
         self.assertFalse(room.exists())

@@ -10,9 +10,11 @@ import subprocess
 import sys
 import time
 from pathlib import Path
+from unittest import mock
 
 import support
 from bbmlab_core.explain.diagnosis import Diagnosis, Tristate
+from bbmlab_core.host.program import BadProgramError, Executable, RunningPrograms, open_program
 from bbmlab_core.studio.jobs import Jobs
 from support import processes, wait_for
 
@@ -266,6 +268,22 @@ class Signals(Room):
                  "subprocess.Popen._execute_child = patched")
         self.assertEqual(self.run_with(start, "explain", support.example("wrong_edge")), 129)
 
+    def test_stop_while_a_program_starts(self) -> None:
+        """A program that was starting when all were stopped is killed, and its caller hears that it was stopped."""
+        running, start = RunningPrograms(), Executable.start
+        started: list[subprocess.Popen[bytes]] = []
+
+        def start_and_stop(program: Executable, *words: str) -> "subprocess.Popen[bytes]":
+            started.append(start(program, *words))
+            self.addCleanup(running.kill, started[0])
+            running.kill_all()
+            return started[0]
+
+        with mock.patch.object(Executable, "start", start_and_stop), self.assertRaisesRegex(BadProgramError, "stopped"):
+            running.start(open_program(self.sleeper), "check")
+        self.assertEqual(started[0].returncode, -signal.SIGKILL)
+        self.assertEqual(running.processes, set())
+
     def test_two_signals(self) -> None:
         """A second SIGHUP, as the shell sends it behind the kernel's, comes before the program is ended, and does not
         prevent that."""
@@ -290,11 +308,11 @@ class Words(Room):
         self.assertRegex(" ".join(ended.stdout.split()), r"the cell \(\d+, 0\) of the rim is live at time 1\. .* no "
                          r"certificate gets a yes before the layout is changed")
         outcome = Diagnosis(support.read_document(text, "check")).whole_outcome
-        self.assertEqual((outcome.is_right, outcome.is_rim), (Tristate.NO, True))
+        self.assertEqual((outcome.correctness, outcome.is_rim_fault), (Tristate.NO, True))
         for name, wanted in (("gate_and_mirror", Tristate.YES), ("not_gate", None)):
             document = support.read_document(support.text_of(name), "check")
             if document.certificate and not document.refusal:
-                self.assertEqual(Diagnosis(document).whole_outcome.is_right, wanted, name)
+                self.assertEqual(Diagnosis(document).whole_outcome.correctness, wanted, name)
 
     def test_table_of_a_netlist(self) -> None:
         """A `$lut` whose table has another number of bits than its inputs make is refused by its name."""

@@ -9,7 +9,7 @@ import re
 
 import support
 from bbmlab_core.physics.simulation import ModuleRun, layout_run
-from bbmlab_core.texts.circuits import values_under
+from bbmlab_core.texts.circuits import values_and_undefined_gate
 from support import data_of, sorted_cells
 from test_view_engine import node
 
@@ -43,7 +43,7 @@ class Page(support.InRoom):
             times = [chooser.randrange(document.layout.steps + 1) for _ in range(12)]
             jobs.append({"data": data_of(document), "on": on, "times": times})
             wanted.append([[time, state_at(document, on, time)] for time in times])
-            values = values_under(document.circuit, set(on))[0]
+            values = values_and_undefined_gate(document.circuit, set(on))[0]
             self.assertEqual(node(jobs[-1:])[0]["values"], values, name)
         for job, told, states in zip(jobs, node(jobs), wanted):
             self.assertEqual(told["states"], states, job["on"])

@@ -74,9 +74,9 @@ class Address(unittest.TestCase):
             cells = [Rect(12 * chooser.randrange(20), 12 * chooser.randrange(20), 12, 12) for _ in range(40)]
             names = [NameToPlace(cell, chooser.randrange(10, 70), 8, chooser.random() < 0.5) for cell in cells[:20]]
             found = place_names(names, cells[20:30], cells[30:])
-            wanted.append([[place.box.x, place.box.y, place.away] for place in found])
+            wanted.append([[place.box.x, place.box.y, place.lines_away] for place in found])
             jobs.append(["places",
-                         [{"cell": vars(name.cell), "width": name.width, "height": name.height,
+                         [{"cell": vars(name.cell_rect), "width": name.width, "height": name.height,
                            "isAbove": name.is_above} for name in names],
                          [vars(cell) for cell in cells[20:30]], [vars(cell) for cell in cells[30:]]])
         for found, places in zip(node(jobs), wanted):

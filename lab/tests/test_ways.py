@@ -8,13 +8,13 @@ import unittest
 from pathlib import Path
 
 import support
-from bbmlab_core.commands.draw import gate_boxes, picture_of
+from bbmlab_core.commands.draw import boxes_with_gates, picture_of
 from bbmlab_core.physics.simulation import DIAGONAL_STRIDE, ROW_STRIDE, Table, WholeRun, block_of, cell_of
 from bbmlab_core.pictures import drawing
 from bbmlab_core.pictures.picture_parts import (OTHER_WIRES_LABEL, PictureOptions, chevrons, cone_of, piece_within,
                                                 with_others_grouped)
 from bbmlab_core.pictures.ways import Piece, WayRun, block_moves, directed_ways, joined_pieces, ways_of
-from bbmlab_core.texts.designs import read_design
+from bbmlab_core.texts.designs import read_layout_file
 from bbmlab_core.texts.documents import Document, read_document
 from bbmlab_core.texts.layouts import Box, Cell
 
@@ -93,7 +93,7 @@ class Ways(unittest.TestCase):
         A run that leaves the rectangle may be a step longer there.
         """
         layout = document.layout
-        tables, full, _ = drawing.wire_tables(document, [])
+        tables, full, _ = drawing.wire_tables_and_column(document, [])
         wanted = moves_by_rule(document, tables, full)
         run = WholeRun(layout, tables, full)
         until = layout.steps if run.run_to(layout.steps) else run.time - 1
@@ -155,7 +155,7 @@ class Ways(unittest.TestCase):
         document = read_document("\n".join(["layout 512 512 400", "mirror 490 1 4 2", *balls, "end"]) + "\n")
         assert document.layout
         run = Counted(document.layout, {}, 1)
-        self.assertTrue(run.run_to(400))
+        self.assertTrue(run.run_steps(400))
         self.assertEqual(crossed, [])
         self.assertEqual(run.move_count, 20 * 400)
         self.assertEqual(len(list(run.pieces())), 20)
@@ -174,8 +174,8 @@ class Ways(unittest.TestCase):
                 counts.append(self.move_count - before)
                 return key
 
-        tables, full, _ = drawing.wire_tables(document, [])
-        Counted(layout, tables, full).run_to(layout.steps)
+        tables, full, _ = drawing.wire_tables_and_column(document, [])
+        Counted(layout, tables, full).run_steps(layout.steps)
         return sum(counts)
 
     def test_directed_ways(self) -> None:
@@ -183,7 +183,7 @@ class Ways(unittest.TestCase):
         mirrors."""
         document = read_document("layout 24 24 30\nmirror 2 1 2 2\nmirror 12 9 2 2\nball 4 2\nend\n")
         assert document.layout
-        tables, full, _ = drawing.wire_tables(document, [])
+        tables, full, _ = drawing.wire_tables_and_column(document, [])
         plain, directed = (of(document.layout, tables, full, 30) for of in (ways_of, directed_ways))
         self.assertEqual({table: steps_of([(min(piece), max(piece)) for piece in pieces]) for table,
                           pieces in directed.items()},
@@ -224,9 +224,9 @@ class Large(support.InRoom):
             assert document.layout and document.circuit
             self.assertIsNone(document.refusal)
             shown = drawing.Drawing()
-            shown.ways, shown.labels = drawing.ball_ways(document, None, document.layout.steps)
+            shown.ways, shown.wire_labels = drawing.ball_ways_and_labels(document, None, document.layout.steps)
             steps = sum(len(steps_of(pieces)) for pieces in shown.ways.values())
-            names = drawing.group_by_levels(shown, document.circuit)
+            names = drawing.group_ways_by_level(shown, document.circuit)
             self.assertEqual(any(name.startswith("level") for name in names), is_grouped)
             self.assertLessEqual(len([name for name in names if name.startswith("level")]), 8)
             self.assertEqual(sum(len(steps_of(pieces)) for pieces in shown.ways.values()), steps)
@@ -238,7 +238,7 @@ class Large(support.InRoom):
         text = self.text(9).split("certificate")[0]
         path = Path(self.room, "nine.txt")
         path.write_text(text)
-        large = picture_of(read_design(str(path)), None, None)
+        large = picture_of(read_layout_file(str(path)), None, None)
         self.assertIn(">level 0<", large)
         self.assertNotIn(">w1<", large)
         # The ways of wires have no dashes: those of what is no wire's have class w8.
@@ -249,20 +249,21 @@ class Large(support.InRoom):
         are left out."""
         text = self.text(2)
         circuit = support.circuit_of(text.split("layout")[0])
-        self.assertEqual(gate_boxes(text, circuit), [(Box(16, 0, 32, 32), ["switch 1"])])
-        self.assertEqual(gate_boxes("circuit\nend\n", circuit), [])
+        self.assertEqual(boxes_with_gates(text, circuit), [(Box(16, 0, 32, 32), ["switch 1"])])
+        self.assertEqual(boxes_with_gates("circuit\nend\n", circuit), [])
 
     def test_gates_are_named(self) -> None:
         """A box with room for it shows its gate, and how many others its module uses; a small one does not."""
-        shown = drawing.gate_names([(Box(0, 0, 64, 64), ["switch 1", "interact 2"]), (Box(64, 0, 4, 4), ["switch 3"])],
-                                   16)
+        shown = drawing.gate_name_elements([(Box(0, 0, 64, 64), ["switch 1", "interact 2"]),
+                                            (Box(64, 0, 4, 4), ["switch 3"])], 16)
         self.assertEqual(len(shown), 1)
         self.assertIn(">switch 1 +1<", shown[0])
 
     def test_names_of_many_ports_are_left_out(self) -> None:
         """More names than can be read are left out, and the title says so."""
-        lines = [f"in a{number} {2 * (number % 200)} {8 * (number // 200)}" for number in range(drawing.MAX_NAMES + 1)]
-        for count, words in ((drawing.MAX_NAMES, False), (drawing.MAX_NAMES + 1, True)):
+        lines = [f"in a{number} {2 * (number % 200)} {8 * (number // 200)}"
+                 for number in range(drawing.MAX_PORT_NAMES + 1)]
+        for count, words in ((drawing.MAX_PORT_NAMES, False), (drawing.MAX_PORT_NAMES + 1, True)):
             layout = read_document("\n".join(["layout 512 512 0", *lines[:count], "end"]) + "\n").layout
             assert layout
             picture = drawing.svg(layout, drawing.Drawing(title="all"), [])
@@ -275,11 +276,11 @@ class Large(support.InRoom):
         assert layout
         for size, radius in ((0.0, "24.0"), (10.0, "60.0")):
             self.assertIn(f'class="ball" cx="7236" cy="7236" r="{radius}"',
-                          drawing.svg(layout, drawing.Drawing(live={(600, 600)}, ball=size), []))
+                          drawing.svg(layout, drawing.Drawing(live={(600, 600)}, least_ball_size=size), []))
 
     def test_small_pictures_show_modules(self) -> None:
         """A small layout has the borders of its modules, and no outlined gates."""
-        picture = picture_of(read_design(support.example("four_modules")), None, None)
+        picture = picture_of(read_layout_file(support.example("four_modules")), None, None)
         self.assertIn('class="box"', picture)
         self.assertNotIn('class="gate"', picture)
 
@@ -299,7 +300,7 @@ class Chosen(support.Case):
 
     def test_crop(self) -> None:
         """A cropped picture has the size of its part, and the parts that lie in it."""
-        design = read_design(support.example("four_modules"))
+        design = read_layout_file(support.example("four_modules"))
         whole, part = (picture_of(design, None, None, None, PictureOptions(crop=crop))
                        for crop in (None, Box(0, 0, 6, 4)))
         self.assertIn('<rect class="plane" x="30" y="30" width="72" height="48"/>', part)
@@ -316,7 +317,8 @@ class Chosen(support.Case):
         ways = {"a": [((0, 0), (3, 3))], "b": [((5, 0), (8, 3))], "": [((9, 9), (8, 8))]}
         found = with_others_grouped(ways, {"a": "a, c"}, {"c"})
         self.assertEqual(found, {"a": ways["a"], OTHER_WIRES_LABEL: ways["b"] + ways[""]})
-        picture = picture_of(read_design(support.example("full_adder")), None, None, None, PictureOptions(wires=("a",)))
+        picture = picture_of(read_layout_file(support.example("full_adder")), None, None, None,
+                             PictureOptions(wires=("a",)))
         self.assertIn("<title>other wires</title>", picture)
         self.assertLess(picture.index("<title>other wires</title>"), picture.index('class="way w0"'))
 
@@ -340,6 +342,6 @@ class Chosen(support.Case):
         self.assertEqual((one, other), ((10.5, 12.5), (12.5, 10.5)))
         (one, tip, other), = chevrons([((20, 0), (0, 20))], 2)
         self.assertTrue(one[0] > tip[0] and other[1] < tip[1])
-        with_arrows, without = (picture_of(read_design(support.example("fredkin_gate")), None, None, None,
+        with_arrows, without = (picture_of(read_layout_file(support.example("fredkin_gate")), None, None, None,
                                            PictureOptions(has_arrows=has)) for has in (True, False))
         self.assertGreater(with_arrows.count('class="way'), without.count('class="way'))

@@ -14,7 +14,7 @@ from ..host.processor import processor_seconds
 from ..host.terminal import LabError
 from ..physics.simulation import Fault, ModuleRun, Table, cell_of, key_of, keys_of
 from ..texts.certificates import (MAX_BOX_SIDE, MAX_BORDER_LINES, MAX_CUTS, MAX_USES, Border, Certificate, Module,
-                                  ModuleDraft, Stop, line_words)
+                                  ModuleDraft, Stop, certificate_line_text)
 from ..texts.circuits import Circuit, Gate
 from ..texts.documents import Document, pause_garbage_collection
 from ..texts.layouts import Box, Cell, Layout, row_order_key
@@ -46,15 +46,15 @@ class CutsAndUses:
 class CertificateOptions:
     """What the user asked for: the kind of cuts, stops that are kept, and the processor time at which the search ends.
 
-    Without `is_tried` the lab does not run the modules: the first cuts that fit are taken, and only the program finds a
-    fault.
+    Without `runs_modules` the lab does not run the modules: the first cuts that fit are taken, and only the program
+    finds a fault.
     """
 
     version: int = 2
-    cuts: str = "auto"
+    cut_kind: str = "auto"
     stops: list[Stop] = field(default_factory=list)
-    until: float | None = None
-    is_tried: bool = True
+    processor_deadline: float | None = None
+    runs_modules: bool = True
 
 
 class CertificateMaker:
@@ -62,7 +62,7 @@ class CertificateMaker:
 
     def __init__(self, circuit: Circuit, layout: Layout, plan: CertificateOptions) -> None:
         self.circuit, self.layout, self.plan = circuit, layout, plan
-        self.observer = Observer(circuit, layout, bool(plan.stops), plan.until)
+        self.observer = Observer(circuit, layout, bool(plan.stops), plan.processor_deadline)
         self.observer.require_quiet_rim()
         # What the user should know of the certificate.
         self.notes: list[str] = []
@@ -74,7 +74,7 @@ class CertificateMaker:
 
     # ---- boxes
 
-    def certificate(self, boxes: list[Box] | None) -> Certificate:
+    def make_certificate(self, boxes: list[Box] | None) -> Certificate:
         """Returns a certificate with given boxes, or with boxes of its own."""
         modules = [self.module_for_box(box)
                    for box in boxes] if boxes else self.modules_covering(Box(0, 0, self.layout.width,
@@ -107,7 +107,7 @@ class CertificateMaker:
 
     def find_modules_covering(self, box: Box) -> list[ModuleDraft]:
         """Returns the modules of a rectangle that was not tried before."""
-        if self.plan.until is not None and processor_seconds() > self.plan.until:
+        if self.plan.processor_deadline is not None and processor_seconds() > self.plan.processor_deadline:
             raise LabError("no certificate was found in the time that was given", 1)
         why = ""
         if max(box.width, box.height) <= MAX_BOX_SIDE:
@@ -146,7 +146,7 @@ class CertificateMaker:
         """Whether each cell on both sides of a line through a rectangle carries a wire at each odd time."""
         lines = Box(box.x + place - 1, box.y, 2, box.height) if is_upright else Box(box.x, box.y + place - 1, box.width,
                                                                                     2)
-        return all(self.observer.wires_carried_by(key) is not None for key in self.observer.observed.seen.keys()
+        return all(self.observer.wires_carried_by(key) is not None for key in self.observer.observed.timed_tables.keys()
                    & keys_of(lines))
 
     def why_not_split(self, box: Box) -> str:
@@ -154,9 +154,9 @@ class CertificateMaker:
         for y in range(box.y, box.y + box.height):
             for x in range(box.x, box.x + box.width):
                 if self.observer.wires_carried_by(key_of((x, y))) is None:
-                    return (f"each line through the rectangle {box.words} meets a cell without a wire: "
+                    return (f"each line through the rectangle {box.numbers_text} meets a cell without a wire: "
                             f"{self.observer.moment_without_wire_words(key_of((x, y)))}")
-        return f"the rectangle {box.words} can't be cut further"
+        return f"the rectangle {box.numbers_text} can't be cut further"
 
     # ---- one module
 
@@ -170,7 +170,7 @@ class CertificateMaker:
         module = ModuleDraft(box, edges=self.border_lines(ring), halos=self.border_lines(halo))
         module.stops = [stop for stop in self.stops if box.has(stop.cell)]
         if len(module.edges) + max(len(module.halos), len(module.stops)) > MAX_BORDER_LINES:
-            raise ImpossibleModuleError(f"the box {box.words} takes more than {MAX_BORDER_LINES} lines")
+            raise ImpossibleModuleError(f"the box {box.numbers_text} takes more than {MAX_BORDER_LINES} lines")
         needed = {line.signal for line in (*module.edges, *module.halos)} - {"1"}
         inside = keys_of(box)
         needed |= {self.ports[key] for key in self.ports.keys() & inside} | {stop.name for stop in module.stops}
@@ -178,14 +178,14 @@ class CertificateMaker:
         for wiring in self.possible_cuts_and_uses(box, needed, inside, halo):
             if wiring.is_within_limits():
                 module.cuts, module.uses = wiring.cuts, wiring.uses
-                fault = self.fault_of(module.module()) if self.plan.is_tried else None
+                fault = self.fault_of(module.module()) if self.plan.runs_modules else None
                 if fault is None:
                     return module
         if fault is None:
-            raise ImpossibleModuleError(f"the box {box.words} needs {len(needed)} wires, and no cuts that were "
+            raise ImpossibleModuleError(f"the box {box.numbers_text} needs {len(needed)} wires, and no cuts that were "
                                         "tried fit one module")
         raise ImpossibleModuleError(
-            f"with the last cuts that were tried the cell ({fault.x}, {fault.y}) in the box {box.words} is "
+            f"with the last cuts that were tried the cell ({fault.x}, {fault.y}) in the box {box.numbers_text} is "
                                     f"wrong at time {fault.time}")
 
     def fault_of(self, module: Module) -> Fault | None:
@@ -197,21 +197,21 @@ class CertificateMaker:
         lines = []
         for key in keys:
             x, y = cell_of(key)
-            if key in self.observer.observed.always and self.layout.steps > 1:
+            if key in self.observer.observed.always_live and self.layout.steps > 1:
                 lines.append(Border(None, x, y, "1"))
             lines += [Border(time, x, y, self.observer.signals[table])
-                      for time, table in self.observer.observed.seen.get(key, ())]
+                      for time, table in self.observer.observed.timed_tables.get(key, ())]
         return sorted(lines, key=lambda line: line.order_key)
 
     def possible_cuts_and_uses(self, box: Box, needed: set[str], inside: list[int],
                                halo: list[int]) -> Iterable[CutsAndUses]:
         """Yields ways to know the wires of a box: with the wires cut that come in, then with gates before these, at
         last from the inputs."""
-        if self.plan.cuts != "safe":
+        if self.plan.cut_kind != "safe":
             seen: set[tuple[str, ...]] = set()
             incoming = self.incoming_wires(box, needed, inside, halo)
             for depth in range(MAX_GATES_BACK + 1):
-                for wiring in self.cuts_of_incoming_wires(needed, incoming):
+                for wiring in self.incoming_cuts_and_uses(needed, incoming):
                     if tuple(wiring.cuts) not in seen:
                         seen.add(tuple(wiring.cuts))
                         yield wiring
@@ -220,7 +220,7 @@ class CertificateMaker:
                 if before == incoming:
                     break
                 incoming = before
-        cuts, uses = self.circuit.cone(sorted(needed))
+        cuts, uses = self.circuit.cone_inputs_and_gates(sorted(needed))
         yield CutsAndUses(cuts, uses)
 
     def incoming_wires(self, box: Box, needed: set[str], inside: list[int], halo: list[int]) -> set[str]:
@@ -231,9 +231,9 @@ class CertificateMaker:
         return starts | {name for name in needed if name not in starts
                          and beside.get(name, self.layout.steps) < here.get(name, self.layout.steps)}
 
-    def cuts_of_incoming_wires(self, needed: set[str], incoming: set[str]) -> Iterable[CutsAndUses]:
+    def incoming_cuts_and_uses(self, needed: set[str], incoming: set[str]) -> Iterable[CutsAndUses]:
         """Yields the wiring that cuts the incoming wires, and one that uses the gates between them too."""
-        cuts, uses = self.circuit.cone(sorted(needed), frozenset(incoming))
+        cuts, uses = self.circuit.cone_inputs_and_gates(sorted(needed), frozenset(incoming))
         made = {name for number in uses for name in self.circuit.gates[number].outs}
         if not set(cuts) & made:
             yield CutsAndUses(cuts, uses)
@@ -273,14 +273,14 @@ class CertificateMaker:
                   for stop in self.user_stops_with_wrong_delay(gate)]
         if not wrong:
             return self.plan.stops
-        self.notes.append(f"the old stops are left out: `{line_words('stop', wrong[0])}` does not hold in the layout")
+        line = certificate_line_text("stop", wrong[0])
+        self.notes.append(f"the old stops are left out: `{line}` does not hold in the layout")
         return self.delay_stops()
 
     def is_correct_stop(self, stop: Stop) -> bool:
         """Whether the cell of a stop is live just in the cases in which its wire is true."""
-        key, values = key_of(stop.cell), self.observer.values
-        live = values.full if key in self.observer.observed.always else self.observer.observed.moments[stop.time].get(
-            key, 0)
+        key, values, observed = key_of(stop.cell), self.observer.values, self.observer.observed
+        live = values.full if key in observed.always_live else observed.moving_by_time[stop.time].get(key, 0)
         return live == values.tables[stop.name]
 
     def user_stops_with_wrong_delay(self, gate: Gate) -> list[Stop]:
@@ -294,7 +294,7 @@ class CertificateMaker:
     def delay_stops(self) -> list[Stop]:
         """Returns stops for delays: a wire is seen once, at its `in` cell or at the first time at which a cell carries
         it."""
-        moments = self.observer.observed.moments
+        moments = self.observer.observed.moving_by_time
         seen: dict[str, tuple[int, Cell]] = {port.name: (0, port.cell) for port in reversed(self.layout.ins)}
         stops: dict[str, Stop] = {}
         for gate in (gate for gate in self.circuit.gates if gate.kind == "delay"):
@@ -348,7 +348,7 @@ def make_certified_text(document: Document, boxes: list[Box] | None, plan: Certi
         raise LabError("certify takes a circuit and a layout")
     maker = CertificateMaker(circuit, layout, plan)
     try:
-        certificate = maker.certificate(boxes)
+        certificate = maker.make_certificate(boxes)
     except ImpossibleModuleError as error:
         raise LabError(f"no certificate was found: {error}{maker.observer.equal_wires_words()}", 1) from error
     if notes is not None:

@@ -7,7 +7,7 @@ from dataclasses import dataclass, field
 from ..host.processor import processor_seconds
 from ..host.terminal import LabError
 from ..physics.simulation import Table, WholeRun, cell_of, key_of, lowest_bit
-from ..texts.circuits import Circuit, evaluate_choices
+from ..texts.circuits import Circuit, evaluate_all_or_samples
 from ..texts.layouts import Box, Cell, Layout, row_order_key
 from ..texts.refusals import names_words
 
@@ -23,13 +23,14 @@ NO_WIRES: frozenset[str] = frozenset()
 class ObservedCells:
     """The cells of a whole run.
 
-    `seen` has for a cell its odd times below the steps with their tables; `always` are live at all of them.
+    `timed_tables` has for a cell its odd times below the steps with their tables; `always_live` are live at all of
+    them.
     """
 
-    always: set[int] = field(default_factory=set)
-    seen: dict[int, list[tuple[int, Table]]] = field(default_factory=dict)
+    always_live: set[int] = field(default_factory=set)
+    timed_tables: dict[int, list[tuple[int, Table]]] = field(default_factory=dict)
     # The cells that are not live always, at each time, if they are remembered.
-    moments: list[dict[int, Table]] = field(default_factory=list)
+    moving_by_time: list[dict[int, Table]] = field(default_factory=list)
 
 
 class Observer:
@@ -41,7 +42,7 @@ class Observer:
         self.circuit, self.layout, self.until = circuit, layout, until
         # Whether the cells are remembered at each time, for stops.
         self.remembers = remembers or any(gate.kind == "delay" for gate in circuit.gates)
-        self.values = evaluate_choices(circuit, MAX_EXHAUSTIVE_INPUTS, SAMPLE_COUNT)
+        self.values = evaluate_all_or_samples(circuit, MAX_EXHAUSTIVE_INPUTS, SAMPLE_COUNT)
         self.require_rows()
         self.signals: dict[Table, str] = {}
         for name, table in self.values.tables.items():
@@ -65,9 +66,9 @@ class Observer:
 
     def require_rows(self) -> None:
         """Raises LabError if some gate has no row under a choice of the inputs."""
-        for number, table in self.values.rows.items():
+        for number, table in self.values.defined_columns_by_gate.items():
             if table != self.values.full:
-                on = self.values.true_names(lowest_bit(self.values.full ^ table))
+                on = self.values.true_free_wires(lowest_bit(self.values.full ^ table))
                 raise LabError(f"gate {number} has no row with {names_words(on) or 'none of the inputs'} on: no "
                                "certificate gets a yes", 1)
 
@@ -75,25 +76,25 @@ class Observer:
         """Runs the layout, and returns what its cells were."""
         values, observed = self.values, ObservedCells()
         run = WholeRun(self.layout, values.tables, values.full)
-        observed.always = {key for key, table in run.field.live.items() if table == values.full}
+        observed.always_live = {key for key, table in run.field.live.items() if table == values.full}
         moving = {key: table for key, table in run.field.live.items() if table != values.full}
         remembered = 0
         while True:
             time = run.time
             if self.remembers:
-                observed.moments.append(dict(moving))
+                observed.moving_by_time.append(dict(moving))
                 remembered += len(moving)
                 if remembered > MAX_REMEMBERED_CELLS:
                     raise LabError("the run is too long to look for stops of delays: write the `stop` lines by hand", 1)
             if time % 2 and time < self.layout.steps:
                 for key, table in moving.items():
-                    observed.seen.setdefault(key, []).append((time, table))
+                    observed.timed_tables.setdefault(key, []).append((time, table))
             if time == self.layout.steps:
                 return observed
             if self.until is not None and processor_seconds() > self.until:
                 raise LabError("no certificate was found in the time that was given", 1)
             if not run.step():
-                on = values.true_names(lowest_bit(run.left[1])) if run.left else []
+                on = values.true_free_wires(lowest_bit(run.left[1])) if run.left else []
                 raise LabError(f"step {run.time} leaves the rectangle with {names_words(on) or 'none of the inputs'} on"
                                ": no certificate gets a yes", 1)
             for key in run.field.changed:
@@ -101,11 +102,11 @@ class Observer:
 
     def note_change(self, observed: ObservedCells, moving: dict[int, Table], key: int, table: Table, time: int) -> None:
         """Notes a cell that changed in the last step. One that was live always gets its times before."""
-        if key in observed.always:
-            observed.always.discard(key)
+        if key in observed.always_live:
+            observed.always_live.discard(key)
             times = [(before, self.values.full) for before in range(1, time, 2)]
             if times:
-                observed.seen[key] = times
+                observed.timed_tables[key] = times
         if table:
             moving[key] = table
         else:
@@ -115,8 +116,8 @@ class Observer:
         """Raises LabError if a cell of the rim is live at an odd time below the steps."""
         if self.layout.steps < 2:
             return
-        first = [(1, key) for key in self.observed.always] + [(times[0][0], key) for key,
-                                                              times in self.observed.seen.items()]
+        first = [(1, key) for key in self.observed.always_live] + [(times[0][0], key) for key,
+                                                                   times in self.observed.timed_tables.items()]
         rim = [(time, cell_of(key)) for time, key in first if self.layout.is_rim(cell_of(key))]
         if rim:
             time, (x, y) = min(rim, key=lambda place: (place[0], row_order_key(place[1])))
@@ -127,31 +128,31 @@ class Observer:
     def wires_carried_by(self, key: int) -> frozenset[str] | None:
         """Returns the wires that a cell carries at odd times, without constants; None if at some time it carries no
         wire."""
-        if key not in self.observed.seen:
+        if key not in self.observed.timed_tables:
             return NO_WIRES
         if key not in self.wires:
-            names = {self.signals.get(table) for _, table in self.observed.seen.get(key, ())}
+            names = {self.signals.get(table) for _, table in self.observed.timed_tables.get(key, ())}
             self.wires[key] = None if None in names else frozenset(name for name in names if name and name != "1")
         return self.wires[key]
 
     def first_moment_without_wire(self, key: int) -> tuple[int, int, int]:
         """Returns the first time at which a cell carries no wire, with the cell's row and column."""
         x, y = cell_of(key)
-        return next(time for time, table in self.observed.seen[key] if table not in self.signals), y, x
+        return next(time for time, table in self.observed.timed_tables[key] if table not in self.signals), y, x
 
     def moment_without_wire_words(self, key: int) -> str:
         """Says when a cell carries no wire."""
         time, y, x = self.first_moment_without_wire(key)
-        table = dict(self.observed.seen[key])[time]
-        on = names_words(self.values.true_names(lowest_bit(table))) or "none of the inputs"
+        table = dict(self.observed.timed_tables[key])[time]
+        on = names_words(self.values.true_free_wires(lowest_bit(table))) or "none of the inputs"
         return (f"at time {time} the cell ({x}, {y}) is live with {on} on, and no wire of the circuit is true in just "
                 "the cases in which it is live")
 
     def first_times_of_wires(self, keys: list[int]) -> dict[str, int]:
         """Returns for each wire that some cells carry the first odd time at which one of them does."""
         first: dict[str, int] = {}
-        for key in self.observed.seen.keys() & keys:
-            for time, table in self.observed.seen[key]:
+        for key in self.observed.timed_tables.keys() & keys:
+            for time, table in self.observed.timed_tables[key]:
                 name = self.signals.get(table)
                 if name and time < first.get(name, time + 1):
                     first[name] = time

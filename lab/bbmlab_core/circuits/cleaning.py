@@ -13,7 +13,7 @@ from .netlists.naming import MAX_NAME_BYTES, NameBook
 
 # So many gates at most are undone by inverse gates, each of which is searched for a cone that keeps it. Fredkin gates
 # undo those of larger circuits.
-MAX_SEARCHED_GATES = 1000
+MAX_CONE_SEARCHES = 1000
 REPLACEABLE_KINDS = ("switch", "interact")
 
 
@@ -42,7 +42,7 @@ class Cleaner:
         maker = self.circuit.maker
         copied = [name for name in self.circuit.outputs if name in maker and maker[name].kind != "source"]
         own = {name: self.fresh_name(name, "_own") for name in copied}
-        first = [(gate.number, line) for gate in self.circuit.gates for line in self.forward_lines(gate.number, own)]
+        first = [(gate.number, line) for gate in self.circuit.gates for line in self.forward_gates_of(gate.number, own)]
         self.gates = [line for _, line in first]
         complements = [self.add_copy(own[name], name) for name in copied]
         for number, line in reversed(first):
@@ -52,7 +52,7 @@ class Cleaner:
         outputs = (*self.circuit.outputs, *complements)
         return Circuit(tuple(self.circuit.inputs), tuple(self.gates), outputs, spills)
 
-    def forward_lines(self, number: int, own: dict[str, str]) -> list[Gate]:
+    def forward_gates_of(self, number: int, own: dict[str, str]) -> list[Gate]:
         """Returns the lines of a gate in the first half: its own, or Fredkin gates and constants in its place."""
         gate = self.circuit.gates[number]
         ins, outs = tuple(own.get(name, name) for name in gate.ins), tuple(own.get(name, name) for name in gate.outs)
@@ -100,7 +100,7 @@ def clean(circuit: Circuit) -> Circuit:
     """
     require_rows(circuit, "the circuit")
     replaceable = frozenset(gate.number for gate in circuit.gates if gate.kind in REPLACEABLE_KINDS)
-    separate = replaceable if len(replaceable) > MAX_SEARCHED_GATES else frozenset[int]()
+    separate = replaceable if len(replaceable) > MAX_CONE_SEARCHES else frozenset[int]()
     while True:
         cleaner = Cleaner(circuit, separate)
         lines = cleaner.run()

@@ -3,7 +3,7 @@
 from typing import Iterable
 
 from ..texts.certificates import MAX_CUTS, MAX_USES
-from ..texts.circuits import Circuit, evaluate
+from ..texts.circuits import Circuit, evaluate_gates
 
 
 def few_cuts_and_uses(circuit: Circuit, wires: Iterable[str], used: Iterable[int]) -> tuple[set[str], set[int]]:
@@ -65,10 +65,10 @@ def cone_for_inverse_gate(circuit: Circuit, number: int) -> tuple[list[str], lis
         cuts = sorted({wire for own in used for wire in circuit.gates[own].ins} - defined)
         if len(cuts) <= MAX_CUTS:
             order = sorted(used)
-            values = evaluate(circuit, cuts, order)
+            values = evaluate_gates(circuit, cuts, order)
             index = order.index(number)
-            before = values.rows[order[index - 1]] if index else values.full
-            if values.rows[number] == before:
+            before = values.defined_columns_by_gate[order[index - 1]] if index else values.full
+            if values.defined_columns_by_gate[number] == before:
                 return cuts, order
         makers = [circuit.maker[wire].number for wire in cuts if wire in circuit.maker]
         if not makers:

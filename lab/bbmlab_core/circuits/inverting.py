@@ -3,9 +3,9 @@ Toffoli 1982).
 """
 
 from ..host.terminal import LabError
-from ..texts.circuits import Circuit, Gate, Valuation, evaluate_choices
+from ..texts.circuits import Circuit, Gate, WireTables, evaluate_all_or_samples
 from .gate_lines import reread_circuit, constant_gate
-from .row_check import first_gate_without_row
+from .row_check import first_missing_row_words
 
 # Up to so many inputs all choices are tried, and above them so many samples.
 MAX_EXHAUSTIVE_INPUTS = 16
@@ -14,20 +14,20 @@ INVERSES = {"fredkin": "fredkin", "cswap": "cswap", "delay": "delay", "switch": 
             "interact": "uninteract", "uninteract": "interact"}
 
 
-def values_of(circuit: Circuit) -> Valuation:
+def values_of(circuit: Circuit) -> WireTables:
     """Returns the values of a circuit's wires, in all choices of up to 16 inputs, or in samples."""
-    return evaluate_choices(circuit, MAX_EXHAUSTIVE_INPUTS, SAMPLE_COUNT)
+    return evaluate_all_or_samples(circuit, MAX_EXHAUSTIVE_INPUTS, SAMPLE_COUNT)
 
 
-def constant_bit(values: Valuation, name: str) -> int | None:
+def bit_if_constant(values: WireTables, name: str) -> int | None:
     """Returns the bit that a wire always is, or None if it changes."""
     return 1 if values.tables[name] == values.full else 0 if values.tables[name] == 0 else None
 
 
-def inputs_for_bit_words(values: Valuation, name: str, bit: int) -> str:
+def example_inputs_words(values: WireTables, name: str, bit: int) -> str:
     """Says with which inputs on a wire is a bit."""
     table = values.tables[name] if bit else values.full ^ values.tables[name]
-    on = values.true_names((table & -table).bit_length() - 1)
+    on = values.true_free_wires((table & -table).bit_length() - 1)
     return f"with {' '.join(on[:12])}{' and more' if len(on) > 12 else ''} on" if on else "with no input on"
 
 
@@ -45,10 +45,10 @@ def inverse(circuit: Circuit) -> Circuit:
     values = values_of(circuit)
     gates = []
     for name in circuit.spills:
-        bit = constant_bit(values, name)
+        bit = bit_if_constant(values, name)
         if bit is None:
-            raise LabError(f"there is no inverse: the garbage `{name}` is 1 {inputs_for_bit_words(values, name, 1)} "
-                           f"and 0 {inputs_for_bit_words(values, name, 0)}, so no constant can take its place. Make it "
+            raise LabError(f"there is no inverse: the garbage `{name}` is 1 {example_inputs_words(values, name, 1)} "
+                           f"and 0 {example_inputs_words(values, name, 0)}, so no constant can take its place. Make it "
                            "an output", 1)
         gates.append(constant_gate(bit, name))
     gates += [Gate(INVERSES[gate.kind], tuple(gate.outs), tuple(gate.ins), gate.parameter)
@@ -61,7 +61,7 @@ def inverse(circuit: Circuit) -> Circuit:
 
 def require_rows(circuit: Circuit, what: str) -> None:
     """Raises LabError if an inverse gate of a circuit has no row at some inputs."""
-    why = first_gate_without_row(circuit)
+    why = first_missing_row_words(circuit)
     if why is not None:
         raise LabError(f"{what} has no values at some inputs: {why.partition(': ')[0]}", 1)
 
@@ -74,7 +74,7 @@ def require_constants_returned(circuit: Circuit, back: Circuit) -> None:
         if gate.kind != "source":
             continue
         name, bit = gate.outs[0], gate.parameter or 0
-        if constant_bit(values, name) != bit:
-            raise LabError(f"there is no inverse: {inputs_for_bit_words(values, name, 1 - bit)}, the constant `{name}` "
+        if bit_if_constant(values, name) != bit:
+            raise LabError(f"there is no inverse: {example_inputs_words(values, name, 1 - bit)}, the constant `{name}` "
                            f"comes back as {1 - bit} and not as {bit}. The circuit never has these outputs. Make "
                            f"`{name}` an input", 1)

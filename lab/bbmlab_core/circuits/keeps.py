@@ -9,14 +9,14 @@ import random
 from typing import Iterable, Iterator
 
 from ..texts.certificates import MAX_CUTS, MAX_USES
-from ..texts.circuits import Circuit, evaluate, evaluate_under
+from ..texts.circuits import Circuit, evaluate_gates, evaluate_under
 from .cones import few_cuts_and_uses, cone_for_inverse_gate
 
 # The assignments that are sampled, the sets of gates of one size that are looked at further, and the gates that are run
 # at most to add gates, and to leave gates out: less than a second each.
 SAMPLE_COUNT = 1024
 BEAM_WIDTH = 4
-MOST_GATE_RUNS = 60_000
+MAX_GATE_RUNS = 60_000
 
 GateSet = frozenset[int]
 Cone = tuple[list[str], list[int]]
@@ -43,7 +43,7 @@ class KeepSearch:
 
     def __init__(self, circuit: Circuit, number: int) -> None:
         self.circuit, self.number = circuit, number
-        self.before = circuit.cone(circuit.gates[number].ins)[1]
+        self.before = circuit.cone_inputs_and_gates(circuit.gates[number].ins)[1]
         chance = random.Random(1)
         # A sample of assignments for each wire, if it is cut.
         self.samples = {wire: chance.getrandbits(SAMPLE_COUNT) for wire in circuit.wires}
@@ -56,7 +56,7 @@ class KeepSearch:
         if len(necessary) >= MAX_USES:
             return None
         core = frozenset({*necessary, self.number})
-        return (self.cone_if_valid(self.minimum_cut_gates(core)) or self.cone_by_growth(core)
+        return (self.cone_if_valid(self.gates_inside_minimum_cut(core)) or self.cone_by_growth(core)
                 or self.cone_by_removal(core))
 
     def wires_into(self, gates: Iterable[int]) -> set[str]:
@@ -64,23 +64,24 @@ class KeepSearch:
         own = [self.circuit.gates[number] for number in gates]
         return {wire for gate in own for wire in gate.ins} - {wire for gate in own for wire in gate.outs}
 
-    def missing_row_count(self, gates: GateSet) -> int:
+    def rowless_sample_count(self, gates: GateSet) -> int:
         """Returns under how many of the sampled assignments the inverse gate, the last of some gates, has no row while
         the others have theirs."""
         self.runs += len(gates)
         full, order = (1 << SAMPLE_COUNT) - 1, sorted(gates)
         rows = evaluate_under(self.circuit, {wire: self.samples[wire] for wire in self.wires_into(gates)}, full,
-                              order).rows
+                              order).defined_columns_by_gate
         return ((rows[order[-2]] if len(order) > 1 else full) & ~rows[self.number]).bit_count()
 
     def cone_if_valid(self, gates: GateSet) -> Cone | None:
         """Returns the wires that cut gates off, and the gates, if they are few enough and show the row under all
         assignments."""
         cuts, order = sorted(self.wires_into(gates)), sorted(gates)
-        if len(cuts) > MAX_CUTS or len(order) > MAX_USES or self.missing_row_count(gates):
+        if len(cuts) > MAX_CUTS or len(order) > MAX_USES or self.rowless_sample_count(gates):
             return None
-        values = evaluate(self.circuit, cuts, order)
-        if values.rows[self.number] != (values.rows[order[-2]] if len(order) > 1 else values.full):
+        values = evaluate_gates(self.circuit, cuts, order)
+        if values.defined_columns_by_gate[self.number] != (values.defined_columns_by_gate[order[-2]] if len(order) > 1
+                                                           else values.full):
             return None
         least, uses = few_cuts_and_uses(self.circuit, cuts, order)
         return (cuts, order) if len(least) <= MAX_CUTS and len(uses) <= MAX_USES else None
@@ -90,7 +91,7 @@ class KeepSearch:
         module can use."""
         every, found = frozenset({*self.before, self.number}), list[int]()
         for number in reversed(self.before):
-            if self.missing_row_count(every - {number}):
+            if self.rowless_sample_count(every - {number}):
                 found.append(number)
             if len(found) >= MAX_USES:
                 break
@@ -101,15 +102,15 @@ class KeepSearch:
         """Returns what is found by adding gates to a core, those first that leave the fewest assignments without a row.
         """
         level, seen = [core], {core}
-        while level and self.runs < MOST_GATE_RUNS:
+        while level and self.runs < MAX_GATE_RUNS:
             ranked: list[tuple[int, int, int, GateSet]] = []
             for larger in self.larger_gate_sets(level):
                 if larger in seen or len(larger) > MAX_USES:
                     continue
                 seen.add(larger)
-                lacking = self.missing_row_count(larger)
+                lacking = self.rowless_sample_count(larger)
                 found = None if lacking else self.cone_if_valid(larger) or self.cone_if_valid(
-                    self.minimum_cut_gates(larger))
+                    self.gates_inside_minimum_cut(larger))
                 if found:
                     return found
                 ranked.append((lacking, len(self.wires_into(larger)), len(ranked), larger))
@@ -121,14 +122,14 @@ class KeepSearch:
         for gates in level:
             for wire in sorted(self.wires_into(gates)):
                 if wire in self.circuit.maker:
-                    yield self.with_source_gates(gates | {self.circuit.maker[wire].number})
+                    yield self.with_constant_gates(gates | {self.circuit.maker[wire].number})
 
     def cone_by_removal(self, core: GateSet) -> Cone | None:
         """Returns what is found by leaving gates out of all before the inverse gate, those first that leave the fewest
         wires to cut."""
         self.runs = 0
         level, seen = [frozenset({*self.before, self.number})], set[GateSet]()
-        while level and self.runs < MOST_GATE_RUNS:
+        while level and self.runs < MAX_GATE_RUNS:
             ranked: list[tuple[int, int, GateSet]] = []
             for smaller in (gates - {number} for gates in level for number in sorted(gates - core)):
                 if smaller in seen:
@@ -136,7 +137,7 @@ class KeepSearch:
                 seen.add(smaller)
                 count = len(self.wires_into(smaller))
                 # One wire too many may still be led back to one gate.
-                if count > MAX_CUTS + 1 or self.missing_row_count(smaller):
+                if count > MAX_CUTS + 1 or self.rowless_sample_count(smaller):
                     continue
                 found = self.cone_if_valid(smaller)
                 if found:
@@ -145,19 +146,19 @@ class KeepSearch:
             level = [gates for _, _, gates in sorted(ranked, key=lambda own: own[:2])[:BEAM_WIDTH]]
         return None
 
-    def with_source_gates(self, gates: GateSet) -> GateSet:
+    def with_constant_gates(self, gates: GateSet) -> GateSet:
         """Returns gates with the sources of their wires, which need no wire themselves."""
         makers = [self.circuit.maker.get(wire) for wire in self.wires_into(gates)]
         return gates | {maker.number for maker in makers if maker and not maker.ins}
 
-    def minimum_cut_gates(self, core: GateSet) -> GateSet:
+    def gates_inside_minimum_cut(self, core: GateSet) -> GateSet:
         """Returns the fewest gates with a core that the fewest wires cut off (Ford and Fulkerson 1956: a flow of one
         unit for each wire)."""
         flow: set[str] = set()
         while True:
             reached, wire = self.gates_with_spare_flow(core, flow)
             if wire is None:
-                return self.with_source_gates(frozenset(reached))
+                return self.with_constant_gates(frozenset(reached))
             number = self.consumer[wire]
             flow ^= {wire}
             while number not in core:

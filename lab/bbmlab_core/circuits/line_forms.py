@@ -42,7 +42,7 @@ class LineNetwork:
         self.constants[name] = bit
         return name
 
-    def zero_line(self) -> str:
+    def take_zero_line(self) -> str:
         """Returns a line that is 0."""
         return self.free.pop() if self.free else self.add_constant_line(self.book.fresh_name("zero"), 0)
 
@@ -59,7 +59,7 @@ class LineNetwork:
             outs = [control, other, one] if word == "fredkin" else ins
         elif word == "switch":
             control, other = ins
-            outs = [control, self.zero_line(), other]
+            outs = [control, self.take_zero_line(), other]
             self.steps.append(([control], [other, outs[1]]))
         elif word == "unswitch":
             control, high, low = ins
@@ -68,7 +68,7 @@ class LineNetwork:
             self.free.append(high)
         elif word == "interact":
             one, other = ins
-            both, again = self.zero_line(), self.zero_line()
+            both, again = self.take_zero_line(), self.take_zero_line()
             self.steps += [([one, other], [both]), ([both], [again]), ([both], [one]), ([both], [other])]
             outs = [both, other, one, again]
         else:

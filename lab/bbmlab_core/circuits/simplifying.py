@@ -12,10 +12,10 @@ from .netlists.graph import FALSE, TRUE, Graph, Literal
 
 # The most passes, each of which makes the circuit smaller, and the most inverse gates that are searched for a cone.
 MAX_PASSES = 200
-MAX_SEARCHED_GATES = 1000
+MAX_CONE_SEARCHES = 1000
 
 
-class ConstantFolder:
+class SimplifyingPass:
     """One pass from the first gate to the last: folds constants, and removes pairs of gates of which the second undoes
     the first."""
 
@@ -174,8 +174,8 @@ class ConstantFolder:
         if control and self.literals[now[0]] | 1 != self.literals[ins[0]] | 1:
             return False
         is_opposite = control and self.literals[now[0]] != self.literals[ins[0]]
-        found = is_returned_in_order(before.kind, gate.kind, parts == wires[control:], parts[::-1] == wires[control:],
-                                     is_opposite)
+        found = order_of_returned_inputs(before.kind, gate.kind, parts == wires[control:],
+                                         parts[::-1] == wires[control:], is_opposite)
         if found is None:
             return False
         back = now[control:] if found else now[control:][::-1]
@@ -187,7 +187,7 @@ class ConstantFolder:
         return True
 
 
-def is_returned_in_order(first: str, second: str, is_same: bool, is_turned: bool, is_opposite: bool) -> bool | None:
+def order_of_returned_inputs(first: str, second: str, is_same: bool, is_turned: bool, is_opposite: bool) -> bool | None:
     """Returns whether a gate gives the inputs of an earlier one back in their order, False if in the other one, and
     None if it does not.
 
@@ -247,7 +247,7 @@ def without_dead_gates(lines: Circuit) -> Circuit:
 
 def with_shared_garbage(lines: Circuit) -> Circuit:
     """Returns a circuit in which garbage takes the place of wires with its values, if a gate is dead then."""
-    folder, spare = ConstantFolder(lines), list(lines.spills)
+    folder, spare = SimplifyingPass(lines), list(lines.spills)
     literals = folder.literals
     for gate in lines.gates:
         ins = [literals[name] for name in gate.ins]
@@ -291,10 +291,10 @@ def with_exchanged_uses(lines: Circuit, swaps: dict[str, str]) -> Circuit:
     return Circuit(lines.inputs, tuple(gates), lines.outputs, named(tuple(spills)))
 
 
-def kept_inverse_count(circuit: Circuit) -> int:
+def keepable_inverse_count(circuit: Circuit) -> int:
     """Returns how many inverse gates a cone keeps, or 0 for a circuit with too many of them."""
     inverse = [gate.number for gate in circuit.gates if gate.is_inverse]
-    if len(inverse) > MAX_SEARCHED_GATES:
+    if len(inverse) > MAX_CONE_SEARCHES:
         return 0
     return sum(cone_for_inverse_gate(circuit, number) is not None for number in inverse)
 
@@ -303,7 +303,7 @@ def simplified_by_passes(lines: Circuit, may_share: bool) -> Circuit:
     """Returns a circuit after passes that change it no more."""
     for _ in range(MAX_PASSES):
         before = lines
-        lines = without_dead_gates(ConstantFolder(lines).run())
+        lines = without_dead_gates(SimplifyingPass(lines).run())
         lines = without_dead_gates(with_shared_garbage(lines)) if may_share else lines
         if lines == before:
             break
@@ -321,7 +321,7 @@ def simplify(circuit: Circuit) -> Circuit:
     for may_share in (True, False):
         found = simplified_by_passes(lines, may_share)
         result = reread_circuit(found)
-        lost = sum(gate.is_inverse for gate in result.gates) - kept_inverse_count(result)
-        if not lost or lost <= sum(gate.is_inverse for gate in circuit.gates) - kept_inverse_count(circuit):
+        lost = sum(gate.is_inverse for gate in result.gates) - keepable_inverse_count(result)
+        if not lost or lost <= sum(gate.is_inverse for gate in circuit.gates) - keepable_inverse_count(circuit):
             return found
     return lines

@@ -6,7 +6,7 @@ from collections import Counter
 from typing import Iterator
 
 from ..host.terminal import LabError
-from ..texts.circuits import Circuit, Valuation, evaluate_choices, evaluate_under, values_under
+from ..texts.circuits import Circuit, WireTables, evaluate_all_or_samples, evaluate_under, values_and_undefined_gate
 from ..texts.documents import Document
 
 # Up to so many inputs a table has all rows, and two circuits are compared in all.
@@ -15,7 +15,7 @@ MAX_EXHAUSTIVE_INPUTS = 16
 SAMPLE_COUNT = 4096
 
 
-def table_rows(circuit: Circuit, on: list[str] | None) -> Iterator[list[str]]:
+def table_with_header(circuit: Circuit, on: list[str] | None) -> Iterator[list[str]]:
     """Yields the names of the columns, and then each row: inputs and outputs, or the gate without a row.
 
     The first input changes last.
@@ -24,7 +24,7 @@ def table_rows(circuit: Circuit, on: list[str] | None) -> Iterator[list[str]]:
     found = inputs_on_by_row(circuit, on)
     yield [*inputs, *circuit.outputs]
     for chosen in found:
-        values, undefined = values_under(circuit, chosen)
+        values, undefined = values_and_undefined_gate(circuit, chosen)
         bits = [str(int(name in chosen)) for name in inputs]
         if undefined is None:
             yield bits + [str(int(values[name])) for name in circuit.outputs]
@@ -79,7 +79,7 @@ def circuit_figures(circuit: Circuit) -> list[tuple[str, str]]:
             ("depth", str(depth(circuit))), ("width", str(peak_wire_count(circuit)))]
 
 
-def section_figures(document: Document) -> list[tuple[str, str]]:
+def document_figures(document: Document) -> list[tuple[str, str]]:
     """Returns the figures of a text's sections."""
     found = circuit_figures(document.circuit) if document.circuit else []
     layout = document.layout
@@ -94,15 +94,15 @@ def section_figures(document: Document) -> list[tuple[str, str]]:
     return found
 
 
-def values_of_both(one: Circuit, other: Circuit) -> tuple[Valuation, Valuation]:
+def values_of_both(one: Circuit, other: Circuit) -> tuple[WireTables, WireTables]:
     """Returns the values of two circuits with the same inputs, in all choices of up to 16 inputs, or else in samples.
     """
-    values = evaluate_choices(one, MAX_EXHAUSTIVE_INPUTS, SAMPLE_COUNT)
+    values = evaluate_all_or_samples(one, MAX_EXHAUSTIVE_INPUTS, SAMPLE_COUNT)
     free = {name: values.tables[name] for name in one.inputs}
     return values, evaluate_under(other, free, values.full, range(len(other.gates)))
 
 
-def output_difference(one: Circuit, other: Circuit, is_of_common: bool = False) -> tuple[str, str]:
+def difference_and_scope_words(one: Circuit, other: Circuit, is_of_common: bool = False) -> tuple[str, str]:
     """Returns how two circuits differ, or nothing, and in which inputs they were compared. Inputs and outputs are
     matched by their names.
 
@@ -121,7 +121,7 @@ def output_difference(one: Circuit, other: Circuit, is_of_common: bool = False) 
         unequal = (mine.tables[name] ^ theirs.tables[name]) | (mine.defined_columns ^ theirs.defined_columns)
         if unequal:
             column = (unequal & -unequal).bit_length() - 1
-            on = " ".join(mine.true_names(column)) or "no input"
+            on = " ".join(mine.true_free_wires(column)) or "no input"
             return f"with {on} on, {name} differs", mine.choices_words
     if len(one.inputs) <= MAX_EXHAUSTIVE_INPUTS:
         return "", mine.choices_words

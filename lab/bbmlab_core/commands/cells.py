@@ -4,7 +4,7 @@ import argparse
 
 from ..host.terminal import LabError, read_text, write_text
 from ..physics import standard_cells
-from ..texts.designs import read_design
+from ..texts.designs import read_layout_file
 from .draw import picture_of
 
 
@@ -15,7 +15,7 @@ def run(options: argparse.Namespace) -> int:
             raise LabError("--svg and --bundle need the name of a cell", 2)
         text = "\n\n".join(standard_cells.read_cell(name).text() for name in standard_cells.cell_names()) + "\n"
     elif options.svg:
-        text = picture_of(read_design(str(standard_cells.cell_path(options.cell))), None, None)
+        text = picture_of(read_layout_file(str(standard_cells.cell_path(options.cell))), None, None)
     elif options.bundle:
         text = read_text(str(standard_cells.cell_path(options.cell)))
     else:

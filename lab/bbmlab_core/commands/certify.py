@@ -3,7 +3,7 @@
 import argparse
 
 from ..certify.certifier import CertificateOptions, certified_text, legal_grid_boxes
-from ..host.program import BadProgramError, ProgramTimeout, ask, find_program
+from ..host.program import BadProgramError, ProgramTimeout, ask, find_and_open_program
 from ..host.terminal import LabError, read_text, tell, write_text
 from ..texts.certificates import MAX_BOX_SIDE
 from ..texts.documents import Document, read_document
@@ -21,7 +21,7 @@ def run(options: argparse.Namespace) -> int:
     # A plain certificate has no cuts to choose: the program's no to it is about the layout, and shows where it is
     # wrong.
     plan = CertificateOptions(options.version_of_text, "safe" if options.plain else options.cuts,
-                              is_tried=not options.plain)
+                              runs_modules=not options.plain)
     # Only the stops of an old certificate are kept.
     old = read_document(text, "check") if "\nstop " in text else document
     if old.certificate and not old.refusal:
@@ -32,7 +32,7 @@ def run(options: argparse.Namespace) -> int:
     bundle = certified_text(document, chosen_boxes(options, document.layout), plan, notes)
     for note in notes:
         tell(note)
-    status = print_verdict(bundle, options)
+    status = check_and_tell(bundle, options)
     write_text(options.output, bundle, [options.file])
     return status
 
@@ -78,14 +78,14 @@ def boxes_of_file(file: str, layout: Layout) -> list[Box]:
     return found
 
 
-def print_verdict(bundle: str, options: argparse.Namespace) -> int:
+def check_and_tell(bundle: str, options: argparse.Namespace) -> int:
     """Prints on standard error what the program says of the bundle.
 
     Returns 0 after a yes, 1 after a no or a refusal, and 4 without an answer. A yes is status 0 and the line `verdict
     yes` together.
     """
     try:
-        answer = ask(find_program(options.program), "check", bundle.encode("latin-1"), options.timeout)
+        answer = ask(find_and_open_program(options.program), "check", bundle.encode("latin-1"), options.timeout)
     except (BadProgramError, ProgramTimeout) as error:
         tell(f"the certificate was not checked: {error}")
         return 4

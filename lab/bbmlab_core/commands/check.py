@@ -2,12 +2,12 @@
 
 import argparse
 
-from ..farm.checking import Checker, exit_status, text_files
+from ..farm.checking import Checker, exit_status, files_to_check
 from ..farm.progress import Progress
 from ..farm.receipts import ReceiptFolder
 from ..farm.results import WRITERS, ResultWriter
 from ..farm.sharding import is_in_shard
-from ..host.program import find_program
+from ..host.program import find_and_open_program
 from ..host.releases import identity_of
 from ..host.signals import Stopped
 from ..host.terminal import LabError, tell
@@ -15,7 +15,7 @@ from ..host.terminal import LabError, tell
 
 def checker_for(options: argparse.Namespace) -> Checker:
     """Returns what checks the files: processes here, or the workers of a Dask cluster."""
-    program = find_program(options.program)
+    program = find_and_open_program(options.program)
     if options.again and not options.receipts:
         raise LabError("--again is for --receipts", 2)
     if options.send_program and options.dask is None:
@@ -29,7 +29,7 @@ def checker_for(options: argparse.Namespace) -> Checker:
 
 def run(options: argparse.Namespace) -> int:
     """Checks all files. A signal ends all programs that run, and the results so far are written."""
-    files = [file for file in text_files(options.files, tell) if is_in_shard(file, options.shard)]
+    files = [file for file in files_to_check(options.files, tell) if is_in_shard(file, options.shard)]
     checker = checker_for(options)
     if options.only and options.format in ("tap", "junit"):
         raise LabError("--only is for the formats text, json and jsonl: TAP and JUnit count all files", 2)
@@ -37,7 +37,7 @@ def run(options: argparse.Namespace) -> int:
     writer.begin(files)
     counts: dict[str, int] = {}
     try:
-        is_contradicted = write_results(checker, files, writer, counts)
+        is_contradicted = check_and_write(checker, files, writer, counts)
     except Stopped as signal:
         writer.end(signal.name)
         return signal.status
@@ -45,7 +45,7 @@ def run(options: argparse.Namespace) -> int:
     return exit_status(counts)
 
 
-def write_results(checker: Checker, files: list[str], writer: ResultWriter, counts: dict[str, int]) -> bool:
+def check_and_write(checker: Checker, files: list[str], writer: ResultWriter, counts: dict[str, int]) -> bool:
     """Writes each result as it comes, and counts it.
 
     Returns whether the program contradicts itself, which ends the run.
@@ -57,7 +57,7 @@ def write_results(checker: Checker, files: list[str], writer: ResultWriter, coun
                 progress.done += 1
                 counts[result.result] = counts.get(result.result, 0) + 1
                 progress.hide()
-                writer.take_result(result)
+                writer.list_or_count(result)
                 if result.is_fatal:
                     return True
             progress.show_if_due(result.file if result else "")

@@ -15,7 +15,7 @@ from ..circuits.line_forms import qasm_text, real_text
 from ..circuits.netlists import ReadingOptions
 from ..circuits.simplifying import simplify
 from ..host.terminal import LabError, read_text, tell, write_bytes, write_text
-from ..route.command import circuit_of
+from ..route.command import read_circuit
 from ..texts.circuits import Circuit, evaluate_under
 from ..texts.documents import read_document
 from ..texts.limits import limits_for, with_limits_line
@@ -27,14 +27,14 @@ TEXT_WRITERS = {"aiger": aiger_text, "blif": blif_text, "dot": dot_text, "qasm":
 
 def run_circuit(options: argparse.Namespace) -> int:
     """Writes the circuit of a file: in the one spelling, or in the form of another tool."""
-    text, circuit = circuit_of(options.file, ReadingOptions.from_options(options))
+    text, circuit = read_circuit(options.file, ReadingOptions.from_options(options))
     text = with_limits_line(text, limits_for(gates=len(circuit.gates), wires=len(circuit.wires)))
     try:
         for change in chosen_changes(options):
             lines, before = change(circuit), circuit
             text, circuit = text_of_section(lines), reread_circuit(lines)
             if before.outputs:
-                tell(f"the new circuit was compared with the one before {agreement_words(change, before, circuit)}")
+                tell(f"the new circuit was compared with the one before {require_agreement(change, before, circuit)}")
     except LabError as error:
         raise LabError(f"{options.file}: {error}", error.status) from error
     if options.clean and any(name.endswith("_not") for name in circuit.outputs):
@@ -43,13 +43,13 @@ def run_circuit(options: argparse.Namespace) -> int:
     return 0
 
 
-def agreement_words(change: Callable[[Circuit], Circuit], before: Circuit, after: Circuit) -> str:
+def require_agreement(change: Callable[[Circuit], Circuit], before: Circuit, after: Circuit) -> str:
     """Returns in which inputs a changed circuit has the values that it should have, in words.
 
     Raises LabError where it has others.
     """
     differs, scope = (inverse_difference(before, after) if change is inverse
-                      else truth.output_difference(before, after, True))
+                      else truth.difference_and_scope_words(before, after, True))
     if differs:
         raise LabError(f"the new circuit is wrong: {differs}. This is a fault of the lab", 1)
     return scope
@@ -76,9 +76,9 @@ def chosen_changes(options: argparse.Namespace) -> list[Callable[[Circuit], Circ
 
 def run_table(options: argparse.Namespace) -> int:
     """Writes the rows of a circuit's values."""
-    _, circuit = circuit_of(options.file, ReadingOptions.from_options(options))
+    _, circuit = read_circuit(options.file, ReadingOptions.from_options(options))
     on = None if options.on is None else [name for name in options.on.split(",") if name]
-    rows = truth.table_rows(circuit, on)
+    rows = truth.table_with_header(circuit, on)
     out = io.StringIO()
     if options.csv:
         csv.writer(out, lineterminator="\n").writerows(rows)
@@ -103,9 +103,9 @@ def run_stats(options: argparse.Namespace) -> int:
     text = read_text(options.file)
     document = read_document(text, "check")
     if document.circuit is None or document.layout is None or not document.layout.width:
-        found = truth.circuit_figures(circuit_of(options.file, ReadingOptions.from_options(options), text)[1])
+        found = truth.circuit_figures(read_circuit(options.file, ReadingOptions.from_options(options), text)[1])
     else:
-        found = truth.section_figures(document)
+        found = truth.document_figures(document)
     longest = max(len(name) for name, _ in found)
     write_text(options.output, "".join(f"{name.ljust(longest)} {value}\n" for name, value in found))
     return 0
@@ -115,7 +115,7 @@ def run_equal(options: argparse.Namespace) -> int:
     """Says whether two circuits have the same outputs, and returns 0 only if they have."""
     if options.file == "-" and options.other == "-":
         raise LabError("only one of two files can be standard input", 2)
-    one, other = circuit_of(options.file)[1], circuit_of(options.other)[1]
-    differs, scope = truth.output_difference(one, other, options.common)
+    one, other = read_circuit(options.file)[1], read_circuit(options.other)[1]
+    differs, scope = truth.difference_and_scope_words(one, other, options.common)
     print(f"not equal: {differs}" if differs else f"equal {scope}")
     return 1 if differs else 0

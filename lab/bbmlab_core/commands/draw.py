@@ -7,7 +7,7 @@ from ..physics import tracing
 from ..pictures import drawing
 from ..pictures.picture_parts import PictureOptions, wanted_wires, with_others_grouped
 from ..texts.circuits import Circuit
-from ..texts.designs import read_design, report_for
+from ..texts.designs import read_layout_file, report_from_option
 from ..texts.documents import Document
 from ..texts.layouts import Box, Layout
 from ..texts.reports import ReportOrRefusal
@@ -21,26 +21,27 @@ def picture_of(design: tuple[Document, Layout], names: str | None, time: int | N
     is_large = max(layout.width, layout.height) > drawing.LARGE_SIDE
     on = tracing.chosen_inputs(document, names)
     under = f" with {' '.join(on) or 'no input'} on"
-    picture = drawing.Drawing(modules=list(document.certificate.modules) if document.certificate and not is_large
-                              else [], view=visible_box(look, layout), ball=look.ball, has_arrows=look.has_arrows)
+    modules = list(document.certificate.modules) if document.certificate and not is_large else []
+    picture = drawing.Drawing(modules=modules, view=visible_box(look, layout), least_ball_size=look.least_ball_size,
+                              has_arrows=look.has_arrows)
     if is_large and document.circuit:
-        picture.gates = gate_boxes(document.text, document.circuit)
+        picture.gates = boxes_with_gates(document.text, document.circuit)
     if time is None:
-        picture.ways, picture.labels = drawing.ball_ways(document, on if names is not None else None, layout.steps,
-                                                         look.has_arrows)
+        picture.ways, picture.wire_labels = drawing.ball_ways_and_labels(document, on if names is not None else None,
+                                                                         layout.steps, look.has_arrows)
         picture.title = "ways of the balls" + (under if names is not None else drawing.sampled_words(document))
     else:
         picture.live, picture.title = tracing.state_at(layout, on, time), f"time {time}{under}"
     wanted = wanted_wires(look, document.circuit, tracing.input_names(layout))
     if wanted:
-        picture.ways = with_others_grouped(picture.ways, picture.labels, wanted)
+        picture.ways = with_others_grouped(picture.ways, picture.wire_labels, wanted)
     for finding in report.faults if report else []:
         if "x" in finding.values:
             picture.faults.append(((finding.number("x"), finding.number("y")), finding.text))
     # In a large layout dashes cannot be told apart.
     most = len(drawing.COLOURS) if is_large else drawing.MAX_LEGEND
-    wires = drawing.group_by_levels(picture, document.circuit,
-                                    most) if document.circuit else tracing.input_names(layout)
+    wires = drawing.group_ways_by_level(picture, document.circuit,
+                                        most) if document.circuit else tracing.input_names(layout)
     return drawing.svg(layout, picture, wires)
 
 
@@ -51,11 +52,12 @@ def visible_box(look: PictureOptions, layout: Layout) -> Box | None:
     box = look.crop
     right, bottom = min(box.x + box.width, layout.width), min(box.y + box.height, layout.height)
     if right <= box.x or bottom <= box.y:
-        raise LabError(f"the part {box.words} lies outside the layout of {layout.width} by {layout.height} cells")
+        raise LabError(f"the part {box.numbers_text} lies outside the layout of {layout.width} by {layout.height} "
+                       "cells")
     return Box(box.x, box.y, right - box.x, bottom - box.y)
 
 
-def gate_boxes(text: str, circuit: Circuit) -> list[tuple[Box, list[str]]]:
+def boxes_with_gates(text: str, circuit: Circuit) -> list[tuple[Box, list[str]]]:
     """Returns the boxes of the modules of a certificate that use gates and are larger than the smallest module, with
     the gates."""
     found = []
@@ -74,7 +76,7 @@ def run(options: argparse.Namespace) -> int:
                           options.ball)
     if (look.wires or look.cone or look.has_arrows) and not options.ways:
         raise LabError("--wires, --cone and --arrows need --ways")
-    design = read_design(options.file, has_certificate=bool(options.report))
-    report = report_for(options, design[0])
+    design = read_layout_file(options.file, has_certificate=bool(options.report))
+    report = report_from_option(options, design[0])
     write_text(options.output, picture_of(design, options.on, None if options.ways else options.time, report, look))
     return 0

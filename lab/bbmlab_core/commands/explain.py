@@ -7,8 +7,8 @@ from ..explain import explaining
 from ..explain.explaining import ExplainedAnswer
 from ..explain.fixing import Fixer, outcome_words
 from ..explain.trials import Budget, TrialRunner
-from ..farm.answering import why_no_verdict
-from ..host.program import Executable, BadProgramError, ask, find_program
+from ..farm.answering import why_bad_answer
+from ..host.program import Executable, BadProgramError, ask, find_and_open_program
 from ..host.terminal import LabError, coloured, read_text, tell, wrapped_paragraph, write_bytes
 from ..texts.cell_pictures import LEGEND
 from ..texts.documents import command_for, read_document
@@ -29,20 +29,20 @@ def run(options: argparse.Namespace) -> int:
                                              "circuit": "value"}.get(command_for(text), command_for(text))
     program = program_of(options)
     if options.fix:
-        return write_fix(text, command, program, options)
+        return find_and_write_fix(text, command, program, options)
     by_lab = False
     if options.report:
         output = read_text(options.report)
     elif program:
-        output = program_answer(program, command, text, options)
+        output = program_output(program, command, text, options)
     else:
         refusal = read_document(text, command).refusal
         if refusal is None:
-            find_program(options.program)
+            find_and_open_program(options.program)
             raise LabError("The lab's reader takes the text, but only the program gives a verdict.")
         output, by_lab = f"refused {refusal.line} {refusal.code}\n", True
-    explanation = explaining.explain_answer(text, command, output, options.file,
-                                            TrialRunner(program, Budget(seconds=options.effort, is_of_search=True)))
+    trial = TrialRunner(program, Budget(seconds=options.effort, is_counted_from_search=True))
+    explanation = explaining.explain_answer(text, command, output, options.file, trial)
     if by_lab:
         explanation.headline.append("The program was not found: this is the lab's reading, and no verdict.")
     return write_explanation(explanation, options)
@@ -51,30 +51,30 @@ def run(options: argparse.Namespace) -> int:
 def program_of(options: argparse.Namespace) -> Executable | None:
     """Returns the program, or None if it is not found."""
     try:
-        return find_program(options.program)
+        return find_and_open_program(options.program)
     except BadProgramError:
         return None
 
 
-def program_answer(program: Executable, command: str, text: str, options: argparse.Namespace) -> str:
+def program_output(program: Executable, command: str, text: str, options: argparse.Namespace) -> str:
     """Returns what a command of the program writes."""
     answer = ask(program, command, text.encode("latin-1"), options.timeout)
     if answer.status >= 4:
         raise LabError(f"the program answered: {answer.errors}")
-    why = why_no_verdict(answer) if command == "check" else None
+    why = why_bad_answer(answer) if command == "check" else None
     if why:
         raise LabError(f"the program gave no verdict: {why}")
     return answer.output
 
 
-def write_fix(text: str, command: str, program: Executable | None, options: argparse.Namespace) -> int:
+def find_and_write_fix(text: str, command: str, program: Executable | None, options: argparse.Namespace) -> int:
     """Writes the text with a fix; what it changes goes to standard error. Returns 0 only if the program says yes to it.
     """
     if command != "check":
         raise LabError("--fix takes a text with a circuit and a layout", 2)
     if options.in_place and (options.output or options.file == "-"):
         raise LabError("-i writes the file itself: it goes with a file, and without -o", 2)
-    report, trial = TrialRunner(program).report(text), TrialRunner(program, Budget(seconds=options.effort))
+    report, trial = TrialRunner(program).try_text(text), TrialRunner(program, Budget(seconds=options.effort))
     if report is None:
         raise LabError(f"{trial.judge_words} gave no answer")
     fixer = Fixer(text, report, trial)

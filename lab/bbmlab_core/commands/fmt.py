@@ -36,8 +36,8 @@ def run(options: argparse.Namespace) -> int:
 
 def write_in_place(file: str, spelling: Spelling, before: bytes, after: bytes, strips: bool) -> None:
     """Writes a file again if it changes. Comments are left out only if that is asked for."""
-    if spelling.comments and not strips:
-        count = f"{spelling.comments} comment{'s' if spelling.comments != 1 else ''}"
+    if spelling.comment_count and not strips:
+        count = f"{spelling.comment_count} comment{'s' if spelling.comment_count != 1 else ''}"
         raise LabError(f"{file}: its {count} would be lost, since the program takes no comments: use --strip-comments, "
                        "or -o FILE", 1)
     if after != before:

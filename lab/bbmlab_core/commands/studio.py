@@ -10,7 +10,7 @@ from contextlib import ExitStack
 from html import escape
 from pathlib import Path
 
-from ..host.program import BadProgramError, find_program
+from ..host.program import BadProgramError, find_and_open_program
 from ..host.terminal import LabError, tell
 from ..studio.answers import Answers
 from ..studio.folder import Folder
@@ -28,7 +28,7 @@ def run(options: argparse.Namespace) -> int:
         raise LabError(f"{options.file}: this is a folder")
     jobs = routes = None
     try:
-        program = find_program(options.program)
+        program = find_and_open_program(options.program)
         jobs = Jobs(program, options.timeout or 20.0, options.memory)
         routes = RouteSearches(str(program), options.memory)
     except BadProgramError as error:

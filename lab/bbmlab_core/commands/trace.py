@@ -2,15 +2,15 @@
 
 import argparse
 
-from ..host.program import BadProgramError, ProgramTimeout, ask, find_program
+from ..host.program import BadProgramError, ProgramTimeout, ask, find_and_open_program
 from ..host.terminal import LabError, tell, write_text
 from ..physics import tracing
-from ..texts.designs import read_design
+from ..texts.designs import read_layout_file
 
 
 def run(options: argparse.Namespace) -> int:
     """Writes the live cells at each time."""
-    document, layout = read_design(options.file, options.module is not None)
+    document, layout = read_layout_file(options.file, options.module is not None)
     last = layout.steps if options.to is None else options.to
     if options.start > last:
         raise LabError(f"--from {options.start} is later than --to {last}", 2)
@@ -21,25 +21,25 @@ def run(options: argparse.Namespace) -> int:
     else:
         on = tracing.chosen_inputs(document, options.on)
         trace = tracing.trace_layout(layout, on, options.start, last)
-        warn_of_difference(options, trace, tracing.text_for_run(tracing.layout_lines(document), on))
+        compare_with_program(options, trace, tracing.run_input(tracing.layout_section_lines(document), on))
     mirrors = layout.mirror_cells()
     write_text(options.output, tracing.as_json(trace, mirrors) if options.json
                else tracing.as_text(trace, mirrors, options.pictures))
-    return 1 if trace.left is not None else 0
+    return 1 if trace.leaving_step is not None else 0
 
 
-def warn_of_difference(options: argparse.Namespace, trace: tracing.Trace, text: bytes) -> None:
+def compare_with_program(options: argparse.Namespace, trace: tracing.Trace, text: bytes) -> None:
     """Compares the last state with the program's `run`, where there is a program, and says what came of it on standard
     error."""
     try:
-        answer = ask(find_program(options.program), "run", text, options.timeout)
+        answer = ask(find_and_open_program(options.program), "run", text, options.timeout)
     except (BadProgramError, ProgramTimeout) as error:
         tell(f"the last state was not compared: {error}")
         return
     if answer.status >= 3:
         tell(f"the last state was not compared: {answer.errors or answer.output.strip()}")
         return
-    differs = tracing.compare_with_run(trace, answer.output)
+    differs = tracing.difference_from_run(trace, answer.output)
     if differs:
         raise LabError(f"the lab's run is wrong: {differs}")
     tell("the last state is what the program's run says")

@@ -7,7 +7,7 @@ from pathlib import Path
 from ..farm.answering import RESULT_WORDS
 from ..farm.checking import exit_status
 from ..farm.receipts import SECTIONS, Receipt, ReceiptError, parse_receipt, section_digests, sha256
-from ..host.program import Answer, ask, find_program
+from ..host.program import Answer, ask, find_and_open_program
 from ..host.releases import known_releases
 from ..host.terminal import LabError, escape_controls, read_bytes
 
@@ -17,12 +17,12 @@ def read_receipt(name: str) -> Receipt:
     return parse_receipt(read_bytes(name))
 
 
-def receipt_differences(receipt: Receipt, text: bytes) -> list[str]:
+def text_differences(receipt: Receipt, text: bytes) -> list[str]:
     """Returns why a receipt is of another text, in words."""
-    if (len(text), sha256(text)) == (receipt.size, receipt.text):
+    if (len(text), sha256(text)) == (receipt.size, receipt.text_sha256):
         return []
     digests = section_digests(text)
-    other = [name for name in SECTIONS if digests[name] != receipt.sections[name]]
+    other = [name for name in SECTIONS if digests[name] != receipt.digest_of_section[name]]
     if not other:
         return ["the receipt is of another text: what stands behind the sections differs"]
     return [f"the receipt is of another text: the {' and the '.join(other)} section "
@@ -37,7 +37,7 @@ def run(options: argparse.Namespace) -> int:
         print(f"{escape_controls(options.receipt)}: this receipt does not count: {error}")
         return 1
     text = read_bytes(options.file)
-    against = receipt_differences(receipt, text)
+    against = text_differences(receipt, text)
     if receipt.program.sha256 not in known_releases(tuple(options.release)):
         against.append(f"the program of the receipt ({receipt.program.sha256[:16]}..) is no release that is known here")
     if options.again and not against:
@@ -55,7 +55,7 @@ def run(options: argparse.Namespace) -> int:
 
 def differences_after_new_run(receipt: Receipt, text: bytes, options: argparse.Namespace) -> list[str]:
     """Runs the program again, and returns what differs from the receipt."""
-    program = find_program(options.program)
+    program = find_and_open_program(options.program)
     if program.sha256 != receipt.program.sha256:
         raise LabError(f"{program} is not the program of the receipt, so its answer would show nothing; name that "
                        "program with --program")
@@ -65,7 +65,7 @@ def differences_after_new_run(receipt: Receipt, text: bytes, options: argparse.N
     return [f"the program now says something else: status {said.status}, and the report\n{said.output}"]
 
 
-def run_summary(options: argparse.Namespace) -> int:
+def summarise_receipts(options: argparse.Namespace) -> int:
     """Counts the receipts of a folder. The status is that of a run that gave these results, or 4 if one does not count.
     """
     try:

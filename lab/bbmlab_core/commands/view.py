@@ -5,16 +5,16 @@ import os
 
 from ..explain import explaining
 from ..explain.trials import Budget, TrialRunner
-from ..farm.answering import why_no_verdict
-from ..host.program import BadProgramError, ProgramTimeout, ask, find_program
+from ..farm.answering import why_bad_answer
+from ..host.program import BadProgramError, ProgramTimeout, ask, find_and_open_program
 from ..host.terminal import read_text, tell, write_text
-from ..texts.designs import read_design
+from ..texts.designs import read_layout_file
 from ..view import viewing
 
 
 def run(options: argparse.Namespace) -> int:
     """Writes the page of a layout. A bundle is checked by the program, where there is one."""
-    (document, _), explanation = read_design(options.file), None
+    (document, _), explanation = read_layout_file(options.file), None
     if document.certificate:
         try:
             output = read_text(options.report) if options.report else program_report(document.text, options)
@@ -29,8 +29,8 @@ def run(options: argparse.Namespace) -> int:
 def program_report(text: str, options: argparse.Namespace) -> str:
     """Returns the report or the refusal of the program. Raises BadProgramError if its status is not that of the report.
     """
-    answer = ask(find_program(options.program), "check", text.encode("latin-1"), options.timeout)
-    why = why_no_verdict(answer)
+    answer = ask(find_and_open_program(options.program), "check", text.encode("latin-1"), options.timeout)
+    why = why_bad_answer(answer)
     if why:
         raise BadProgramError(f"the program gave no verdict: {why}")
     return answer.output
@@ -39,6 +39,6 @@ def program_report(text: str, options: argparse.Namespace) -> str:
 def trial_runner(options: argparse.Namespace) -> TrialRunner | None:
     """Returns who tries fixes: the program, if it is found."""
     try:
-        return TrialRunner(find_program(options.program), Budget(200, 10.0))
+        return TrialRunner(find_and_open_program(options.program), Budget(200, 10.0))
     except BadProgramError:
         return None

@@ -4,7 +4,7 @@ from dataclasses import dataclass
 from typing import Iterator, Sequence
 
 from ..physics.simulation import Table, key_of
-from ..texts.certificates import MAX_CUTS, MAX_USES, Module, Stop, line_words
+from ..texts.certificates import MAX_CUTS, MAX_USES, Module, Stop, certificate_line_text
 from ..texts.layouts import Cell
 from ..texts.reports import ReportLine
 from .diagnosis import MAX_SECONDS, Diagnosis
@@ -50,7 +50,7 @@ class CertificateEditor:
         if finding.word == "local":
             yield from self.proposals_for_local(finding)
         elif finding.word == "keep":
-            yield from self.propose_gates_for_cuts(self.certificate.modules[finding.number("module")])
+            yield from self.proposals_replacing_cuts(self.certificate.modules[finding.number("module")])
         elif finding.word == "border":
             yield from self.proposals_for_border(finding)
         elif finding.word == "unkept":
@@ -65,24 +65,25 @@ class CertificateEditor:
     def proposals_for_local(self, finding: ReportLine) -> Iterator[Proposal]:
         """Yields edits for a `local` line: the borders of its module up to its time, its stop, and gates in place of
         cuts."""
-        module, time = self.diagnosis.module_of(finding), finding.number("time")
+        module, time = self.diagnosis.module_of_finding(finding), finding.number("time")
         cell = finding.number("x"), finding.number("y")
         if finding.values["kind"] == "stop":
             stop = next((stop for stop in module.stops if (stop.time, stop.cell) == (time, cell)), None)
             if stop:
                 yield from self.proposals_for_stop(module, stop)
-        near = [group for group in self.groups if module.number in group.modules and group.time <= time]
-        near.sort(key=lambda group: (group.cell != cell, group.time))
+        near = [group for group in self.groups if module.number in group.module_numbers
+                and group.first_wrong_time <= time]
+        near.sort(key=lambda group: (group.cell != cell, group.first_wrong_time))
         for group in near[:6]:
-            for edits in (group.edits, *group.others):
+            for edits in (group.edits, *group.other_edits):
                 yield Proposal("border lines as the whole run has them", tuple(edits))
         if len(near) > 1:
             yield Proposal("border lines as the whole run has them",
                            tuple(dict.fromkeys(edit for group in near for edit in group.edits)))
-        if self.diagnosis.occurring_assignments(module) != (1 << (1 << len(module.cuts))) - 1:
-            yield from self.propose_gates_for_cuts(module)
+        if self.diagnosis.occurring_assignment_table(module) != (1 << (1 << len(module.cuts))) - 1:
+            yield from self.proposals_replacing_cuts(module)
 
-    def propose_gates_for_cuts(self, module: Module) -> Iterator[Proposal]:
+    def proposals_replacing_cuts(self, module: Module) -> Iterator[Proposal]:
         """Yields `use` lines in place of `cut` lines: for one gate whose outputs are cut, then for all gates back to
         the inputs."""
         makers = {self.circuit.maker[name].number for name in module.cuts if name in self.circuit.maker}
@@ -91,7 +92,7 @@ class CertificateEditor:
             cuts = [name for name in module.cuts if name not in gate.outs]
             cuts += [name for name in gate.ins if name not in self.diagnosis.local_wires_of(module)]
             yield from self.propose_cuts_and_uses(module, cuts, sorted({*module.uses, number}))
-        free, used = self.circuit.cone(module.cuts)
+        free, used = self.circuit.cone_inputs_and_gates(module.cuts)
         if makers:
             yield from self.propose_cuts_and_uses(module, free, sorted({*used, *module.uses}))
 
@@ -114,19 +115,19 @@ class CertificateEditor:
 
     def proposals_for_border(self, finding: ReportLine) -> Iterator[Proposal]:
         """Yields edits of the `halo` line or the `edge` line of a border that do not agree."""
-        module, time = self.diagnosis.module_of(finding), finding.number("time")
+        module, time = self.diagnosis.module_of_finding(finding), finding.number("time")
         cell = finding.number("x"), finding.number("y")
         owner = self.certificate.owner(cell)
         halo, edge = module.line_at("halo", time, cell), owner.line_at("edge", time, cell) if owner else None
         for group in (group for group in self.groups if group.cell == cell):
-            for edits in (group.edits, *group.others):
+            for edits in (group.edits, *group.other_edits):
                 yield Proposal("border lines as the whole run has them", tuple(edits))
         for line, other, kind, place in ((edge, halo, "halo", module), (halo, edge, "edge", owner)):
             if place is None:
                 continue
             at = place.line_number(kind, other) if other else None
             if line:
-                text = line_words(kind, line)
+                text = certificate_line_text(kind, line)
                 yield Proposal("lines that agree", (replacement(at, text) if at else self.line_addition(place, text),))
             elif at:
                 yield Proposal("lines that agree", (deletion(at),))
@@ -154,7 +155,7 @@ class CertificateEditor:
 
     def stop_renaming(self, module: Module, stop: Stop, name: str) -> Edit:
         """Returns the edit that gives a stop another wire."""
-        return replacement(module.line_number("stop", stop), line_words("stop", stop._replace(name=name)))
+        return replacement(module.line_number("stop", stop), certificate_line_text("stop", stop._replace(name=name)))
 
     def table_at(self, time: int, cell: Cell) -> Table | None:
         """Returns the table of a cell in the whole run at a time."""
@@ -163,7 +164,7 @@ class CertificateEditor:
 
     def stop_move_edits(self, module: Module, old: Stop, new: Stop) -> Edits:
         """Returns the edits that move a stop to its place in the list."""
-        at, text = module.line_number("stop", old), line_words("stop", new)
+        at, text = module.line_number("stop", old), certificate_line_text("stop", new)
         rest = [stop for stop in module.stops if stop is not old]
         before = [stop for stop in module.stops if stop.order_key < old.order_key]
         if all((stop.order_key < new.order_key) == (stop in before) for stop in rest):
@@ -213,7 +214,8 @@ class CertificateEditor:
         """Yields a stop of a wire at a time, in a module that knows it."""
         for module in (module for module in self.certificate.modules if name in self.diagnosis.local_wires_of(module)):
             for cell in self.cells_carrying(name, time, module, (module.box.x, module.box.y))[:1]:
-                yield Proposal("stops", (self.line_addition(module, line_words("stop", Stop(time, name, *cell))),))
+                yield Proposal("stops",
+                               (self.line_addition(module, certificate_line_text("stop", Stop(time, name, *cell))),))
 
     def proposals_for_meet(self, finding: ReportLine) -> Iterator[Proposal]:
         """Yields stops after which the inputs of a gate have their last stops at one time, or only one of them has

@@ -13,7 +13,7 @@ from typing import Callable
 from ..host.processor import processor_seconds
 from ..physics.simulation import Fault, LiveCells, ModuleRun, Table, WholeRun, cell_of, end_tables, key_of, lowest_bit
 from ..texts.certificates import Module, local_wires
-from ..texts.circuits import Circuit, Valuation, evaluate, evaluate_choices
+from ..texts.circuits import Circuit, WireTables, evaluate_gates, evaluate_all_or_samples
 from ..texts.documents import Document
 from ..texts.layouts import Cell, Layout, row_order_key
 from ..texts.reports import ReportLine
@@ -54,7 +54,7 @@ class AssignmentOccurrence:
 
 
 @dataclass
-class Difference:
+class RunDifference:
     """The first time at which a module's own run differs from the whole one, a cell of it, and the cells that were not
     heard so."""
 
@@ -62,7 +62,7 @@ class Difference:
     cell: Cell
     heard_time: int
     # Cells of the halo whose state differs from what the module hears: the cell, and whether the whole run has it live.
-    unheard: list[tuple[Cell, bool]]
+    misheard: list[tuple[Cell, bool]]
 
 
 @dataclass(frozen=True)
@@ -81,24 +81,22 @@ class WholeOutcome:
     """Whether some certificate may get a yes: the whole run ends as the layout asks, and its rim is dead at odd times
     before.
 
-    `fault` says what is wrong, where `is_right` is NO; `is_rim` that it is a live cell of the rim, whatever the circuit
-    asks.
+    `fault_words` says what is wrong, where `correctness` is NO; `is_rim_fault` that it is a live cell of the rim,
+    whatever the circuit asks.
     """
 
-    is_right: Tristate
-    fault: str = ""
-    is_rim: bool = False
+    correctness: Tristate
+    fault_words: str = ""
+    is_rim_fault: bool = False
 
     @property
     def why_no_yes(self) -> str:
-        """Why no certificate gets a yes, where `is_right` is NO."""
-        if self.is_rim:
-            return (f"In the whole run {self.fault}. At odd times before the end the outermost cells must be dead, so "
-                    "no certificate gets a yes "
-                    "before the layout is changed.")
-        return (f"The layout itself does not do what the circuit asks: {self.fault}. No certificate gets a yes before "
-                "the layout or the circuit "
-                "is changed.")
+        """Why no certificate gets a yes, where `correctness` is NO."""
+        if self.is_rim_fault:
+            return (f"In the whole run {self.fault_words}. At odd times before the end the outermost cells must be "
+                    "dead, so no certificate gets a yes before the layout is changed.")
+        return (f"The layout itself does not do what the circuit asks: {self.fault_words}. No certificate gets a yes "
+                "before the layout or the circuit is changed.")
 
 
 class RimWatch:
@@ -146,9 +144,9 @@ class Diagnosis:
         return self._local[module.number]
 
     @cached_property
-    def wire_tables(self) -> Valuation:
+    def wire_tables(self) -> WireTables:
         """The tables of all wires over all choices of the inputs, or over samples of them."""
-        return evaluate_choices(self.circuit, MAX_EXHAUSTIVE_INPUTS, SAMPLE_COUNT)
+        return evaluate_all_or_samples(self.circuit, MAX_EXHAUSTIVE_INPUTS, SAMPLE_COUNT)
 
     @property
     def choices_words(self) -> str:
@@ -157,14 +155,14 @@ class Diagnosis:
 
     def occurrence(self, module: Module, assignment: int) -> AssignmentOccurrence:
         """Returns whether the circuit gives the module's cuts these values, and for which inputs."""
-        inputs, gates = self.circuit.cone(module.cuts)
+        inputs, gates = self.circuit.cone_inputs_and_gates(module.cuts)
         is_all = len(inputs) <= MAX_EXHAUSTIVE_INPUTS
-        values = evaluate(self.circuit, inputs, gates) if is_all else self.wire_tables
+        values = evaluate_gates(self.circuit, inputs, gates) if is_all else self.wire_tables
         table = values.full
         for name, value in module.cut_values(assignment).items():
             table &= values.tables[name] if value else values.full ^ values.tables[name]
         for number in gates:
-            table &= values.rows[number]
+            table &= values.defined_columns_by_gate[number]
         total = 1 << len(inputs) if is_all else 0
         if not table:
             return AssignmentOccurrence(Tristate.NO if is_all else Tristate.UNKNOWN, total=total)
@@ -172,14 +170,15 @@ class Diagnosis:
         given = {name: values.tables[name] >> chosen & 1 for name in inputs}
         return AssignmentOccurrence(Tristate.YES, given, table.bit_count() if is_all else 0, total)
 
-    def occurring_assignments(self, module: Module) -> Table:
+    def occurring_assignment_table(self, module: Module) -> Table:
         """Returns a table of assignments of the module's cuts that occur: all of them, or those that occur in the
         samples."""
-        inputs, gates = self.circuit.cone(module.cuts)
-        values = evaluate(self.circuit, inputs, gates) if len(inputs) <= MAX_EXHAUSTIVE_INPUTS else self.wire_tables
+        inputs, gates = self.circuit.cone_inputs_and_gates(module.cuts)
+        values = evaluate_gates(self.circuit, inputs,
+                                gates) if len(inputs) <= MAX_EXHAUSTIVE_INPUTS else self.wire_tables
         columns = values.full
         for number in gates:
-            columns &= values.rows[number]
+            columns &= values.defined_columns_by_gate[number]
         groups = [(columns, 0)]
         for index, name in enumerate(module.cuts):
             table = values.tables[name]
@@ -194,10 +193,10 @@ class Diagnosis:
         """Returns the least fault of a module's own run under assignments that are known to occur, or None if there is
         none."""
         run = ModuleRun(self.circuit, self.layout, self.certificate, module)
-        run.restrict_assignments(self.occurring_assignments(module))
+        run.restrict_assignments(self.occurring_assignment_table(module))
         return run.run_to_fault() if run.full else None
 
-    def module_state(self, module: Module, assignment: int, time: int) -> tuple[set[Cell], set[Cell]]:
+    def live_and_heard_cells(self, module: Module, assignment: int, time: int) -> tuple[set[Cell], set[Cell]]:
         """Returns the live cells of a module's own run, and the cells of its halo that it hears to be live then."""
         run = ModuleRun(self.circuit, self.layout, self.certificate, module)
         run.run_to(time)
@@ -205,7 +204,7 @@ class Diagnosis:
         return run.field.state(assignment), {cell_of(key) for key, table in heard.items() if table >> assignment & 1}
 
     def first_difference(self, module: Module, assignment: int, inputs: dict[str, int],
-                         until: int) -> Difference | None:
+                         until: int) -> RunDifference | None:
         """Returns where a module's own run first differs from the whole one, up to a time."""
         own = ModuleRun(self.circuit, self.layout, self.certificate, module)
         whole = WholeRun(self.layout, {name: value for name, value in inputs.items() if value}, 1)
@@ -217,7 +216,7 @@ class Diagnosis:
             differ = [cell_of(key) for key in candidates
                       if (own.field.live.get(key, 0) >> assignment & 1) != whole.field.live.get(key, 0)]
             if differ:
-                return Difference(time, min(differ, key=row_order_key), time - 1, unheard)
+                return RunDifference(time, min(differ, key=row_order_key), time - 1, unheard)
             if time % 2 and time < self.layout.steps:
                 said = own.halos.tables_at(time)
                 unheard = [(cell, bool(whole.field.live.get(key_of(cell)))) for cell in halo
@@ -310,11 +309,11 @@ class Diagnosis:
             return "no inputs"
         if len(names) <= MAX_EXHAUSTIVE_INPUTS:
             return " ".join(f"{name}={self.wire_tables.tables[name] >> column & 1}" for name in names)
-        on = self.wire_tables.true_names(column)
+        on = self.wire_tables.true_free_wires(column)
         shown = " ".join(f"{name}=1" for name in on[:MAX_EXHAUSTIVE_INPUTS])
         more = " .." if len(on) > MAX_EXHAUSTIVE_INPUTS else ""
         return f"{len(on)} of the {len(names)} inputs on" + (f" ({shown}{more})" if on else "")
 
-    def module_of(self, finding: ReportLine) -> Module:
+    def module_of_finding(self, finding: ReportLine) -> Module:
         """Returns the module of a line of a report."""
         return self.certificate.modules[finding.number("module")]

@@ -8,7 +8,7 @@ from typing import Callable, Iterable
 
 from ..host.processor import processor_seconds
 from ..physics.simulation import Table, WholeRun, cell_of
-from ..texts.certificates import Border, Module, line_words
+from ..texts.certificates import Border, Module, certificate_line_text
 from ..texts.layouts import Cell
 from .diagnosis import MAX_SECONDS, Diagnosis
 from .edits import Edit, addition, deletion, insertion_line_in_module, replacement
@@ -24,11 +24,11 @@ class CellEdits:
     change."""
 
     cell: Cell
-    time: int
-    modules: set[int]
+    first_wrong_time: int
+    module_numbers: set[int]
     edits: list[Edit] = field(default_factory=list)
     # Other edits, with other wires that have the values of the cell in the choices of the inputs that were tried.
-    others: list[list[Edit]] = field(default_factory=list)
+    other_edits: list[list[Edit]] = field(default_factory=list)
 
 
 @dataclass(frozen=True)
@@ -128,7 +128,7 @@ class BorderCheck:
             return []
         found = [self.cell_edits(cell, self.lines_by_cell.get(cell, []))
                  for cell in sorted(self.ring_tables.keys() | self.lines_by_cell.keys())]
-        return sorted((group for group in found if group), key=lambda group: group.time)
+        return sorted((group for group in found if group), key=lambda group: group.first_wrong_time)
 
     @cached_property
     def lines_by_cell(self) -> dict[Cell, list[tuple[Module, Border]]]:
@@ -146,9 +146,9 @@ class BorderCheck:
             return None
         actual = self.ring_tables.get(cell, {})
         hearers = [other for other in self.certificate.neighbours(owner) if other.box.has_in_halo(cell)]
-        wrong = self.first_wrong_times(owner, actual, lines)
+        wrong = self.first_wrong_time_if_any(owner, actual, lines)
         if self.certificate.version == 1:
-            wrong += [time for hearer in hearers for time in self.first_wrong_times(hearer, actual, lines)]
+            wrong += [time for hearer in hearers for time in self.first_wrong_time_if_any(hearer, actual, lines)]
         if not wrong:
             return None
         edits = [self.edits_for_signals(cell, owner, hearers, signals)
@@ -179,8 +179,8 @@ class BorderCheck:
             found.append(signals)
         return found
 
-    def first_wrong_times(self, module: Module, actual: dict[int, Table],
-                          lines: list[tuple[Module, Border]]) -> list[int]:
+    def first_wrong_time_if_any(self, module: Module, actual: dict[int, Table],
+                                lines: list[tuple[Module, Border]]) -> list[int]:
         """Returns the first odd time at which the lines of a module about a cell differ from the run, in a list that
         may be empty."""
         own = {line.time: self.signal_table(line.signal) for other, line in lines if other is module}
@@ -220,12 +220,12 @@ class BorderCheck:
         if len(wires) < 2:
             return wires
         neighbours = [(cell[0] + dx, cell[1] + dy) for dx in (-1, 0, 1) for dy in (-1, 0, 1) if dx or dy]
-        here, around = self.time_distances([cell], time), self.time_distances(neighbours, time)
+        here, around = self.time_to_nearest_line([cell], time), self.time_to_nearest_line(neighbours, time)
         far, known = self.layout.steps + 1, [self.diagnosis.local_wires_of(module) for module in modules]
         return sorted(wires, key=lambda name: (here.get(name, far), -sum(name in local for local in known),
                                                around.get(name, far)))
 
-    def time_distances(self, cells: Iterable[Cell], time: int) -> dict[str, int]:
+    def time_to_nearest_line(self, cells: Iterable[Cell], time: int) -> dict[str, int]:
         """Returns how far from a time the nearest line about one of some cells is, for each signal."""
         found: dict[str, int] = {}
         for line in (line for cell in cells for _, line in self.lines_by_cell.get(cell, ())):
@@ -238,7 +238,7 @@ class BorderCheck:
         old = {line.time: (at, line.signal) for at, line in module.numbered_lines(kind) if line.cell == cell}
         edits = [deletion(at) for time, (at, _) in old.items() if time not in signals]
         for time, signal in signals.items():
-            text = line_words(kind, Border(time, *cell, signal))
+            text = certificate_line_text(kind, Border(time, *cell, signal))
             if time not in old:
                 edits.append(addition(insertion_line_in_module(self.lines, module.line, text), text))
             elif old[time][1] != signal:

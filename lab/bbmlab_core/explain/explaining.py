@@ -6,7 +6,7 @@ from dataclasses import asdict, dataclass, field, replace
 
 from ..host.terminal import escape_controls
 from ..physics.mirrors import falling_mirrors
-from ..texts.certificates import Certificate, line_words
+from ..texts.certificates import Certificate, certificate_line_text
 from ..texts.circuits import Circuit
 from ..texts.code_names import CODE_NAMES
 from ..texts.designs import require_report_of
@@ -71,7 +71,8 @@ def stop_words(diagnosis: Diagnosis, wire: str, which: int) -> str:
         return f"`{wire}` has no stop"
     name = "first" if which == 0 else "last"
     module, stop = stops[which]
-    return f"the {name} stop of `{wire}` is line {module.line_number('stop', stop)} (`{line_words('stop', stop)}`)"
+    text = certificate_line_text("stop", stop)
+    return f"the {name} stop of `{wire}` is line {module.line_number('stop', stop)} (`{text}`)"
 
 
 def explain_delay(diagnosis: Diagnosis, finding: ReportLine) -> ExplainedLine:
@@ -134,7 +135,7 @@ def explain_report(document: Document, report: ReportOrRefusal, file: str,
                    trial: TrialRunner | None = None) -> ExplainedAnswer:
     """Returns a report in words, with fixes if there is somebody who tries them."""
     if report.refused:
-        return explain_refused(document, report, file, trial)
+        return explain_refused_text(document, report, file, trial)
     if document.certificate is None or document.refusal:
         raise ReportError("the report is not of this text: the lab's reader refuses the text")
     require_report_of(document, report)
@@ -152,8 +153,8 @@ def explain_report(document: Document, report: ReportOrRefusal, file: str,
             headline.append(f"Begin with `{faults[0].text}`, which has the least time: others may come of it.")
         headline += falling_mirror_words(diagnosis)
         headline += whole_run_words(diagnosis, report.faults)
-    headline.append(f"The certificate has {report.modules} module{'s' if report.modules != 1 else ''}; its digest is "
-                    f"{report.digest[:16]}..")
+    headline.append(f"The certificate has {report.module_count} module{'s' if report.module_count != 1 else ''}; its "
+                    f"digest is {report.digest[:16]}..")
     explanation = ExplainedAnswer(file, "check", headline, report.verdict, entries)
     if trial and report.verdict == "no":
         add_fixes(explanation, diagnosis, report, trial)
@@ -172,9 +173,9 @@ def yes_words(count: int) -> str:
 def falling_mirror_words(diagnosis: Diagnosis) -> list[str]:
     """Returns which mirrors fall apart by themselves."""
     fallen = falling_mirrors(diagnosis.layout)
-    words = [f"The mirror of line {mirror.part.line} (`{diagnosis.document.line(mirror.part.line)}`) falls apart by "
-             f"itself: step {mirror.step} "
-             f"moves its cell {cell_words(mirror.cell)}." for mirror in fallen[:MAX_NAMED_MIRRORS]]
+    words = [f"The mirror of line {own.mirror.line} (`{diagnosis.document.line(own.mirror.line)}`) falls apart by "
+             f"itself: step {own.step} "
+             f"moves its cell {cell_words(own.cell)}." for own in fallen[:MAX_NAMED_MIRRORS]]
     if len(fallen) > MAX_NAMED_MIRRORS:
         words.append(f"{len(fallen) - MAX_NAMED_MIRRORS} more mirrors do.")
     if fallen:
@@ -206,8 +207,8 @@ def add_fixes(explanation: ExplainedAnswer, diagnosis: Diagnosis, report: Report
 
 def fix_document(before: ReportOrRefusal, fix: Fix) -> FixDocument:
     """Returns a fix as a document has it."""
-    return FixDocument(fix.edits, fix.remakes, fix.judge, fix.report.verdict, [*fix.words, outcome_words(before, fix)],
-                       fix.others)
+    return FixDocument(fix.edits, fix.has_new_certificate, fix.judge, fix.report.verdict,
+                       [*fix.words, outcome_words(before, fix)], fix.others)
 
 
 def tried_in_vain_words(fixer: Fixer, trial: TrialRunner) -> list[str]:
@@ -223,7 +224,7 @@ def whole_run_words(diagnosis: Diagnosis, faults: list[ReportLine]) -> list[str]
     """Returns whether the whole run ends as the layout asks with a dead rim: a sentence for yes, no, and what was not
     found out."""
     outcome, values = diagnosis.whole_outcome, diagnosis.wire_tables
-    if outcome.is_right is Tristate.NO:
+    if outcome.correctness is Tristate.NO:
         return [outcome.why_no_yes]
     if not diagnosis.can_run_whole():
         why = "it takes too long" if diagnosis.is_slow else f"it is longer than {MAX_STEPS} steps"
@@ -233,7 +234,7 @@ def whole_run_words(diagnosis: Diagnosis, faults: list[ReportLine]) -> list[str]
                 f"({diagnosis.choices_words}) the whole run "
                 "ends as the layout asks."]
     tried = f"The whole run was tried here {diagnosis.choices_words}: it ends as the layout asks"
-    if outcome.is_right is Tristate.UNKNOWN:
+    if outcome.correctness is Tristate.UNKNOWN:
         return [f"{tried}. The other choices were not tried."]
     is_certificate = any(finding.word in ("local", "border") for finding in faults)
     return [f"{tried}, so the fault is in the certificate." if is_certificate else f"{tried}."]
@@ -246,14 +247,14 @@ def missing_certificate_words(document: Document) -> list[str]:
     if design.circuit is None or design.layout is None or document.certificate and document.certificate.modules:
         return []
     outcome = Diagnosis(design).whole_outcome
-    if outcome.is_right is Tristate.NO:
+    if outcome.correctness is Tristate.NO:
         return [outcome.why_no_yes]
     return ["The text has no certificate. In the choices of the inputs that were tried the whole run ends as the "
             "layout asks."]
 
 
-def explain_refused(document: Document, report: ReportOrRefusal, file: str,
-                    trial: TrialRunner | None = None) -> ExplainedAnswer:
+def explain_refused_text(document: Document, report: ReportOrRefusal, file: str,
+                         trial: TrialRunner | None = None) -> ExplainedAnswer:
     """Returns a refusal in words. Where the lab's reader does not come to the same line and code, only these are told.
     """
     assert report.refused

@@ -5,11 +5,11 @@ from typing import Any
 
 from ..physics.mirrors import is_stable
 from ..texts.cell_pictures import text_picture
-from ..texts.certificates import Border, Module, Stop, line_words
-from ..texts.circuits import evaluate
+from ..texts.certificates import Border, Module, Stop, certificate_line_text
+from ..texts.circuits import evaluate_gates
 from ..texts.layouts import Cell
 from ..texts.reports import ReportLine, parse_finding
-from .diagnosis import Diagnosis, Difference, AssignmentOccurrence, Signal, Tristate
+from .diagnosis import Diagnosis, RunDifference, AssignmentOccurrence, Signal, Tristate
 
 
 @dataclass
@@ -53,7 +53,7 @@ def wire_value(diagnosis: Diagnosis, module: Module, name: str, assignment: int)
     """Returns the value of a local wire under an assignment of the cuts."""
     if name == "1":
         return 1
-    values = evaluate(diagnosis.circuit, module.cuts, module.uses)
+    values = evaluate_gates(diagnosis.circuit, module.cuts, module.uses)
     return values.tables[name] >> assignment & 1
 
 
@@ -75,7 +75,7 @@ def wanted_state(diagnosis: Diagnosis, module: Module, finding: ReportLine) -> W
         return WantedState(False, why, None)
     name = line.name if isinstance(line, Stop) else line.signal
     value = wire_value(diagnosis, module, name, assignment)
-    at, text = module.line_number(str(kind), line), line_words(str(kind), line)
+    at, text = module.line_number(str(kind), line), certificate_line_text(str(kind), line)
     why = f"line {at} (`{text}`) says: live if and only if `{name}` is true, and `{name}` is {value} here"
     if name == "1":
         why = f"line {at} (`{text}`) says: always live"
@@ -113,7 +113,7 @@ def occurrence_words(diagnosis: Diagnosis, occurrence: AssignmentOccurrence, nam
 
 def explain_local(diagnosis: Diagnosis, finding: ReportLine) -> ExplainedLine:
     """Returns a `local` line in words."""
-    module, time = diagnosis.module_of(finding), finding.number("time")
+    module, time = diagnosis.module_of_finding(finding), finding.number("time")
     cell, assignment = (finding.number("x"), finding.number("y")), finding.number("assignment")
     wanted = wanted_state(diagnosis, module, finding)
     values = module.cut_values(assignment)
@@ -122,7 +122,7 @@ def explain_local(diagnosis: Diagnosis, finding: ReportLine) -> ExplainedLine:
     found, want = ("dead", "live") if wanted.is_live else ("live", "dead")
     last = ", the last time," if finding.values["kind"] == "end" else ""
     entry = ExplainedLine(finding.text, True, [
-        f"Module {module.number} (line {module.line}, box {module.box.words}) was run by itself with {names}.",
+        f"Module {module.number} (line {module.line}, box {module.box.numbers_text}) was run by itself with {names}.",
         f"At time {time}{last} the cell {cell_words(cell)} is {found} and should be {want}: {wanted.why}.",
         occurrence_words(diagnosis, occurrence, names)], line=wanted.line)
     entry.facts = {"module": module.number, "module_line": module.line, "kind": finding.values["kind"], "time": time,
@@ -131,7 +131,7 @@ def explain_local(diagnosis: Diagnosis, finding: ReportLine) -> ExplainedLine:
                    "inputs": occurrence.inputs, "text": wanted.text, "box": list(module.box)}
     if diagnosis.detailed is not None and finding.text not in diagnosis.detailed:
         return entry
-    live, heard = diagnosis.module_state(module, assignment, time)
+    live, heard = diagnosis.live_and_heard_cells(module, assignment, time)
     box = module.box
     entry.picture = [f"Module {module.number} by itself at time {time} with {names}:",
                      *text_picture((box.x, box.y, box.width, box.height), live, diagnosis.mirrors, heard, cell)]
@@ -140,15 +140,15 @@ def explain_local(diagnosis: Diagnosis, finding: ReportLine) -> ExplainedLine:
         entry.what.append(f"The cell is of the mirror of line {part.line} (`{diagnosis.document.line(part.line)}`), "
                           "which by itself does not stay as it is.")
     if occurrence.occurs is Tristate.NO:
-        add_cause_if_never_occurring(diagnosis, module, entry)
+        add_never_occurring_cause(diagnosis, module, entry)
     elif occurrence.occurs is Tristate.YES:
-        add_cause_if_occurring(diagnosis, module, finding, entry, occurrence)
+        add_occurring_cause(diagnosis, module, finding, entry, occurrence)
     else:
         entry.what.append("So it was not tried whether the run of the whole layout has this state too.")
     return entry
 
 
-def add_cause_if_never_occurring(diagnosis: Diagnosis, module: Module, entry: ExplainedLine) -> None:
+def add_never_occurring_cause(diagnosis: Diagnosis, module: Module, entry: ExplainedLine) -> None:
     """Adds the cause of a fault under an assignment that never occurs: the cuts, or a fault under assignments that do
     occur."""
     fault = diagnosis.occurring_fault(module)
@@ -164,11 +164,11 @@ def add_cause_if_never_occurring(diagnosis: Diagnosis, module: Module, entry: Ex
     entry.facts["fault_that_occurs"] = {"kind": fault.kind, "time": fault.time, "cell": [fault.x, fault.y],
                                         "assignment": module.cut_values(fault.assignment)}
     finding = parse_finding(f"local {module.number} {fault.report_words()}")
-    add_cause_if_occurring(diagnosis, module, finding, entry, diagnosis.occurrence(module, fault.assignment))
+    add_occurring_cause(diagnosis, module, finding, entry, diagnosis.occurrence(module, fault.assignment))
 
 
-def add_cause_if_occurring(diagnosis: Diagnosis, module: Module, finding: ReportLine, entry: ExplainedLine,
-                           occurrence: AssignmentOccurrence) -> None:
+def add_occurring_cause(diagnosis: Diagnosis, module: Module, finding: ReportLine, entry: ExplainedLine,
+                        occurrence: AssignmentOccurrence) -> None:
     """Adds the cause of a fault under an assignment that occurs: what the module hears, its line, or the layout."""
     assignment, time = finding.number("assignment"), finding.number("time")
     cell = finding.number("x"), finding.number("y")
@@ -192,18 +192,18 @@ def add_cause_if_occurring(diagnosis: Diagnosis, module: Module, finding: Report
         entry.what += signal_words(diagnosis, diagnosis.signal_of(cell, time), "the cell")
 
 
-def add_difference(diagnosis: Diagnosis, module: Module, entry: ExplainedLine, difference: Difference) -> None:
+def add_difference(diagnosis: Diagnosis, module: Module, entry: ExplainedLine, difference: RunDifference) -> None:
     """Adds where a module's run leaves the whole one, and the cells of its halo that it does not hear so."""
     entry.cause = "not_heard"
     entry.facts["differs"] = {"time": difference.time, "cell": list(difference.cell)}
     entry.what.append("In the run of the whole layout it is not so. The two runs first differ at time "
                       f"{difference.time}, at {cell_words(difference.cell)}: what comes in over the border is not told "
                       "to the module, or told wrongly.")
-    for cell, is_live in difference.unheard[:3]:
-        entry.what += unheard_words(diagnosis, module, cell, difference.heard_time, is_live)
+    for cell, is_live in difference.misheard[:3]:
+        entry.what += misheard_words(diagnosis, module, cell, difference.heard_time, is_live)
 
 
-def unheard_words(diagnosis: Diagnosis, module: Module, cell: Cell, time: int, is_live: bool) -> list[str]:
+def misheard_words(diagnosis: Diagnosis, module: Module, cell: Cell, time: int, is_live: bool) -> list[str]:
     """Returns how the whole run has a cell next to a module, and which line says otherwise."""
     certificate, owner = diagnosis.certificate, diagnosis.certificate.owner(cell)
     if owner is None:
@@ -211,7 +211,7 @@ def unheard_words(diagnosis: Diagnosis, module: Module, cell: Cell, time: int, i
     kind, teller = ("halo", module) if certificate.version == 1 else ("edge", owner)
     line = teller.line_at(kind, time, cell)
     state = "live" if is_live else "dead"
-    against = (f"against line {teller.line_number(kind, line)} (`{line_words(kind, line)}`)" if line
+    against = (f"against line {teller.line_number(kind, line)} (`{certificate_line_text(kind, line)}`)" if line
                else f"and module {teller.number} has no `{kind}` line for it")
     return [f"At time {time} the cell {cell_words(cell)} of module {owner.number} is {state} in the whole run, "
             f"{against}.",
@@ -233,7 +233,7 @@ def signal_words(diagnosis: Diagnosis, signal: Signal, cell: str) -> list[str]:
 
 def explain_keep(diagnosis: Diagnosis, finding: ReportLine) -> ExplainedLine:
     """Returns a `keep` line in words."""
-    module, gate = diagnosis.module_of(finding), diagnosis.circuit.gates[finding.number("gate")]
+    module, gate = diagnosis.module_of_finding(finding), diagnosis.circuit.gates[finding.number("gate")]
     assignment = finding.number("assignment")
     values = module.cut_values(assignment)
     occurrence = diagnosis.occurrence(module, assignment)
@@ -260,13 +260,15 @@ def explain_keep(diagnosis: Diagnosis, finding: ReportLine) -> ExplainedLine:
 
 def border_line_words(line: Border | None, kind: str, module: Module) -> str:
     """Returns what a line about a border says."""
-    return (f"line {module.line_number(kind, line)} of module {module.number} says `{line_words(kind, line)}`" if line
-            else f"module {module.number} has no `{kind}` line for it")
+    if line is None:
+        return f"module {module.number} has no `{kind}` line for it"
+    text = certificate_line_text(kind, line)
+    return f"line {module.line_number(kind, line)} of module {module.number} says `{text}`"
 
 
 def explain_border(diagnosis: Diagnosis, finding: ReportLine) -> ExplainedLine:
     """Returns a `border` line in words."""
-    module, time = diagnosis.module_of(finding), finding.number("time")
+    module, time = diagnosis.module_of_finding(finding), finding.number("time")
     cell = finding.number("x"), finding.number("y")
     owner = diagnosis.certificate.owner(cell)
     assert owner is not None
@@ -278,7 +280,7 @@ def explain_border(diagnosis: Diagnosis, finding: ReportLine) -> ExplainedLine:
         line=module.line_number("halo", halo) if halo else owner.line_number("edge", edge) if edge else None,
         cause="border")
     entry.facts = {"module": module.number, "owner": owner.number, "time": time, "cell": list(cell),
-                   "halo": line_words("halo", halo) if halo else None,
-                   "edge": line_words("edge", edge) if edge else None}
+                   "halo": certificate_line_text("halo", halo) if halo else None,
+                   "edge": certificate_line_text("edge", edge) if edge else None}
     entry.what += signal_words(diagnosis, diagnosis.signal_of(cell, time), "the cell")
     return entry

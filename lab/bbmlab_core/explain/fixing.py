@@ -15,17 +15,17 @@ from .certificate_edits import CertificateEditor
 from .diagnosis import Diagnosis, Tristate
 from .edits import Edit, EditError, edits_between, text_after
 from .layout_changes import (DesignChange, Testbench, added_ball_changes, added_mirror_changes, circuit_changes,
-                             enlarged_layout_changes, missing_port_changes, moved_part_changes, output_exchanges,
-                             port_changes, removed_part_changes, start_changes, step_count_changes, wrong_cells)
-from .mirror_changes import mirror_place_changes
+                             enlarged_layout_changes, added_output_changes, moved_part_changes, output_exchanges,
+                             output_place_changes, removed_part_changes, start_changes, step_count_changes, wrong_cells)
+from .mirror_changes import falling_mirror_changes
 from .refusal_edits import refusal_edits
 from .trials import TrialRunner, fault_times, has_removed_fault, is_yes
 
 # The most rounds of a search, and the most texts that are tried for one refusal or one line of a report.
 MAX_ROUNDS = 12
-MAX_TRIED_TEXTS = 80
+MAX_TRIES_PER_LINE = 80
 # The most changed layouts that are kept for the program's verdict, and the most edits that a fix names one by one.
-MAX_KEPT_TEXTS = 6
+MAX_KEPT_CHANGES = 6
 MAX_NAMED_EDITS = 12
 # The most other fixes that are named.
 MAX_OTHER_FIXES = 3
@@ -39,22 +39,23 @@ class TriedText:
 
     text: str
     report: ReportOrRefusal
-    remakes: bool = False
+    has_new_certificate: bool = False
     # Other texts that are as good, by changes of the same size.
-    others: tuple[str, ...] = ()
+    alternative_texts: tuple[str, ...] = ()
 
 
 @dataclass
 class Fix:
     """Edits that were tried: the text after them, its report, and who was asked.
 
-    If `remakes`, the edits are those of the circuit and the layout, and the certificate was made again by the lab.
+    If `has_new_certificate`, the edits are those of the circuit and the layout, and the certificate was made again by
+    the lab.
     """
 
     text: str
     report: ReportOrRefusal
     edits: list[Edit]
-    remakes: bool
+    has_new_certificate: bool
     judge: str
     words: list[str] = field(default_factory=list)
     # Other fixes that are as good, in words.
@@ -99,9 +100,10 @@ class Fixer:
                 break
             steps.append(step)
         good = [step for step in steps[1:] if not step.report.refused]
-        fix = self.fix_of(good[-1], any(step.remakes for step in steps)) if good else None
+        fix = self.fix_of(good[-1], any(step.has_new_certificate for step in steps)) if good else None
         if fix and len(steps) == 2:
-            fix.others = [change_words(self.text, edits_between(self.text, text), False) for text in steps[1].others]
+            fix.others = [change_words(self.text, edits_between(self.text, text), False)
+                          for text in steps[1].alternative_texts]
         return fix
 
     def fix_of(self, step: TriedText, remakes: bool) -> Fix | None:
@@ -120,35 +122,35 @@ class Fixer:
         is_own = self.own is not None and step.text == self.text
         document = self.own.document if self.own and is_own else read_document(step.text, "check")
         if step.report.refused:
-            return self.accepted_text(step, document)
+            return self.text_past_refusal(step, document)
         if document.refusal or document.circuit is None or document.layout is None or document.certificate is None:
             return None
         diagnosis = self.own if self.own and is_own else Diagnosis(document)
-        if diagnosis.whole_outcome.is_right is Tristate.NO:
+        if diagnosis.whole_outcome.correctness is Tristate.NO:
             return self.text_with_changed_design(step, document) or self.text_with_edited_certificate(step, diagnosis)
         return self.text_with_edited_certificate(step, diagnosis) or self.text_with_changed_design(step, document)
 
     # ---- refusals
 
-    def accepted_text(self, step: TriedText, document: Document) -> TriedText | None:
+    def text_past_refusal(self, step: TriedText, document: Document) -> TriedText | None:
         """Returns a text that is taken, or one that is refused at a later line: a yes if there is one, else one with
         the fewest faults."""
         if document.refusal is None or step.report.refused != (document.refusal.line, document.refusal.code):
             return None
-        changed = self.text_with_other_design(step)
+        changed = self.text_with_wrong_design_changed(step)
         if changed:
             return changed
         best: TriedText | None = None
         later: TriedText | None = None
         for text in self.texts_edited_for_refusal(step.text, document):
-            report = self.trial.report(text)
+            report = self.trial.try_text(text)
             if report is None or is_yes(report):
                 return TriedText(text, report) if report else best or later
             if report.refused is None and (best is None or len(report.faults) < len(best.report.faults)):
                 best = TriedText(text, report)
             elif report.refused and later is None and self.is_refused_later(step, text, report):
                 later = TriedText(text, report)
-        return best or self.text_with_missing_ports(step, document) or self.text_with_first_certificate(step) or later
+        return best or self.text_with_added_ports(step, document) or self.text_from_design_alone(step) or later
 
     def is_refused_later(self, step: TriedText, text: str, report: ReportOrRefusal) -> bool:
         """Whether a text is refused at a later line than that of a step, counted from the ends of both texts."""
@@ -160,7 +162,7 @@ class Fixer:
         """Yields texts with edits for a refusal."""
         self.kinds["edits of the refused line and of lines that it needs"] = None
         for count, edits in enumerate(refusal_edits(document)):
-            if count == MAX_TRIED_TEXTS:
+            if count == MAX_TRIES_PER_LINE:
                 self.is_cut_short = True
                 return
             try:
@@ -168,7 +170,7 @@ class Fixer:
             except EditError:
                 continue
 
-    def text_with_other_design(self, step: TriedText) -> TriedText | None:
+    def text_with_wrong_design_changed(self, step: TriedText) -> TriedText | None:
         """Returns a text with a changed design, if circuit and layout are taken and do not end as the layout asks."""
         head = read_document(design_text(step.text), "design")
         if head.refusal or design_text(step.text) == step.text:
@@ -177,7 +179,7 @@ class Fixer:
         is_right = bench.last is not None and not wrong_cells(bench.values, bench.layout, bench.last)
         return None if is_right or bench.is_over() else self.text_with_changed_design(step, head)
 
-    def text_with_first_certificate(self, step: TriedText) -> TriedText | None:
+    def text_from_design_alone(self, step: TriedText) -> TriedText | None:
         """Returns a text whose certificate was made by the lab, if circuit and layout are taken; if that fails, with a
         changed design."""
         head = read_document(design_text(step.text), "design")
@@ -185,14 +187,14 @@ class Fixer:
             return None
         return self.text_with_made_certificate(head) or self.text_with_changed_design(step, head)
 
-    def text_with_missing_ports(self, step: TriedText, document: Document) -> TriedText | None:
+    def text_with_added_ports(self, step: TriedText, document: Document) -> TriedText | None:
         """Returns a text with cells for inputs or outputs without one."""
         if document.refusal is None or document.refusal.cause != "port_without_cell":
             return None
         bench = self.testbench_of(step, document)
-        for change in chain(missing_port_changes(bench), start_changes(bench)):
+        for change in chain(added_output_changes(bench), start_changes(bench)):
             text = text_after(step.text, change.edits)
-            report = self.trial.report(text)
+            report = self.trial.try_text(text)
             if report and not report.refused:
                 return TriedText(text, report)
         return None
@@ -206,7 +208,7 @@ class Fixer:
         for proposal in editor.proposals_for_report(step.report.faults):
             self.kinds[proposal.kind] = None
             text = self.text_after_or_none(step.text, proposal.edits)
-            report = self.trial.report(text) if text else None
+            report = self.trial.try_text(text) if text else None
             if text and is_yes(report):
                 assert report
                 return TriedText(text, report)
@@ -249,10 +251,10 @@ class Fixer:
                 return None
             try:
                 until = processor_seconds() + self.trial.seconds_left() * CERTIFY_SHARE
-                text = certified_text(document, boxes, CertificateOptions(version, until=until))
+                text = certified_text(document, boxes, CertificateOptions(version, processor_deadline=until))
             except LabError:
                 continue
-            report = self.trial.report(text)
+            report = self.trial.try_text(text)
             if is_yes(report):
                 assert report
                 return TriedText(text, report, True)
@@ -279,17 +281,17 @@ class Fixer:
         has_certificate = design_text(step.text) != step.text
         kept: list[tuple[DesignChange, str]] = []
         for change in design_changes(bench, self.kinds):
-            if self.trial.is_over() or bench.is_over() or len(kept) >= MAX_KEPT_TEXTS:
+            if self.trial.is_over() or bench.is_over() or len(kept) >= MAX_KEPT_CHANGES:
                 self.is_cut_short = True
                 break
             if not bench.is_fixed_by(change):
                 continue
             text = text_after(step.text, change.edits)
             kept.append((change, text))
-            report = self.trial.report(text) if has_certificate else None
+            report = self.trial.try_text(text) if has_certificate else None
             if is_yes(report):
                 assert report
-                return TriedText(text, report, others=self.other_texts(bench, step.text, text))
+                return TriedText(text, report, alternative_texts=self.other_texts(bench, step.text, text))
         for _, text in kept:
             made = self.text_with_made_certificate(read_document(design_text(text), "design"))
             if made:
@@ -300,11 +302,12 @@ class Fixer:
         """Returns other texts with changes of names, ports and gates that get a yes too: which one is meant only the
         designer knows."""
         texts: list[str] = []
-        for change in chain(output_exchanges(bench), port_changes(bench, None, True), circuit_changes(bench)):
+        for change in chain(output_exchanges(bench), output_place_changes(bench, None, True), circuit_changes(bench)):
             if len(texts) == MAX_OTHER_FIXES or self.trial.is_over() or bench.is_over():
                 break
             other = text_after(text, change.edits)
-            if other != found and other not in texts and bench.is_fixed_by(change) and is_yes(self.trial.report(other)):
+            if (other != found and other not in texts and bench.is_fixed_by(change)
+                    and is_yes(self.trial.try_text(other))):
                 texts.append(other)
         return tuple(texts)
 
@@ -317,9 +320,9 @@ class Fixer:
             return None
         self.own = diagnosis
         best: Fix | None = None
-        for _, proposal in zip(range(MAX_TRIED_TEXTS), self.editor_of(diagnosis).proposals_for_line(finding)):
+        for _, proposal in zip(range(MAX_TRIES_PER_LINE), self.editor_of(diagnosis).proposals_for_line(finding)):
             text = self.text_after_or_none(self.text, proposal.edits)
-            report = self.trial.report(text) if text else None
+            report = self.trial.try_text(text) if text else None
             if text and report and has_removed_fault(self.report, report, finding) and (best is None or is_yes(report)):
                 edits = list(proposal.edits)
                 best = Fix(text, report, edits, False, self.trial.judge_words, change_words(self.text, edits, False))
@@ -331,17 +334,17 @@ class Fixer:
 def design_changes(bench: Testbench, kinds: dict[str, None]) -> Iterator[DesignChange]:
     """Yields changes of a design, the likeliest first, and notes the kinds that were come to."""
     families: list[tuple[str, Iterable[DesignChange]]] = [
-        ("mirrors at legal places", mirror_place_changes(bench)), ("other names of outputs", output_exchanges(bench)),
-        ("outputs that take each other's cells", port_changes(bench, None, True)),
-        ("outputs at most 2 cells away", port_changes(bench, 2)),
+        ("mirrors at legal places", falling_mirror_changes(bench)), ("other names of outputs", output_exchanges(bench)),
+        ("outputs that take each other's cells", output_place_changes(bench, None, True)),
+        ("outputs at most 2 cells away", output_place_changes(bench, 2)),
         ("another number of steps", step_count_changes(bench)),
         ("one gate line", circuit_changes(bench)),
         ("`in` and `ball` lines from the run backwards", start_changes(bench)),
         ("one more mirror", added_mirror_changes(bench, True)),
         ("ports moved by at most 2 cells", moved_part_changes(bench, ("in", "ball"))),
         ("a mirror moved by at most 2 cells", moved_part_changes(bench, ("mirror",))),
-        ("a part left out", removed_part_changes(bench)),
-        ("one more `ball`", added_ball_changes(bench)), ("outputs at any cell, and `waste`", port_changes(bench, None)),
+        ("a part left out", removed_part_changes(bench)), ("one more `ball`", added_ball_changes(bench)),
+        ("outputs at any cell, and `waste`", output_place_changes(bench, None)),
         ("a larger layout", enlarged_layout_changes(bench)), ("one more mirror", added_mirror_changes(bench, False))]
     if bench.near and bench.layout.is_rim(bench.near):
         families.insert(0, ("a larger layout", enlarged_layout_changes(bench)))
@@ -353,7 +356,7 @@ def design_changes(bench: Testbench, kinds: dict[str, None]) -> Iterator[DesignC
 def outcome_words(before: ReportOrRefusal, fix: Fix) -> str:
     """Returns what the report of a fixed text says."""
     edited = "" if not fix.edits else "this edit" if len(fix.edits) == 1 else "these edits"
-    made = "the new certificate" if fix.remakes else ""
+    made = "the new certificate" if fix.has_new_certificate else ""
     asked = f"With {' and '.join(part for part in (edited, made) if part)} {fix.judge}"
     if is_yes(fix.report):
         return (f"{asked} says yes." if fix.judge == "the program"

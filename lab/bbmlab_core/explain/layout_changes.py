@@ -12,7 +12,7 @@ from typing import Iterable, Iterator
 
 from ..host.processor import processor_seconds
 from ..physics.simulation import Table, WholeRun, cell_of, end_tables, key_of
-from ..texts.circuits import Circuit, Gate, Valuation, evaluate_all, evaluate_choices
+from ..texts.circuits import Circuit, Gate, WireTables, evaluate_all, evaluate_all_or_samples
 from ..texts.layouts import Cell, Layout, Part, cells_of
 from ..texts.limits import limits_of
 from .diagnosis import MAX_EXHAUSTIVE_INPUTS, MAX_STEPS
@@ -38,12 +38,12 @@ class DesignChange:
     layout: Layout
 
 
-def values_in_few_choices(circuit: Circuit) -> Valuation:
+def values_in_few_choices(circuit: Circuit) -> WireTables:
     """Returns the tables of all wires in at most 20 choices of the inputs, all of them if they are few."""
-    return evaluate_choices(circuit, FEW_EXHAUSTIVE_INPUTS, SAMPLE_COUNT)
+    return evaluate_all_or_samples(circuit, FEW_EXHAUSTIVE_INPUTS, SAMPLE_COUNT)
 
 
-def wrong_cells(circuit_values: Valuation, layout: Layout, live: dict[int, Table]) -> dict[int, Table]:
+def wrong_cells(circuit_values: WireTables, layout: Layout, live: dict[int, Table]) -> dict[int, Table]:
     """Returns the cells that do not end as the layout asks, with the columns in which they do not."""
     wanted = {key_of(cell): table for cell,
               table in end_tables(layout, circuit_values.tables, circuit_values.full).items()}
@@ -76,7 +76,7 @@ class Testbench:
         """Whether the seconds are used up, or a run would be too long."""
         return processor_seconds() > self.end or self.layout.steps > MAX_STEPS
 
-    def last_state(self, layout: Layout, values: Valuation, notes: bool = False) -> dict[int, Table] | None:
+    def last_state(self, layout: Layout, values: WireTables, notes: bool = False) -> dict[int, Table] | None:
         """Returns the live cells after the last step, or None if a step leaves the rectangle or the seconds are used
         up."""
         run = WholeRun(layout, values.tables, values.full)
@@ -123,8 +123,8 @@ class Testbench:
                    and part.y + part.height <= self.layout.height
                    for part in new)
 
-    def part_changes(self, swaps: dict[Part, Part], more: Iterable[Part] = (),
-                     gone: Iterable[Part] = ()) -> list[DesignChange]:
+    def change_if_possible(self, swaps: dict[Part, Part], more: Iterable[Part] = (),
+                           gone: Iterable[Part] = ()) -> list[DesignChange]:
         """Returns the change that moves parts, adds some and drops some, or none if cells would be taken twice or lie
         outside."""
         dropped, added = set(gone), list(more)
@@ -186,7 +186,7 @@ def with_two_exchanged(names: tuple[str, ...], one: int, two: int) -> tuple[str,
     return tuple(result)
 
 
-def port_changes(bench: Testbench, reach: int | None, is_exchange: bool = False) -> Iterator[DesignChange]:
+def output_place_changes(bench: Testbench, reach: int | None, is_exchange: bool = False) -> Iterator[DesignChange]:
     """Yields the change that puts each wrong `out` where its output is at the end, at most `reach` cells away, and
     `waste` for what is left.
 
@@ -215,7 +215,7 @@ def port_changes(bench: Testbench, reach: int | None, is_exchange: bool = False)
     wastes = [part_for_stray_ball(bench, cell, table) for cell, table in places if key_of(cell) in wrong
               and cell not in taken | covered]
     if len(swaps) + len(wastes) + len(freed) <= MAX_CHANGE_LINES and (swaps or wastes):
-        yield from bench.part_changes(swaps, wastes, freed)
+        yield from bench.change_if_possible(swaps, wastes, freed)
 
 
 def part_for_stray_ball(bench: Testbench, cell: Cell, table: Table) -> Part:
@@ -226,7 +226,7 @@ def part_for_stray_ball(bench: Testbench, cell: Cell, table: Table) -> Part:
     return Part("waste" if name is None else "out", name, *cell)
 
 
-def missing_port_changes(bench: Testbench) -> Iterator[DesignChange]:
+def added_output_changes(bench: Testbench) -> Iterator[DesignChange]:
     """Yields the change that gives each output without a cell the live cells that have its value at the end and that no
     line asks for."""
     if bench.last is None:
@@ -239,7 +239,7 @@ def missing_port_changes(bench: Testbench) -> Iterator[DesignChange]:
                  and bench.layout.has(cell_of(key))]
         new += [Part("out", name, *cell) for cell in cells if cell not in {part.cell for part in new}]
     if new and len(new) <= MAX_CHANGE_LINES:
-        yield from bench.part_changes({}, new)
+        yield from bench.change_if_possible({}, new)
 
 
 def output_exchanges(bench: Testbench) -> Iterator[DesignChange]:
@@ -254,11 +254,11 @@ def output_exchanges(bench: Testbench) -> Iterator[DesignChange]:
             swaps = {part: part._replace(name=two if part.name == one else one) for part in outs
                      if part.name in (one, two)}
             if len(swaps) <= MAX_CHANGE_LINES:
-                yield from bench.part_changes(swaps)
+                yield from bench.change_if_possible(swaps)
     for one in names:
         for two in bench.circuit.outputs:
             for part in (part for part in outs if part.name == one and two != one):
-                yield from bench.part_changes({part: part._replace(name=two)})
+                yield from bench.change_if_possible({part: part._replace(name=two)})
 
 
 def step_count_changes(bench: Testbench) -> Iterator[DesignChange]:
@@ -328,7 +328,7 @@ def replaced_part_changes(bench: Testbench, gone: list[Part], new: list[Part]) -
             swaps[part] = shifted_part(part, other.x - part.x, other.y - part.y)
             gone.remove(part)
             new.remove(other)
-    yield from (change for change in bench.part_changes(swaps, new, gone) if change.edits)
+    yield from (change for change in bench.change_if_possible(swaps, new, gone) if change.edits)
 
 
 def moved_part_changes(bench: Testbench, kinds: tuple[str, ...], reach: int = 2) -> Iterator[DesignChange]:
@@ -345,7 +345,7 @@ def moved_part_changes(bench: Testbench, kinds: tuple[str, ...], reach: int = 2)
                 if (part.kind == "mirror" and has_mirror_parity(part)
                         and not has_mirror_parity(shifted_part(part, dx, dy))):
                     continue
-                yield from bench.part_changes({member: shifted_part(member, dx, dy) for member in group})
+                yield from bench.change_if_possible({member: shifted_part(member, dx, dy) for member in group})
 
 
 def has_mirror_parity(part: Part) -> bool:
@@ -360,7 +360,7 @@ def removed_part_changes(bench: Testbench) -> Iterator[DesignChange]:
         is_port = part.kind in ("in", "out")
         if part.kind in ("ball", "mirror") or is_port and sum((other.kind, other.name) == (part.kind, part.name)
                                                               for other in ports) > 1:
-            yield from bench.part_changes({}, (), [part])
+            yield from bench.change_if_possible({}, (), [part])
 
 
 def added_ball_changes(bench: Testbench) -> Iterator[DesignChange]:
@@ -371,7 +371,7 @@ def added_ball_changes(bench: Testbench) -> Iterator[DesignChange]:
     if bench.layout.width * bench.layout.height <= 1600:
         cells += [(x, y) for y in range(bench.layout.height) for x in range(bench.layout.width)]
     for cell in dict.fromkeys(cells):
-        yield from bench.part_changes({}, [Part("ball", None, *cell)])
+        yield from bench.change_if_possible({}, [Part("ball", None, *cell)])
 
 
 def added_mirror_changes(bench: Testbench, is_near: bool) -> Iterator[DesignChange]:
@@ -393,4 +393,4 @@ def added_mirror_changes(bench: Testbench, is_near: bool) -> Iterator[DesignChan
                 part = Part("mirror", None, u, v, width, height)
                 if part not in seen and has_mirror_parity(part):
                     seen.add(part)
-                    yield from bench.part_changes({}, [part])
+                    yield from bench.change_if_possible({}, [part])

@@ -5,24 +5,24 @@ missing or wrong, the two runs agree nearly everywhere at the time at which a ba
 """
 
 from ..physics.simulation import LiveCells, Table, cell_of, end_tables, key_of, start_tables
-from ..texts.circuits import Valuation
+from ..texts.circuits import WireTables
 from ..texts.layouts import Cell, Layout
 
 # The most cells that are kept over all times, and how many places are enough.
 MAX_KEPT_CELLS = 2_000_000
 MAX_PLACES = 24
 
-State = dict[int, Table]
+LiveTables = dict[int, Table]
 
 
-def wanted_end(layout: Layout, values: Valuation, last: State | None) -> State:
+def wanted_end(layout: Layout, values: WireTables, last: LiveTables | None) -> LiveTables:
     """Returns the end that the layout asks for; waste cells are as the run left them."""
     wanted = end_tables(layout, values.tables, values.full)
     return {key_of(cell): (last or {}).get(key_of(cell), 0) if table is None else table for cell,
             table in wanted.items()}
 
 
-def start_of_wanted_end(layout: Layout, values: Valuation, last: State | None) -> State:
+def start_of_wanted_end(layout: Layout, values: WireTables, last: LiveTables | None) -> LiveTables:
     """Returns the start that leads to the end that the layout asks for."""
     field = LiveCells(wanted_end(layout, values, last))
     for time in range(layout.steps - 1, -1, -1):
@@ -31,7 +31,7 @@ def start_of_wanted_end(layout: Layout, values: Valuation, last: State | None) -
     return field.live
 
 
-def moving_states(layout: Layout, values: Valuation) -> list[State] | None:
+def states_without_still_mirrors(layout: Layout, values: WireTables) -> list[LiveTables] | None:
     """Returns the live cells at each time, without mirror cells that never change.
 
     A ball that leaves the rectangle flies on.
@@ -52,14 +52,14 @@ def moving_states(layout: Layout, values: Valuation) -> list[State] | None:
         field.step()
 
 
-def cells_where_runs_differ_least(layout: Layout, values: Valuation) -> list[Cell]:
+def cells_where_runs_differ_least(layout: Layout, values: WireTables) -> list[Cell]:
     """Returns the cells by which the two runs differ at the times, and under the inputs, at which they differ the
     least.
 
     A choice of inputs under which they differ the least for a short time comes first: a difference that stays is of a
     ball elsewhere.
     """
-    states = moving_states(layout, values)
+    states = states_without_still_mirrors(layout, values)
     if states is None:
         return []
     field, mirrors = LiveCells(wanted_end(layout, values, states[-1])), {key_of(cell) for cell in layout.mirror_cells()}
@@ -81,7 +81,7 @@ def cells_where_runs_differ_least(layout: Layout, values: Valuation) -> list[Cel
     return list(dict.fromkeys(places))[:2 * MAX_PLACES]
 
 
-def differing_cells_by_choice(one: State, two: State, mirrors: set[int]) -> dict[int, list[int]]:
+def differing_cells_by_choice(one: LiveTables, two: LiveTables, mirrors: set[int]) -> dict[int, list[int]]:
     """Returns the cells in which two states differ, by the choice of the inputs; mirror cells that do not move are left
     out."""
     columns: dict[int, list[int]] = {}

@@ -11,17 +11,17 @@ MAX_TOGETHER = 3
 MAX_PLACES = 6
 
 
-def mirror_place_changes(bench: Testbench) -> Iterator[DesignChange]:
+def falling_mirror_changes(bench: Testbench) -> Iterator[DesignChange]:
     """Yields the layout with each mirror that falls apart at a legal place next to it; a few of them together, then
     each by itself."""
-    fallen = sorted((mirror.part for mirror in falling_mirrors(bench.layout)), key=bench.distance_to_fault)
+    fallen = sorted((own.mirror for own in falling_mirrors(bench.layout)), key=bench.distance_to_fault)
     if not fallen:
         return
     if len(fallen) <= MAX_TOGETHER:
         count = 40 if len(fallen) == 1 else MAX_PLACES
         for places in product(*(stable_mirrors_near(part)[:count] for part in fallen)):
-            yield from bench.part_changes(dict(zip(fallen, places)))
+            yield from bench.change_if_possible(dict(zip(fallen, places)))
     for part in fallen:
         for place in [*stable_mirrors_near(part)[:MAX_PLACES],
                       *(shifted_part(part, dx, dy) for dy in (-1, 0, 1) for dx in (-1, 0, 1) if dx or dy)]:
-            yield from bench.part_changes({part: place})
+            yield from bench.change_if_possible({part: place})

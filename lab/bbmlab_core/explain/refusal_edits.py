@@ -84,7 +84,7 @@ def local_wire_edits(lines: list[str], circuit: Circuit, module: Module, name: s
         yield addition(insertion_line_in_module(lines, module.line, text), text)
 
 
-def unknown_wire_edits(document: Document, number: int, facts: dict[str, Any]) -> Iterator[Edits]:
+def nonlocal_wire_edits(document: Document, number: int, facts: dict[str, Any]) -> Iterator[Edits]:
     """Yields edits for a line whose wire the module does not know."""
     assert document.circuit and document.certificate
     lines, module = document.text.split("\n"), document.certificate.modules[facts["module"]]
@@ -99,16 +99,16 @@ def unknown_wire_edits(document: Document, number: int, facts: dict[str, Any]) -
     yield (deletion(number),)
 
 
-def unknown_use_edits(document: Document, number: int, facts: dict[str, Any]) -> Iterator[Edits]:
+def nonlocal_input_edits(document: Document, number: int, facts: dict[str, Any]) -> Iterator[Edits]:
     """Yields cuts of all inputs of a gate that a module does not know."""
     assert document.certificate
     lines, module = document.text.split("\n"), document.certificate.modules[facts["module"]]
     cuts = [f"cut {name}" for name in facts["names"]]
     yield tuple(addition(insertion_line_in_module(lines, module.line, text), text) for text in cuts)
-    yield from unknown_wire_edits(document, number, facts)
+    yield from nonlocal_wire_edits(document, number, facts)
 
 
-def port_edits(document: Document, _number: int, facts: dict[str, Any]) -> Iterator[Edits]:
+def nonlocal_port_edits(document: Document, _number: int, facts: dict[str, Any]) -> Iterator[Edits]:
     """Yields lines by which a module comes to know the wires of its ports."""
     assert document.certificate and document.circuit
     lines, module = document.text.split("\n"), document.certificate.modules[facts["module"]]
@@ -131,7 +131,7 @@ def heard_wire_edits(document: Document, _number: int, facts: dict[str, Any]) ->
     yield tuple(dict.fromkeys(deletion(at) for *_, at in facts["missing"]))
 
 
-def name_edits(document: Document, number: int, facts: dict[str, Any]) -> Iterator[Edits]:
+def other_name_edits(document: Document, number: int, facts: dict[str, Any]) -> Iterator[Edits]:
     """Yields the line with another name: one that is spelt alike, then the others; and the text without the line."""
     known, line = facts["known"], document.line(number)
     near = difflib.get_close_matches(facts["name"], known, MAX_SIMILAR, 0.3)
@@ -141,7 +141,7 @@ def name_edits(document: Document, number: int, facts: dict[str, Any]) -> Iterat
     yield (deletion(number),)
 
 
-def number_edits(document: Document, number: int, facts: dict[str, Any]) -> Iterator[Edits]:
+def near_number_edits(document: Document, number: int, facts: dict[str, Any]) -> Iterator[Edits]:
     """Yields the line with a number one or two away."""
     words = document.line(number).split(" ")
     for place, word in enumerate(words):
@@ -153,7 +153,7 @@ def number_edits(document: Document, number: int, facts: dict[str, Any]) -> Iter
     yield (deletion(number),)
 
 
-def place_edits(document: Document, number: int, facts: dict[str, Any]) -> Iterator[Edits]:
+def near_place_edits(document: Document, number: int, facts: dict[str, Any]) -> Iterator[Edits]:
     """Yields the line of a part at most 2 cells away, the nearest first, then with other numbers, then left out."""
     words = document.line(number).split(" ")
     at = 2 if words[0] in ("in", "out") else 1
@@ -163,7 +163,7 @@ def place_edits(document: Document, number: int, facts: dict[str, Any]) -> Itera
         x, y = int(words[at]) + dx, int(words[at + 1]) + dy
         if min(x, y) >= 0:
             yield (replacement(number, " ".join([*words[:at], str(x), str(y), *words[at + 2:]])),)
-    yield from number_edits(document, number, facts)
+    yield from near_number_edits(document, number, facts)
 
 
 def twice_consumed_edits(document: Document, number: int, facts: dict[str, Any]) -> Iterator[Edits]:
@@ -172,7 +172,7 @@ def twice_consumed_edits(document: Document, number: int, facts: dict[str, Any])
     circuit = document.circuit
     consumed = {*circuit.outputs, *circuit.spills, *(name for gate in circuit.gates for name in gate.ins)}
     free = [name for name in circuit.wires if name not in consumed]
-    yield from name_edits(document, number, {"name": facts["name"], "known": free})
+    yield from other_name_edits(document, number, {"name": facts["name"], "known": free})
 
 
 def missing_end_edits(document: Document, _number: int, _facts: dict[str, Any]) -> Iterator[Edits]:
@@ -195,7 +195,7 @@ def trailing_lines_deletion(document: Document, number: int, _facts: dict[str, A
 def gap_edits(document: Document, number: int, facts: dict[str, Any]) -> Iterator[Edits]:
     """Yields a module for each part of a gap that is small enough."""
     if all(max(gap.width, gap.height) <= 64 for gap in facts["gaps"]):
-        yield tuple(addition(number - 1, f"module {gap.words}") for gap in facts["gaps"])
+        yield tuple(addition(number - 1, f"module {gap.numbers_text}") for gap in facts["gaps"])
 
 
 def no_module_edits(document: Document, number: int, facts: dict[str, Any]) -> Iterator[Edits]:
@@ -213,7 +213,7 @@ def limit_edits(document: Document, number: int, facts: dict[str, Any]) -> Itera
     if facts["limits"] is FIRST_LIMITS:
         yield (addition(0, LIMITS_LINE),)
     if "number" in facts:
-        yield from number_edits(document, number, facts)
+        yield from near_number_edits(document, number, facts)
 
 
 EDIT_FINDERS: dict[str, EditFinder] = {cause: finder for finder, causes in (
@@ -222,18 +222,18 @@ EDIT_FINDERS: dict[str, EditFinder] = {cause: finder for finder, causes in (
                     "keep_not_used wire_defined cut_twice use_output_local cut_count"),
     (header_edits, "first_not_header"),
     (unconsumed_wire_edits, "wire_not_consumed"),
-    (port_edits, "port_not_local"),
+    (nonlocal_port_edits, "port_not_local"),
     (heard_wire_edits, "heard_not_local"),
     (gap_edits, "gap"),
     (no_module_edits, "no_module"),
-    (unknown_wire_edits, "wire_not_local"),
-    (unknown_use_edits, "use_input_not_local"),
-    (name_edits, "wire_not_defined wire_unknown port_unknown"),
-    (number_edits, "gate_unknown keep_not_inverse border_place box_odd box_outside box_overlap box_side "
+    (nonlocal_wire_edits, "wire_not_local"),
+    (nonlocal_input_edits, "use_input_not_local"),
+    (other_name_edits, "wire_not_defined wire_unknown port_unknown"),
+    (near_number_edits, "gate_unknown keep_not_inverse border_place box_odd box_outside box_overlap box_side "
                    "certificate_version delay_limit"),
     (twice_consumed_edits, "wire_consumed"),
     (limit_edits, "layout_side mirror_side layout_steps wire_count gate_count module_count"),
-    (place_edits, "cell_outside cell_taken"),
+    (near_place_edits, "cell_outside cell_taken"),
     (missing_end_edits, "text_ended line_not_ended"),
     (trailing_lines_deletion, "text_goes_on"),
 ) for cause in causes.split()}

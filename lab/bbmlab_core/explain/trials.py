@@ -4,7 +4,7 @@ and seconds.
 
 from dataclasses import dataclass
 
-from ..farm.answering import EXIT_STATUS_OF
+from ..farm.answering import PROGRAM_STATUS_OF
 from ..host.processor import processor_seconds
 from ..host.program import Executable, BadProgramError, ProgramTimeout, ask, open_program
 from ..physics.own_report import own_report
@@ -21,13 +21,13 @@ MAX_OWN_STEPS = 50_000
 class Budget:
     """How many texts are tried, and for how many seconds of the processor, those of the program included.
 
-    If `is_of_search`, what was done before the search for fixes does not count: reading and explaining a large text
-    takes long.
+    If `is_counted_from_search`, what was done before the search for fixes does not count: reading and explaining a
+    large text takes long.
     """
 
     tries: int = 600
     seconds: float = 30.0
-    is_of_search: bool = False
+    is_counted_from_search: bool = False
 
 
 class TrialRunner:
@@ -47,7 +47,7 @@ class TrialRunner:
 
     def begin_search(self) -> None:
         """Counts the seconds from now on, if they are those of the search."""
-        if self.budget.is_of_search:
+        if self.budget.is_counted_from_search:
             self.started = processor_seconds()
 
     def seconds_left(self) -> float:
@@ -58,7 +58,7 @@ class TrialRunner:
         """Whether the tries or the seconds are used up."""
         return self.tries >= self.budget.tries or self.seconds_left() <= 0
 
-    def report(self, text: str) -> ReportOrRefusal | None:
+    def try_text(self, text: str) -> ReportOrRefusal | None:
         """Returns the report of a text, or None if there is none: the budget is used up, or the program did not answer.
         """
         if text not in self._known:
@@ -77,7 +77,8 @@ class TrialRunner:
             answer = ask(self.program, "check", text.encode("latin-1"),
                          min(MAX_RUN_SECONDS, max(1.0, self.seconds_left())))
             report = parse_report(answer.output)
-            return report if answer.status == EXIT_STATUS_OF["refused" if report.refused else report.verdict] else None
+            return report if answer.status == PROGRAM_STATUS_OF["refused" if report.refused
+                                                                else report.verdict] else None
         except (BadProgramError, ProgramTimeout, ReportError):
             return None
 
@@ -100,7 +101,7 @@ def fault_times(report: ReportOrRefusal) -> dict[int, int]:
     return {finding.number("module"): finding.number("time") for finding in report.findings if finding.word == "local"}
 
 
-def other_findings(report: ReportOrRefusal) -> set[str]:
+def faults_besides_local(report: ReportOrRefusal) -> set[str]:
     """Returns the lines against the text that are not about a module's own run, without the numbers that later edits
     move."""
     return {finding.text for finding in report.faults if finding.word != "local"}
@@ -118,7 +119,7 @@ def has_removed_fault(before: ReportOrRefusal, after: ReportOrRefusal | None, fi
         return True
     was, now = fault_times(before), fault_times(after)
     if (any(module not in was or time < was[module] for module, time in now.items())
-            or other_findings(after) - other_findings(before)):
+            or faults_besides_local(after) - faults_besides_local(before)):
         return False
     left = {other.text for other in after.faults}
     if finding is None:

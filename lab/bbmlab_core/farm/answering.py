@@ -11,15 +11,15 @@ RESULT_WORDS = {"yes": "yes", "no": "no", "refused": "refused", "timeout": "time
                 "error": "error"}
 
 # The status with which the program ends after each kind of report.
-EXIT_STATUS_OF = {"yes": 0, "no": 1, "refused": 3}
+PROGRAM_STATUS_OF = {"yes": 0, "no": 1, "refused": 3}
 
 
 @dataclass
 class Result:
     """What came of one file. `detail` is the first reason against it.
 
-    `held`: it is from a receipt, and the program was not run. `is_fatal`: the program contradicts itself, so no more is
-    to be checked.
+    `is_from_receipt`: it is from a receipt, and the program was not run. `is_fatal`: the program contradicts itself, so
+    no more is to be checked.
     """
 
     file: str
@@ -28,7 +28,7 @@ class Result:
     seconds: float
     modules: int = 0
     output: str = ""
-    held: bool = False
+    is_from_receipt: bool = False
     is_fatal: bool = False
 
 
@@ -39,17 +39,18 @@ def result_of_report(file: str, status: int, output: str) -> Result:
     except ReportError as error:
         return Result(file, "error", str(error), 0)
     word = "refused" if report.refused else report.verdict
-    if status != EXIT_STATUS_OF[word]:
+    if status != PROGRAM_STATUS_OF[word]:
         return Result(file, "error", f"the report says {word}, and the status is {status}", 0)
     if report.refused:
         return Result(file, "refused", output.strip(), 0, output=output)
     faults = report.faults
     more = f" and {len(faults) - 1} more" if len(faults) > 1 else ""
-    detail = f"{faults[0].text}{more}" if faults else f"{report.modules} module{'s' if report.modules != 1 else ''}"
-    return Result(file, report.verdict, detail, 0, report.modules, output)
+    count = report.module_count
+    detail = f"{faults[0].text}{more}" if faults else f"{count} module{'s' if count != 1 else ''}"
+    return Result(file, report.verdict, detail, 0, count, output)
 
 
-def why_no_verdict(said: Answer) -> str | None:
+def why_bad_answer(said: Answer) -> str | None:
     """Returns why an answer to `check` is neither a verdict nor a refusal, or None if it is one."""
     if said.status >= 4:
         return said.errors or f"status {said.status}"

@@ -19,7 +19,8 @@ from ..host.signals import keep_interrupting
 from ..host.terminal import LabError, read_bytes
 from .answering import RESULT_WORDS, Result, timed_result
 
-__all__ = ["RESULT_WORDS", "Checker", "ResultKeeper", "Result", "result_counts", "exit_status", "summary", "text_files"]
+__all__ = ["RESULT_WORDS", "Checker", "ResultKeeper", "Result", "result_counts", "exit_status", "files_to_check",
+           "summary"]
 
 # Seconds between two looks whether a worker has a result, and how long a worker may take to end.
 POLL_SECONDS, GRACE_SECONDS = 0.2, 2.0
@@ -27,7 +28,7 @@ POLL_SECONDS, GRACE_SECONDS = 0.2, 2.0
 KEPT_RESULT_NAMES = ("yes", "no", "refused")
 
 
-def files_below(folder: str, tell: Callable[[str], None] = lambda _: None) -> list[str]:
+def text_files_below(folder: str, tell: Callable[[str], None] = lambda _: None) -> list[str]:
     """Returns the `.txt` files of a folder, at any depth. Raises LabError if a folder cannot be listed.
 
     A link to a folder is not followed, since links may make a circle. `tell` gets a sentence on each of them, and on
@@ -50,7 +51,7 @@ def files_below(folder: str, tell: Callable[[str], None] = lambda _: None) -> li
     return sorted(found)
 
 
-def text_files(names: list[str], tell: Callable[[str], None] = lambda _: None) -> list[str]:
+def files_to_check(names: list[str], tell: Callable[[str], None] = lambda _: None) -> list[str]:
     """Returns the files of these names; a folder is all its `.txt` files, at any depth.
 
     `tell` gets a sentence on what is left out.
@@ -58,7 +59,7 @@ def text_files(names: list[str], tell: Callable[[str], None] = lambda _: None) -
     found: list[str] = []
     for name in names:
         if name != "-" and os.path.isdir(name):
-            inside = files_below(name, tell)
+            inside = text_files_below(name, tell)
             if not inside:
                 raise LabError(f"{name}: no .txt file in this folder")
             found += inside

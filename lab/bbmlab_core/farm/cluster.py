@@ -25,7 +25,7 @@ GROUP_SECONDS, GROUP_TEXTS, GROUP_BYTES = 0.25, 50, 1 << 20
 # How often a group is sent that no worker answers, since a worker may end with a result that was not fetched.
 MAX_TRIES = 3
 # Seconds until the threads of the workers are counted again, since this asks the scheduler.
-THREAD_COUNT_SECONDS = 1.0
+RECOUNT_SECONDS = 1.0
 
 # Seconds to wait for the scheduler, and for a first worker.
 CONNECT_SECONDS = 10
@@ -117,7 +117,7 @@ class ClusterChecker(Checker):
         now = time.monotonic()
         if now >= self.counted_until:
             self.thread_count = max(1, sum(int(count) for count in self.client.nthreads().values()))
-            self.counted_until = now + THREAD_COUNT_SECONDS
+            self.counted_until = now + RECOUNT_SECONDS
         return self.thread_count
 
     def add_file(self, file: str, group: FileGroup) -> Result | None:

@@ -11,7 +11,7 @@ LINE_SECONDS = 10.0
 SHOW_SECONDS = 0.1
 
 
-def minutes_words(seconds: float) -> str:
+def clock_text(seconds: float) -> str:
     """Returns a number of seconds as minutes and seconds."""
     whole = int(seconds + 0.5)
     return (f"{whole // 3600}:{whole // 60 % 60:02d}:{whole % 60:02d}" if whole >= 3600
@@ -42,7 +42,7 @@ class Progress:
             return
         self.last = now
         rate = self.done / (now - self.began)
-        left = f", {minutes_words((self.total - self.done) / rate)} left" if rate else ""
+        left = f", {clock_text((self.total - self.done) / rate)} left" if rate else ""
         if not self.is_terminal:
             print(f"bbmlab: {self.done} of {self.total}, {rate:.3g} a second{left}", file=sys.stderr, flush=True)
             return

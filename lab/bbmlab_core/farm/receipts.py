@@ -18,14 +18,14 @@ from ..host.replacing import replace_file
 from ..host.terminal import LabError, read_bytes
 from ..texts.limits import SECOND_LIMITS
 from ..texts.reports import parse_report
-from .answering import EXIT_STATUS_OF, Result, result_of_report
+from .answering import PROGRAM_STATUS_OF, Result, result_of_report
 from .checking import Contradiction
 
 FORMAT = "bbmlab receipt 1"
 SECTIONS = ("circuit", "layout", "certificate")
 SECTION_HEADER = re.compile(rb"(circuit|layout|certificate)(?: |\n)")
 # The most characters of a name of a file that stand in the name of its receipt.
-MAX_NAME_BYTES = 180
+MAX_COPIED_NAME_BYTES = 180
 DIGEST_PATTERN = re.compile(r"[0-9a-f]{64}\Z")
 
 
@@ -60,13 +60,13 @@ class Receipt:
 
     `name` is the name under which the text was checked, `size` its length in bytes. `status` is the program's.
     `seconds` is the time of the processor, and `date` the end of the run in UTC; all other members are the same at each
-    run. `said` is the result that the report stands for.
+    run. `report_result` is the result that the report stands for.
     """
 
     name: str
     size: int
-    text: str
-    sections: dict[str, str | None]
+    text_sha256: str
+    digest_of_section: dict[str, str | None]
     report: str
     verdict: str
     status: int
@@ -74,14 +74,14 @@ class Receipt:
     workers: int
     seconds: float
     date: str
-    said: Result
+    report_result: Result
 
     def __str__(self) -> str:
         """Returns the document. The date and the seconds have lines of their own, at the end."""
         program = {"sha256": self.program.sha256, "version": self.program.version, "kit": self.program.kit,
-                   "sources_sha256": self.program.sources}
-        document = {"format": FORMAT, "text": {"name": self.name, "bytes": self.size, "sha256": self.text},
-                    "sections": self.sections,
+                   "sources_sha256": self.program.sources_digest}
+        document = {"format": FORMAT, "text": {"name": self.name, "bytes": self.size, "sha256": self.text_sha256},
+                    "sections": self.digest_of_section,
                     "program": program, "workers": self.workers, "verdict": self.verdict, "status": self.status,
                     "report_sha256": sha256(self.report.encode("latin-1")), "report": self.report,
                     "processor_seconds": round(self.seconds, 3), "date": self.date}
@@ -93,7 +93,7 @@ def receipt_of(text: bytes, result: Result, program: ProgramIdentity, seconds: f
     """Returns the receipt of a result that is a verdict or a refusal."""
     date = time.strftime("%Y-%m-%dT%H:%M:%SZ", time.gmtime())
     return Receipt(result.file, len(text), sha256(text), section_digests(text), result.output, result.result,
-                   EXIT_STATUS_OF[result.result], program, 1, seconds, date, result)
+                   PROGRAM_STATUS_OF[result.result], program, 1, seconds, date, result)
 
 
 def member(document: Any, name: str, kind: Any) -> Any:
@@ -151,12 +151,12 @@ def require_consistent(receipt: Receipt, digest: str) -> None:
     """Raises ReceiptError unless report, digest, verdict and status of a receipt are of each other."""
     if sha256(receipt.report.encode("latin-1", "replace")) != digest:
         raise ReceiptError("its report was changed: the digest of the report is another one")
-    said = receipt.said
+    said = receipt.report_result
     if said.result == "error" or said.result != receipt.verdict:
         raise ReceiptError("its verdict was changed: the report says "
                            f"{said.result if said.result != 'error' else said.detail}")
     certificate = parse_report(receipt.report).digest
-    if certificate and certificate != receipt.sections["certificate"]:
+    if certificate and certificate != receipt.digest_of_section["certificate"]:
         raise ReceiptError("its report is of another certificate than its text")
 
 
@@ -174,8 +174,8 @@ class ReceiptFolder:
         """
         seen = os.path.relpath(file, os.path.dirname(os.path.abspath(self.folder))) if file != "-" else "standard input"
         name = quote(os.fsencode(seen), safe=" ")
-        if len(name) > MAX_NAME_BYTES:
-            name = f"{name[-MAX_NAME_BYTES:].lstrip('%')}-{sha256(os.fsencode(seen))[:16]}"
+        if len(name) > MAX_COPIED_NAME_BYTES:
+            name = f"{name[-MAX_COPIED_NAME_BYTES:].lstrip('%')}-{sha256(os.fsencode(seen))[:16]}"
         return os.path.join(self.folder, f"{name}.json")
 
     def stored_receipt(self, file: str) -> Receipt | None:
@@ -196,16 +196,16 @@ class ReceiptFolder:
             text = read_bytes(file)
         except LabError:
             return None
-        if (len(text), sha256(text)) != (receipt.size, receipt.text):
+        if (len(text), sha256(text)) != (receipt.size, receipt.text_sha256):
             return None
-        said = receipt.said
-        return Result(file, said.result, said.detail, 0, said.modules, said.output, held=True)
+        said = receipt.report_result
+        return Result(file, said.result, said.detail, 0, said.modules, said.output, is_from_receipt=True)
 
     def keep(self, text: bytes, result: Result, seconds: float) -> None:
         """Writes the receipt of a result. An earlier one of the same text and program must have the same report."""
         receipt = receipt_of(text, result, self.program, seconds)
         earlier = self.stored_receipt(result.file)
-        if (earlier and (earlier.text, earlier.program.sha256) == (receipt.text, receipt.program.sha256)
+        if (earlier and (earlier.text_sha256, earlier.program.sha256) == (receipt.text_sha256, receipt.program.sha256)
             and earlier.report != receipt.report):
             raise Contradiction(f"two answers to {result.file} by one program: {earlier.report!r} (in its receipt) and "
                                 f"{receipt.report!r}")

@@ -15,7 +15,7 @@ COLOURS = {"yes": "green", "no": "red", "refused": "red"}
 class ResultWriter:
     """Writes results:
 
-    `begin` before the first, `take_result` for each as it comes, and `end` with the signal that stopped the run, if
+    `begin` before the first, `list_or_count` for each as it comes, and `end` with the signal that stopped the run, if
     one did. Only some kinds of results are listed if words are given. The summary and the status are those of all
     files.
     """
@@ -23,12 +23,12 @@ class ResultWriter:
     def __init__(self, words: list[str] | None = None) -> None:
         self.words = words
 
-    def take_result(self, result: Result) -> None:
+    def list_or_count(self, result: Result) -> None:
         """Takes one result."""
         if self.words is None or result.result in self.words:
             self.list_result(result)
         else:
-            self.count_result(result)
+            self.count_unlisted(result)
 
     def begin(self, files: list[str]) -> None:
         """Begins with the names of all files."""
@@ -36,7 +36,7 @@ class ResultWriter:
     def list_result(self, result: Result) -> None:
         """Lists one result."""
 
-    def count_result(self, result: Result) -> None:
+    def count_unlisted(self, result: Result) -> None:
         """Counts one result without listing it."""
 
     def end(self, stopped: str | None) -> None:
@@ -54,17 +54,17 @@ class TextWriter(ResultWriter):
 
     def list_result(self, result: Result) -> None:
         """Writes a line, unless the result is a yes that a receipt holds."""
-        self.count_result(result)
-        if result.held and result.result == "yes":
+        self.count_unlisted(result)
+        if result.is_from_receipt and result.result == "yes":
             return
         word = coloured(RESULT_WORDS[result.result].ljust(8), COLOURS.get(result.result, "yellow"))
         name, detail = escape_controls(result.file).ljust(self.width), escape_controls(result.detail)
         print(f"{name}  {word}  {result.seconds:7.2f} s  {detail}".rstrip(), flush=True)
 
-    def count_result(self, result: Result) -> None:
+    def count_unlisted(self, result: Result) -> None:
         """Counts one result without listing it."""
         self.results[result.result] = self.results.get(result.result, 0) + 1
-        self.held += result.held
+        self.held += result.is_from_receipt
 
     def end(self, stopped: str | None) -> None:
         """Writes the summary."""
@@ -102,10 +102,10 @@ def result_json(result: Result) -> dict[str, Any]:
     """Returns a result as JSON values."""
     return {"file": result.file, "result": result.result, "detail": result.detail, "seconds": result.seconds,
             "modules": result.modules,
-            "output": result.output, **({"held": True} if result.held else {}), **refusal_json(result)}
+            "output": result.output, **({"held": True} if result.is_from_receipt else {}), **refusal_members(result)}
 
 
-def refusal_json(result: Result) -> dict[str, Any]:
+def refusal_members(result: Result) -> dict[str, Any]:
     """Returns the line, the code and the code's name of a refusal, so that nobody need parse them."""
     if result.result != "refused":
         return {}
@@ -135,7 +135,7 @@ class DocumentWriter(ResultWriter):
         """Keeps a result."""
         self.results[result.file] = result
 
-    def count_result(self, result: Result) -> None:
+    def count_unlisted(self, result: Result) -> None:
         """Counts one result without listing it."""
         self.left[result.result] = self.left.get(result.result, 0) + 1
 

@@ -7,10 +7,10 @@ from typing import NamedTuple
 
 
 class Shard(NamedTuple):
-    """Part `number` of `parts`, from 1."""
+    """Part `number` of `part_count` parts, from 1."""
 
     number: int
-    parts: int
+    part_count: int
 
 
 def read_shard(word: str) -> Shard:
@@ -30,4 +30,4 @@ def is_in_shard(file: str, part: Shard | None) -> bool:
     """
     if part is None:
         return True
-    return int.from_bytes(hashlib.sha256(os.fsencode(file)).digest()[:8], "big") % part.parts == part.number - 1
+    return int.from_bytes(hashlib.sha256(os.fsencode(file)).digest()[:8], "big") % part.part_count == part.number - 1

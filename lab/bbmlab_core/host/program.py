@@ -103,7 +103,7 @@ def program_behind_wrapper(found: str) -> str:
     return os.fsdecode(asked.stdout.removesuffix(b"\n"))
 
 
-def find_program(given: str | None = None) -> Executable:
+def find_and_open_program(given: str | None = None) -> Executable:
     """Opens the program:
 
     `given`, else $BBMCHECK, else the repository's wrapper or that of the same installation, else PATH's.
@@ -143,7 +143,7 @@ class RunningPrograms:
             is_stopped = self.is_stopped
         if is_stopped:
             # It was stopped while it started.
-            self.end(process)
+            self.kill(process)
             raise BadProgramError("stopped")
         return process
 

@@ -16,13 +16,13 @@ VERSION_SECONDS = 10.0
 
 @dataclass(frozen=True)
 class ProgramIdentity:
-    """A program by its SHA-256. `version` is what `--version` prints first. `kit` and `sources` are of its release, or
-    None if it is none that is known here."""
+    """A program by its SHA-256. `version` is what `--version` prints first. `kit` and `sources_digest` are of its
+    release, or None if it is none that is known here."""
 
     sha256: str
     version: str | None
     kit: str | None = None
-    sources: str | None = None
+    sources_digest: str | None = None
 
 
 def manifest_values(text: str) -> dict[str, str]:

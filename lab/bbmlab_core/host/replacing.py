@@ -36,8 +36,8 @@ def replace_file(name: str, data: bytes, before: bytes | None = None, follows: b
     beside = write_beside(target, data, old)
     try:
         if before is not None and bytes_of(target) != before:
-            raise ChangedFileError(name, keep_beside(beside, target))
-        if old and is_other_owner(beside, old):
+            raise ChangedFileError(name, link_under_free_name(beside, target))
+        if old and has_different_owner(beside, old):
             write_in_place(target, data)
         else:
             os.replace(beside, target)
@@ -105,7 +105,7 @@ def copy_owner(descriptor: int, old: os.stat_result) -> None:
             pass
 
 
-def is_other_owner(beside: str, old: os.stat_result) -> bool:
+def has_different_owner(beside: str, old: os.stat_result) -> bool:
     """Whether a new file could not get the owner or the group of the one that it is to replace."""
     made = os.lstat(beside)
     return (made.st_uid, made.st_gid) != (old.st_uid, old.st_gid)
@@ -120,7 +120,7 @@ def write_in_place(target: str, data: bytes) -> None:
         os.fsync(file.fileno())
 
 
-def keep_beside(beside: str, target: str) -> str:
+def link_under_free_name(beside: str, target: str) -> str:
     """Gives a file a name of its own beside another one, and returns the name. No file is replaced."""
     for number in range(1, MAX_TRIED_NAMES):
         name = f"{target}.new{number if number > 1 else ''}"

@@ -26,7 +26,7 @@ class JoinedLayout:
         self.starts: dict[str, list[Cell]] = {}
         self.ends: dict[str, list[Cell]] = {}
         for placed in plan.placed:
-            self.add_part(placed)
+            self.add_part_ports(placed)
         for job, path in zip(plan.jobs, paths):
             if job.start is None:
                 self.starts.setdefault(job.wire, []).extend(path.start.cells())
@@ -34,9 +34,9 @@ class JoinedLayout:
                 self.ends.setdefault(job.wire, []).extend(path.end.cells())
         self.add_never_true_outputs()
 
-    def add_part(self, placed: PlacedPart) -> None:
+    def add_part_ports(self, placed: PlacedPart) -> None:
         """Adds the ports of a part that begin at time 0 or end at the last time: they stay where they are."""
-        part, layout = placed.part, placed.part.text.layout
+        part, layout = placed.part, placed.part.bundle.layout
         taken = {own.input for own in self.composed.connections if own.target == part.name}
         given = {own.output for own in self.composed.connections if own.source == part.name}
         if placed.time == 0:
@@ -82,17 +82,17 @@ class JoinedLayout:
     def mirror_rows(self) -> list[int]:
         """The cells of all mirrors, as bits of rows."""
         rows = [0] * self.plan.height
-        parts = (placed.placing.cell_number_map().of_all(placed.part.footprint.mirrors) for placed in self.plan.placed)
+        parts = (placed.placing.cell_number_map().map_all(placed.part.footprint.mirrors) for placed in self.plan.placed)
         for number in chain.from_iterable(chain(parts, (path.item.mirrors for path in self.paths))):
             rows[number >> ROW_BITS] |= BITS[number & ROW_STRIDE - 1]
         return rows
 
     @property
-    def mirror_count(self) -> int:
+    def mirror_cell_count(self) -> int:
         """The number of cells of mirrors."""
         return sum(row.bit_count() for row in self.mirror_rows)
 
-    def ports(self) -> Iterator[tuple[Cell, str]]:
+    def port_cells(self) -> Iterator[tuple[Cell, str]]:
         """Yields the cells of inputs and outputs with their wires."""
         circuit = self.composed.circuit
         for wires, cells in ((circuit.inputs, self.starts), (circuit.outputs, self.ends)):
@@ -117,7 +117,7 @@ def rectangles(rows: list[int]) -> Iterator[Box]:
             yield Box(x, y, width, height)
 
 
-def crop_plane(plan: JoinPlan, paths: list[Path]) -> None:
+def set_cropped_size(plan: JoinPlan, paths: list[Path]) -> None:
     """Leaves out whole tiles of a plane at the right and below that nothing reaches."""
     numbers = [number for path in paths for number in outermost_cell_numbers(path.item)]
     right = max([0, *(number % ROW_STRIDE + RIM_CELLS for number in numbers),
@@ -128,11 +128,12 @@ def crop_plane(plan: JoinPlan, paths: list[Path]) -> None:
     plan.height = min(plan.side, (bottom // TILE + 1) * TILE)
 
 
-def joined_bundle(composed: Composition, plan: JoinPlan, modules: JoinedModules, paths: list[Path]) -> RoutedBundle:
+def make_joined_bundle(composed: Composition, plan: JoinPlan, modules: JoinedModules,
+                       paths: list[Path]) -> RoutedBundle:
     """Returns the bundle of a join whose balls are all led; raises NoRouteError if a module needs too many wires."""
-    crop_plane(plan, paths)
+    set_cropped_size(plan, paths)
     layout = JoinedLayout(composed, plan, paths)
-    modules.note_lines(paths, layout.ports())
+    modules.note_lines(paths, layout.port_cells())
     texts, count, most_cuts = ["certificate 2\n"], 0, 0
     for module in modules.modules(paths):
         texts.append(str(module))
@@ -141,4 +142,4 @@ def joined_bundle(composed: Composition, plan: JoinPlan, modules: JoinedModules,
     limits = limits_for(side, plan.end, count, len(circuit.gates), len(circuit.wires))
     text = with_limits_line("".join([composed.section, "\n".join(layout.lines()), "\n", *texts, "end\n"]), limits)
     gates = sum(gate.kind not in ("source", "delay") for gate in circuit.gates)
-    return RoutedBundle(text, "", plan.width, plan.height, plan.end, layout.mirror_count, count, most_cuts, gates)
+    return RoutedBundle(text, "", plan.width, plan.height, plan.end, layout.mirror_cell_count, count, most_cuts, gates)

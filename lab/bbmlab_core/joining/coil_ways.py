@@ -22,7 +22,7 @@ PATH_STREET_CELLS = 4
 # A coil is sought among so many rows above and below a ball.
 MAX_ROWS_AWAY = 1100
 # The bounces that a search tries at most, the longest leg, and the cells in which it comes to a place once.
-MOST_BOUNCES = 2000
+MAX_TRIED_BOUNCES = 2000
 LONGEST_LEG = 150
 SEARCH_GRID_CELLS = 4
 # The steps of a leg at which a bounce is tried: all for the first bounces, as a ball has few ways out of its part.
@@ -32,7 +32,7 @@ LEG_STRIDE = 8
 BOUNCE_COST = 10
 COST_PER_CELL_LEFT = 5
 # A coil begins at least so many steps behind the last bounce.
-LEAST_STEPS_AHEAD = 12
+LEAST_STEPS_TO_COIL = 12
 # The tiles within which the distance to a coil is known.
 FARTHEST_TILES = 140
 # A ball can fly at least so many steps on behind a bounce.
@@ -41,12 +41,12 @@ LEAST_STEPS_ON = 9
 # that are tried at most. In `multiplier_6` ways came after at most 1,148 bounces; other searches found none in 2,000.
 OPEN_SQUARE_SIDE = 48
 OPEN_SPARE_STEPS = 110
-OPEN_BOUNCES = 1200
+MAX_TRIED_OPEN_BOUNCES = 1200
 # The first bit of each tile of a row, and the digits 0 and 1 for these numbers.
 TILE_FIRST_BITS = sum(1 << column for column in range(0, ROW_STRIDE, TILE))
 DIGIT_TABLE = bytes.maketrans(b"\0\1", b"01")
 # What a leg takes is less than so many cells away from the rectangle between its ends.
-AROUND_LEG_CELLS = 12
+LEG_SPAN_MARGIN = 12
 # The balls behind bounces, by the direction before them, as seen from the cell of the bounce.
 BALLS_BEHIND = {(dx, dy): [(turn, bounce(Ball(0, 0, dx, dy, 0), turn)[0]) for turn in Turn]
                 for dx in (1, -1) for dy in (1, -1)}
@@ -69,13 +69,13 @@ class CoilGround:
         for y in range(max(0, box.y), min(len(self.rows), box.y + box.height)):
             self.rows[y] &= ~own
 
-    def take_coils(self, boxes: Iterable[Box]) -> None:
+    def set_coils(self, boxes: Iterable[Box]) -> None:
         """Takes the cells of coils and of the streets around them out, and no others."""
         self.rows = list(self.without_coils)
         for box in boxes:
-            self.take_coil(box)
+            self.take_box_and_street(box)
 
-    def take_coil(self, box: Box) -> None:
+    def take_box_and_street(self, box: Box) -> None:
         """Takes the cells of a coil and of the street around it out."""
         self.take_box(Box(box.x - STREET_CELLS, box.y - STREET_CELLS, box.width + 2 * STREET_CELLS,
                           box.height + 2 * STREET_CELLS))
@@ -187,7 +187,7 @@ class LegSpan(NamedTuple):
     top: int
     bottom: int
 
-    def is_met_by(self, other: "LegSpan") -> bool:
+    def has_conflict_with(self, other: "LegSpan") -> bool:
         """Whether mirrors of one leg are where the other one is touched."""
         if self.left > other.right or other.left > self.right or self.top > other.bottom or other.top > self.bottom:
             return False
@@ -197,8 +197,8 @@ class LegSpan(NamedTuple):
 
 def span_of(item: Footprint, first: Ball, last: Ball) -> LegSpan:
     """Returns what a leg takes that leads from a ball to another one."""
-    return LegSpan(item, min(first.x, last.x) - AROUND_LEG_CELLS, max(first.x, last.x) + AROUND_LEG_CELLS,
-                   min(first.y, last.y) - AROUND_LEG_CELLS, max(first.y, last.y) + AROUND_LEG_CELLS)
+    return LegSpan(item, min(first.x, last.x) - LEG_SPAN_MARGIN, max(first.x, last.x) + LEG_SPAN_MARGIN,
+                   min(first.y, last.y) - LEG_SPAN_MARGIN, max(first.y, last.y) + LEG_SPAN_MARGIN)
 
 
 class CoilBounce(NamedTuple):
@@ -213,7 +213,7 @@ class CoilBounce(NamedTuple):
     spans: tuple[LegSpan, ...] = ()
 
     @property
-    def steps_to_track(self) -> int:
+    def steps_to_new_track(self) -> int:
         """The steps until the ball is on its track."""
         return BOUNCE_STEPS if self.before else 0
 
@@ -250,7 +250,7 @@ class CoilSearch:
         self.finder, self.world, self.is_backward, self.end = finder, finder.world, is_backward, end
         # Whether the modules where a leg passes have room for its wire.
         self.has_room = has_room
-        self.first = CoilBounce(ball.reversed() if is_backward else ball)
+        self.first = CoilBounce(ball.time_reversed() if is_backward else ball)
         self.width = width or least_width(end - self.first.ball.time)
         self.squares = ground.squares(self.width + 1, ball.y)
         self.distances = self.squares.tile_distances()
@@ -258,9 +258,9 @@ class CoilSearch:
         self.taken = BitJoiner(self.world, finder.chance, finder.settings).taken_columns
         self.seen = set[tuple[int, int, int, int]]()
         self.queue = list[CoilOption]()
-        self.tried, self.count, self.most_bounces = 0, 0, MOST_BOUNCES
+        self.tried, self.count, self.most_bounces = 0, 0, MAX_TRIED_BOUNCES
 
-    def run(self) -> Iterator[tuple[Coil, list[Leg]]]:
+    def coils_with_legs(self) -> Iterator[tuple[Coil, list[Leg]]]:
         """Yields coils with the legs up to the end, those of a cheap way first."""
         for bend, room in self.reached_bounces():
             for coil in self.coils_ahead(bend, room):
@@ -278,9 +278,9 @@ class CoilSearch:
             yield bend, room
             for option in self.options_behind(bend, room):
                 heapq.heappush(self.queue, option)
-            bend = self.next_bounce()
+            bend = self.pop_next_bounce()
 
-    def next_bounce(self) -> CoilBounce | None:
+    def pop_next_bounce(self) -> CoilBounce | None:
         """Returns the next bounce at a place to which the search did not come yet, or None if there is none."""
         while self.queue:
             _, _, cost, before, steps, turn = heapq.heappop(self.queue)
@@ -296,12 +296,12 @@ class CoilSearch:
     def straight_steps(self, bend: CoilBounce) -> int:
         """Returns how many steps a ball can fly straight on."""
         most = min(LONGEST_LEG, self.end - bend.ball.time)
-        begun = bend.steps_to_track
+        begun = bend.steps_to_new_track
         return begun + self.world.free_steps(bend.ball.flown(begun), most - begun) if most > begun else 0
 
-    def bounce_steps(self, bend: CoilBounce, room: int) -> list[int]:
+    def tried_leg_steps(self, bend: CoilBounce, room: int) -> list[int]:
         """Returns the steps behind a bounce after which another one is tried."""
-        chance, begun = self.finder.chance, bend.steps_to_track
+        chance, begun = self.finder.chance, bend.steps_to_new_track
         stride = 1 if self.tried < EVERY_STEP_BOUNCES else LEG_STRIDE
         found = {*range(begun, room + 1, stride), *range(max(begun, room - 2), room + 1)}
         found |= {chance.randint(begun, room) for _ in range(4)} if room >= begun else set()
@@ -315,7 +315,7 @@ class CoilSearch:
         low = x if dx > 0 else x - room
         turns = [(turn, *behind, self.taken(bend.ball, turn, dx == dy) >> low & (1 << room + 1) - 1)
                  for turn, behind in BALLS_BEHIND[dx, dy]]
-        for steps in self.bounce_steps(bend, room):
+        for steps in self.tried_leg_steps(bend, room):
             column, row, cost = x + steps * dx, y + steps * dy, None
             # This runs most often: no more balls are made than needed.
             for turn, right, down, across, along, _, taken in turns:
@@ -324,7 +324,7 @@ class CoilSearch:
                                                  along) in self.seen:
                     continue
                 if cost is None:
-                    cost = bend.cost + self.world.new_cell_count(bend.ball, steps) + BOUNCE_COST
+                    cost = bend.cost + self.world.flight_cost(bend.ball, steps) + BOUNCE_COST
                 self.count += 1
                 yield CoilOption(cost + self.cost_left(i, j), self.count, cost, bend, steps, turn)
 
@@ -339,18 +339,19 @@ class CoilSearch:
         if item is None:
             return None
         span = span_of(item, bend.before.ball, bend.ball)
-        if any(span.is_met_by(own) for own in bend.spans) or not self.world.can_add(item) or not self.has_room(item):
+        if (any(span.has_conflict_with(own) for own in bend.spans) or not self.world.can_add(item)
+                or not self.has_room(item)):
             return None
         return bend._replace(spans=(*bend.spans, span))
 
     def leg_item(self, bend: CoilBounce, leg: Leg) -> Footprint | None:
         """Returns what a leg takes behind a bounce."""
-        begun = min(bend.steps_to_track, leg.steps)
+        begun = min(bend.steps_to_new_track, leg.steps)
         if not self.is_backward:
             return path_item(bend.ball, [leg], begun)
         legs = reversed_legs([Leg(leg.steps - begun, leg.turn), Leg(BOUNCE_STEPS, None)])
-        goal = bend.ball.flown(begun).reversed()
-        return path_item(self.finder.ball_before(goal, legs), legs)
+        goal = bend.ball.flown(begun).time_reversed()
+        return path_item(self.finder.start_of_legs(goal, legs), legs)
 
     def coils_ahead(self, bend: CoilBounce, room: int) -> Iterator[Coil]:
         """Yields the first coils that have room on the straight way behind a bounce."""
@@ -358,7 +359,7 @@ class CoilSearch:
         if self.distances.steps_from(ball.x, ball.y) > room + self.width + TILE:
             return
         boxes = [coil.box for coil in coils_of(ball, self.width)]
-        for ahead in range(LEAST_STEPS_AHEAD, room + 1):
+        for ahead in range(LEAST_STEPS_TO_COIL, room + 1):
             right, down = ahead * ball.dx, ahead * ball.dy
             for index, box in enumerate(boxes):
                 if has(box.x + right, box.y + down):
@@ -374,15 +375,15 @@ class OpenSearch(CoilSearch):
 
     def __init__(self, finder: PathFinder, ground: CoilGround, ball: Ball, goal: Ball, is_backward: bool,
                  has_room: Callable[[Footprint], bool], goal_cells: float) -> None:
-        self.goal, self.goal_cells = goal.reversed() if is_backward else goal, goal_cells
+        self.goal, self.goal_cells = goal.time_reversed() if is_backward else goal, goal_cells
         super().__init__(finder, ground, ball, self.goal.time, is_backward, has_room, OPEN_SQUARE_SIDE)
-        self.most_bounces = OPEN_BOUNCES
+        self.most_bounces = MAX_TRIED_OPEN_BOUNCES
 
     def ways(self) -> Iterator[list[Leg]]:
         """Yields the legs of ways, in their order of time. They end or begin with a straight flight."""
         half = OPEN_SQUARE_SIDE // 2
         for bend, room in self.reached_bounces():
-            for ahead in range(max(LEAST_STEPS_AHEAD, bend.steps_to_track), room + 1, LEG_STRIDE):
+            for ahead in range(max(LEAST_STEPS_TO_COIL, bend.steps_to_new_track), room + 1, LEG_STRIDE):
                 ball = bend.ball.flown(ahead)
                 if self.squares.has(ball.x - half, ball.y - half) and is_in_reach(ball, self.goal, OPEN_SPARE_STEPS):
                     item = self.leg_item(bend, Leg(ahead, None))

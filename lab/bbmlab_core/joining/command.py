@@ -8,7 +8,7 @@ import time
 from dataclasses import dataclass
 from typing import Collection
 
-from ..host.program import Executable, ask, find_program
+from ..host.program import Executable, ask, find_and_open_program
 from ..host.terminal import LabError, coloured, escape_controls, read_bytes, require_output, write_text
 from ..route.balls import Ball
 from ..route.board import NoRouteError
@@ -19,17 +19,17 @@ from ..route.settings import Settings
 from ..route.world import TILE
 from ..texts.documents import pause_garbage_collection
 from ..texts.limits import SECOND_LIMITS
-from .bundles import joined_bundle
+from .bundles import make_joined_bundle
 from .composing import Composition, Connection, compose
 from .modules import JoinedModules
-from .parts import PartText, read_part
+from .parts import PartBundle, read_part
 from .planning import SPARES, JoinPlan, estimated_side, first_spares, make_plan
 from .slack import LoneWayCuts, WayCut
 from .wiring import JoinWiring, TightError, ball_words
 
 PART_NAME_PATTERN = re.compile(r"[a-z][a-z0-9_]{0,15}")
 CONNECTION_PATTERN = re.compile(r"(\w+)\.(\w+)=(\w+)\.(\w+)")
-SETTINGS = Settings(wander_detour=0.07, wander_options=16)
+SETTINGS = Settings(wander_spare_per_cell=0.07, wander_options=16)
 # By how much the plane grows after an attempt that failed.
 PLANE_GROWTH = 1.12
 
@@ -40,7 +40,7 @@ class JoinOptions:
 
     seed: int
     side: int | None
-    effort: float
+    effort_seconds: float
 
 
 def part_files(words: list[str]) -> dict[str, str]:
@@ -72,13 +72,13 @@ def parse_connection(word: str) -> Connection:
 
 
 def read_parts(files: dict[str, str], connected: Collection[str], program: Executable,
-               timeout: float | None) -> dict[str, PartText]:
+               timeout: float | None) -> dict[str, PartBundle]:
     """Returns the parts, each of which the program accepts, with the lone ways of connected wires.
 
     A file that is named twice is read once.
     """
-    known: dict[bytes, PartText] = {}
-    parts: dict[str, PartText] = {}
+    known: dict[bytes, PartBundle] = {}
+    parts: dict[str, PartBundle] = {}
     for name, file in files.items():
         data = read_bytes(file)
         if data not in known:
@@ -97,7 +97,7 @@ def read_parts(files: dict[str, str], connected: Collection[str], program: Execu
 
 def require_leadable_balls(made: Composition) -> None:
     """Raises LabError if balls of a part cannot be led to it or from it."""
-    texts = {part.name: part.text for part in made.parts}
+    texts = {part.name: part.bundle for part in made.parts}
     for own in made.connections:
         source, target = texts[own.source], texts[own.target]
         for wire, ports, fault in ((own.output, source.ends, source.end_fault),
@@ -111,7 +111,7 @@ def require_leadable_balls(made: Composition) -> None:
 def require_whole_balls(plan: JoinPlan) -> None:
     """Raises LabError if a part that begins after time 0, or ends before the last time, has no whole balls there."""
     for placed in plan.placed:
-        text, name = placed.part.text, placed.part.name
+        text, name = placed.part.bundle, placed.part.name
         if placed.time > 0 and text.start_fault:
             raise LabError(f"{name} begins at time {placed.time} of the join, but {text.start_fault}", 1)
         if placed.end_time < plan.end and text.end_fault:
@@ -124,16 +124,16 @@ class JoinSearch:
     """The attempts to join parts. `spares` has the spare steps of each connection, and `side` is the next plane's side.
     """
 
-    made: Composition
-    asked: JoinOptions
+    composition: Composition
+    join_options: JoinOptions
     line: ProgressLine
     attempts: int = 0
 
     def __post_init__(self) -> None:
-        self.deadline = time.monotonic() + self.asked.effort
-        self.spares = first_spares(self.made)
+        self.deadline = time.monotonic() + self.join_options.effort_seconds
+        self.spares = first_spares(self.composition)
         self.closed, self.moved = set[WayCut](), list[WayCut]()
-        self.side = self.asked.side or estimated_side(self.made, self.spares)
+        self.side = self.join_options.side or estimated_side(self.composition, self.spares)
 
     def run(self) -> tuple[RoutedBundle | None, str]:
         """Returns the bundle, or None with the reason."""
@@ -146,7 +146,7 @@ class JoinSearch:
                 self.add_spare_steps(error.connections)
             except NoRouteError as error:
                 why = str(error)
-                if not self.asked.side:
+                if not self.join_options.side:
                     self.side = min(SECOND_LIMITS.max_side, int(self.side * PLANE_GROWTH) // (2 * TILE) * 2 * TILE)
         return None, why
 
@@ -155,22 +155,22 @@ class JoinSearch:
 
         If one of them gets none by that, since another ball decides when its part begins, all balls get more.
         """
-        before = self.steps_between()
-        self.closed.update(cut for cut in self.moved if cut.connection in connections)
+        before = self.planned_ball_steps()
+        self.closed.update(cut for cut in self.moved if cut.connection_index in connections)
         for index in connections:
             self.spares[index] += 1
-        after = self.steps_between()
+        after = self.planned_ball_steps()
         if any(after[index] <= before[index] for index in connections):
             self.spares = [min(len(SPARES) - 1, spare + 1) for spare in self.spares]
 
-    def steps_between(self) -> list[int]:
+    def planned_ball_steps(self) -> list[int]:
         """Returns the steps that each ball between two parts would get."""
-        plan = make_plan(self.made, self.side, self.spares)
+        plan = make_plan(self.composition, self.side, self.spares)
         return [job.steps for job in self.lone_way_cuts(plan).plan_with_cuts().jobs if job.is_between] if plan else []
 
     def lone_way_cuts(self, plan: JoinPlan) -> LoneWayCuts:
         """Returns where balls with time to spare leave their lone ways."""
-        return LoneWayCuts(self.made, plan, self.spares, self.closed)
+        return LoneWayCuts(self.composition, plan, self.spares, self.closed)
 
     def attempt(self) -> RoutedBundle:
         """Returns the bundle of one attempt; raises NoRouteError."""
@@ -183,39 +183,39 @@ class JoinSearch:
         paths = wiring.run(lambda led, total: self.line.show(self.attempts, self.side, led, total), loose)
         # The world of the paths takes as much memory as the bundle.
         del wiring
-        return joined_bundle(self.made, plan, modules, paths)
+        return make_joined_bundle(self.composition, plan, modules, paths)
 
     def prepare_attempt(self) -> tuple[JoinPlan, JoinedModules, JoinWiring]:
         """Returns what an attempt begins with. At first ports whose inner balls cannot leave get their lone ways back.
         """
         while True:
-            plan = make_plan(self.made, self.side, self.spares)
+            plan = make_plan(self.composition, self.side, self.spares)
             if plan is None:
                 raise LabError(f"the parts have no room on a plane of {self.side} by {self.side} cells", 1)
             require_legal_steps(plan.end)
             require_whole_balls(plan)
             slack = self.lone_way_cuts(plan)
             plan = slack.plan_with_cuts()
-            modules = JoinedModules(self.made, plan)
-            modules.require_meetings()
-            seed = self.asked.seed * 1_000_003 + self.attempts + 1
+            modules = JoinedModules(self.composition, plan)
+            modules.require_equal_stop_times()
+            seed = self.join_options.seed * 1_000_003 + self.attempts + 1
             wiring = JoinWiring(plan, modules, seed, SETTINGS, self.deadline)
-            enclosed = [cut for cut in slack.moved if wiring.is_enclosed(cut.connection, cut.is_output)]
+            enclosed = [cut for cut in slack.moved if wiring.is_enclosed(cut.connection_index, cut.is_output)]
             self.closed.update(enclosed)
             if enclosed:
                 # The next world is made when this one is no longer in memory.
                 del modules, wiring
                 continue
             self.moved = slack.moved
-            moved = {(cut.connection, 1 if cut.is_output else -1) for cut in slack.moved}
-            closed = [] if self.attempts else wiring.blocked_ends(moved)
+            moved = {(cut.connection_index, 1 if cut.is_output else -1) for cut in slack.moved}
+            closed = [] if self.attempts else wiring.closed_ends(moved)
             if not closed:
                 return plan, modules, wiring
             del modules, wiring
-            self.made = with_whole_ports(self.made, plan, closed)
+            self.composition = with_lone_ways_kept(self.composition, plan, closed)
 
 
-def with_whole_ports(made: Composition, plan: JoinPlan, closed: list[tuple[int, Ball, int]]) -> Composition:
+def with_lone_ways_kept(made: Composition, plan: JoinPlan, closed: list[tuple[int, Ball, int]]) -> Composition:
     """Returns a join in which ports with a closed inner end keep their lone ways; raises LabError if another end is
     closed."""
     whole: set[tuple[str, str]] = set()
@@ -230,8 +230,9 @@ def with_whole_ports(made: Composition, plan: JoinPlan, closed: list[tuple[int, 
             raise LabError(f"{ball_words(plan.jobs[index])} at ({ball.x}, {ball.y}) at time {ball.time} has no room "
                            f"for a bounce {where}: route the part with --open-ends", 1)
         whole.add(port)
-    missing = {(part.name, port.wire) for part in made.parts for port in (*part.text.starts, *part.text.ends)} - ways
-    return compose({part.name: part.text for part in made.parts}, made.connections, whole | missing)
+    missing = {(part.name, port.wire) for part in made.parts for port in (*part.bundle.starts,
+                                                                          *part.bundle.ends)} - ways
+    return compose({part.name: part.bundle for part in made.parts}, made.connections, whole | missing)
 
 
 def require_legal_steps(steps: int) -> None:
@@ -246,7 +247,7 @@ def join_command(options: argparse.Namespace) -> int:
     files = part_files(options.files)
     require_output(options.output, list(files.values()))
     connections = [parse_connection(word) for word in options.connect]
-    program, begun = find_program(options.program), time.monotonic()
+    program, begun = find_and_open_program(options.program), time.monotonic()
     line = ProgressLine(options.effort, "balls led", "writing the bundle")
     with pause_garbage_collection():
         connected = {wire for own in connections for wire in (own.output, own.input)}
@@ -265,7 +266,7 @@ def join_command(options: argparse.Namespace) -> int:
     write_text(options.output, routed.text)
     spent = time.monotonic() - begun
     print(f"parts {len(made.parts)}, connections {len(connections)}, size {routed.width} by {routed.height}, "
-          f"steps {routed.steps}, gates placed {routed.gates}, mirror cells {routed.mirrors}, "
+          f"steps {routed.steps}, gates placed {routed.gates}, mirror cells {routed.mirror_cell_count}, "
           f"modules {routed.modules}, most cuts {routed.most_cuts}, attempts {attempts}, seconds {spent:.1f}",
           file=sys.stderr)
     verdict = verdict_line(answer)

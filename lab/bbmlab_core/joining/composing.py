@@ -13,9 +13,9 @@ from ..route.world import STEP_STRIDE, Footprint, cell_number
 from ..texts.circuits import Circuit, Gate
 from ..texts.limits import text_without_limits_line
 from ..texts.sections import text_of_section
-from .flight_claims import flights_without
+from .flight_claims import ranges_without
 from .lone_ways import LoneWay
-from .parts import ALWAYS_SIGNAL, PartText, PartPort, part_footprint
+from .parts import ALWAYS_SIGNAL, PartBundle, PartPort, part_footprint
 
 
 @dataclass(frozen=True)
@@ -40,7 +40,7 @@ class NamedPart:
     """
 
     name: str
-    text: PartText
+    bundle: PartBundle
     wires: dict[str, str] = field(default_factory=dict)
     first_gate: int = 0
     ways: dict[str, LoneWay] = field(default_factory=dict)
@@ -48,32 +48,32 @@ class NamedPart:
     def inner_ball(self, ports: list[PartPort], wire: str) -> Ball:
         """Returns the ball of a port, the first one if there are many, without a lone way that is left out."""
         way = self.ways.get(wire)
-        return way.ball if way else next(port.ball for port in ports if port.wire == wire)
+        return way.inner_ball if way else next(port.ball for port in ports if port.wire == wire)
 
     @cached_property
     def footprint(self) -> Footprint:
         """What the part takes without the lone ways. Parts of one text with the same connected ports share it."""
         if not self.ways:
-            return self.text.item
-        key = frozenset((wire, way.ball.time) for wire, way in self.ways.items())
-        shape = self.text.shapes.get(key)
+            return self.bundle.item
+        key = frozenset((wire, way.inner_ball.time) for wire, way in self.ways.items())
+        shape = self.bundle.footprints_by_cuts.get(key)
         if shape is None:
-            shape = self.text.shapes[key] = self.make_footprint()
+            shape = self.bundle.footprints_by_cuts[key] = self.make_footprint()
         return shape
 
     def make_footprint(self) -> Footprint:
         """Returns what the part takes without the lone ways."""
         claims = set[int]().union(*(way.claims for way in self.ways.values()))
-        flights = [own for flight in self.text.flights
-                   for own in ((flight,) if claims.isdisjoint(flight) else flights_without(flight, claims))]
+        flights = [own for flight in self.bundle.flights
+                   for own in ((flight,) if claims.isdisjoint(flight) else ranges_without(flight, claims))]
         left = {cell_number(cell) for way in self.ways.values() for cell in way.mirrors}
-        return part_footprint(self.text.item.mirrors - left, flights)
+        return part_footprint(self.bundle.item.mirrors - left, flights)
 
     @cached_property
-    def left_out_lines(self) -> set[int]:
+    def left_out_line_numbers(self) -> set[int]:
         """The border lines that are left out with the lone ways: numbers of cells at times, -1 for those of mirrors."""
         # Border lines have odd times.
-        found = {number for way in self.ways.values() for number in way.moving if number // STEP_STRIDE % 2}
+        found = {number for way in self.ways.values() for number in way.moving_numbers if number // STEP_STRIDE % 2}
         return found | {cell_number(cell) - STEP_STRIDE for way in self.ways.values() for cell in way.mirrors}
 
     def joined_wire(self, own: str) -> str:
@@ -91,7 +91,7 @@ class Composition:
     circuit: Circuit
 
 
-def compose(parts: dict[str, PartText], connections: list[Connection],
+def compose(parts: dict[str, PartBundle], connections: list[Connection],
             whole: Collection[tuple[str, str]] = ()) -> Composition:
     """Returns the circuit of parts whose ports are connected; raises LabError if that is none.
 
@@ -104,9 +104,9 @@ def compose(parts: dict[str, PartText], connections: list[Connection],
     by_name = {part.name: part for part in named}
     count = 0
     for part in named:
-        part.first_gate, count = count, count + len(part.text.circuit.gates)
+        part.first_gate, count = count, count + len(part.bundle.circuit.gates)
         part.ways = {wire: way for wire, way in connected_ways(part, connections) if (part.name, wire) not in whole}
-        for wire in part.text.circuit.wires:
+        for wire in part.bundle.circuit.wires:
             own = fed.get((part.name, wire))
             part.wires[wire] = by_name[own.source].wires[own.output] if own else joined_name(part.name, wire)
     lines = joined_circuit(named, connections)
@@ -117,10 +117,10 @@ def connected_ways(part: NamedPart, connections: list[Connection]) -> Iterator[t
     """Yields the lone ways of the connected ports of a part, with their wires."""
     taken = {own.input for own in connections if own.target == part.name}
     given = {own.output for own in connections if own.source == part.name}
-    for ports, wires in ((part.text.starts, taken), (part.text.ends, given)):
+    for ports, wires in ((part.bundle.starts, taken), (part.bundle.ends, given)):
         for port in ports:
             if port.wire in wires and port.run is not None:
-                yield port.wire, part.text.lone_way(port.wire, port.run, port.run.cut_balls[0])
+                yield port.wire, part.bundle.lone_way(port.wire, port.run, port.run.cut_balls[0])
 
 
 def joined_name(part: str, wire: str) -> str:
@@ -132,7 +132,7 @@ def joined_name(part: str, wire: str) -> str:
     return name
 
 
-def require_connections(parts: dict[str, PartText], connections: list[Connection]) -> None:
+def require_connections(parts: dict[str, PartBundle], connections: list[Connection]) -> None:
     """Raises LabError if a connection names no port, a port twice, or a port whose wire is a constant."""
     used: dict[tuple[str, str], Connection] = {}
     for own in connections:
@@ -173,7 +173,7 @@ def joined_circuit(parts: list[NamedPart], connections: list[Connection]) -> Cir
     taken = {(own.target, own.input) for own in connections}
     inputs, gates, outputs, spills = list[str](), list[Gate](), list[str](), list[str]()
     for part in parts:
-        circuit, wire = part.text.circuit, part.joined_wire
+        circuit, wire = part.bundle.circuit, part.joined_wire
         inputs += [wire(own) for own in circuit.inputs if (part.name, own) not in taken]
         gates += [Gate(gate.kind, tuple(map(wire, gate.ins)), tuple(map(wire, gate.outs)), gate.parameter)
                   for gate in circuit.gates]

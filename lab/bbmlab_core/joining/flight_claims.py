@@ -16,15 +16,15 @@ from ..route.world import ROW_STRIDE, ROW_BITS, STEP_STRIDE
 # The directions of flights by the difference of the numbers of two blocks that follow one another.
 DIRECTIONS = {STEP_STRIDE + dy * ROW_STRIDE + dx: (dx, dy) for dx in (1, -1) for dy in (1, -1)}
 # Any direction, for a single block.
-SINGLE = next(iter(DIRECTIONS))
+SINGLE_BLOCK_STEP = next(iter(DIRECTIONS))
 
 
 class Flight(NamedTuple):
     """A straight flight from a time to the one before `end`: its direction, and what stays as it is along it."""
 
     direction: tuple[int, int]
-    column: int
-    row: int
+    column_at_time_0: int
+    row_at_time_0: int
     first: int
     end: int
 
@@ -32,10 +32,10 @@ class Flight(NamedTuple):
     def diagonal(self) -> int:
         """Returns the number of its diagonal, falling or rising."""
         dx, dy = self.direction
-        return self.column - self.row if dx == dy else self.column + self.row
+        return self.column_at_time_0 - self.row_at_time_0 if dx == dy else self.column_at_time_0 + self.row_at_time_0
 
 
-def flight_of(blocks: range) -> Flight:
+def flight_of_range(blocks: range) -> Flight:
     """Returns the flight of blocks that follow one another by a step of `DIRECTIONS`."""
     number, (dx, dy) = blocks.start, DIRECTIONS[blocks.step]
     time = number // STEP_STRIDE
@@ -46,21 +46,21 @@ def flight_of(blocks: range) -> Flight:
 def flights_of(part: Iterable[int]) -> Iterator[Flight]:
     """Yields flights with the blocks of a part: one if it is a range of such blocks, else one for each block."""
     if isinstance(part, range) and part.step in DIRECTIONS:
-        yield flight_of(part)
+        yield flight_of_range(part)
     else:
-        yield from (flight_of(range(number, number + 1, SINGLE)) for number in part)
+        yield from (flight_of_range(range(number, number + 1, SINGLE_BLOCK_STEP)) for number in part)
 
 
-def flights_in(claims: set[int]) -> Iterator[range]:
+def pop_flight_ranges(claims: set[int]) -> Iterator[range]:
     """Yields flights that together have some blocks at times, each once. The set is empty afterwards."""
     for number in sorted(claims):
         if number in claims:
-            flight = max((flight_from(number, step, claims) for step in DIRECTIONS), key=len)
+            flight = max((longest_claimed_range(number, step, claims) for step in DIRECTIONS), key=len)
             claims.difference_update(flight)
             yield flight
 
 
-def flight_from(number: int, step: int, claims: Container[int]) -> range:
+def longest_claimed_range(number: int, step: int, claims: Container[int]) -> range:
     """Returns the longest flight from a block on by a step whose blocks are all claimed."""
     end = number + step
     while end in claims:
@@ -68,7 +68,7 @@ def flight_from(number: int, step: int, claims: Container[int]) -> range:
     return range(number, end, step)
 
 
-def flights_without(flight: range, claims: Collection[int]) -> Iterator[range]:
+def ranges_without(flight: range, claims: Collection[int]) -> Iterator[range]:
     """Yields what is left of a flight without some blocks at times."""
     first = flight.start
     for number in filter(claims.__contains__, flight):
@@ -92,7 +92,7 @@ class FlightTable:
         self.by_row: dict[int, list[Entry]] = {}
         self.by_diagonal: dict[int, list[Entry]] = {}
 
-    def entries(self, flight: Flight) -> Iterator[tuple[dict[int, list[Entry]], int, Entry]]:
+    def filing_places(self, flight: Flight) -> Iterator[tuple[dict[int, list[Entry]], int, Entry]]:
         """Yields where a flight is filed: a dictionary, the key there and the entry."""
         _, column, row, first, end = flight
         own = column, first, end
@@ -102,12 +102,12 @@ class FlightTable:
 
     def add(self, flight: Flight) -> None:
         """Adds a flight."""
-        for table, key, entry in self.entries(flight):
+        for table, key, entry in self.filing_places(flight):
             table.setdefault(key, []).append(entry)
 
     def remove(self, flight: Flight) -> None:
         """Removes a flight that was added."""
-        for table, key, entry in self.entries(flight):
+        for table, key, entry in self.filing_places(flight):
             table[key].remove(entry)
             if not table[key]:
                 del table[key]

@@ -49,12 +49,12 @@ def direction_at(x: int, y: int, time: int) -> tuple[int, int]:
 class LoneWay:
     """What a join leaves out: the moving cells of a ball at times, the blocks at times that they claim, and mirrors.
 
-    A cell at a time is a number like that of a block at a time. `ball` is where the way inside the part begins or ends
-    without it.
+    A cell at a time is a number like that of a block at a time. `inner_ball` is where the way inside the part begins or
+    ends without it.
     """
 
-    ball: Ball
-    moving: "array[int]"
+    inner_ball: Ball
+    moving_numbers: "array[int]"
     claims: "array[int]"
     mirrors: frozenset[Cell]
 
@@ -79,7 +79,7 @@ class NumbersByTime:
         return range(self.first, self.first + len(self.ends) - 1)
 
 
-class LoneBalls:
+class PackedBalls:
     """Balls at different times, by the numbers of their leads' cells. A place and a time tell the direction."""
 
     def __init__(self, balls: Iterable[Ball]) -> None:
@@ -111,7 +111,7 @@ class LoneRun:
     def __init__(self, mirrors: set[Cell], ball: Ball, steps: int, is_output: bool) -> None:
         self.is_output, self.bound = is_output, 0 if is_output else steps
         # The rule is run backwards from the last time, which is made time 1: blocks alternate, so it must be odd.
-        first = ball.reversed().moved(0, 0, 1) if is_output else ball
+        first = ball.time_reversed().moved(0, 0, 1) if is_output else ball
         run = run_exactly(mirrors, start_state([(first, 1)]), first.time, first.time + steps)
         # A run backwards has the last state first.
         order = -1 if is_output else 1
@@ -125,13 +125,13 @@ class LoneRun:
         """Notes that the ball shares a block with another one in the step from a time."""
         self.bound = max(self.bound, time + 1) if self.is_output else min(self.bound, time)
 
-    def claims(self) -> Iterator[tuple[int, int]]:
+    def timed_claims(self) -> Iterator[tuple[int, int]]:
         """Yields the blocks at times that the run claims, each with its time."""
         for time in self.corners.times:
             for corner in self.corners.at(time):
                 yield time * STEP_STRIDE + corner, time
 
-    def is_alone(self, time: int, corner: Cell, live: Container[Cell]) -> bool:
+    def is_alone_in_block(self, time: int, corner: Cell, live: Container[Cell]) -> bool:
         """Whether the ball's own cells alone are live in a block."""
         own = self.states.at(time)
         return all((cell in live) == (cell_number(cell) in own) for cell in block_cells(corner))
@@ -143,10 +143,10 @@ class LoneRun:
         return range(self.bound, -1, -1)
 
     @cached_property
-    def cut_balls(self) -> LoneBalls:
+    def cut_balls(self) -> PackedBalls:
         """The balls at which the way may be cut, the best first. The last one leaves nothing out."""
         cells = ((map(cell_of_number, self.states.at(time)), time) for time in self.cut_times())
-        return LoneBalls(ball for own, time in cells for ball in [lone_ball(own, time)] if ball)
+        return PackedBalls(ball for own, time in cells for ball in [lone_ball(own, time)] if ball)
 
     def left_out_steps(self, cut: int) -> range:
         """Returns the times of the steps that are left out if the way is cut at a time."""
@@ -161,7 +161,7 @@ class LoneRuns:
         # The runs that claim a block at a time, as the bits of a number.
         self.claimants: dict[int, int] = {}
         for bit, run in zip(BITS, runs):
-            for claim, _ in run.claims():
+            for claim, _ in run.timed_claims():
                 others = self.claimants.setdefault(claim, bit)
                 if others != bit:
                     self.claimants[claim] = others | bit
@@ -174,15 +174,15 @@ class LoneRuns:
         """Compares the blocks in which something moves in the step from a time."""
         for claim in self.claimants.keys() & claims:
             for run in self.claimants_of(claim):
-                if not run.is_alone(time, cell_of_number(claim % STEP_STRIDE), live):
+                if not run.is_alone_in_block(time, cell_of_number(claim % STEP_STRIDE), live):
                     run.note_meeting(time)
 
 
-def removable_way(run: LoneRun, ball: Ball, claim_count: Callable[[int], int], mirrors: set[Cell]) -> LoneWay:
+def left_out_way(run: LoneRun, ball: Ball, claim_count: Callable[[int], int], mirrors: set[Cell]) -> LoneWay:
     """Returns what a run leaves out if it is cut at a ball. `claim_count` tells how often the part claims a block."""
     steps = run.left_out_steps(ball.time)
     moving = array("q", (time * STEP_STRIDE + cell for time in steps for cell in run.states.at(time)))
-    own = array("q", (claim for claim, time in run.claims() if time in steps))
+    own = array("q", (claim for claim, time in run.timed_claims() if time in steps))
     own_counts = Counter(claim % STEP_STRIDE for claim in own)
     beside = {cell for corner in own_counts for cell in block_cells(cell_of_number(corner))} & mirrors
 

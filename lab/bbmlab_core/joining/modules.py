@@ -10,7 +10,7 @@ from typing import Callable, Iterable, Iterator
 
 from ..circuits.cones import few_cuts_and_uses
 from ..host.terminal import LabError
-from ..route.balls import moving_cells
+from ..route.balls import moving_path_cells
 from ..route.board import FailureKind, NoRouteError
 from ..route.netlist import RouterNetlist
 from ..route.paths import Path
@@ -24,17 +24,17 @@ from .parts import ALWAYS_SIGNAL
 from .planning import JoinPlan, PlacedPart
 
 # Tiles that nothing reaches become boxes of so many tiles in each direction.
-QUIET_BOX_SIDE = 4
+QUIET_BOX_TILES = 4
 # A line of a path is a number: its place by the order of lines, times this number, plus the number of the path. A line
 # of a mirror has the number of no path.
-MAX_PATHS = 1 << 14
-NO_PATH = MAX_PATHS - 1
+PATH_STRIDE = 1 << 14
+NO_PATH = PATH_STRIDE - 1
 NO_WIRES: frozenset[str] = frozenset()
 # How far the cells at the corners of a cell's surroundings are from it.
-CORNER_OFFSETS = (ROW_STRIDE + 1, ROW_STRIDE - 1, 1 - ROW_STRIDE, -ROW_STRIDE - 1)
+DIAGONAL_NEIGHBOUR_OFFSETS = (ROW_STRIDE + 1, ROW_STRIDE - 1, 1 - ROW_STRIDE, -ROW_STRIDE - 1)
 
 
-def line_number(line: Border) -> int:
+def cell_time_number(line: Border) -> int:
     """Returns the number of a border line's cell at its time, which is -1 for all times."""
     return (-1 if line.time is None else line.time) * STEP_STRIDE + line.y * ROW_STRIDE + line.x
 
@@ -51,7 +51,7 @@ class JoinedModules:
         self.boxes: list[Box] = []
         self.origins: list[tuple[PlacedPart, Module]] = []
         for placed in plan.placed:
-            for own in placed.part.text.certificate.modules:
+            for own in placed.part.bundle.certificate.modules:
                 self.add_box(placed.placing.placed_box(own.box))
                 self.origins.append((placed, own))
         for box in self.tiles_between():
@@ -112,12 +112,12 @@ class JoinedModules:
         module.keeps = [part.first_gate + number for number in own.keeps]
         module.edges = [Border(None if line.time is None else line.time + time, *cell(line.cell),
                                part.joined_wire(line.signal))
-                        for line in own.edges if line_number(line) not in part.left_out_lines]
+                        for line in own.edges if cell_time_number(line) not in part.left_out_line_numbers]
         module.stops = [Stop(line.time + time, part.wires[line.name], *cell(line.cell)) for line in own.stops]
 
     # --- wires --------------------------------------------------------------------------------------------------------
 
-    def signal(self, wire: str) -> str:
+    def signal_of(self, wire: str) -> str:
         """Returns the signal of a wire: `1` if it is always true."""
         is_always = wire == ALWAYS_SIGNAL or self.netlist.constants.get(self.netlist.root(wire)) == 1
         return ALWAYS_SIGNAL if is_always else wire
@@ -127,21 +127,21 @@ class JoinedModules:
         x, y = cell
         return {self.owners.owner_at((x + i, y + j)) for i in (-1, 1) for j in (-1, 1)} - {NOBODY}
 
-    def edge_cells(self, path: Path) -> Iterator[tuple[int, Cell, int]]:
+    def ring_cells_of_path(self, path: Path) -> Iterator[tuple[int, Cell, int]]:
         """Yields the cells of a path on rings at odd times, with the numbers of their modules."""
-        for time, cells in moving_cells(path.start, path.legs, 1):
+        for time, cells in moving_path_cells(path.start, path.legs, 1):
             for cell in cells:
                 number = self.owners.owner_at(cell)
                 if self.boxes[number].has_in_ring(cell):
                     yield time, cell, number
 
-    def modules_of(self, path: Path) -> set[int]:
+    def modules_hearing(self, path: Path) -> set[int]:
         """Returns the modules that must know the wire of a path."""
-        return {number for _, cell, _ in self.edge_cells(path) for number in self.hearers(cell)}
+        return {number for _, cell, _ in self.ring_cells_of_path(path) for number in self.hearers(cell)}
 
     def has_room_for(self, wire: str, numbers: Iterable[int]) -> bool:
         """Whether some modules have room for a wire."""
-        if self.signal(wire) == ALWAYS_SIGNAL:
+        if self.signal_of(wire) == ALWAYS_SIGNAL:
             return True
         for number in numbers:
             extra = self.extra.get(number, Counter())
@@ -159,7 +159,7 @@ class JoinedModules:
 
         def has_room(item: Footprint) -> bool:
             """Whether the modules have room."""
-            cells = (number for part in item.touched_parts for own in CORNER_OFFSETS
+            cells = (number for part in item.touched_parts for own in DIAGONAL_NEIGHBOUR_OFFSETS
                      for number in cells_entering_tiles(part, own))
             for tile in tiles_of(cells):
                 if tile not in known:
@@ -173,7 +173,7 @@ class JoinedModules:
 
     def count_wire(self, wire: str, numbers: Iterable[int], change: int) -> None:
         """Notes that a path brings a wire to modules, or no longer does."""
-        for number in numbers if self.signal(wire) != ALWAYS_SIGNAL else ():
+        for number in numbers if self.signal_of(wire) != ALWAYS_SIGNAL else ():
             if wire not in self.own_local_wires(number):
                 self.extra[number][wire] += change
 
@@ -183,7 +183,7 @@ class JoinedModules:
         extra = sorted(({*+self.extra.get(number, Counter()), *more}) - self.own_local_wires(number),
                        key=self.circuit.rank)
         constants = [wire for wire in extra if self.netlist.root(wire) in self.netlist.constants]
-        used = {*own_uses, *self.circuit.cone(constants)[1]} if constants else set(own_uses)
+        used = {*own_uses, *self.circuit.cone_inputs_and_gates(constants)[1]} if constants else set(own_uses)
         plain = [wire for wire in extra if wire not in constants]
         if len(own) + len(plain) <= MAX_CUTS and not any(self.is_delay_of_known(wire, number) for wire in plain):
             return [*own, *plain], sorted(used)
@@ -202,32 +202,32 @@ class JoinedModules:
         for cell, wire in ports:
             self.make_wire_local(wire, self.owners.owner_at(cell))
         for index, path in enumerate(paths):
-            for time, (x, y), number in self.edge_cells(path):
+            for time, (x, y), number in self.ring_cells_of_path(path):
                 if time < self.plan.end:
-                    self.lines[number].append(((time + 1) * STEP_STRIDE + y * ROW_STRIDE + x) * MAX_PATHS + index)
+                    self.lines[number].append(((time + 1) * STEP_STRIDE + y * ROW_STRIDE + x) * PATH_STRIDE + index)
             for cell_number in path.item.mirrors:
                 cell = cell_of_number(cell_number)
                 number = self.owners.owner_at(cell)
                 if self.boxes[number].has_in_ring(cell):
-                    self.lines[number].append(cell_number * MAX_PATHS + NO_PATH)
+                    self.lines[number].append(cell_number * PATH_STRIDE + NO_PATH)
 
-    def border_line_of(self, number: int, signals: list[str]) -> Border:
+    def unpacked_border_line(self, number: int, signals: list[str]) -> Border:
         """Returns the line of a number, with the signals of all paths."""
-        place, index = divmod(number, MAX_PATHS)
+        place, index = divmod(number, PATH_STRIDE)
         time, (x, y) = place // STEP_STRIDE - 1, cell_of_number(place % STEP_STRIDE)
         return Border(None, x, y, ALWAYS_SIGNAL) if index == NO_PATH else Border(time, x, y, signals[index])
 
     def modules(self, paths: list[Path]) -> Iterator[Module]:
         """Yields the modules with all their lines, one box in place of many where no box has any line; raises
         NoRouteError."""
-        signals = [self.signal(path.wire) for path in paths]
-        for number, box in self.kept_boxes():
+        signals = [self.signal_of(path.wire) for path in paths]
+        for number, box in self.merged_boxes():
             module = ModuleDraft(box)
             if number is not None:
                 module.number = number
                 if number < len(self.origins):
                     self.add_own_lines(module)
-                module.edges += [self.border_line_of(own, signals) for own in self.lines.get(number, ())]
+                module.edges += [self.unpacked_border_line(own, signals) for own in self.lines.get(number, ())]
                 module.edges.sort(key=lambda line: line.order_key)
                 module.cuts, module.uses = self.cuts_and_uses(number)
                 if len(module.cuts) > MAX_CUTS or len(module.uses) > MAX_USES:
@@ -235,7 +235,7 @@ class JoinedModules:
                                        f"{MAX_CUTS} is the most", FailureKind.WIRES)
             yield module.module()
 
-    def require_meetings(self) -> None:
+    def require_equal_stop_times(self) -> None:
         """Raises LabError if a gate gets wires with stops at different times: the program would say no."""
         latest: dict[str, int] = {}
         for placed, module in self.origins:
@@ -254,11 +254,11 @@ class JoinedModules:
         if wire not in self.own_local_wires(number):
             self.extra[number][wire] += 1
 
-    def kept_boxes(self) -> list[tuple[int | None, Box]]:
+    def merged_boxes(self) -> list[tuple[int | None, Box]]:
         """Returns the boxes with the numbers of their modules, and None for a large box in place of many tiles."""
         tiles = range(len(self.origins), len(self.boxes))
         quiet = {(self.boxes[number].x, self.boxes[number].y) for number in tiles if self.is_quiet(number)}
-        width, height, side = self.plan.width, self.plan.height, QUIET_BOX_SIDE * TILE
+        width, height, side = self.plan.width, self.plan.height, QUIET_BOX_TILES * TILE
         large: dict[Cell, Cell] = {}
         for x, y in quiet:
             group = [(x + i, y + j) for i in range(0, side, TILE) for j in range(0, side, TILE)]

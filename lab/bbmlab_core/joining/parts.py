@@ -19,8 +19,8 @@ from ..texts.gates import Table
 from ..texts.layouts import Cell, Layout
 from ..texts.owners import Owners
 from ..texts.refusals import refusal_words
-from .flight_claims import flights_in
-from .lone_ways import LoneRun, LoneRuns, LoneWay, removable_way, whole_balls_of
+from .flight_claims import pop_flight_ranges
+from .lone_ways import LoneRun, LoneRuns, LoneWay, left_out_way, whole_balls_of
 
 # The wire of a ball that is always there.
 ALWAYS_SIGNAL = "1"
@@ -47,14 +47,14 @@ class BlockCounts:
         for claim in claims:
             self.counts[(claim % STEP_STRIDE >> ROW_BITS) * self.width + (claim & ROW_STRIDE - 1)] += 1
 
-    def count(self, corner: int) -> int:
+    def claim_count(self, corner: int) -> int:
         """Returns how often a block is claimed, which is 0 outside the layout."""
         x, y = cell_of_number(corner)
         return self.counts[y * self.width + x] if x < self.width and 0 <= y < self.height else 0
 
 
 @dataclass(frozen=True)
-class PartText:
+class PartBundle:
     """A bundle that was read. Its ports and what it takes do not depend on the name that a join gives it.
 
     `start_fault` and `end_fault` say why the part cannot begin later, or end earlier than the others, if that is so.
@@ -71,7 +71,8 @@ class PartText:
     counts: BlockCounts = field(default_factory=lambda: BlockCounts(Layout(0, 0, 0)))
     # The lone ways of wires that are cut at a time, and what the part takes without some of them, while it is in use.
     ways: dict[tuple[str, int], LoneWay] = field(default_factory=dict)
-    shapes: "WeakValueDictionary[frozenset[tuple[str, int]], Footprint]" = field(default_factory=WeakValueDictionary)
+    footprints_by_cuts: "WeakValueDictionary[frozenset[tuple[str, int]], Footprint]" = field(
+        default_factory=WeakValueDictionary)
 
     @property
     def flights(self) -> list[range]:
@@ -87,11 +88,11 @@ class PartText:
         """Returns the lone way of a wire's run that is cut at a ball."""
         key = wire, ball.time
         if key not in self.ways:
-            self.ways[key] = removable_way(run, ball, self.counts.count, self.layout.mirror_cells())
+            self.ways[key] = left_out_way(run, ball, self.counts.claim_count, self.layout.mirror_cells())
         return self.ways[key]
 
 
-def read_part(name: str, text: str, connected: Collection[str] = ()) -> PartText:
+def read_part(name: str, text: str, connected: Collection[str] = ()) -> PartBundle:
     """Returns a bundle with its balls; raises LabError if it is refused or cannot be joined.
 
     The ports of connected wires get their lone runs.
@@ -107,12 +108,12 @@ def read_part(name: str, text: str, connected: Collection[str] = ()) -> PartText
     run = PartRun(circuit, layout, certificate, LoneRuns(list(lone.values())))
     last = run.run()
     counts = BlockCounts(layout, run.claims)
-    item = part_footprint(frozenset(map(cell_number, run.mirrors)), list(flights_in(run.claims)))
+    item = part_footprint(frozenset(map(cell_number, run.mirrors)), list(pop_flight_ranges(run.claims)))
     starts, start_fault = start_ports(layout)
-    ends, end_fault = end_ports(circuit, layout, run.wires_at_end(last))
+    ends, end_fault = end_ports(circuit, layout, run.waste_wires_at_end(last))
     starts = [replace(port, run=lone.get(("in", port.wire))) for port in starts]
     ends = [replace(port, run=lone.get(("out", port.wire))) for port in ends]
-    return PartText(circuit, layout, certificate, starts, ends, item, start_fault, end_fault, counts)
+    return PartBundle(circuit, layout, certificate, starts, ends, item, start_fault, end_fault, counts)
 
 
 def lone_runs(circuit: Circuit, layout: Layout, certificate: Certificate,
@@ -131,7 +132,7 @@ def lone_runs(circuit: Circuit, layout: Layout, certificate: Certificate,
     runs = {}
     for (kind, wire), own in cells.items():
         balls = whole_balls_of(own, layout.steps if kind == "out" else 0) or []
-        if len(balls) == 1 and not netlist.is_zero(wire):
+        if len(balls) == 1 and not netlist.has_no_ball(wire):
             runs[kind, wire] = LoneRun(mirrors, balls[0], layout.steps, kind == "out")
     return runs
 
@@ -142,7 +143,7 @@ def start_ports(layout: Layout) -> tuple[list[PartPort], str]:
     for part in layout.parts:
         if part.kind in ("in", "ball"):
             cells[part.name or ALWAYS_SIGNAL].append(part.cell)
-    return ports_of(cells, 0, "start")
+    return ports_of_cells(cells, 0, "start")
 
 
 def end_ports(circuit: Circuit, layout: Layout, wastes: dict[Cell, str | None]) -> tuple[list[PartPort], str]:
@@ -150,16 +151,16 @@ def end_ports(circuit: Circuit, layout: Layout, wastes: dict[Cell, str | None]) 
     cells: dict[str, list[Cell]] = defaultdict(list)
     netlist = RouterNetlist(circuit)
     for part in layout.of_kind("out"):
-        if not netlist.is_zero(part.name or ""):
+        if not netlist.has_no_ball(part.name or ""):
             cells[part.name or ""].append(part.cell)
     for cell, wire in wastes.items():
         if wire is None:
             return [], f"the `waste` cell ({cell[0]}, {cell[1]}) carries no wire"
         cells[wire].append(cell)
-    return ports_of(cells, layout.steps, "end")
+    return ports_of_cells(cells, layout.steps, "end")
 
 
-def ports_of(cells: dict[str, list[Cell]], time: int, what: str) -> tuple[list[PartPort], str]:
+def ports_of_cells(cells: dict[str, list[Cell]], time: int, what: str) -> tuple[list[PartPort], str]:
     """Returns the balls of the cells of each wire, and why they are none if that is so."""
     ports: list[PartPort] = []
     for wire, own in cells.items():
@@ -217,7 +218,7 @@ class PartRun:
         for number in near - {module.number, -1}:
             self.heard[number].append(line)
 
-    def heard_by(self, number: int) -> dict[int, dict[Cell, str]]:
+    def pop_heard_wires(self, number: int) -> dict[int, dict[Cell, str]]:
         """Returns the wires of the cells that a module hears, by time."""
         heard: dict[int, dict[Cell, str]] = defaultdict(dict)
         for line in self.heard.pop(number, ()):
@@ -234,13 +235,13 @@ class PartRun:
 
     def run_module(self, module: Module) -> dict[Cell, Table]:
         """Runs a module, notes the blocks in which something moves, and returns the cells that move at the end."""
-        heard, box, steps = self.heard_by(module.number), module.box, self.layout.steps
+        heard, box, steps = self.pop_heard_wires(module.number), module.box, self.layout.steps
         times, starts = sorted(heard, reverse=True), self.starts[module.number]
         if not times and not starts:
             return {}
         values = local_values(self.circuit, module)
         full = values.full
-        for table in values.rows.values():
+        for table in values.defined_columns_by_gate.values():
             full &= table
         tables = {name: table & full for name, table in values.tables.items()} | {ALWAYS_SIGNAL: full}
         live = {cell: tables[wire] for cell, wire in starts.items() if tables[wire]}
@@ -265,7 +266,7 @@ class PartRun:
             live, time = {cell: table for cell, table in following.items() if box.has(cell)}, time + 1
         return live
 
-    def wires_at_end(self, last: dict[Cell, tuple[Module, Table]]) -> dict[Cell, str | None]:
+    def waste_wires_at_end(self, last: dict[Cell, tuple[Module, Table]]) -> dict[Cell, str | None]:
         """Returns the wire of each `waste` cell that may be live at the last time, or None if it carries none."""
         netlist, wires = RouterNetlist(self.circuit), dict[Cell, str | None]()
         spills = set(self.circuit.spills)
@@ -275,7 +276,7 @@ class PartRun:
             module, table = last[part.cell]
             values = local_values(self.circuit, module)
             full = values.full
-            for rows in values.rows.values():
+            for rows in values.defined_columns_by_gate.values():
                 full &= rows
             names = [name for name, own in values.tables.items() if own & full == table]
             names.sort(key=lambda name: (name not in spills, self.circuit.rank(name)))

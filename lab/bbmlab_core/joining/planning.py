@@ -43,7 +43,7 @@ def offsets_between(first: Ball, last: Ball) -> tuple[int, int]:
 # The steps to spare of each ball between two parts: the next ones if it could not be led, or if the columns or rows of
 # its way are more than a part of the others: it has few ways to go.
 SPARES = (Spare(0.1, 60), Spare(0.2, 100), Spare(0.35, 150), Spare(0.35, 250), Spare(0.35, 350))
-MAX_SIDE_RATIO = 0.6
+MAX_OFFSET_RATIO = 0.6
 # A ball that is led deeper into its part than so many cells gets a step to spare for each further cell.
 SHALLOW_CELLS = 150
 # The place of the first spare steps in `SPARES` if a ball is led so deep.
@@ -67,7 +67,7 @@ class PlacedPart:
     @property
     def placing(self) -> Placing:
         """Where the part's plane is in the join."""
-        layout = self.part.text.layout
+        layout = self.part.bundle.layout
         return Placing(layout.width, layout.height, self.x, self.y, self.time, self.turning)
 
     def placed_ball(self, ball: Ball) -> Ball:
@@ -81,10 +81,10 @@ class PlacedPart:
     @property
     def extent(self) -> Extent:
         """The width and the height in cells, in whole tiles."""
-        layout = self.part.text.layout
+        layout = self.part.bundle.layout
         return Extent(-(-layout.width // TILE) * TILE, -(-layout.height // TILE) * TILE)
 
-    def cells_too_deep(self, ball: Ball) -> int:
+    def excess_depth(self, ball: Ball) -> int:
         """Returns how many cells deeper than `SHALLOW_CELLS` a ball is in the part, or 0."""
         area = self.extent
         return max(0, min(ball.x - self.x, self.x + area.width - ball.x,
@@ -93,7 +93,7 @@ class PlacedPart:
     @property
     def end_time(self) -> int:
         """The last time of the part in the join."""
-        return self.time + self.part.text.layout.steps
+        return self.time + self.part.bundle.layout.steps
 
 
 @dataclass
@@ -137,8 +137,8 @@ class JoinPlan:
 def first_spares(composed: Composition) -> SpareIndices:
     """Returns the spare steps of the first plan: more if some ball is led deep into its part."""
     parts = {part.name: PlacedPart(part) for part in composed.parts}
-    goals = ((parts[own.target], start_ball(parts[own.target], own.input)) for own in composed.connections)
-    is_deep = any(part.cells_too_deep(goal) for part, goal in goals)
+    goals = ((parts[own.target], part_input_ball(parts[own.target], own.input)) for own in composed.connections)
+    is_deep = any(part.excess_depth(goal) for part, goal in goals)
     return [DEEP_SPARE_INDEX if is_deep else 0] * len(composed.connections)
 
 
@@ -157,7 +157,7 @@ def make_plan(composed: Composition, side: int, spares: SpareIndices) -> JoinPla
     end = last_time(placed)
     for own in placed:
         feeds_none = not any(connection.source == own.part.name for connection in composed.connections)
-        if feeds_none and own.part.text.is_cheaper_later:
+        if feeds_none and own.part.bundle.is_cheaper_later:
             own.time += (end - own.end_time) // 2 * 2
     return JoinPlan(side, end, placed, jobs_of(composed, {own.part.name: own for own in placed}, end), side, side)
 
@@ -185,7 +185,7 @@ def placed_parts(composed: Composition, places: list[Place], spares: SpareIndice
 
 def fitting_orientations(placed: PlacedPart) -> list[PartOrientation]:
     """Returns the turnings with which a part takes the same place. Blocks stay blocks if its sides are even."""
-    layout, area = placed.part.text.layout, placed.extent
+    layout, area = placed.part.bundle.layout, placed.extent
     if layout.width % 2 or layout.height % 2:
         return [UPRIGHT]
     return [own for own in ORIENTATIONS if area.width == area.height or not own.is_turned]
@@ -199,7 +199,7 @@ def set_times(composed: Composition, placed: list[PlacedPart], spares: SpareIndi
         for connection, spare in zip(composed.connections, spares):
             if connection.target == own.part.name:
                 first = part_output_ball(by_name[connection.source], connection.output)
-                last = start_ball(own, connection.input)
+                last = part_input_ball(own, connection.input)
                 after = first.time + steps_needed(own, first, last, spare) - (last.time - own.time)
                 own.time = max(own.time, (after + 1) // 2 * 2)
 
@@ -207,18 +207,18 @@ def set_times(composed: Composition, placed: list[PlacedPart], spares: SpareIndi
 def steps_needed(target: PlacedPart, first: Ball, last: Ball, spare: int) -> int:
     """Returns the steps for which a ball is led from a part to another one, by the place of its spare steps."""
     ways = sorted(offsets_between(first, last))
-    own = SPARES[min(len(SPARES) - 1, spare + (ways[0] > MAX_SIDE_RATIO * ways[1]))]
-    return own.steps_between(first, last) + target.cells_too_deep(last)
+    own = SPARES[min(len(SPARES) - 1, spare + (ways[0] > MAX_OFFSET_RATIO * ways[1]))]
+    return own.steps_between(first, last) + target.excess_depth(last)
 
 
 def part_output_ball(placed: PlacedPart, wire: str) -> Ball:
     """Returns the ball of an output where the join takes it over from a part."""
-    return placed.placed_ball(placed.part.inner_ball(placed.part.text.ends, wire))
+    return placed.placed_ball(placed.part.inner_ball(placed.part.bundle.ends, wire))
 
 
-def start_ball(placed: PlacedPart, wire: str) -> Ball:
+def part_input_ball(placed: PlacedPart, wire: str) -> Ball:
     """Returns the ball of an input where the join gives it to a part."""
-    return placed.placed_ball(placed.part.inner_ball(placed.part.text.starts, wire))
+    return placed.placed_ball(placed.part.inner_ball(placed.part.bundle.starts, wire))
 
 
 def jobs_of(composed: Composition, placed: dict[str, PlacedPart], end: int) -> list[BallJob]:
@@ -227,11 +227,11 @@ def jobs_of(composed: Composition, placed: dict[str, PlacedPart], end: int) -> l
     taken = {(own.target, own.input) for own in composed.connections}
     jobs = []
     for own in composed.connections:
-        goal = start_ball(placed[own.target], own.input)
+        goal = part_input_ball(placed[own.target], own.input)
         source = placed[own.source]
         jobs.append(BallJob(source.part.joined_wire(own.output), part_output_ball(source, own.output), goal, goal.time))
     for name, part in placed.items():
-        text, wire = part.part.text, part.part.joined_wire
+        text, wire = part.part.bundle, part.part.joined_wire
         for port in text.starts:
             if part.time > 0 and (name, port.wire) not in taken:
                 jobs.append(BallJob(wire(port.wire), None, part.placed_ball(port.ball), part.time))

@@ -11,27 +11,27 @@ from ..route.balls import Ball
 from .composing import Composition, Connection, NamedPart
 from .lone_ways import LoneRun
 from .parts import PartPort
-from .planning import JoinPlan, PlacedPart, SpareIndices, part_output_ball, jobs_of, start_ball, steps_needed
+from .planning import JoinPlan, PlacedPart, SpareIndices, part_output_ball, jobs_of, part_input_ball, steps_needed
 
 # A ball with at most so many more steps than it needs is led as it is. Others keep at least the spare steps of this
 # place.
 LEAST_SLACK = 300
 LEAST_SPARE_INDEX = 2
 # The steps around a cut from which its ball could not leave: no other cut is made there.
-CLOSED_STEPS = 160
+NEAR_CLOSED_STEPS = 160
 
 
 class WayCut(NamedTuple):
     """Where the lone way of a connection's output is cut, or that of its input, by the time of the part."""
 
-    connection: int
+    connection_index: int
     is_output: bool
     time: int
 
 
 def is_near_closed(cut: WayCut, closed: Iterable[WayCut]) -> bool:
     """Whether a cut is near one from which no ball can leave."""
-    return any(own[:2] == cut[:2] and abs(own.time - cut.time) <= CLOSED_STEPS for own in closed)
+    return any(own[:2] == cut[:2] and abs(own.time - cut.time) <= NEAR_CLOSED_STEPS for own in closed)
 
 
 def lone_run_of(part: NamedPart, ports: list[PartPort], wire: str) -> LoneRun | None:
@@ -55,7 +55,7 @@ class LoneWayCuts:
         """Cuts the ways of a connection if its ball has much time to spare."""
         source, target = self.placed[own.source], self.placed[own.target]
         spare = max(LEAST_SPARE_INDEX, self.spares[index])
-        first, last = part_output_ball(source, own.output), start_ball(target, own.input)
+        first, last = part_output_ball(source, own.output), part_input_ball(target, own.input)
 
         def has_time(begin: Ball, end: Ball, slack: int = 0) -> bool:
             """Whether a ball has time from one ball to another one, and so many steps more."""
@@ -63,10 +63,10 @@ class LoneWayCuts:
 
         if not has_time(first, last, LEAST_SLACK + 1):
             return
-        moved = self.cut_at_last_ball(index, source, source.part.text.ends, own.output,
+        moved = self.cut_at_last_ball(index, source, source.part.bundle.ends, own.output,
                                       lambda ball: has_time(ball, last))
         first = moved or first
-        self.cut_at_last_ball(index, target, target.part.text.starts, own.input, lambda ball: has_time(first, ball))
+        self.cut_at_last_ball(index, target, target.part.bundle.starts, own.input, lambda ball: has_time(first, ball))
 
     def cut_at_last_ball(self, index: int, placed: PlacedPart, ports: list[PartPort], wire: str,
                          has_time: Callable[[Ball], bool]) -> Ball | None:
@@ -98,4 +98,4 @@ class LoneWayCuts:
     def part_with_cuts(self, part: NamedPart) -> NamedPart:
         """Returns a part that is cut so."""
         cuts = {wire: cut for (name, wire), cut in self.cuts.items() if name == part.name}
-        return replace(part, ways=part.ways | {wire: part.text.lone_way(wire, *cut) for wire, cut in cuts.items()})
+        return replace(part, ways=part.ways | {wire: part.bundle.lone_way(wire, *cut) for wire, cut in cuts.items()})

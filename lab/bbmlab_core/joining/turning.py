@@ -38,22 +38,22 @@ class NumberMap(NamedTuple):
         at = number % STEP_STRIDE
         return self.first + number - at + self.column * (at % ROW_STRIDE) + self.row * (at // ROW_STRIDE)
 
-    def of_all(self, numbers: Iterable[int]) -> "array[int]":
+    def map_all(self, numbers: Iterable[int]) -> "array[int]":
         """Returns what numbers become, as calls would one by one."""
         first, column, row = self
         return array("q", [first + number // STEP_STRIDE * STEP_STRIDE + column * (number % ROW_STRIDE) +
                            row * (number % STEP_STRIDE // ROW_STRIDE)
                            for number in numbers])
 
-    def of_range(self, own: range) -> range:
+    def map_range(self, own: range) -> range:
         """Returns what the numbers of a straight flight become."""
         first = self(own[0])
         step = self(own[1]) - first if len(own) > 1 else 1
         return range(first, first + step * len(own), step)
 
-    def of_part(self, part: Iterable[int]) -> "range | array[int]":
+    def map_item_part(self, part: Iterable[int]) -> "range | array[int]":
         """Returns what the numbers of a part of an item become."""
-        return self.of_range(part) if isinstance(part, range) else self.of_all(part)
+        return self.map_range(part) if isinstance(part, range) else self.map_all(part)
 
 
 class Placing(NamedTuple):

@@ -26,13 +26,13 @@ from .planning import SHALLOW_CELLS, SPARES, BallJob, JoinPlan, PlacedPart
 # The steps at the open ends of balls that wait which are kept free, the first that fit.
 STUB_STEPS = (20, 14, 10, 6, 3)
 # The steps at such an end within which room for a bounce is kept.
-BOUNCE_REACH = 60
+BOUNCE_WITHIN_STEPS = 60
 # The tries of a path between two parts. It comes back from its goal for some of the first steps, and is joined in some
 # of the second ones. It comes back further from a goal that is deep in its part: among what is there, 11 of 12 balls
 # could not be led to multipliers of 4 bits, 247 to 664 cells deep.
 CONNECT_TRIES = 12
 STEPS_BACK_RANGE = (60, 300)
-JOIN_STEPS = (80, 260)
+JOIN_STEPS_RANGE = (80, 260)
 # The ways to open ground that are tried at each end if no such path is found, and the tries to join two of them.
 OPEN_WAYS = 4
 OPEN_TRIES = 3
@@ -46,16 +46,16 @@ RIPS_PER_BALL = 2
 # The cost of a step inside a part, in cells, and that of a step away from its border. Outside a step touches at most
 # three new cells.
 INSIDE_STEP_COST = 5
-OUTWARD_STEP_COST = 3
+INWARD_STEP_COST = 3
 # The columns and rows around an open end in which other paths make room if none crosses its way.
 NEAR_DISTANCE = 70
 # The steps of the straight way of a ball from which other paths are taken.
-WAY_STEPS = 76
+STRAIGHT_WAY_STEPS = 76
 
 # A ball with at least so many steps to wait goes to a coil. A coil keeps so many cells off parts: balls have to leave
 # them.
 LEAST_COIL_STEPS = 400
-COIL_CLEARANCE = 80
+COIL_TO_PART_CELLS = 80
 
 
 class TightError(NoRouteError):
@@ -74,7 +74,7 @@ class CoiledPath(Path):
     box: Box
 
 
-def item_of_path(path: Path) -> Footprint:
+def world_item(path: Path) -> Footprint:
     """Returns what a path takes in the world."""
     return path.sealed if isinstance(path, CoiledPath) else path.item
 
@@ -105,8 +105,8 @@ class JoinWorld(World):
     def add_part(self, placed: PlacedPart) -> None:
         """Adds a part where and when it is in the join."""
         item, cells, blocks = placed.part.footprint, placed.placing.cell_number_map(), placed.placing.block_number_map()
-        self.add(Footprint(frozenset(cells.of_all(item.mirrors)), tuple(map(cells.of_part, item.touched_parts)),
-                           tuple(map(blocks.of_part, item.claim_parts))))
+        self.add(Footprint(frozenset(cells.map_all(item.mirrors)), tuple(map(cells.map_item_part, item.touched_parts)),
+                           tuple(map(blocks.map_item_part, item.claim_parts))))
 
     def depth(self, x: int, y: int) -> int:
         """Returns how far a cell is from the border of the part that it is in, or 0."""
@@ -116,15 +116,15 @@ class JoinWorld(World):
         left, top, right, bottom = box
         return min(x - left, right - x, y - top, bottom - y)
 
-    def new_cell_count(self, ball: Ball, steps: int) -> int:
+    def flight_cost(self, ball: Ball, steps: int) -> int:
         """Returns the cost of a straight flight: the cells that it newly touches, but more inside a part."""
         depth, far = self.depth(ball.x, ball.y), self.depth(ball.x + steps * ball.dx, ball.y + steps * ball.dy)
         if depth or far:
-            return INSIDE_STEP_COST * steps + OUTWARD_STEP_COST * (far - depth)
-        return super().new_cell_count(ball, steps)
+            return INSIDE_STEP_COST * steps + INWARD_STEP_COST * (far - depth)
+        return super().flight_cost(ball, steps)
 
 
-def require_time(deadline: float) -> None:
+def require_before_deadline(deadline: float) -> None:
     """Raises NoRouteError when the time is over."""
     if time.monotonic() > deadline:
         raise NoRouteError("the time was over", FailureKind.TIME)
@@ -141,9 +141,9 @@ class JoinWiring:
         self.chance = random.Random(seed)
         self.finder = PathFinder(self.world, self.chance, settings)
         # A method of this object would keep the world in memory when it is no longer used.
-        self.finder.check_time = partial(require_time, deadline)
-        around = [Box(x - COIL_CLEARANCE, y - COIL_CLEARANCE, far - x + 2 * COIL_CLEARANCE,
-                      low - y + 2 * COIL_CLEARANCE)
+        self.finder.check_time = partial(require_before_deadline, deadline)
+        around = [Box(x - COIL_TO_PART_CELLS, y - COIL_TO_PART_CELLS, far - x + 2 * COIL_TO_PART_CELLS,
+                      low - y + 2 * COIL_TO_PART_CELLS)
                   for x, y, far, low in self.world.boxes]
         self.ground = CoilGround(self.world, around)
         self.stubs: dict[int, list[Footprint]] = {}
@@ -160,7 +160,7 @@ class JoinWiring:
         queue = sorted(range(len(jobs)), key=lambda index: (not jobs[index].is_between, -jobs[index].steps))
         left = RIPS_PER_BALL * len(jobs)
         while queue:
-            require_time(self.deadline)
+            require_before_deadline(self.deadline)
             index = queue.pop(0)
             if tight and not jobs[index].is_between:
                 break
@@ -170,7 +170,7 @@ class JoinWiring:
             if index in can_loosen and index not in taken_back:
                 tight.append(index)
                 continue
-            crossing = self.paths_across(index)
+            crossing = self.balls_across(index)
             left -= 1 + len(crossing)
             if left <= 0 or not crossing:
                 raise NoRouteError(self.failure_words(index), FailureKind.END)
@@ -200,7 +200,7 @@ class JoinWiring:
                             GOAL_STEP_COSTS[0])
         return next(search.ways(), None) is None
 
-    def blocked_ends(self, skipped: Collection[tuple[int, int]] = ()) -> list[tuple[int, Ball, int]]:
+    def closed_ends(self, skipped: Collection[tuple[int, int]] = ()) -> list[tuple[int, Ball, int]]:
         """Returns the open ends that no ball can leave even if no other ball is led: the number of the job, the ball,
         and 1 behind it or -1 before it. The paths to come do not depend on what was tried.
 
@@ -238,7 +238,7 @@ class JoinWiring:
 
         If there is none it is a way of a few straight steps, or None.
         """
-        way = self.finder.open_way_footprint(ball, sign, BOUNCE_REACH)
+        way = self.finder.open_way_footprint(ball, sign, BOUNCE_WITHIN_STEPS)
         if way is not None:
             return way
         for steps in STUB_STEPS:
@@ -256,11 +256,11 @@ class JoinWiring:
         job = self.plan.jobs[index]
         for tried in range(PATH_TRIES):
             path = self.find_path(job, tried)
-            numbers = self.modules.modules_of(path) if path else set[int]()
+            numbers = self.modules.modules_hearing(path) if path else set[int]()
             if path is not None and self.modules.has_room_for(job.wire, numbers):
-                self.world.add(item_of_path(path))
+                self.world.add(world_item(path))
                 if isinstance(path, CoiledPath):
-                    self.ground.take_coil(path.box)
+                    self.ground.take_box_and_street(path.box)
                 self.modules.count_wire(job.wire, numbers, 1)
                 self.paths[index] = path
                 return True
@@ -270,7 +270,7 @@ class JoinWiring:
     def lead_before_others(self, index: int) -> bool:
         """Leads a ball as if no ball near it waited; returns whether a way was found. The others keep the room left."""
         ends = [ball for ball in (self.plan.jobs[index].start, self.plan.jobs[index].goal) if ball is not None]
-        near = [other for other in self.stubs if other != index and self.is_beside(other, ends)]
+        near = [other for other in self.stubs if other != index and self.has_end_near(other, ends)]
         for other in near:
             for stub in self.stubs[other]:
                 self.world.remove(stub)
@@ -279,7 +279,7 @@ class JoinWiring:
             self.reserve_ends(other)
         return done
 
-    def is_beside(self, index: int, balls: list[Ball]) -> bool:
+    def has_end_near(self, index: int, balls: list[Ball]) -> bool:
         """Whether a ball that waits has an open end near one of some balls."""
         job = self.plan.jobs[index]
         ends = [ball for ball in (job.start, job.goal) if ball is not None]
@@ -295,7 +295,7 @@ class JoinWiring:
             return coiled
         if job.goal is None:
             assert job.start is not None
-            return self.finder.path_on_from(job.wire, job.start, job.end)
+            return self.finder.lead_on_from(job.wire, job.start, job.end)
         if job.start is None:
             return self.finder.path_from_anywhere(job.wire, job.goal)
         is_deep = max(self.world.depth(ball.x, ball.y) for ball in (job.start, job.goal)) > SHALLOW_CELLS
@@ -312,10 +312,11 @@ class JoinWiring:
             assert job.goal is not None
             ball, end = job.goal, 0
         has_room = self.modules.room_test(job.wire)
-        for coil, legs in CoilSearch(self.finder, self.ground, ball, end, job.start is None, has_room).run():
+        search = CoilSearch(self.finder, self.ground, ball, end, job.start is None, has_room)
+        for coil, legs in search.coils_with_legs():
             if job.start is None:
                 legs = reversed_legs(legs)
-            start = job.start or self.finder.ball_before(ball, legs)
+            start = job.start or self.finder.start_of_legs(ball, legs)
             path = self.finder.path_of_legs(job.wire, start, follow_legs(start, legs)[0], legs)
             if path is not None:
                 sealed = sealed_item(path.item, coil.box)
@@ -326,7 +327,7 @@ class JoinWiring:
         """Returns a path between two parts: it wanders back from the goal and on from the start, and joins the two."""
         for _ in range(CONNECT_TRIES):
             back, on = Trail(self.world, goal, is_backward=True), Trail(self.world, start)
-            legs = self.legs_between(back, on, start, goal)
+            legs = self.wander_and_join(back, on, start, goal)
             back.clear_legs()
             on.clear_legs()
             path = self.finder.path_of_legs(wire, start, goal, legs) if legs else None
@@ -338,13 +339,13 @@ class JoinWiring:
         """Returns a path between two parts whose ends are led to open ground by a search, and joined there."""
         has_room = self.modules.room_test(wire)
         for cells, behind in self.ways_from_open(start, goal, has_room):
-            back, last = Trail(self.world, goal, is_backward=True), self.finder.ball_before(goal, behind)
+            back, last = Trail(self.world, goal, is_backward=True), self.finder.start_of_legs(goal, behind)
             turns = [leg.turn for leg in reversed(behind[:-1])]
             is_free = all(back.push_leg(leg.steps, turn) for leg, turn in zip(reversed(behind), [*turns, None]))
             legs = self.legs_to_open(start, last, has_room, cells) if is_free else None
             back.clear_legs()
             path = self.finder.path_of_legs(wire, start, goal, linked_legs(legs, behind)) if legs else None
-            if path is not None and self.modules.has_room_for(wire, self.modules.modules_of(path)):
+            if path is not None and self.modules.has_room_for(wire, self.modules.modules_hearing(path)):
                 return path
         return None
 
@@ -377,60 +378,60 @@ class JoinWiring:
     def legs_outside(self, start: Ball, last: Ball) -> list[Leg] | None:
         """Returns legs between two balls on open ground, or None."""
         for _ in range(OPEN_TRIES):
-            stop, on = last.time - self.chance.randint(*JOIN_STEPS), Trail(self.world, start)
+            stop, on = last.time - self.chance.randint(*JOIN_STEPS_RANGE), Trail(self.world, start)
             self.finder.known_departures.clear()
             legs = [Leg(0, None)]
             if stop > start.time and self.finder.wander(on, stop, last):
                 legs = on.legs()
-            middle = self.finder.connect_short(on.ball, last, self.settings.path_tries)
+            middle = self.finder.find_direct_legs(on.ball, last, self.settings.path_tries)
             on.clear_legs()
             if middle:
                 return linked_legs(legs, middle)
         return None
 
-    def legs_between(self, back: Trail, on: Trail, start: Ball, goal: Ball) -> list[Leg] | None:
+    def wander_and_join(self, back: Trail, on: Trail, start: Ball, goal: Ball) -> list[Leg] | None:
         """Returns legs from a start to a goal by two trails, or None."""
         finder, chance = self.finder, self.chance
         deep = max(0, self.world.depth(goal.x, goal.y) - SHALLOW_CELLS)
         before = goal.time - chance.randint(STEPS_BACK_RANGE[0] + deep, STEPS_BACK_RANGE[1] + 2 * deep)
         if before <= start.time or not finder.wander(back, -before):
             return None
-        last, behind = back.ball.reversed(), back.legs()
-        stop = last.time - chance.randint(*JOIN_STEPS)
+        last, behind = back.ball.time_reversed(), back.legs()
+        stop = last.time - chance.randint(*JOIN_STEPS_RANGE)
         if stop <= start.time or not finder.can_reach(start, last) or not finder.wander(on, stop, last):
             return None
         finder.known_departures.clear()
-        middle = finder.connect_short(on.ball, last, self.settings.path_tries)
+        middle = finder.find_direct_legs(on.ball, last, self.settings.path_tries)
         return linked_legs(linked_legs(on.legs(), middle), behind) if middle else None
 
     def take_back(self, index: int) -> None:
         """Takes the path of a ball back, which waits again."""
         path = self.paths.pop(index)
-        self.world.remove(item_of_path(path))
+        self.world.remove(world_item(path))
         if isinstance(path, CoiledPath):
-            self.ground.take_coils(own.box for own in self.paths.values() if isinstance(own, CoiledPath))
-        self.modules.count_wire(path.wire, self.modules.modules_of(path), -1)
+            self.ground.set_coils(own.box for own in self.paths.values() if isinstance(own, CoiledPath))
+        self.modules.count_wire(path.wire, self.modules.modules_hearing(path), -1)
         self.reserve_ends(index)
 
-    def paths_across(self, index: int) -> list[int]:
+    def balls_across(self, index: int) -> list[int]:
         """Returns the balls whose paths cross or touch the straight way of a ball that waits."""
         job, touched = self.plan.jobs[index], set[int]()
         for ball, sign in ((job.start, 1), (job.goal, -1)):
             if ball is not None:
-                touched |= self.straight_way(ball, sign)
+                touched |= self.straight_way_cells(ball, sign)
         found = [other for other, path in self.paths.items()
                  if not touched.isdisjoint(chain(path.item.mirrors, *path.item.touched_parts))]
-        return found or [other for other, path in self.paths.items() if self.is_near(path, job)]
+        return found or [other for other, path in self.paths.items() if self.has_mirror_near(path, job)]
 
-    def is_near(self, path: Path, job: BallJob) -> bool:
+    def has_mirror_near(self, path: Path, job: BallJob) -> bool:
         """Whether a path has a mirror near an open end of a ball."""
         balls = [ball for ball in (job.start, job.goal) if ball is not None]
         return any(abs(ball.x - mirror.x) < NEAR_DISTANCE and abs(ball.y - mirror.y) < NEAR_DISTANCE
                    for mirror in path.mirrors() for ball in balls)
 
-    def straight_way(self, ball: Ball, sign: int) -> set[int]:
+    def straight_way_cells(self, ball: Ball, sign: int) -> set[int]:
         """Returns the cells of the straight way behind a ball, or before it, up to the first mirror and a little on."""
-        room = 6 + self.world.free_steps(ball if sign > 0 else ball.reversed(), WAY_STEPS)
+        room = 6 + self.world.free_steps(ball if sign > 0 else ball.time_reversed(), STRAIGHT_WAY_STEPS)
         way = path_item(ball if sign > 0 else ball.flown(-room), [Leg(room, None)])
         return way.touched if way else set()
 

@@ -12,7 +12,7 @@ class FallingMirror:
     """A mirror that does not stay by itself: the first step, 1 or 2, that moves one of its cells, and a cell that it
     moves."""
 
-    part: Part
+    mirror: Part
     step: int
     cell: Cell
 

@@ -31,11 +31,11 @@ def keep_fault_lines(circuit: Circuit, module: Module) -> Iterator[str]:
     values = local_values(circuit, module)
     before = values.full
     for number in module.uses:
-        missing = before & ~values.rows[number]
+        missing = before & ~values.defined_columns_by_gate[number]
         if number in module.keeps and missing:
             yield f"keep {module.number} {number} {lowest_bit(missing)}"
             return
-        before = values.rows[number]
+        before = values.defined_columns_by_gate[number]
 
 
 def border_fault_lines(layout: Layout, certificate: Certificate, module: Module) -> Iterator[str]:
@@ -56,7 +56,7 @@ def border_fault_lines(layout: Layout, certificate: Certificate, module: Module)
         yield f"border {module.number} {time} {x} {y}"
 
 
-def gate_fault_lines(circuit: Circuit, certificate: Certificate) -> Iterator[str]:
+def gate_report_lines(circuit: Circuit, certificate: Certificate) -> Iterator[str]:
     """Yields the lines about gates: inverse gates that no module keeps, delays, and inputs that are to meet."""
     kept = {number for module in certificate.modules for number in module.keeps}
     yield from (f"unkept {gate.number}" for gate in circuit.gates if gate.is_inverse and gate.number not in kept)
@@ -79,7 +79,7 @@ def own_report(document: Document) -> ReportOrRefusal:
         return ReportOrRefusal(refused=(document.refusal.line, document.refusal.code))
     circuit, layout, certificate = document.circuit, document.layout, document.certificate
     assert circuit and layout and certificate
-    lines = [*module_fault_lines(circuit, layout, certificate), *gate_fault_lines(circuit, certificate)]
+    lines = [*module_fault_lines(circuit, layout, certificate), *gate_report_lines(circuit, certificate)]
     findings: list[ReportLine] = [parse_finding(line) for line in lines]
     verdict = "no" if any(finding.is_against for finding in findings) else "yes"
     return ReportOrRefusal(verdict, certificate_digest(document.text), len(certificate.modules), findings)

@@ -10,7 +10,7 @@ from dataclasses import dataclass, field
 from typing import Iterable, Iterator
 
 from ..texts.certificates import Border, Certificate, Module
-from ..texts.circuits import Circuit, Valuation, evaluate
+from ..texts.circuits import Circuit, WireTables, evaluate_gates
 from ..texts.layouts import Box, Cell, Layout
 
 Table = int
@@ -179,13 +179,13 @@ class ModuleRun:
         self.values = local_values(circuit, module)
         # The assignments that count: those under which each used gate has a row.
         self.full = self.values.full
-        for table in self.values.rows.values():
+        for table in self.values.defined_columns_by_gate.values():
             self.full &= table
         self.tables = {name: table & self.full for name, table in self.values.tables.items()} | {"1": self.full}
         self.field = LiveCells(start_tables(self.layout, self.tables, self.full))
         self.inside = set(keys_of(module.box))
         self.edges = self.border_tables(module.edges)
-        self.halos = self.border_tables(certificate.halo_lines(module))
+        self.halos = self.border_tables(certificate.heard_lines(module))
         self.ring = {key_of(cell) for cell in module.box.ring()}
         self.stops: dict[int, list[tuple[Cell, str]]] = {}
         for stop in module.stops:
@@ -198,7 +198,7 @@ class ModuleRun:
         self.tables = {name: table & self.full for name, table in self.tables.items()}
         self.field = LiveCells(start_tables(self.layout, self.tables, self.full))
         self.edges = self.border_tables(self.module.edges)
-        self.halos = self.border_tables(self.certificate.halo_lines(self.module))
+        self.halos = self.border_tables(self.certificate.heard_lines(self.module))
 
     def border_tables(self, lines: Iterable[Border]) -> BorderTables:
         """Returns what edge or halo lines say, by the tables of the wires that are local here."""
@@ -282,9 +282,9 @@ class ModuleRun:
         return sorted(times | self.stops.keys() | {self.layout.steps})
 
 
-def local_values(circuit: Circuit, module: Module) -> Valuation:
+def local_values(circuit: Circuit, module: Module) -> WireTables:
     """Returns the tables of a module's local wires over all assignments of its cuts."""
-    return evaluate(circuit, module.cuts, module.uses)
+    return evaluate_gates(circuit, module.cuts, module.uses)
 
 
 def end_tables(layout: Layout, tables: dict[str, Table], full: Table) -> dict[Cell, Table | None]:

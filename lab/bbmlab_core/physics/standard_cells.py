@@ -74,13 +74,13 @@ class StandardCell:
     ports: list[CellPort]
     constants: int
     garbage: int
-    mirror_box: tuple[int, int]
+    mirror_box_size: tuple[int, int]
 
     def text(self) -> str:
         """Returns what `bbmlab cells` lists of the cell."""
         layout, circuit = layout_and_circuit(self.document)
         gates = ", ".join(gate.kind for gate in circuit.gates) or "none"
-        width, height = self.mirror_box
+        width, height = self.mirror_box_size
         mirrors = f"mirrors within {width} by {height} cells" if width else "no mirrors"
         lines = [f"{self.name} {CELL_DESCRIPTIONS.get(self.name, 'has no description')}",
                  f"  layout of {layout.width} by {layout.height} cells, {layout.steps} steps, {mirrors}",
@@ -142,7 +142,7 @@ def ports_of(document: Document) -> list[CellPort]:
     return ports
 
 
-def standard_cell(name: str, text: str) -> StandardCell:
+def cell_from_text(name: str, text: str) -> StandardCell:
     """Returns a cell from its bundle."""
     document = read_document(text)
     layout, circuit = layout_and_circuit(document)
@@ -167,4 +167,4 @@ def cell_names() -> list[str]:
 
 def read_cell(name: str) -> StandardCell:
     """Returns a cell of the library."""
-    return standard_cell(name, cell_path(name).read_text(encoding="ascii"))
+    return cell_from_text(name, cell_path(name).read_text(encoding="ascii"))

@@ -13,21 +13,21 @@ from .simulation import ModuleRun, Table, cell_of, key_of, layout_run
 
 
 @dataclass(frozen=True)
-class StateDifference:
+class DifferenceFromMirrors:
     """How a state differs from the mirrors: other cells that are live, mirror cells that are dead, and what is heard
     from outside.
 
     Of a large layout most live cells are mirrors that stay, so all of them at each time would take gigabytes.
     """
 
-    balls: set[Cell]
-    gone: set[Cell]
+    live_other_cells: set[Cell]
+    dead_mirror_cells: set[Cell]
     heard: set[Cell] = field(default_factory=set)
 
 
 @dataclass
 class Trace:
-    """The states from a time on. `left` is the step that leaves the rectangle, if there is one.
+    """The states from a time on. `leaving_step` is the step that leaves the rectangle, if there is one.
 
     `mirrors` are those of the box.
     """
@@ -36,13 +36,13 @@ class Trace:
     box: tuple[int, int, int, int]
     first: int
     mirrors: set[Cell]
-    moments: list[StateDifference] = field(default_factory=list)
-    left: int | None = None
-    last: set[Cell] | None = None
+    moments: list[DifferenceFromMirrors] = field(default_factory=list)
+    leaving_step: int | None = None
+    last_state: set[Cell] | None = None
 
-    def live(self, moment: StateDifference) -> set[Cell]:
+    def live(self, moment: DifferenceFromMirrors) -> set[Cell]:
         """Returns the live cells of a state."""
-        return (self.mirrors - moment.gone) | moment.balls
+        return (self.mirrors - moment.dead_mirror_cells) | moment.live_other_cells
 
     @property
     def states(self) -> list[set[Cell]]:
@@ -67,9 +67,9 @@ class MirrorWatch:
             else:
                 differing.discard(key)
 
-    def state_difference(self) -> StateDifference:
+    def difference_from_mirrors(self) -> DifferenceFromMirrors:
         """Returns the present state."""
-        return StateDifference({cell_of(key) for key in self.balls}, {cell_of(key) for key in self.gone})
+        return DifferenceFromMirrors({cell_of(key) for key in self.balls}, {cell_of(key) for key in self.gone})
 
 
 def input_names(layout: Layout) -> list[str]:
@@ -105,11 +105,11 @@ def trace_layout(layout: Layout, on: list[str], first: int, last: int, is_whole:
         if time:
             watch.note_changes(run.field.changed)
         if first <= time <= last:
-            trace.moments.append(watch.state_difference())
+            trace.moments.append(watch.difference_from_mirrors())
         if time == layout.steps:
-            trace.last = run.field.state()
+            trace.last_state = run.field.state()
         elif (is_whole or time < last) and not run.step():
-            trace.left = run.time
+            trace.leaving_step = run.time
             break
     return trace
 
@@ -119,7 +119,7 @@ def state_at(layout: Layout, on: list[str], time: int) -> set[Cell]:
     trace = trace_layout(layout, on, time, time, False)
     if not trace.moments:
         raise LabError(f"there is no time {time}: the run ends at "
-                       f"{layout.steps if trace.left is None else trace.left - 1}", 2)
+                       f"{layout.steps if trace.leaving_step is None else trace.leaving_step - 1}", 2)
     return trace.live(trace.moments[0])
 
 
@@ -143,7 +143,7 @@ def trace_module(document: Document, number: int, assignment: int, first: int, l
             state = run.field.state(assignment)
             said = run.halos.tables_at(time) if time % 2 and time < layout.steps else {}
             heard = {cell_of(key) for key, table in said.items() if table >> assignment & 1}
-            trace.moments.append(StateDifference(state - mirrors, mirrors - state, heard))
+            trace.moments.append(DifferenceFromMirrors(state - mirrors, mirrors - state, heard))
         if time < layout.steps:
             run.step()
     return trace
@@ -157,7 +157,7 @@ def sorted_cells(cells: set[Cell]) -> list[list[int]]:
 def as_json(trace: Trace, mirrors: set[Cell]) -> str:
     """Writes a trace as one JSON document."""
     document: dict[str, Any] = {"format": "bbmlab trace 1", "title": trace.title, "box": list(trace.box),
-                                "left": trace.left, "mirrors": sorted_cells(mirrors)}
+                                "left": trace.leaving_step, "mirrors": sorted_cells(mirrors)}
     states = (json.dumps({"time": time, "live": sorted_cells(trace.live(moment)), "heard": sorted_cells(moment.heard)})
               for time, moment in enumerate(trace.moments, trace.first))
     return f'{json.dumps(document)[:-1]}, "states": [{", ".join(states)}]}}\n'
@@ -167,18 +167,18 @@ def as_text(trace: Trace, mirrors: set[Cell], pictures: bool) -> str:
     """Writes a trace: a line for each time with the live cells that are no mirror's, or pictures."""
     lines = [f"# {trace.title}"]
     for time, moment in enumerate(trace.moments, trace.first):
-        shown = " ".join(f"{x},{y}" for x, y in sorted(moment.balls, key=row_order_key)) or "none"
-        missing = (f"; dead mirror cells: {' '.join(f'{x},{y}' for x, y in sorted(moment.gone, key=row_order_key))}"
-                   if moment.gone else "")
+        shown = " ".join(f"{x},{y}" for x, y in sorted(moment.live_other_cells, key=row_order_key)) or "none"
+        dead = sorted(moment.dead_mirror_cells, key=row_order_key)
+        missing = f"; dead mirror cells: {' '.join(f'{x},{y}' for x, y in dead)}" if dead else ""
         lines.append(f"{time:>5}: {shown}{missing}")
         if pictures:
             lines += text_picture(trace.box, trace.live(moment), mirrors, moment.heard) + [""]
-    if trace.left is not None:
-        lines.append(f"step {trace.left} makes a cell outside the rectangle live")
+    if trace.leaving_step is not None:
+        lines.append(f"step {trace.leaving_step} makes a cell outside the rectangle live")
     return "\n".join(lines) + "\n"
 
 
-def compare_with_run(trace: Trace, output: str) -> str | None:
+def difference_from_run(trace: Trace, output: str) -> str | None:
     """Returns how the program's `run` differs from the trace, or None where both are the same.
 
     Raises ReportError for no answer of `run`.
@@ -186,24 +186,24 @@ def compare_with_run(trace: Trace, output: str) -> str | None:
     if not RUN_ANSWER_PATTERN.fullmatch(output):
         raise ReportError("this is no answer of `bbmcheck run`")
     lines = output.split("\n")
-    if trace.left is not None:
-        return None if lines[
-            0] == f"left {trace.left}" else f"the program's run says `{lines[0]}`, the lab says `left {trace.left}`"
+    if trace.leaving_step is not None:
+        wanted = f"left {trace.leaving_step}"
+        return None if lines[0] == wanted else f"the program's run says `{lines[0]}`, the lab says `{wanted}`"
     cells = {tuple(map(int, line.split(" "))) for line in lines[1:] if line}
     if not lines[0].startswith("cells "):
         return f"the program's run says `{lines[0]}`, and the lab's run stays in the rectangle"
     if lines[0] != f"cells {len(lines) - 2}":
         raise ReportError(f"the program's run says `{lines[0]}`, and lists {len(lines) - 2}")
-    differ = cells ^ (trace.last or set())
+    differ = cells ^ (trace.last_state or set())
     return f"the program's run differs at {sorted(differ)[0]}" if differ else None
 
 
-def text_for_run(layout_lines: list[str], on: list[str]) -> bytes:
+def run_input(layout_lines: list[str], on: list[str]) -> bytes:
     """Returns the text that the program's `run` reads."""
     return ("\n".join([*layout_lines, "assign", *(f"on {name}" for name in on), "end"]) + "\n").encode("latin-1")
 
 
-def layout_lines(document: Document) -> list[str]:
+def layout_section_lines(document: Document) -> list[str]:
     """Returns the lines of a text of the layout section alone, with the same limits."""
     lines = document.text.split("\n")
     first = next(index for index, line in enumerate(lines) if line.startswith("layout "))

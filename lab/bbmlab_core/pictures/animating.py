@@ -12,7 +12,7 @@ COLOURS = ("#1f77b4", "#e07b00", "#2ca02c", "#9467bd")
 OPPOSITE_CORNERS = {(0, 0): (1, 1), (1, 1): (0, 0), (0, 1): (1, 0), (1, 0): (0, 1)}
 
 
-def moved_cell(cell: Cell, live: Collection[Cell], time: int) -> Cell:
+def cell_after_step(cell: Cell, live: Collection[Cell], time: int) -> Cell:
     """Returns where the content of a live cell is after a step. Of two on a diagonal each keeps its column."""
     odd = time % 2
     x, y = (cell[0] - odd) // 2 * 2 + odd, (cell[1] - odd) // 2 * 2 + odd
@@ -26,14 +26,14 @@ def moved_cell(cell: Cell, live: Collection[Cell], time: int) -> Cell:
     return x + over[0], y + over[1]
 
 
-def input_names(layout: Layout) -> list[str]:
+def layout_input_names(layout: Layout) -> list[str]:
     """Returns the names of the inputs that have cells, in the order of their lines."""
     return list(dict.fromkeys(part.name for part in layout.of_kind("in") if part.name))
 
 
-def ball_tracks(layout: Layout, on: Iterable[str]) -> list[tuple[int, list[Cell]]]:
+def ball_paths(layout: Layout, on: Iterable[str]) -> list[tuple[int, list[Cell]]]:
     """Returns for each ball the number of its input, or -1, and its cell at each time."""
-    numbers = {name: number for number, name in enumerate(input_names(layout)) if name in set(on)}
+    numbers = {name: number for number, name in enumerate(layout_input_names(layout)) if name in set(on)}
     mirrors = layout.mirror_cells()
     starts = [(-1, part.cell) for part in layout.of_kind("ball")]
     starts += [(numbers[part.name], part.cell) for part in layout.of_kind("in") if part.name in numbers]
@@ -41,7 +41,7 @@ def ball_tracks(layout: Layout, on: Iterable[str]) -> list[tuple[int, list[Cell]
     for time in range(layout.steps):
         live = mirrors | {cells[-1] for _, cells in found}
         for _, cells in found:
-            cells.append(moved_cell(cells[-1], live, time))
+            cells.append(cell_after_step(cells[-1], live, time))
     return found
 
 
@@ -85,10 +85,10 @@ def animation(layout: Layout, runs: list[list[str]], title: str) -> str:
         box = (f'x="{CELL_PX * part.x}" y="{CELL_PX * part.y}" '
                f'width="{CELL_PX * part.width}" height="{CELL_PX * part.height}"')
         lines.append(f'<rect {box} fill="#999999"/>')
-    names = input_names(layout)
+    names = layout_input_names(layout)
     for number, on in enumerate(runs):
         before, after = own * number, own * (len(runs) - 1 - number)
-        for which, cells in ball_tracks(layout, on):
+        for which, cells in ball_paths(layout, on):
             lines += ball_lines(which, cells, before, after)
         text = ", ".join(f"{name} = {int(name in on)}" for name in names)
         lines += caption_lines(text, height + 24, before, own, after)

@@ -30,7 +30,7 @@ LARGE_SIDE = 512
 MAX_LEGEND = 40
 MAX_SINGLE_MIRRORS = 2000
 # More names of ports would cover each other and take minutes to place.
-MAX_NAMES = 512
+MAX_PORT_NAMES = 512
 # In a picture of a large layout a ball is at least this part of its side, and the name of a gate is at least this part
 # of a port's name.
 LEAST_BALL_SHARE, LEAST_NAME_SHARE = 1 / 300, 0.5
@@ -61,12 +61,12 @@ DARK_WAY_STYLE = "".join(f".w{index}{{stroke:{colour}}}" for index, colour in en
 class Drawing:
     """What a picture shows of a layout, apart from its parts.
 
-    `labels` has the names of the wires that share a way with the key.
+    `wire_labels` has the names of the wires that share a way with the key.
     """
 
     live: set[Cell] = field(default_factory=set)
     ways: dict[str, list[Piece]] = field(default_factory=dict)
-    labels: dict[str, str] = field(default_factory=dict)
+    wire_labels: dict[str, str] = field(default_factory=dict)
     modules: Sequence[Module] = ()
     # The boxes of modules that use gates, with what is said of them: in a large layout in place of all modules.
     gates: list[tuple[Box, list[str]]] = field(default_factory=list)
@@ -75,7 +75,7 @@ class Drawing:
     # The part of the layout that is shown, or all of it; the cells that a ball takes at least; whether the ways have
     # arrows.
     view: Box | None = None
-    ball: float = 0.0
+    least_ball_size: float = 0.0
     has_arrows: bool = False
 
     def shown_box(self, layout: Layout) -> Box:
@@ -88,7 +88,7 @@ def cell_centre(cell: Cell) -> tuple[float, float]:
     return MARGIN + cell[0] * CELL_PX + CELL_PX / 2, MARGIN + cell[1] * CELL_PX + CELL_PX / 2
 
 
-def rounded(number: float) -> str:
+def coordinate_text(number: float) -> str:
     """Writes a coordinate with as few digits as it needs."""
     return f"{number:.1f}".rstrip("0").rstrip(".")
 
@@ -119,9 +119,11 @@ def plane_elements(view: Box) -> list[str]:
         lines += [f"M{left} {MARGIN + y * CELL_PX}H{right}" for y in multiples(view.y, view.height + 1, 2)]
         parts.append(f'<path class="line" d="{"".join(lines)}"/>')
     for x in multiples(view.x, view.width, number_spacing(view.width)):
-        parts.append(f'<text x="{rounded(cell_centre((x, 0))[0])}" y="{top - 6}" text-anchor="middle">{x}</text>')
+        centre = coordinate_text(cell_centre((x, 0))[0])
+        parts.append(f'<text x="{centre}" y="{top - 6}" text-anchor="middle">{x}</text>')
     for y in multiples(view.y, view.height, number_spacing(view.height)):
-        parts.append(f'<text x="{left - 6}" y="{rounded(cell_centre((0, y))[1] + 2.5)}" text-anchor="end">{y}</text>')
+        base = coordinate_text(cell_centre((0, y))[1] + 2.5)
+        parts.append(f'<text x="{left - 6}" y="{base}" text-anchor="end">{y}</text>')
     return parts
 
 
@@ -154,7 +156,7 @@ def cell_rect(x: int, y: int, width: int = 1, height: int = 1) -> Rect:
     return Rect(MARGIN + x * CELL_PX, MARGIN + y * CELL_PX, width * CELL_PX, height * CELL_PX)
 
 
-def port_labels(layout: Layout, view: Box, scale: float) -> list[str]:
+def port_name_elements(layout: Layout, view: Box, scale: float) -> list[str]:
     """Returns the names of ports, inputs above and outputs below if they cover no other port there.
 
     Names of one cell are in one place.
@@ -162,11 +164,11 @@ def port_labels(layout: Layout, view: Box, scale: float) -> list[str]:
     size = NAME_SIZE * scale
     labels = [(cell_rect(*cell), kind, "→" + names[0] if kind == "in" else names[0] + "→")
               for (cell, kind), names in labelled_cells(layout).items()]
-    if len(labels) > MAX_NAMES:
+    if len(labels) > MAX_PORT_NAMES:
         return []
     # Bold letters are about 0.64 of their size wide, and an arrow is as wide as it is high.
     names = [NameToPlace(cell, size * (0.64 * len(mark) + 0.5), size, kind == "in") for cell, kind, mark in labels]
-    named = {(name.cell.x, name.cell.y) for name in names}
+    named = {(name.cell_rect.x, name.cell_rect.y) for name in names}
     # The second cell of a ball of two cells has no name of its own, and is a port too.
     ports = [cell_rect(*part.cell) for part in layout.parts if part.kind in ("in", "out")]
     bare = [rect for rect in ports if (rect.x, rect.y) not in named]
@@ -179,10 +181,11 @@ def port_labels(layout: Layout, view: Box, scale: float) -> list[str]:
         line = leader_line(place, cell)
         if line:
             (x, y), (u, v) = line
-            lines.append(f'<path class="leader" d="M{rounded(x)} {rounded(y)}L{rounded(u)} {rounded(v)}"/>')
+            lines.append(f'<path class="leader" d="M{coordinate_text(x)} {coordinate_text(y)}'
+                         f'L{coordinate_text(u)} {coordinate_text(v)}"/>')
         box = place.box
-        parts.append(f'<text class="name" x="{rounded(box.x + box.width / 2)}" '
-                     f'y="{rounded(box.y + box.height * 0.84)}" text-anchor="middle">{escape(mark)}</text>')
+        parts.append(f'<text class="name" x="{coordinate_text(box.x + box.width / 2)}" '
+                     f'y="{coordinate_text(box.y + box.height * 0.84)}" text-anchor="middle">{escape(mark)}</text>')
     return lines + parts
 
 
@@ -203,18 +206,18 @@ def layout_elements(layout: Layout) -> list[str]:
     parts += [f'<rect class="in" x="{MARGIN + part.x * CELL_PX + 1.5}" y="{MARGIN + part.y * CELL_PX + 1.5}" '
               f'width="{CELL_PX - 3}" height="{CELL_PX - 3}"/>'
               for part in layout.of_kind("in")]
-    parts += [waste_sign(part) for part in layout.of_kind("waste")]
+    parts += [waste_element(part) for part in layout.of_kind("waste")]
     return parts
 
 
-def waste_sign(part: Part) -> str:
+def waste_element(part: Part) -> str:
     """Returns a cross in a waste cell."""
     x, y = MARGIN + part.x * CELL_PX + 2, MARGIN + part.y * CELL_PX + 2
     side = CELL_PX - 4
     return f'<path class="waste" d="M{x} {y}l{side} {side}m0-{side}l-{side} {side}"/>'
 
 
-def module_parts(modules: Sequence[Module]) -> list[str]:
+def module_elements(modules: Sequence[Module]) -> list[str]:
     """Returns the borders of modules, with their numbers if they are few."""
     is_numbered, parts = len(modules) <= MAX_NUMBERED_MODULES, []
     for module in modules:
@@ -233,7 +236,7 @@ def gate_elements(gates: list[tuple[Box, list[str]]]) -> list[str]:
             for box, names in gates]
 
 
-def gate_names(gates: list[tuple[Box, list[str]]], scale: float) -> list[str]:
+def gate_name_elements(gates: list[tuple[Box, list[str]]], scale: float) -> list[str]:
     """Returns the first gate of each box, and how many others there are, where the box has room for these words."""
     parts, largest = [], NAME_SIZE * scale
     for box, names in gates:
@@ -241,8 +244,8 @@ def gate_names(gates: list[tuple[Box, list[str]]], scale: float) -> list[str]:
         size = min(largest, box.width * CELL_PX / (0.62 * len(shown)), box.height * CELL_PX)
         x, y = MARGIN + (box.x + box.width / 2) * CELL_PX, MARGIN + (box.y + box.height / 2) * CELL_PX + size / 3
         if size >= LEAST_NAME_SHARE * largest:
-            parts.append(f'<text class="gate-name" x="{rounded(x)}" y="{rounded(y)}" '
-                         f'style="font-size:{rounded(size)}px">{escape(shown)}</text>')
+            parts.append(f'<text class="gate-name" x="{coordinate_text(x)}" y="{coordinate_text(y)}" '
+                         f'style="font-size:{coordinate_text(size)}px">{escape(shown)}</text>')
     return parts
 
 
@@ -253,13 +256,13 @@ def ball_elements(layout: Layout, live: set[Cell], least: float) -> list[str]:
     parts, radius = [], CELL_PX * max(0.33, least / 2)
     for cell in sorted(live - mirrors):
         x, y = cell_centre(cell)
-        parts.append(f'<circle class="ball" cx="{rounded(x)}" cy="{rounded(y)}" r="{radius:.1f}"/>')
+        parts.append(f'<circle class="ball" cx="{coordinate_text(x)}" cy="{coordinate_text(y)}" r="{radius:.1f}"/>')
     if live:
         parts += [rectangle_element("plane", *cell, 1, 1) for cell in sorted(mirrors - live)]
     return parts
 
 
-def wire_style(wires: list[str]) -> dict[str, tuple[int, str]]:
+def wire_styles(wires: list[str]) -> dict[str, tuple[int, str]]:
     """Returns the number of a colour, and a dash, for each wire."""
     styles = {wire: (index % 8, DASHES[index // 8 % 8]) for index,
               wire in enumerate(wire for wire in wires if wire not in ("", OTHER_WIRES_LABEL))}
@@ -274,13 +277,13 @@ def ordered_wires(drawing: Drawing, wires: list[str]) -> list[str]:
 
 def label_of(drawing: Drawing, wire: str) -> str:
     """Returns what the legend says of a wire."""
-    return {"": "no wire", "1": "constant"}.get(wire, drawing.labels.get(wire, wire))
+    return {"": "no wire", "1": "constant"}.get(wire, drawing.wire_labels.get(wire, wire))
 
 
 def way_elements(drawing: Drawing, wires: list[str], widening: float) -> list[str]:
     """Returns the ways of balls, a path for each wire."""
     order, parts = ordered_wires(drawing, wires), []
-    styles = wire_style(order)
+    styles = wire_styles(order)
     for index, wire in enumerate(order):
         colour, dash = styles[wire]
         # Later ways are thinner, so that one below another is still seen. In a large layout the thinnest must still be
@@ -290,26 +293,25 @@ def way_elements(drawing: Drawing, wires: list[str], widening: float) -> list[st
         path = "".join([f"M{MIDDLE_OFFSET + CELL_PX * x} {MIDDLE_OFFSET + CELL_PX * y}"
                         f"L{MIDDLE_OFFSET + CELL_PX * u} {MIDDLE_OFFSET + CELL_PX * v}"
                         for (x, y), (u, v) in joined_pieces(drawing.ways[wire])])
-        lengths = " ".join(rounded(int(part) * widening) for part in dash.split())
+        lengths = " ".join(coordinate_text(int(part) * widening) for part in dash.split())
         dashes = f' stroke-dasharray="{lengths}"' if dash else ""
         title = escape(label_of(drawing, wire))
-        parts.append(f'<path class="way w{colour}" style="stroke-width:{rounded(width)}"{dashes} '
+        parts.append(f'<path class="way w{colour}" style="stroke-width:{coordinate_text(width)}"{dashes} '
                      f'd="{path}"><title>{title}</title></path>')
         has_arrows = drawing.has_arrows and wire != OTHER_WIRES_LABEL
         heads = chevrons(drawing.ways[wire], 3 * width / CELL_PX) if has_arrows else []
         if heads:
-            path = "".join("M" + "L".join(f"{rounded(MARGIN + x * CELL_PX)} {rounded(MARGIN + y * CELL_PX)}"
-                                          for x, y
-                                          in head)
-                           for head in heads)
-            parts.append(f'<path class="way w{colour}" style="stroke-width:{rounded(width)}" d="{path}"/>')
+            path = "".join("M" +
+                           "L".join(f"{coordinate_text(MARGIN + x * CELL_PX)} {coordinate_text(MARGIN + y * CELL_PX)}"
+                                    for x, y in head) for head in heads)
+            parts.append(f'<path class="way w{colour}" style="stroke-width:{coordinate_text(width)}" d="{path}"/>')
     return parts
 
 
 def legend(drawing: Drawing, wires: list[str], y: int, width: float) -> tuple[list[str], int]:
     """Returns the names of the wires with their colours, in lines of at most a width, and the height that they take."""
     order = ordered_wires(drawing, wires)
-    styles, parts = wire_style(order), []
+    styles, parts = wire_styles(order), []
     x, top = float(MARGIN), y
     for wire in order[:MAX_LEGEND]:
         colour, dash = styles[wire]
@@ -319,13 +321,13 @@ def legend(drawing: Drawing, wires: list[str], y: int, width: float) -> tuple[li
         if x > MARGIN and x + room > width - MARGIN:
             x, top = float(MARGIN), top + 12
         dashes = f' stroke-dasharray="{dash}"' if dash else ""
-        parts.append(f'<path class="way w{colour}"{dashes} d="M{rounded(x)} {top}h16"/>'
-                     f'<text x="{rounded(x + 20)}" y="{top + 2.5}">{escape(text)}</text>')
+        parts.append(f'<path class="way w{colour}"{dashes} d="M{coordinate_text(x)} {top}h16"/>'
+                     f'<text x="{coordinate_text(x + 20)}" y="{top + 2.5}">{escape(text)}</text>')
         x += room
     return parts, top - y + 12 if parts else 0
 
 
-def clip_to_view(layout: Layout, drawing: Drawing) -> Layout:
+def clip_layout_and_drawing(layout: Layout, drawing: Drawing) -> Layout:
     """Returns what a picture shows of a layout, and takes away what it does not show of the drawing."""
     view = drawing.view
     if view is None:
@@ -346,11 +348,12 @@ def has_overlap(one: Box, other: Box) -> bool:
 
 def extra_style(drawing: Drawing, scale: float) -> str:
     """Returns the style that only some pictures need: of larger letters, of gates and of faint ways."""
-    letters = (f"g.plan text{{font-size:{rounded(7 * scale)}px}}g.plan .name{{font-size:{rounded(8 * scale)}px}}"
-               if scale > 1 else "")
+    letters = (f"g.plan text{{font-size:{coordinate_text(7 * scale)}px}}"
+               f"g.plan .name{{font-size:{coordinate_text(8 * scale)}px}}" if scale > 1 else "")
     if drawing.gates:
         letters += (".gate{fill:#7a3db8;fill-opacity:.18}.gate-name{fill:#5c2a92;text-anchor:middle;font-weight:bold;"
-                    f"stroke:#f7f7f4;stroke-width:{rounded(2 * scale)}px;stroke-linejoin:round;paint-order:stroke}}"
+                    f"stroke:#f7f7f4;stroke-width:{coordinate_text(2 * scale)}px;stroke-linejoin:round;"
+                    "paint-order:stroke}"
                     "@media(prefers-color-scheme:dark){.gate-name{fill:#d3b3ff;stroke:#1e2126}}")
     if OTHER_WIRES_LABEL in drawing.ways:
         letters += (f".w{FAINT_COLOUR_NUMBER}{{stroke:#cfcfc9}}"
@@ -363,7 +366,7 @@ def svg(layout: Layout, drawing: Drawing, wires: list[str]) -> str:
 
     Above `PLAIN_SIDE` cells a side, letters and margins grow with the part of the layout that is shown.
     """
-    view, layout = drawing.shown_box(layout), clip_to_view(layout, drawing)
+    view, layout = drawing.shown_box(layout), clip_layout_and_drawing(layout, drawing)
     side = max(view.width, view.height)
     scale = max(1.0, side / PLAIN_SIDE)
     widening, margin = min(scale, MAX_WIDENING) * max(1.0, side / LARGE_SIDE), MARGIN * (scale - 1)
@@ -371,32 +374,34 @@ def svg(layout: Layout, drawing: Drawing, wires: list[str]) -> str:
     width = max(width, 2 * MARGIN + 256 if drawing.ways else 0)
     keys, key_height = legend(drawing, wires, 24, width / scale)
     height = bottom + (34 + key_height) * scale
-    ball = drawing.ball or (side * LEAST_BALL_SHARE if side > LARGE_SIDE else 0.0)
-    parts = [*plane_elements(view), *layout_elements(layout), *module_parts(drawing.modules),
-             *gate_elements(drawing.gates), *way_elements(drawing, wires, widening), *gate_names(drawing.gates, scale),
-             *ball_elements(layout, drawing.live, ball), *port_labels(layout, view, scale)]
+    ball = drawing.least_ball_size or (side * LEAST_BALL_SHARE if side > LARGE_SIDE else 0.0)
+    parts = [*plane_elements(view), *layout_elements(layout), *module_elements(drawing.modules),
+             *gate_elements(drawing.gates), *way_elements(drawing, wires, widening),
+             *gate_name_elements(drawing.gates, scale), *ball_elements(layout, drawing.live, ball),
+             *port_name_elements(layout, view, scale)]
     for cell, about in drawing.faults:
         x, y = cell_centre(cell)
-        parts.append(f'<circle class="fault" cx="{rounded(x)}" cy="{rounded(y)}" '
+        parts.append(f'<circle class="fault" cx="{coordinate_text(x)}" cy="{coordinate_text(y)}" '
                      f'r="{CELL_PX * max(0.75, ball):.1f}"><title>{escape(about)}</title></circle>')
     style = (f"{STYLE}{LIGHT_WAY_STYLE}@media(prefers-color-scheme:dark){{{DARK_WAY_STYLE}}}"
              f"{extra_style(drawing, scale)}")
     count = len(labelled_cells(layout))
-    words = escape(drawing.title + (f"; the names of {count} ports are left out" if count > MAX_NAMES else ""))
-    title = f'<g transform="scale({rounded(scale)})"><text x="{MARGIN}" y="12">{words}</text></g>'
-    below = f'<g transform="translate(0 {rounded(bottom)}) scale({rounded(scale)})">' + "\n".join(keys) + "</g>"
-    size = f"{rounded(width)} {rounded(height)}"
-    return (f'<svg xmlns="http://www.w3.org/2000/svg" viewBox="0 0 {size}" width="{rounded(width)}" '
-            f'height="{rounded(height)}" role="img">'
+    words = escape(drawing.title + (f"; the names of {count} ports are left out" if count > MAX_PORT_NAMES else ""))
+    title = f'<g transform="scale({coordinate_text(scale)})"><text x="{MARGIN}" y="12">{words}</text></g>'
+    below = (f'<g transform="translate(0 {coordinate_text(bottom)}) scale({coordinate_text(scale)})">'
+             + "\n".join(keys) + "</g>")
+    size = f"{coordinate_text(width)} {coordinate_text(height)}"
+    return (f'<svg xmlns="http://www.w3.org/2000/svg" viewBox="0 0 {size}" width="{coordinate_text(width)}" '
+            f'height="{coordinate_text(height)}" role="img">'
             f"<title>{words}</title>\n<style>{style}</style>\n"
-            f'<rect class="back" width="{rounded(width)}" height="{rounded(height)}"/>\n'
-            f'<g class="plan" transform="translate({rounded(margin - view.x * CELL_PX)} '
-            f'{rounded(margin - view.y * CELL_PX)})">\n'
+            f'<rect class="back" width="{coordinate_text(width)}" height="{coordinate_text(height)}"/>\n'
+            f'<g class="plan" transform="translate({coordinate_text(margin - view.x * CELL_PX)} '
+            f'{coordinate_text(margin - view.y * CELL_PX)})">\n'
             + "\n".join(parts)
             + f"\n</g>\n{title}\n{below}\n</svg>\n")
 
 
-def wire_tables(document: Document, on: list[str]) -> tuple[dict[str, Table], Table, int]:
+def wire_tables_and_column(document: Document, on: list[str]) -> tuple[dict[str, Table], Table, int]:
     """Returns the tables of the wires, that of all columns, and the column in which just the names of `on` are true.
 
     The columns are all assignments of the inputs, or samples if there are more inputs than `MAX_EXHAUSTIVE_INPUTS`.
@@ -423,8 +428,8 @@ def sampled_words(document: Document) -> str:
     return f" in {SAMPLE_COUNT} sampled choices of the {count} inputs" if count > MAX_EXHAUSTIVE_INPUTS else ""
 
 
-def ball_ways(document: Document, on: list[str] | None, until: int,
-              is_directed: bool = False) -> tuple[dict[str, list[Piece]], dict[str, str]]:
+def ball_ways_and_labels(document: Document, on: list[str] | None, until: int,
+                         is_directed: bool = False) -> tuple[dict[str, list[Piece]], dict[str, str]]:
     """Returns the ways of the balls by the wires that are true if and only if a ball takes them, as straight pieces.
 
     With `on` only the ways under this choice of inputs are left. The empty name is for assignments that are no wire's.
@@ -433,7 +438,7 @@ def ball_ways(document: Document, on: list[str] | None, until: int,
     """
     layout = document.layout
     assert layout is not None
-    tables, full, chosen = wire_tables(document, on or [])
+    tables, full, chosen = wire_tables_and_column(document, on or [])
     names: dict[Table, str] = {}
     equal: dict[str, list[str]] = {}
     for name, table in tables.items():
@@ -446,7 +451,7 @@ def ball_ways(document: Document, on: list[str] | None, until: int,
     return ways, {name: ", ".join(same) for name, same in equal.items()}
 
 
-def group_by_levels(drawing: Drawing, circuit: Circuit, most_wires: int = MAX_LEGEND) -> list[str]:
+def group_ways_by_level(drawing: Drawing, circuit: Circuit, most_wires: int = MAX_LEGEND) -> list[str]:
     """Gives the ways of more wires than some to groups of levels, and returns the groups.
 
     A level counts the gates from the inputs to a wire.

@@ -13,14 +13,14 @@ from ..texts.layouts import Layout
 
 # The directions of moves by the differences of their cells' numbers: along the diagonals, and to the sides after a
 # collision. `direction ^ 1` goes against a direction, `direction ^ 2` goes alike in y and `direction ^ 3` alike in x.
-DIRECTIONS = (DIAGONAL_STRIDE, -DIAGONAL_STRIDE, ROW_STRIDE - 1, 1 - ROW_STRIDE, 1, -1)
+DIRECTION_OFFSETS = (DIAGONAL_STRIDE, -DIAGONAL_STRIDE, ROW_STRIDE - 1, 1 - ROW_STRIDE, 1, -1)
 FALLING, BACK_FALLING, RISING, BACK_RISING = range(4)
-LINE_SPEEDS = ((1, 1), (-1, -1), (-1, 1), (1, -1))
+FLIGHT_DELTAS = ((1, 1), (-1, -1), (-1, 1), (1, -1))
 # The two other cells of the block that lie at the sides of a ball's move.
 SIDE_OFFSETS = ((1, ROW_STRIDE), (-1, -ROW_STRIDE), (-1, ROW_STRIDE), (1, -ROW_STRIDE))
 # By whether x and y of a ball differ from the parity of the time, the direction in which it flies.
 FLIGHT_DIRECTIONS = ((FALLING, BACK_RISING), (RISING, BACK_FALLING))
-ROW_BITS = ROW_STRIDE.bit_length() - 1
+ROW_SHIFT = ROW_STRIDE.bit_length() - 1
 COLUMN_MASK = ROW_STRIDE - 1
 # A shorter flight costs more than its steps.
 LEAST_FLIGHT = 3
@@ -29,7 +29,7 @@ LEAST_FLIGHT = 3
 Flight = tuple[int, tuple[tuple[int, int], ...]]
 
 
-def mirror_cells(layout: Layout) -> set[int]:
+def mirror_cell_numbers(layout: Layout) -> set[int]:
     """Returns the numbers of the cells of mirrors."""
     cells: set[int] = set()
     for part in layout.of_kind("mirror"):
@@ -57,18 +57,18 @@ class Walls:
         file = self.corners.setdefault
         odd = {(key - DIAGONAL_STRIDE & ~DIAGONAL_STRIDE) + DIAGONAL_STRIDE for key in cells}
         for corner in {key & ~DIAGONAL_STRIDE for key in cells} | odd:
-            x, y = corner & COLUMN_MASK, corner >> ROW_BITS
+            x, y = corner & COLUMN_MASK, corner >> ROW_SHIFT
             file(x - y, []).append(x)
             file(x + y + 1, []).append(x)
         for numbers in self.corners.values():
             numbers.sort()
         last = key_of((layout.width - 1, layout.height - 1))
-        self.right, self.bottom = last & COLUMN_MASK, last >> ROW_BITS
+        self.right, self.bottom = last & COLUMN_MASK, last >> ROW_SHIFT
 
     def free_steps(self, x: int, y: int, direction: int) -> int:
         """Returns how many steps a ball can fly until its block has a cell of a mirror, or one outside the rectangle.
         """
-        dx, dy = LINE_SPEEDS[direction]
+        dx, dy = FLIGHT_DELTAS[direction]
         right, down = self.right - x if dx > 0 else x - 2, self.bottom - y if dy > 0 else y - 2
         steps = right if right < down else down
         corners = self.corners.get(x + y if direction & 2 else x - y)
@@ -112,11 +112,11 @@ class Flights:
 
     def take_off(self, key: int, direction: int, time: int, until: int) -> int | None:
         """Lets a ball fly, at most until a time, and returns its number, or None if it cannot fly."""
-        x, y, lines = key & COLUMN_MASK, key >> ROW_BITS, self.lines
+        x, y, lines = key & COLUMN_MASK, key >> ROW_SHIFT, self.lines
         steps = self.walls.free_steps(x, y, direction)
         if steps < LEAST_FLIGHT:
             return None
-        dx, dy = LINE_SPEEDS[direction]
+        dx, dy = FLIGHT_DELTAS[direction]
         column, row, end = x - dx * time, y - dy * time, time + steps if time + steps < until else until
         alike_x, alike_y = column << 4 | direction, row << 4 | 4 | direction
         head_on = (x + y if direction & 2 else x - y) << 4 | 8 | direction
@@ -127,7 +127,7 @@ class Flights:
                     end = met
         if end <= time:
             return None
-        number = (key - DIRECTIONS[direction] * time) * 4 + direction
+        number = (key - DIRECTION_OFFSETS[direction] * time) * 4 + direction
         self.flying[number] = own_lines = time, ((alike_x, row), (alike_y, column), (head_on, column))
         for line, place in own_lines[1]:
             if line in lines:
@@ -146,9 +146,9 @@ class Flights:
                 del self.lines[line]
             else:
                 del places[bisect_left(places, place)]
-        return (number >> 2) + DIRECTIONS[number & 3] * time, time - start
+        return (number >> 2) + DIRECTION_OFFSETS[number & 3] * time, time - start
 
-    def corner_offsets(self, time: int) -> tuple[int, int, int, int]:
+    def ball_number_offsets(self, time: int) -> tuple[int, int, int, int]:
         """Returns the differences of the numbers of balls in a block to 4 times the number of its corner."""
         fall, rise = DIAGONAL_STRIDE * time, (ROW_STRIDE - 1) * time
         return -fall * 4, (DIAGONAL_STRIDE + fall) * 4 + 1, (1 - rise) * 4 + 2, (ROW_STRIDE + rise) * 4 + 3

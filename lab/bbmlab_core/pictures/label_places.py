@@ -9,7 +9,7 @@ from typing import Iterator
 # A place that covers a port or another name costs so many times its covered area; other signs cost their area once.
 COVERING_COST = 100.0
 # How many lines of text a name may be away from its cell. From `MIN_LEADER_AWAY` on it gets a line to its cell.
-MAX_AWAY = 6
+MAX_LINES_AWAY = 6
 MIN_LEADER_AWAY = 1
 # The least side of the squares in which rectangles are filed. Higher names get larger squares: each touches few.
 BUCKET_SIDE = 64.0
@@ -37,7 +37,7 @@ class Rect:
 class NameToPlace:
     """A name to place: its cell, its size, and whether it is rather above its cell than below."""
 
-    cell: Rect
+    cell_rect: Rect
     width: float
     height: float
     is_above: bool
@@ -48,7 +48,7 @@ class NamePlace:
     """A place of a name: its rectangle, and how many lines of text it is away from the nearest place."""
 
     box: Rect
-    away: int
+    lines_away: int
 
 
 class Obstacles:
@@ -80,9 +80,9 @@ class Obstacles:
 def places_of(name: NameToPlace) -> Iterator[NamePlace]:
     """Yields the places for a name, the best first: above or below, at the sides, at the corners, and then further
     away."""
-    cell, first = name.cell, -1 if name.is_above else 1
+    cell, first = name.cell_rect, -1 if name.is_above else 1
     x, y = cell.x + cell.width / 2, cell.y + cell.height / 2
-    for away in range(MAX_AWAY + 1):
+    for away in range(MAX_LINES_AWAY + 1):
         lift = cell.height / 2 + name.height / 2 + 1 + away * name.height
         shift = cell.width / 2 + name.width / 2 + 2 + away * name.height
         half = name.width / 2
@@ -102,13 +102,13 @@ def place_names(names: list[NameToPlace], signs: list[Rect], ports: list[Rect],
     obstacles = Obstacles(max([BUCKET_SIDE, *(name.height for name in names)]))
     for rect in signs:
         obstacles.add(rect, 1.0)
-    for rect in [*ports, *(name.cell for name in names)]:
+    for rect in [*ports, *(name.cell_rect for name in names)]:
         obstacles.add(rect, COVERING_COST)
     found = []
     for name in names:
         best, least = None, float("inf")
         for place in places_of(name):
-            base = place.away * name.height
+            base = place.lines_away * name.height
             if base >= least:
                 break
             outside = place.box.width * place.box.height - place.box.shared_area(bounds) if bounds else 0.0
@@ -123,7 +123,7 @@ def place_names(names: list[NameToPlace], signs: list[Rect], ports: list[Rect],
 
 def leader_line(place: NamePlace, cell: Rect) -> tuple[Point, Point] | None:
     """Returns a line from a name to its cell, if the name is so far away that it needs one."""
-    if place.away < MIN_LEADER_AWAY:
+    if place.lines_away < MIN_LEADER_AWAY:
         return None
     box = place.box
     x, y = cell.x + cell.width / 2, cell.y + cell.height / 2

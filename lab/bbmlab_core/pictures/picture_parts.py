@@ -26,7 +26,7 @@ class PictureOptions:
     wires: tuple[str, ...] = ()
     cone: str | None = None
     has_arrows: bool = False
-    ball: float = 0.0
+    least_ball_size: float = 0.0
 
 
 def piece_within(piece: Piece, box: Box) -> Piece | None:

@@ -8,14 +8,14 @@ from typing import Iterable, Iterator
 
 from ..physics.simulation import DIAGONAL_STRIDE, ROW_STRIDE, Table, cell_of, key_of
 from ..texts.layouts import Box, Cell, Layout
-from .flights import (BACK_FALLING, BACK_RISING, DIRECTIONS, FALLING, FLIGHT_DIRECTIONS, RISING, ROW_BITS, SIDE_OFFSETS,
-                      Flights, Walls, is_firm, mirror_cells)
+from .flights import (BACK_FALLING, BACK_RISING, DIRECTION_OFFSETS, FALLING, FLIGHT_DIRECTIONS, RISING, ROW_SHIFT,
+                      SIDE_OFFSETS, Flights, Walls, is_firm, mirror_cell_numbers)
 
 # A straight piece of a way: its first and its last cell.
 Piece = tuple[Cell, Cell]
 # A piece that is not complete: its first cell, its table, and when it begins.
 OpenPiece = tuple[int, Table, int]
-DIRECTION_OF = {step: number for number, step in enumerate(DIRECTIONS)}
+DIRECTION_OF = {step: number for number, step in enumerate(DIRECTION_OFFSETS)}
 
 
 def block_moves(before: dict[int, Table], corner: int) -> list[tuple[int, int, Table]]:
@@ -36,7 +36,7 @@ class WayRun:
 
     def __init__(self, layout: Layout, tables: dict[str, Table], full: Table) -> None:
         # Cells of mirrors that never changed.
-        self.steady = mirror_cells(layout)
+        self.steady = mirror_cell_numbers(layout)
         # Whether no mirror ever changes.
         self.is_firm = is_firm(self.steady)
         balls = dict.fromkeys([key_of(part.cell) for part in layout.of_kind("ball")], full)
@@ -57,7 +57,7 @@ class WayRun:
         self.open: dict[int, OpenPiece] = {}
         self.ended: list[tuple[int, int, Table, int]] = []
 
-    def run_to(self, count: int) -> bool:
+    def run_steps(self, count: int) -> bool:
         """Makes steps up to a number of them, and returns whether everything stays in the rectangle."""
         until, is_inside, flights = self.time + count, True, self.flights
         while self.time < until and is_inside:
@@ -73,14 +73,14 @@ class WayRun:
         """Lets balls fly that can, at most until a time."""
         live, flights, time, odd, stay = self.live, self.flights, self.time, self.time & 1, list[int]()
         for key in self.moving:
-            direction = FLIGHT_DIRECTIONS[key & 1 ^ odd][key >> ROW_BITS & 1 ^ odd]
+            direction = FLIGHT_DIRECTIONS[key & 1 ^ odd][key >> ROW_SHIFT & 1 ^ odd]
             one, other = SIDE_OFFSETS[direction]
-            is_free = not (key + DIRECTIONS[direction] in live or key + one in live or key + other in live)
+            is_free = not (key + DIRECTION_OFFSETS[direction] in live or key + one in live or key + other in live)
             number = flights.take_off(key, direction, time, until) if is_free else None
             if number is None:
                 stay.append(key)
                 continue
-            self.flown[number] = self.piece_to(key, direction, live.pop(key), time)
+            self.flown[number] = self.take_open_piece(key, direction, live.pop(key), time)
             if not self.is_firm:
                 self.vacated.append(key)
         self.moving = stay
@@ -99,12 +99,12 @@ class WayRun:
         get, flown, moving, left = self.live.get, self.flown, list[int](), self.vacated
         # The corner of a cell's block, as `block_of` has it: a call for each cell would take a third of the time.
         odd = DIAGONAL_STRIDE if self.time & 1 else 0
-        a_number, d_number, b_number, c_number = self.flights.corner_offsets(self.time)
+        a_number, d_number, b_number, c_number = self.flights.ball_number_offsets(self.time)
         for corner in {(key - odd & ~DIAGONAL_STRIDE) + odd for keys in (self.moving, *self.left) for key in keys}:
             first = corner * 4
             if (first + a_number in flown or first + b_number in flown or first + c_number in flown
                     or first + d_number in flown):
-                for offset in self.flights.corner_offsets(self.time):
+                for offset in self.flights.ball_number_offsets(self.time):
                     if corner * 4 + offset in flown:
                         self.land(corner * 4 + offset)
             a, d = get(corner, 0), get(corner + DIAGONAL_STRIDE, 0)
@@ -157,16 +157,16 @@ class WayRun:
 
     def note_move(self, start: int, end: int, direction: int, table: Table, time: int) -> None:
         """Notes moves in a direction that begin at a time."""
-        begun = self.piece_to(start, direction, table, time)
+        begun = self.take_open_piece(start, direction, table, time)
         self.move_count += 1
         self.keep_open(end * 8 + direction, begun)
 
-    def piece_to(self, start: int, direction: int, table: Table, time: int) -> OpenPiece:
+    def take_open_piece(self, start: int, direction: int, table: Table, time: int) -> OpenPiece:
         """Returns the piece that a move from a cell goes on with: the one that comes there just then, or a new one."""
         piece = self.open.pop(start * 8 + direction, None)
         if piece is None:
             return start, table, time
-        if piece[1] == table and piece[2] + (start - piece[0]) // DIRECTIONS[direction] == time:
+        if piece[1] == table and piece[2] + (start - piece[0]) // DIRECTION_OFFSETS[direction] == time:
             return piece
         self.ended.append((piece[0], start, piece[1], piece[2]))
         return start, table, time
@@ -185,7 +185,7 @@ class WayRun:
         """
         for number, (start, table, time) in self.open.items():
             end, direction = divmod(number, 8)
-            yield start, end - DIRECTIONS[direction] if end in self.outside else end, table, time
+            yield start, end - DIRECTION_OFFSETS[direction] if end in self.outside else end, table, time
         yield from self.ended
 
 
@@ -215,7 +215,7 @@ def all_pieces(layout: Layout, tables: dict[str, Table], full: Table, until: int
     """Returns the pieces of the ways of balls up to a time, as they fly, by the assignments under which a ball takes
     them."""
     run = WayRun(layout, tables, full)
-    run.run_to(until)
+    run.run_steps(until)
     found: dict[Table, list[Piece]] = {}
     for start, end, table, _ in run.pieces():
         found.setdefault(table, []).append((cell_of(start), cell_of(end)))

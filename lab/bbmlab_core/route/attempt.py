@@ -47,7 +47,7 @@ class Attempt:
         self.doing = "the search began"
         self.todo = {gate.number: gate for gate in self.netlist.gates}
         self.failures: Counter[int] = Counter()
-        self.weight = self.chance.choice(settings.weights)
+        self.weight = self.chance.choice(settings.tail_weights)
         # The most gates that were placed at a time, and the steps that placed them if time runs forward.
         self.most_placed = 0
         self.best_steps: list[Placement] = []
@@ -63,17 +63,17 @@ class Attempt:
         while True:
             self.check_time()
             if not self.todo:
-                why = self.try_to_lead_to_the_end()
+                why = self.lead_ends_or_say_why()
                 if why is None:
                     return self.design()
                 self.take_back(NO_GATE, why)
                 continue
             gate = self.next_gate()
             self.doing = f"gate {gate.number} ({gate.kind} {' '.join(gate.ins)}) was placed"
-            step = self.find_placement(gate)
+            step = self.find_placement_with_growth(gate)
             if step is not None:
                 self.board.add_placement(step)
-            elif not self.settings.rips or not self.way_maker.make_way(gate):
+            elif not self.settings.rip_counts or not self.way_maker.place_by_ripping(gate):
                 self.take_back(gate.number, self.failure_reason(gate))
                 continue
             step = self.board.steps[-1]
@@ -85,17 +85,17 @@ class Attempt:
                     self.board.steps)
             progress(total - len(self.todo), total)
 
-    def find_placement(self, gate: Gate) -> Placement | None:
+    def find_placement_with_growth(self, gate: Gate) -> Placement | None:
         """Returns a way to place a gate, or None. If it found no room, the plane grows and it is tried again."""
-        step = self.placer.place_gate(gate)
+        step = self.placer.find_placement(gate)
         for _ in range(self.settings.growths):
-            if step is not None or not self.is_crowded() or not self.board.grow(self.settings.growth_part,
-                                                                                self.most_size):
+            if step is not None or not self.is_room_lacking() or not self.board.grow(self.settings.growth_divisor,
+                                                                                     self.most_size):
                 break
-            step = self.placer.place_gate(gate)
+            step = self.placer.find_placement(gate)
         return step
 
-    def is_crowded(self) -> bool:
+    def is_room_lacking(self) -> bool:
         """Whether the last gate found no place for want of room, and not since its inputs could not be led."""
         reasons = self.placer.reasons
         return 2 * reasons["no path"] <= reasons["tries"] or 2 * reasons["no room"] > reasons.total()
@@ -116,14 +116,14 @@ class Attempt:
         netlist, waiting = self.netlist, self.board.waiting
 
         def rank(gate: Gate) -> tuple[bool, bool, bool, float, int]:
-            balls = [waiting[netlist.root(wire)].ball for wire in gate.ins if not netlist.is_zero(wire)]
+            balls = [waiting[netlist.root(wire)].ball for wire in gate.ins if not netlist.has_no_ball(wire)]
             times = [ball.time for ball in balls if ball is not None]
             is_alone = not times and self.placer.partner_ball(gate, []) is None
             need = max(times, default=0) - self.weight * netlist.tails[gate.number]
             return gate.number in netlist.late_gates, not times, is_alone, need, gate.number
 
         ready = [gate for gate in self.todo.values()
-                 if all(netlist.is_zero(wire) or netlist.root(wire) in waiting for wire in gate.ins)]
+                 if all(netlist.has_no_ball(wire) or netlist.root(wire) in waiting for wire in gate.ins)]
         return min(ready, key=rank)
 
     def failure_reason(self, gate: Gate) -> str:
@@ -180,49 +180,49 @@ class Attempt:
 
     # --- the end ------------------------------------------------------------------------------------------------------
 
-    def end_time(self) -> int:
+    def earliest_end_time(self) -> int:
         """Returns the time at which all balls can have come to their last wires."""
         netlist = self.netlist
-        end = max([2, *(netlist.least_steps(wire) for wire in netlist.delayed if netlist.is_zero(wire))])
+        end = max([2, *(netlist.least_delay_steps(wire) for wire in netlist.delayed if netlist.has_no_ball(wire))])
         for root, waiting in self.board.waiting.items():
             start = waiting.ball.time + 1 if waiting.ball else 0
-            end = max(end, start + netlist.least_steps(netlist.wires_of_ball(root)[-1]))
+            end = max(end, start + netlist.least_delay_steps(netlist.wires_of_ball(root)[-1]))
         for step in self.board.steps if netlist.is_backward else []:
-            zeros = [wire for wire in netlist.lines[step.gate.number].outs if netlist.is_zero(wire)]
+            zeros = [wire for wire in netlist.lines[step.gate.number].outs if netlist.has_no_ball(wire)]
             last = step.gate.time + step.gate.cell.step_count
-            end = max([end, *(last + netlist.least_steps(netlist.wires_of_ball(wire)[-1]) for wire in zeros)])
+            end = max([end, *(last + netlist.least_delay_steps(netlist.wires_of_ball(wire)[-1]) for wire in zeros)])
         return end | 1 if netlist.is_backward else end
 
-    def try_to_lead_to_the_end(self) -> str | None:
+    def lead_ends_or_say_why(self) -> str | None:
         """Leads all waiting balls on to the last time; returns a sentence if that failed.
 
         The plane grows before, so that all these ways have room by estimate. If that was not enough it grows again.
         """
         self.make_room_for_ends()
-        why = self.lead_to_the_end()
+        why = self.lead_ends_once_or_say_why()
         for _ in range(self.settings.growths):
-            if why is None or not self.board.grow(self.settings.growth_part, self.most_size):
+            if why is None or not self.board.grow(self.settings.growth_divisor, self.most_size):
                 break
-            why = self.lead_to_the_end()
+            why = self.lead_ends_once_or_say_why()
         return why
 
     def make_room_for_ends(self) -> None:
-        """Lets the plane grow until what is taken, and what the ways to the last time may take, is at most `end_fill`
-        of it."""
-        board, end = self.board, self.end_time()
+        """Lets the plane grow until what is taken, and what the ways to the last time may take, is at most
+        `end_fill_share` of it."""
+        board, end = self.board, self.earliest_end_time()
         steps = sum(end - (waiting.ball.time if waiting.ball else 0) for waiting in board.waiting.values())
         taken = sum(row.bit_count() for row in board.world.blocked) + self.settings.step_cells * steps
-        while taken > self.settings.end_fill * board.width * board.height and board.grow(self.settings.growth_part,
-                                                                                         self.most_size):
+        while (taken > self.settings.end_fill_share * board.width * board.height
+               and board.grow(self.settings.growth_divisor, self.most_size)):
             pass
 
-    def lead_to_the_end(self) -> str | None:
+    def lead_ends_once_or_say_why(self) -> str | None:
         """Leads all waiting balls on to the last time; returns a sentence if that failed, and then takes the paths
         back.
 
         If a ball cannot be led, the paths that cross its way are taken back, and led after it.
         """
-        board, end = self.board, self.end_time()
+        board, end = self.board, self.earliest_end_time()
         self.doing = f"balls were led to the last time, {end}"
         queue = sorted(board.waiting, key=lambda root: self.end_order_key(board.waiting[root]))
         before: dict[str, WaitingBall] = {}
@@ -234,7 +234,7 @@ class Attempt:
             root = queue.pop(0)
             before[root] = board.stop_waiting(root)
             path = self.add_end_path(root, before[root].ball, end)
-            if path is None and ways[root] < self.settings.end_ways:
+            if path is None and ways[root] < self.settings.ways_made_per_end:
                 ways[root] += 1
                 path = self.add_path_making_way(root, before[root].ball, end)
             if path is not None:
@@ -249,7 +249,7 @@ class Attempt:
             if left <= 0 or not crossing or not self.take_ends_back(crossing, before):
                 self.placer.blame.clear()
                 self.placer.blame[root] += 1
-                self.clear_ends(before)
+                self.take_all_ends_back(before)
                 return f"the ball of wire {root} could not be led to the last time, {end}"
             queue = [root, *queue, *(other.wire for other in crossing)]
         return None
@@ -283,7 +283,7 @@ class Attempt:
             del before[path.wire]
         return True
 
-    def clear_ends(self, before: dict[str, WaitingBall]) -> None:
+    def take_all_ends_back(self, before: dict[str, WaitingBall]) -> None:
         """Takes all paths to the last time back; raises NoRouteError if a ball has no room to wait."""
         for path in self.board.ends:
             self.board.remove_path(path)
@@ -314,7 +314,7 @@ class Attempt:
         finder, board = self.placer.finder, self.board
         self.placer.enclosed = ""
         for _ in range(self.settings.end_tries if ball else 5 * self.settings.end_tries):
-            path = finder.path_on_from(root, ball or self.random_start(), end, stays=True)
+            path = finder.lead_on_from(root, ball or self.random_start(), end, stays=True)
             if path is None:
                 continue
             if not board.has_room_for(root, path.item.tiles):
@@ -342,7 +342,7 @@ class Attempt:
     def design(self) -> Design:
         """Returns the design that is on the board, forward in time."""
         board = self.board
-        end = max([path.end.time for path in board.ends], default=self.end_time())
-        paths = [path for step in board.steps for path in [*step.paths, *step.parked]] + board.ends
+        end = max([path.end.time for path in board.ends], default=self.earliest_end_time())
+        paths = [path for step in board.steps for path in [*step.paths, *step.parking_paths]] + board.ends
         return forward_design(Design(self.netlist.circuit, self.netlist, board.width, board.height, end,
                                      [step.gate for step in board.steps], paths))

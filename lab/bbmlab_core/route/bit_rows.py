@@ -87,11 +87,11 @@ class BitJoiner:
             self.known[key] = bits
         return self.known[key]
 
-    def steps_inside(self, ball: Ball) -> int:
+    def most_steps_to_bounce(self, ball: Ball) -> int:
         """Returns the steps after which a ball can bounce inside the plane, at most those of the longest leg."""
         return min(self.world.free_steps(ball, self.settings.longest_leg), self.world.steps_to_margin(ball))
 
-    def shuffled(self, found: list[tuple[int, Turn]]) -> Iterator[tuple[int, Turn]]:
+    def pop_in_random_order(self, found: list[tuple[int, Turn]]) -> Iterator[tuple[int, Turn]]:
         """Yields the members of a list in random order, without shuffling them all at once."""
         while found:
             index = int(self.chance.random() * len(found))
@@ -101,16 +101,16 @@ class BitJoiner:
 
     def first_bends(self, ball: Ball, least: int) -> Iterator[Bend]:
         """Yields the bounces on the straight way of a ball for which a mirror has room, in random order."""
-        most, is_falling = self.steps_inside(ball), ball.dx == ball.dy
+        most, is_falling = self.most_steps_to_bounce(ball), ball.dx == ball.dy
         found = [(steps, turn) for turn in Turn if most >= least
                  for steps in unset_bit_steps(self.taken_columns(ball, turn, is_falling), ball.x, ball.dx, least, most)]
-        for steps, turn in self.shuffled(found):
+        for steps, turn in self.pop_in_random_order(found):
             yield Bend(steps, turn, bounce(ball.flown(steps), turn)[0])
 
     def last_bends(self, goal: Ball) -> Iterator[Bend]:
         """Yields the bounces from which a ball flies straight to a goal and for which a mirror has room, in random
         order."""
-        most, is_falling = self.steps_inside(goal.reversed()), goal.dx == goal.dy
+        most, is_falling = self.most_steps_to_bounce(goal.time_reversed()), goal.dx == goal.dy
         found: list[tuple[int, Turn]] = []
         for turn in Turn:
             if most < BOUNCE_STEPS:
@@ -119,12 +119,12 @@ class BitJoiner:
             found += ((steps, turn)
                       for steps in unset_bit_steps(self.taken_columns(before, turn, is_falling), before.x, -goal.dx,
                                                    BOUNCE_STEPS, most))
-        for steps, turn in self.shuffled(found):
+        for steps, turn in self.pop_in_random_order(found):
             yield Bend(steps, turn, bounce_before(goal.flown(-steps), turn)[0])
 
     def joining_legs(self, start: Ball, goal: Ball, begun: int, count: int) -> Iterator[list[Leg]]:
         """Yields legs from a ball to a ball with four bounces, the last of them at `count` random places."""
-        if start.dx * start.dy != goal.dx * goal.dy or self.steps_inside(start) < begun:
+        if start.dx * start.dy != goal.dx * goal.dy or self.most_steps_to_bounce(start) < begun:
             return
         firsts = [Bend(begun, turn, bounce(start.flown(begun), turn)[0]) for turn in Turn]
         for last in islice(self.last_bends(goal), count):
@@ -146,7 +146,7 @@ class BitJoiner:
         # there.
         reach = world.free_steps(Ball(third.x, third.y, -third.dx, -third.dy, 0), middle.along)
         low = max(first.steps, first.steps + middle.along - reach - BOUNCE_STEPS)
-        high = min(self.steps_inside(start), first.steps + middle.along - BOUNCE_STEPS)
+        high = min(self.most_steps_to_bounce(start), first.steps + middle.along - BOUNCE_STEPS)
         if low > high:
             return
         is_falling = start.dx == start.dy
@@ -156,8 +156,8 @@ class BitJoiner:
         taken |= others >> shift if shift >= 0 else others << -shift
         for steps in unset_bit_steps(taken, start.x, start.dx, low, high):
             more = steps - first.steps
-            if self.is_open(moved_ball(first.ball, start, more),
-                            middle.out) and self.is_inside(moved_ball(second, start, more)):
+            if self.is_open(ball_moved_along(first.ball, start, more),
+                            middle.out) and self.is_inside(ball_moved_along(second, start, more)):
                 yield [Leg(steps, first.turn), Leg(middle.out, first.turn), Leg(middle.along - more, first.turn.other),
                        Leg(middle.back, last.turn), Leg(last.steps, None)]
 
@@ -170,6 +170,6 @@ class BitJoiner:
         return self.world.is_inside(ball.x, ball.y)
 
 
-def moved_ball(ball: Ball, start: Ball, steps: int) -> Ball:
+def ball_moved_along(ball: Ball, start: Ball, steps: int) -> Ball:
     """Returns a ball that is moved along the direction of a start."""
     return ball._replace(x=ball.x + steps * start.dx, y=ball.y + steps * start.dy)

@@ -79,21 +79,21 @@ class WaitingBall:
 class Placement:
     """A gate that was placed, the paths to its inputs, and its outputs that wait; with its inputs before.
 
-    `parked` has the first paths of outputs that no gate consumes: they lead away from the gate.
+    `parking_paths` has the first paths of outputs that no gate consumes: they lead away from the gate.
     """
 
     gate: PlacedGate
     paths: list[Path]
     outs: dict[str, WaitingBall] = field(default_factory=dict)
-    parked: list[Path] = field(default_factory=list)
-    before: dict[str, WaitingBall] = field(default_factory=dict)
+    parking_paths: list[Path] = field(default_factory=list)
+    waiting_before: dict[str, WaitingBall] = field(default_factory=dict)
 
     def with_number(self, number: int) -> "Placement":
         """Returns the step for a gate with another number, before it is added."""
-        return Placement(replace(self.gate, number=number), self.paths, self.outs, self.parked)
+        return Placement(replace(self.gate, number=number), self.paths, self.outs, self.parking_paths)
 
 
-def box_of(cell: GateCell, x: int, y: int) -> TileBox:
+def gate_tile_box(cell: GateCell, x: int, y: int) -> TileBox:
     """Returns the box of whole tiles whose inside has all cells of a placed gate that carry no wire."""
     left, top, right, bottom = cell.unnamed_bounds
     first_column, first_row = (left + x - 1) // TILE, (top + y - 1) // TILE
@@ -232,7 +232,7 @@ class Board:
 
     def placed_gate(self, x: int, y: int, time: int, cell: GateCell, number: int) -> PlacedGate:
         """Returns a gate's cell at a place and a time, without adding it."""
-        return PlacedGate(number, cell, x, y, time, box_of(cell, x, y), cell_item(cell, x, y, time))
+        return PlacedGate(number, cell, x, y, time, gate_tile_box(cell, x, y), cell_item(cell, x, y, time))
 
     def gate_wires(self, gate: PlacedGate) -> list[str]:
         """Returns the wires at a gate's ports that are no constants."""
@@ -244,16 +244,16 @@ class Board:
         self.world.add(gate.item)
         for tile in tiles_in(gate.box):
             self.owners[tile] = gate
-        self.count_wire_needs(self.gate_wires(gate), self.gate_tiles(gate), 1)
+        self.count_wire_needs(self.gate_wires(gate), self.touched_gate_tiles(gate), 1)
 
     def remove_gate(self, gate: PlacedGate) -> None:
         """Removes a gate's cell and its box."""
         self.world.remove(gate.item)
         for tile in tiles_in(gate.box):
             del self.owners[tile]
-        self.count_wire_needs(self.gate_wires(gate), self.gate_tiles(gate), -1)
+        self.count_wire_needs(self.gate_wires(gate), self.touched_gate_tiles(gate), -1)
 
-    def gate_tiles(self, gate: PlacedGate) -> frozenset[int]:
+    def touched_gate_tiles(self, gate: PlacedGate) -> frozenset[int]:
         """Returns the tiles to which a gate's moving cells come."""
         return gate.item.touched_tiles
 
@@ -261,9 +261,9 @@ class Board:
         """Adds a gate with its paths, and lets its outputs wait."""
         self.add_gate(step.gate)
         for path in step.paths:
-            step.before[path.wire] = self.stop_waiting(path.wire)
+            step.waiting_before[path.wire] = self.stop_waiting(path.wire)
             self.add_path(path)
-        for path in step.parked:
+        for path in step.parking_paths:
             self.add_path(path)
         for wire, waiting in step.outs.items():
             self.add_waiting(wire, waiting)
@@ -278,8 +278,8 @@ class Board:
         for step in steps:
             self.add_gate(step.gate)
             for path in step.paths:
-                step.before[path.wire] = self.waiting.pop(path.wire)
-            for path in [*step.paths, *step.parked]:
+                step.waiting_before[path.wire] = self.waiting.pop(path.wire)
+            for path in [*step.paths, *step.parking_paths]:
                 self.add_path(path)
             self.waiting.update(step.outs)
         self.steps += steps
@@ -289,7 +289,7 @@ class Board:
     def park_output(self, step: Placement, path: Path, waiting: WaitingBall) -> None:
         """Leads an output of the last gate on, to where it waits from then on."""
         self.add_path(path)
-        step.parked.append(path)
+        step.parking_paths.append(path)
         step.outs[path.wire] = waiting
         self.add_waiting(path.wire, waiting)
 
@@ -298,13 +298,13 @@ class Board:
         step = self.steps.pop()
         for wire in step.outs:
             self.stop_waiting(wire)
-        for path in [*step.paths, *step.parked]:
+        for path in [*step.paths, *step.parking_paths]:
             self.remove_path(path)
         self.remove_gate(step.gate)
-        for wire, waiting in step.before.items():
+        for wire, waiting in step.waiting_before.items():
             if not self.wait_again(wire, waiting):
                 raise NoRouteError(f"the ball of wire {wire} has no room to wait", FailureKind.ROOM)
-        step.before = {}
+        step.waiting_before = {}
         return step
 
     def take_out(self, step: Placement) -> bool:
@@ -314,21 +314,21 @@ class Board:
             return False
         for wire in step.outs:
             self.stop_waiting(wire)
-        for path in [*step.paths, *step.parked]:
+        for path in [*step.paths, *step.parking_paths]:
             self.remove_path(path)
         self.remove_gate(step.gate)
         again: list[str] = []
-        for root, before in step.before.items():
+        for root, before in step.waiting_before.items():
             if not self.wait_again(root, before):
                 break
             again.append(root)
-        if len(again) == len(step.before):
+        if len(again) == len(step.waiting_before):
             self.steps.remove(step)
             return True
         for root in again:
             self.stop_waiting(root)
         self.add_gate(step.gate)
-        for path in [*step.paths, *step.parked]:
+        for path in [*step.paths, *step.parking_paths]:
             self.add_path(path)
         for wire, waiting in step.outs.items():
             self.add_waiting(wire, waiting)

@@ -35,22 +35,22 @@ class Crowding:
     """The plane of an attempt when it ended: its width, how many cells of each tile are taken, row by row, and the
     gates on it."""
 
-    side: int
-    taken: tuple[bytes, ...]
+    plane_width: int
+    halved_counts: tuple[bytes, ...]
     gates: tuple[PlacedBox, ...]
 
     @property
-    def height(self) -> int:
+    def plane_height(self) -> int:
         """The height of the plane."""
-        return TILE * len(self.taken)
+        return TILE * len(self.halved_counts)
 
     @property
     def taken_share(self) -> float:
         """The part of all cells that is taken."""
-        return 2 * sum(sum(row) for row in self.taken) / (self.side * self.height)
+        return 2 * sum(sum(row) for row in self.halved_counts) / (self.plane_width * self.plane_height)
 
 
-def half_taken_counts(world: World) -> Iterator[bytes]:
+def halved_taken_counts(world: World) -> Iterator[bytes]:
     """Yields, for each row of tiles, half of how many cells of each tile are taken: a tile has up to 256, and a byte
     holds 128."""
     tiles = world.size // TILE
@@ -65,7 +65,7 @@ def half_taken_counts(world: World) -> Iterator[bytes]:
 def crowding_of(board: Board) -> Crowding:
     """Returns how crowded a board is."""
     gates = tuple(PlacedBox(step.gate.number, step.gate.box) for step in board.steps)
-    return Crowding(board.world.size, tuple(half_taken_counts(board.world)), gates)
+    return Crowding(board.world.size, tuple(halved_taken_counts(board.world)), gates)
 
 
 def tile_class(half: int) -> int:
@@ -86,7 +86,7 @@ def class_runs(row: bytes) -> Iterator[tuple[int, int, int]]:
 def class_path_elements(crowding: Crowding) -> Iterator[str]:
     """Yields one path for each class but the empty one, in tiles."""
     moves: list[list[str]] = [[] for _ in COLOURS]
-    for line, row in enumerate(crowding.taken):
+    for line, row in enumerate(crowding.halved_counts):
         for kind, first, count in class_runs(row):
             moves[kind].append(f"M{first} {line}h{count}v1h-{count}z")
     for kind, colour in enumerate(COLOURS[1:], 1):
@@ -114,7 +114,7 @@ def legend_elements(top: int) -> Iterator[str]:
 
 def crowding_picture(crowding: Crowding, circuit: Circuit, title: str) -> str:
     """Returns the map as a picture (SVG), with a title of one or more lines."""
-    tiles, rows = max(1, crowding.side // TILE), max(1, len(crowding.taken))
+    tiles, rows = max(1, crowding.plane_width // TILE), max(1, len(crowding.halved_counts))
     scale = max(1, MAX_SIDE_PIXELS // max(tiles, rows))
     size, bottom, lines = scale * tiles, scale * rows, title.split("\n")
     top = 2 * MARGIN + LINE_PX * len(lines)

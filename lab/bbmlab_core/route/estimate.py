@@ -12,10 +12,10 @@ class MeasuredCircuits:
     """Circuits that `bench/route` tried (bench/README.md), those of up to 42 gates on 2026-11-30 and others on
     2026-12-01: how many got a yes, within the goal or not, and the median of their processor seconds.
 
-    `gates` is the most gates that one of them has.
+    `most_gates` is the most gates that one of them has.
     """
 
-    gates: int
+    most_gates: int
     found: int
     tried: int
     seconds: int
@@ -32,17 +32,18 @@ class Estimate:
     gates: int
     levels: int
     ends: int
-    side: int
+    first_side: int
 
     def words(self) -> str:
         """Returns the estimate as sentences."""
         size = (f"{counted_noun(self.gates, 'gate')} in {counted_noun(self.levels, 'level')}, "
-                f"{counted_noun(self.ends, 'ball')} at the end: first side {self.side}.")
-        like = next((row for row in MEASURED_CIRCUITS if self.gates <= row.gates), None)
+                f"{counted_noun(self.ends, 'ball')} at the end: first side {self.first_side}.")
+        like = next((row for row in MEASURED_CIRCUITS if self.gates <= row.most_gates), None)
         if like is None:
-            return f"{size} No circuit of more than {MEASURED_CIRCUITS[-1].gates} gates was measured."
-        return (f"{size} When measured, {like.found} of {counted_noun(like.tried, 'circuit')} of up to {like.gates} "
-                f"gates got a route. The median took {counted_noun(like.seconds, 'processor second')}.")
+            return f"{size} No circuit of more than {MEASURED_CIRCUITS[-1].most_gates} gates was measured."
+        return (f"{size} When measured, {like.found} of {counted_noun(like.tried, 'circuit')} of up to "
+                f"{like.most_gates} gates got a route. The median took "
+                f"{counted_noun(like.seconds, 'processor second')}.")
 
 
 def counted_noun(count: int, noun: str) -> str:
@@ -57,5 +58,5 @@ def estimate_of(netlist: RouterNetlist, side: int) -> Estimate:
         own = 0 if gate.kind in ("source", "delay") else 1
         level = max((levels.get(wire, 0) for wire in gate.ins), default=0) + own
         levels.update((wire, level) for wire in gate.outs)
-    ends = [wire for wire in (*netlist.circuit.outputs, *netlist.circuit.spills) if not netlist.is_zero(wire)]
+    ends = [wire for wire in (*netlist.circuit.outputs, *netlist.circuit.spills) if not netlist.has_no_ball(wire)]
     return Estimate(len(netlist.gates), max(levels.values(), default=0), len(ends), side)

@@ -17,10 +17,10 @@ from .world import MARGIN_CELLS, Footprint, World, path_item
 # A leg leads on for at least this many steps, if the path goes on so long.
 LEAST_LEG = 12
 # A wander ends with this many steps more than the way to its goal needs at least.
-SPARE_STEPS = 30
+WANDER_SPARE_STEPS = 30
 # A way behind an open end goes on for the first number of steps after its bounce, and the second number of steps is
 # free when it is found. The straight way is kept free for the third number of steps behind the bounce.
-OPEN_LEG_STEPS = 24
+STEPS_PAST_OPEN_BOUNCE = 24
 OPEN_FREE_STEPS = 40
 OPEN_STRAIGHT_STEPS = 4
 NO_ITEM = Footprint(frozenset())
@@ -67,7 +67,7 @@ class WanderOption(NamedTuple):
     turn: Turn
 
 
-class EndBounce(NamedTuple):
+class OuterBounce(NamedTuple):
     """A bounce after or before some steps, with the ball on its other side; or no bounce."""
 
     steps: int
@@ -87,7 +87,7 @@ class Trail:
 
     def __init__(self, world: World, ball: Ball, is_backward: bool = False) -> None:
         self.world, self.is_backward = world, is_backward
-        self.ball = ball.reversed() if is_backward else ball
+        self.ball = ball.time_reversed() if is_backward else ball
         self.begun = BOUNCE_STEPS if is_backward else 0
         self.steps: list[tuple[int, Turn | None, Ball, int, Footprint]] = []
 
@@ -95,8 +95,8 @@ class Trail:
         """Returns the ball after a bounce, and its mirror."""
         if not self.is_backward:
             return bounce(ball, turn)
-        before, mirror = bounce_before(ball.reversed(), turn)
-        return before.reversed(), mirror
+        before, mirror = bounce_before(ball.time_reversed(), turn)
+        return before.time_reversed(), mirror
 
     def free_steps(self, most: int) -> int:
         """Returns how many steps, at most `most`, the ball can fly straight on."""
@@ -110,7 +110,7 @@ class Trail:
         ball = self.ball.flown(steps)
         after = self.after_bounce(ball, turn)[0] if turn else ball
         if self.is_backward:
-            first = after.reversed()
+            first = after.time_reversed()
             item = path_item(first, [Leg(0, turn), Leg(steps, None)] if turn else [Leg(steps, None)])
         else:
             item = path_item(self.ball, [Leg(steps, turn)], min(self.begun, steps))
@@ -148,13 +148,13 @@ class PathFinder:
     def __init__(self, world: World, chance: random.Random, settings: Settings) -> None:
         self.world, self.chance, self.settings = world, chance, settings
         # The departures of waiting balls, while one gate is placed. What a place adds to the world is looked at later.
-        self.known_departures: dict[tuple[Ball, int], dict[Direction, list[EndBounce]]] = {}
+        self.known_departures: dict[tuple[Ball, int], dict[Direction, list[OuterBounce]]] = {}
         # What may raise an exception when the time is over.
         self.check_time: Callable[[], None] = lambda: None
 
     # --- free ends ----------------------------------------------------------------------------------------------------
 
-    def path_on_from(self, wire: str, ball: Ball, end: int, stays: bool = False) -> Path | None:
+    def lead_on_from(self, wire: str, ball: Ball, end: int, stays: bool = False) -> Path | None:
         """Returns a path from a ball to any place at the time `end`.
 
         If it stays, it is in the world: what its legs took there is its item.
@@ -164,7 +164,7 @@ class PathFinder:
         legs, last = trail.legs(), trail.ball
         item = path_item(ball, legs) if found and stays else None
         if item is not None:
-            most = self.settings.open_steps
+            most = self.settings.open_end_steps
             way = self.open_way_footprint(last, 1, most)
             # A ball that begins anywhere has an open start too.
             start = self.open_way_footprint(ball, -1, most) if ball.time == 0 else NO_ITEM
@@ -180,10 +180,10 @@ class PathFinder:
         """Returns a path that begins at any place at time 0 and comes to a ball."""
         trail = Trail(self.world, goal, is_backward=True)
         found = self.wander(trail, 0)
-        legs, first = trail.legs() if trail.steps else [], trail.ball.reversed()
+        legs, first = trail.legs() if trail.steps else [], trail.ball.time_reversed()
         trail.clear_legs()
         path = self.path_of_legs(wire, first, goal, legs) if found else None
-        way = self.open_way_footprint(first, -1, self.settings.open_steps, path.item) if path else None
+        way = self.open_way_footprint(first, -1, self.settings.open_end_steps, path.item) if path else None
         return Path(wire, first, goal, path.legs, combined_item(path.item, way)) if path and way else None
 
     def open_way_footprint(self, ball: Ball, sign: int, most: int, own: Footprint | None = None) -> Footprint | None:
@@ -195,7 +195,7 @@ class PathFinder:
         if not most:
             return NO_ITEM
         for legs in self.legs_past_bounce(ball, sign, most):
-            way = path_item(ball if sign > 0 else self.ball_before(ball, legs), legs)
+            way = path_item(ball if sign > 0 else self.start_of_legs(ball, legs), legs)
             # A few steps of the straight way keep mirrors so far away that a search sees the bounce.
             steps = OPEN_STRAIGHT_STEPS + (legs[0] if sign > 0 else legs[-1]).steps
             straight = path_item(ball if sign > 0 else ball.flown(-steps), [Leg(steps, None)])
@@ -217,17 +217,18 @@ class PathFinder:
         room = min(rooms, default=most + 1)
         if OPEN_STRAIGHT_STEPS <= room <= most and max(ball.x, ball.y) + most < self.world.size - MARGIN_CELLS - 1:
             yield [Leg(room - OPEN_STRAIGHT_STEPS, None)]
-        most = self.world.free_steps(ball if sign > 0 else ball.reversed(), most)
+        most = self.world.free_steps(ball if sign > 0 else ball.time_reversed(), most)
         for steps in range(0 if sign > 0 else BOUNCE_STEPS, most + 1):
             at = ball.flown(sign * steps)
             for turn in Turn:
                 after, mirror = bounce(at, turn) if sign > 0 else bounce_before(at, turn)
-                clear = after.flown(BOUNCE_STEPS) if sign > 0 else after.reversed()
+                clear = after.flown(BOUNCE_STEPS) if sign > 0 else after.time_reversed()
                 if self.world.can_hold(mirror) and self.world.free_steps(clear, OPEN_FREE_STEPS) >= OPEN_FREE_STEPS:
-                    ends = [Leg(steps, turn), Leg(OPEN_LEG_STEPS, None)], [Leg(OPEN_LEG_STEPS, turn), Leg(steps, None)]
+                    ends = [Leg(steps, turn), Leg(STEPS_PAST_OPEN_BOUNCE, None)], [Leg(STEPS_PAST_OPEN_BOUNCE, turn),
+                                                                                   Leg(steps, None)]
                     yield ends[sign < 0]
 
-    def ball_before(self, ball: Ball, legs: list[Leg]) -> Ball:
+    def start_of_legs(self, ball: Ball, legs: list[Leg]) -> Ball:
         """Returns the ball from which legs lead to a ball."""
         for leg in reversed(legs):
             ball = (bounce_before(ball, leg.turn)[0] if leg.turn else ball).flown(-leg.steps)
@@ -245,7 +246,7 @@ class PathFinder:
         """
         ways: list[Iterator[WanderOption]] = []
         self.check_time()
-        for _ in range(self.settings.wander_tries + (end - trail.ball.time) // self.settings.wander_steps):
+        for _ in range(self.settings.wander_tries + (end - trail.ball.time) // self.settings.steps_per_wander_try):
             left = end - trail.ball.time
             if left == 0 and not trail.steps or self.can_end(trail, left, goal) and trail.push_leg(left, None):
                 return True
@@ -270,7 +271,8 @@ class PathFinder:
 
     def can_reach(self, ball: Ball, goal: Ball) -> bool:
         """Whether a wandering ball can come to a goal with steps to spare, more of them if it is far away."""
-        spare = SPARE_STEPS + int(self.settings.wander_detour * max(abs(ball.x - goal.x), abs(ball.y - goal.y)))
+        spare = WANDER_SPARE_STEPS + int(self.settings.wander_spare_per_cell * max(abs(ball.x - goal.x),
+                                                                                   abs(ball.y - goal.y)))
         return is_in_reach(ball, goal, spare)
 
     def ways_on(self, trail: Trail, left: int, goal: Ball | None) -> list[WanderOption]:
@@ -292,7 +294,7 @@ class PathFinder:
                 on = BOUNCE_STEPS + world.free_steps(clear, min(60, rest - BOUNCE_STEPS))
                 if on < min(LEAST_LEG, rest) or goal and not self.can_reach(after, goal):
                     continue
-                new = world.new_cell_count(trail.ball, steps) + world.new_cell_count(clear, on - BOUNCE_STEPS)
+                new = world.flight_cost(trail.ball, steps) + world.flight_cost(clear, on - BOUNCE_STEPS)
                 cost = (new + settings.mirror_cost) / (steps + on) + chance.random() * 0.5
                 found.append(WanderOption(cost, steps, turn))
         found.sort(key=lambda option: option.cost)
@@ -300,12 +302,12 @@ class PathFinder:
 
     # --- from a ball to a ball ----------------------------------------------------------------------------------------
 
-    def connect(self, wire: str, start: Ball, goal: Ball, tries: int) -> Path | None:
+    def find_path(self, wire: str, start: Ball, goal: Ball, tries: int) -> Path | None:
         """Returns a path from a ball to a ball: the cheapest of some that were found."""
         settings, best, least = self.settings, None, 0.0
         total = goal.time - start.time
-        for _ in range(settings.path_choices if total <= settings.many_choices else 1):
-            path = self.connect_once(wire, start, goal, tries)
+        for _ in range(settings.path_choices if total <= settings.longest_compared_path else 1):
+            path = self.find_path_once(wire, start, goal, tries)
             if path is None:
                 break
             cost = self.path_cost(path)
@@ -319,34 +321,34 @@ class PathFinder:
         new = sum(not counts[number] for part in path.item.touched_parts for number in part)
         return new + self.settings.mirror_cost * (len(path.legs) - 1)
 
-    def connect_once(self, wire: str, start: Ball, goal: Ball, tries: int) -> Path | None:
+    def find_path_once(self, wire: str, start: Ball, goal: Ball, tries: int) -> Path | None:
         """Returns a path from a ball to a ball. If there is much time to spare, the ball wanders first."""
         settings, total = self.settings, goal.time - start.time
         spare = total - max(abs(start.x - goal.x), abs(start.y - goal.y))
-        if spare <= settings.direct_spare:
-            legs = self.connect_short(start, goal, tries)
+        if spare <= settings.most_direct_spare:
+            legs = self.find_direct_legs(start, goal, tries)
             path = self.path_of_legs(wire, start, goal, legs) if legs else None
-            if path or spare <= settings.least_wander:
+            if path or spare <= settings.least_wander_spare:
                 return path
         for _ in range(settings.wanders):
-            path = self.connect_by_wander(wire, start, goal, tries)
+            path = self.find_wandering_path(wire, start, goal, tries)
             if path:
                 return path
         return None
 
-    def connect_by_wander(self, wire: str, start: Ball, goal: Ball, tries: int) -> Path | None:
+    def find_wandering_path(self, wire: str, start: Ball, goal: Ball, tries: int) -> Path | None:
         """Returns a path that wanders up to some time before the goal."""
         trail = Trail(self.world, start)
         stop = goal.time - self.chance.randint(*self.settings.wander_stop)
         legs = None
         if stop > start.time and self.wander(trail, stop, goal):
-            before, rest = trail.legs(), self.connect_short(trail.ball, goal, tries)
+            before, rest = trail.legs(), self.find_direct_legs(trail.ball, goal, tries)
             if rest:
                 legs = [*before[:-1], Leg(before[-1].steps + rest[0].steps, rest[0].turn), *rest[1:]]
         trail.clear_legs()
         return self.path_of_legs(wire, start, goal, legs) if legs else None
 
-    def connect_short(self, start: Ball, goal: Ball, tries: int) -> list[Leg] | None:
+    def find_direct_legs(self, start: Ball, goal: Ball, tries: int) -> list[Leg] | None:
         """Returns legs from a ball to a ball: straight, by rows of bits if there is much time to spare, else by random
         bounces."""
         total = goal.time - start.time
@@ -357,10 +359,10 @@ class PathFinder:
             if self.is_free_path(start, straight):
                 return straight
         if total - max(abs(start.x - goal.x), abs(start.y - goal.y)) >= self.settings.bits_spare:
-            return next((legs for legs in self.bit_joins(start, goal) if self.is_free_path(start, legs)), None)
+            return next((legs for legs in self.bit_join_legs(start, goal) if self.is_free_path(start, legs)), None)
         return self.random_join(start, goal, tries)
 
-    def bit_joins(self, start: Ball, goal: Ball) -> Iterator[list[Leg]]:
+    def bit_join_legs(self, start: Ball, goal: Ball) -> Iterator[list[Leg]]:
         """Yields legs from a ball to a ball by rows of bits: with four bounces, and with one or two more before or
         behind these."""
         joiner, settings = BitJoiner(self.world, self.chance, self.settings), self.settings
@@ -399,28 +401,28 @@ class PathFinder:
                 return legs
         return None
 
-    def departures(self, ball: Ball, total: int) -> dict[Direction, list[EndBounce]]:
+    def departures(self, ball: Ball, total: int) -> dict[Direction, list[OuterBounce]]:
         """Returns by direction the beginnings of a path: none, and first bounces for which a mirror has room."""
-        found = {(ball.dx, ball.dy): [EndBounce(0, None, ball)]}
+        found = {(ball.dx, ball.dy): [OuterBounce(0, None, ball)]}
         room = self.world.free_steps(ball, min(self.settings.longest_leg, total))
         for steps in self.some_steps(0, room):
             at = ball.flown(steps)
             for turn in Turn:
                 after, mirror = bounce(at, turn)
                 if self.world.can_hold(mirror):
-                    found.setdefault((after.dx, after.dy), []).append(EndBounce(steps, turn, after))
+                    found.setdefault((after.dx, after.dy), []).append(OuterBounce(steps, turn, after))
         return found
 
-    def approaches(self, goal: Ball, total: int) -> dict[Direction, list[EndBounce]]:
+    def approaches(self, goal: Ball, total: int) -> dict[Direction, list[OuterBounce]]:
         """Returns by direction the ends of a path: none, and last bounces for which a mirror has room."""
-        found, back = {(goal.dx, goal.dy): [EndBounce(0, None, goal)]}, goal.reversed()
+        found, back = {(goal.dx, goal.dy): [OuterBounce(0, None, goal)]}, goal.time_reversed()
         room = self.world.free_steps(back, min(self.settings.longest_leg, total))
         for steps in self.some_steps(BOUNCE_STEPS, room):
             at = goal.flown(-steps)
             for turn in Turn:
                 before, mirror = bounce_before(at, turn)
                 if self.world.can_hold(mirror):
-                    found.setdefault((before.dx, before.dy), []).append(EndBounce(steps, turn, before))
+                    found.setdefault((before.dx, before.dy), []).append(OuterBounce(steps, turn, before))
         return found
 
     def some_steps(self, least: int, most: int) -> Sequence[int]:
@@ -429,11 +431,11 @@ class PathFinder:
         return range(least,
                      most + 1) if most - least < count else sorted(self.chance.sample(range(least, most + 1), count))
 
-    def legs_through(self, before: EndBounce, after: EndBounce, is_return: bool) -> list[Leg] | None:
+    def legs_through(self, before: OuterBounce, after: OuterBounce, is_return: bool) -> list[Leg] | None:
         """Returns legs that begin and end with given bounces, if two bounces between them can join them."""
         begun = BOUNCE_STEPS if before.turn else 0
         rest = middle_legs(before.ball, after.ball, begun, is_return, self.chance.random())
-        if rest is None or not self.has_free_way(before.ball, rest, begun):
+        if rest is None or not self.has_room_for_legs(before.ball, rest, begun):
             return None
         legs = [Leg(before.steps, before.turn), *rest] if before.turn else rest
         return [*legs[:-1], Leg(legs[-1].steps, after.turn), Leg(after.steps, None)] if after.turn else legs
@@ -443,7 +445,7 @@ class PathFinder:
         item = path_item(start, legs)
         return item is not None and self.world.can_add(item)
 
-    def has_free_way(self, ball: Ball, legs: list[Leg], begun: int) -> bool:
+    def has_room_for_legs(self, ball: Ball, legs: list[Leg], begun: int) -> bool:
         """Whether no mirror is in the way of legs, and each of their mirrors has room."""
         world = self.world
         for steps, turn in legs:

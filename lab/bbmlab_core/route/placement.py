@@ -12,7 +12,7 @@ from typing import Iterable, Iterator
 from ..texts.circuits import Gate
 from ..texts.layouts import Cell
 from .balls import BOUNCE_STEPS, Ball, Leg, Turn, bounce
-from .board import Board, Placement, WaitingBall, box_of, tiles_in
+from .board import Board, Placement, WaitingBall, gate_tile_box, tiles_in
 from .cells import GATE_PORTS, GateCell
 from .paths import Path, PathFinder
 from .settings import Settings
@@ -57,7 +57,7 @@ class Placer:
         self.board, self.chance = board, chance
         self.settings: Settings = board.settings
         self.finder = PathFinder(board.world, chance, board.settings)
-        # Why tries failed, since the last call of `place_gate`; and for each wire how often no path was found.
+        # Why tries failed, since the last call of `find_placement`; and for each wire how often no path was found.
         self.reasons: Counter[str] = Counter()
         self.blame: Counter[str] = Counter()
         # Waiting balls that cannot turn, and the ball that the last step or path would have enclosed.
@@ -75,12 +75,12 @@ class Placer:
         """Returns the inputs of a gate that have a ball."""
         netlist, found = self.board.netlist, []
         for port, wire in zip(GATE_PORTS[gate.kind][0], gate.ins):
-            if not netlist.is_zero(wire):
+            if not netlist.has_no_ball(wire):
                 root = netlist.root(wire)
-                found.append(Inlet(port, root, self.board.waiting[root].ball, netlist.least_steps(wire)))
+                found.append(Inlet(port, root, self.board.waiting[root].ball, netlist.least_delay_steps(wire)))
         return found
 
-    def place_gate(self, gate: Gate, spots: Iterable[Spot] | None = None) -> Placement | None:
+    def find_placement(self, gate: Gate, spots: Iterable[Spot] | None = None) -> Placement | None:
         """Returns the first way to place a gate, at any spots or at given ones, or None. Nothing is added yet."""
         self.reasons.clear()
         self.blame.clear()
@@ -88,8 +88,8 @@ class Placer:
         self.finder.known_departures.clear()
         netlist = self.board.netlist
         inlets = self.inlets(gate)
-        self.least_time = max([self.earliest_late_time(inlets), *(netlist.least_steps(wire) for wire in gate.ins
-                                                                  if netlist.is_zero(wire))])
+        self.least_time = max([self.update_late_begun(inlets), *(netlist.least_delay_steps(wire) for wire in gate.ins
+                                                                 if netlist.has_no_ball(wire))])
         for spot in self.best_spots(gate, inlets) if spots is None else spots:
             self.reasons["tries"] += 1
             step = self.try_spot(gate, spot, inlets)
@@ -100,7 +100,7 @@ class Placer:
                 break
         return None
 
-    def earliest_late_time(self, inlets: list[Inlet]) -> int:
+    def update_late_begun(self, inlets: list[Inlet]) -> int:
         """Returns the earliest time for a gate with some inputs: a late one comes after all balls that wait for it, and
         not before the first late one."""
         netlist = self.board.netlist
@@ -120,8 +120,8 @@ class Placer:
         for index, spot in enumerate(self.random_spots(gate, inlets)):
             left, top, right, bottom = spot.cell.bounds
             taken = self.board.world.taken_count_around(spot.x + (left + right) // 2, spot.y + (top + bottom) // 2)
-            batch.append((spot.time + spot.cell.step_count + settings.full_steps * taken / FULL_SQUARE_CELLS, index,
-                          spot))
+            batch.append((spot.time + spot.cell.step_count + settings.full_square_delay * taken / FULL_SQUARE_CELLS,
+                          index, spot))
             if len(batch) == settings.spot_batch:
                 yield from (own for _, _, own in sorted(batch, key=lambda own: own[:2])[:settings.best_spots])
                 batch.clear()
@@ -135,9 +135,9 @@ class Placer:
         chance, tries = self.chance, self.settings.place_tries
         cells, partner = self.board.netlist.cells(gate), self.partner_ball(gate, inlets)
         for index in range(tries):
-            cell, growth = cells[chance.randrange(len(cells))], min(1.0, index / self.settings.growth_tries)
+            cell, growth = cells[chance.randrange(len(cells))], min(1.0, index / self.settings.widening_tries)
             left, top, right, bottom = cell.bounds
-            x, y, radius = self.search_centre(inlets, partner, growth, (right - left) // 2)
+            x, y, radius = self.random_search_area(inlets, partner, growth, (right - left) // 2)
             x, y = x - (left + right) // 2, y - (top + bottom) // 2
             row = y + chance.randint(-radius, radius)
             column = self.free_column(cell, row, (x - radius, x + radius), is_crowded)
@@ -153,10 +153,10 @@ class Placer:
             time = self.earliest_time(cell, column, row, inlets)
             if partner:
                 time = max(time, partner.time - cell.step_count)
-            time += chance.randint(self.settings.least_spare, self.most_spare())
+            time += chance.randint(self.settings.least_spare, self.pick_most_spare())
             yield Spot(cell, column, row, time + (time - column) % 2)
 
-    def most_spare(self) -> int:
+    def pick_most_spare(self) -> int:
         """Returns the most steps to spare for the last input of a gate: more if inputs could not be led."""
         return min(MOST_SPARE, self.chance.choice(self.settings.most_spare) + 3 * max(self.blame.values(), default=0))
 
@@ -171,8 +171,8 @@ class Placer:
         balls = [own.ball for own in others if own and own.ball]
         return max(balls, key=lambda ball: ball.time) if balls else None
 
-    def search_centre(self, inlets: list[Inlet], partner: Ball | None, growth: float,
-                      half: int) -> tuple[int, int, int]:
+    def random_search_area(self, inlets: list[Inlet], partner: Ball | None, growth: float,
+                           half: int) -> tuple[int, int, int]:
         """Returns a place near the waiting balls for a cell of twice `half` cells, and how far around it the cell may
         be."""
         chance, size, height = self.chance, self.board.width, self.board.height
@@ -201,7 +201,7 @@ class Placer:
         if row + top < MARGIN_CELLS or row + bottom > self.board.height - MARGIN_CELLS - 1 or first > last:
             return None
         blocked, taken = self.board.world.blocked, 0
-        for y, places in cell.mirror_rows if not is_crowded else ():
+        for y, places in cell.mirror_columns_by_row if not is_crowded else ():
             # A row of the plane has thousands of bits, so it is shifted once.
             near = blocked[row + y] >> first + left & (1 << last - first + right - left + 1) - 1
             for x in places:
@@ -216,7 +216,7 @@ class Placer:
     def is_box_free(self, cell: GateCell, x: int, y: int, is_wide: bool) -> bool:
         """Whether the box of a cell is small enough, inside the layout, and no other gate's; if `is_wide`, with a tile
         around it."""
-        column, row, columns, rows = box_of(cell, x, y)
+        column, row, columns, rows = gate_tile_box(cell, x, y)
         if (columns > MOST_SIDE_TILES or rows > MOST_SIDE_TILES or column < 0 or row < 0
             or column + columns > self.board.width // TILE or row + rows > self.board.height // TILE):
             return False
@@ -275,16 +275,16 @@ class Placer:
             board.remove_path(path)
         for own in step.outs.values():
             world.remove(reserved_footprint(own))
-        for root, waiting in step.before.items():
+        for root, waiting in step.waiting_before.items():
             board.add_waiting(root, waiting)
-        step.before = {}
+        step.waiting_before = {}
         board.remove_gate(placed)
         return step if done else None
 
     def reserve_outs(self, step: Placement, gate: Gate) -> bool:
         """Lets a gate's outputs wait, if their ways out are free."""
         for port, wire in zip(GATE_PORTS[gate.kind][1], gate.outs):
-            if self.board.netlist.is_zero(wire):
+            if self.board.netlist.has_no_ball(wire):
                 continue
             waiting = self.board.new_waiting_ball(step.gate.output_ball(port))
             if waiting is None:
@@ -328,7 +328,7 @@ class Placer:
         if waiting.ball is None:
             path = self.finder.path_from_anywhere(inlet.root, goal)
         else:
-            path = self.finder.connect(inlet.root, waiting.ball, goal, self.settings.path_tries)
+            path = self.finder.find_path(inlet.root, waiting.ball, goal, self.settings.path_tries)
         if path and not board.has_room_for(inlet.root, path.item.tiles):
             self.reasons["cuts of a path"] += 1
             path = None
@@ -338,7 +338,7 @@ class Placer:
             self.blame[inlet.root] += 1
             return False
         board.add_path(path)
-        step.before[inlet.root] = waiting
+        step.waiting_before[inlet.root] = waiting
         step.paths.append(path)
         return True
 
@@ -372,12 +372,12 @@ class Placer:
         """Leads the outputs of the last gate that no gate consumes away, if there are good places for them to wait."""
         board = self.board
         for wire, waiting in list(step.outs.items()):
-            ball = ball_of(waiting)
+            ball = required_ball(waiting)
             end = min(ball.time + self.settings.parking_steps, self.horizon)
             if wire in board.netlist.consumer or end - ball.time < self.settings.least_parking:
                 continue
             board.stop_waiting(wire)
-            found = [own for own in (self.parking_place(wire, ball, end) for _ in range(self.settings.parking_choices))
+            found = [own for own in (self.parking_path(wire, ball, end) for _ in range(self.settings.parking_choices))
                      if own]
             if found:
                 _, path, parked = min(found, key=lambda own: own[0])
@@ -385,11 +385,11 @@ class Placer:
             else:
                 board.add_waiting(wire, waiting)
 
-    def parking_place(self, wire: str, ball: Ball, end: int) -> tuple[int, Path, WaitingBall] | None:
+    def parking_path(self, wire: str, ball: Ball, end: int) -> tuple[int, Path, WaitingBall] | None:
         """Returns a path away from a gate and the ball that waits at its end, with the number of taken cells around
         this place."""
         board = self.board
-        path = self.finder.path_on_from(wire, ball, end)
+        path = self.finder.lead_on_from(wire, ball, end)
         if path is None or not board.has_room_for(wire, path.item.tiles):
             return None
         board.add_path(path)
@@ -410,12 +410,12 @@ class Placer:
         netlist, times = self.board.netlist, [step.gate.time + step.gate.cell.step_count]
         for wire, waiting in step.outs.items():
             consumer = netlist.consumer.get(wire)
-            times.append(ball_of(waiting).time + (netlist.tails[consumer.number] if consumer else 0))
+            times.append(required_ball(waiting).time + (netlist.tails[consumer.number] if consumer else 0))
         return max(times)
 
     def can_turn(self, waiting: WaitingBall) -> bool:
         """Whether a waiting ball has enough places ahead at which it can turn."""
-        world, ball, reserved = self.board.world, ball_of(waiting), reserved_footprint(waiting)
+        world, ball, reserved = self.board.world, required_ball(waiting), reserved_footprint(waiting)
         room, least = world.free_steps(ball, 70), self.settings.escapes
         found = self.turn_count(ball, range(self.settings.reserved_steps[0] + 3, room + 1, 3), least)
         if found < least:
@@ -440,7 +440,7 @@ class Placer:
         return found
 
 
-def ball_of(waiting: WaitingBall) -> Ball:
+def required_ball(waiting: WaitingBall) -> Ball:
     """Returns the ball that waits; raises ValueError if it may begin anywhere."""
     if waiting.ball is None:
         raise ValueError("the ball may begin anywhere")

@@ -29,7 +29,7 @@ class WayMaker:
         self.board, self.placer = board, placer
         self.settings = board.settings
 
-    def make_way(self, gate: Gate) -> bool:
+    def place_by_ripping(self, gate: Gate) -> bool:
         """Places a gate that found no place, by taking paths out and leading them again.
 
         If that fails the board is as before.
@@ -49,17 +49,17 @@ class WayMaker:
                   and own.ball]
         is_crowded = placer.reasons["no room"] > placer.reasons["tries"]
         for ball in blamed:
-            found = self.paths_at(self.turning_footprint(ball))
-            for count in self.settings.rips:
+            found = self.paths_meeting(self.turning_footprint(ball))
+            for count in self.settings.rip_counts:
                 yield found[:count], None
         if is_crowded:
-            yield from self.crowded_spots(gate, placer.inlets(gate))
+            yield from self.spots_on_paths(gate, placer.inlets(gate))
 
     def paths_to_gates(self) -> list[Path]:
         """Returns the paths to gates."""
         return [path for step in self.board.steps for path in step.paths]
 
-    def paths_at(self, place: Footprint) -> list[Path]:
+    def paths_meeting(self, place: Footprint) -> list[Path]:
         """Returns the paths that an item would meet in space, those that it meets most first."""
         found, touched = [], place.touched
         for index, path in enumerate(self.paths_to_gates()):
@@ -79,16 +79,16 @@ class WayMaker:
         cells = {cell_number(cell) for mirror in mirrors for cell in mirror.cells()}
         return Footprint(frozenset(cells), way.touched_parts if way else ())
 
-    def crowded_spots(self, gate: Gate, inlets: list[Inlet]) -> Iterator[tuple[list[Path], list[Spot]]]:
+    def spots_on_paths(self, gate: Gate, inlets: list[Inlet]) -> Iterator[tuple[list[Path], list[Spot]]]:
         """Yields spots for a gate at which only paths are in the way, with these paths: the fewest first."""
         spots = list(self.placer.random_spots(gate, inlets, is_crowded=True))
         items = [cell_item(spot.cell, spot.x, spot.y, spot.time) for spot in spots]
         paths, found = self.paths_to_gates(), []
         register = NearbyPaths(items, paths, self.fixed_items())
         for index, (spot, item) in enumerate(zip(spots, items)):
-            met = register.paths_met_by(item)
-            if met is not None and len(met) <= self.settings.rips[-1]:
-                found.append((len(met) + spot.time / self.settings.rip_steps, index, spot,
+            met = register.path_numbers_met_by(item)
+            if met is not None and len(met) <= self.settings.rip_counts[-1]:
+                found.append((len(met) + spot.time / self.settings.delay_per_rip, index, spot,
                               [paths[number] for number in sorted(met)]))
         for _, _, spot, met_paths in sorted(found, key=lambda own: own[:2])[:self.settings.crowded_choices]:
             yield met_paths, [replace(spot, time=spot.time + 2 * more) for more in range(0, 24, 2)]
@@ -96,7 +96,7 @@ class WayMaker:
     def fixed_items(self) -> list[Footprint]:
         """Returns what is not taken out for a gate: gates, parked paths, and what is reserved for waiting balls."""
         steps = self.board.steps
-        fixed = [own.gate.item for own in steps] + [path.item for own in steps for path in own.parked]
+        fixed = [own.gate.item for own in steps] + [path.item for own in steps for path in own.parking_paths]
         return fixed + [own.item for own in self.board.waiting.values() if own.item]
 
     def place_without(self, gate: Gate, paths: list[Path], spots: list[Spot] | None) -> bool:
@@ -104,7 +104,7 @@ class WayMaker:
         board = self.board
         for path in paths:
             board.remove_path(path)
-        step = self.placer.place_gate(gate, spots)
+        step = self.placer.find_placement(gate, spots)
         if step is not None:
             board.add_placement(step)
             again = self.lead_again(list(step.outs.values()), paths)
@@ -122,8 +122,8 @@ class WayMaker:
 
         `lead` leads and adds the path. If that or the leading again fails, the board is as before.
         """
-        found = self.paths_at(self.turning_footprint(ball))
-        for count in self.settings.rips if found else ():
+        found = self.paths_meeting(self.turning_footprint(ball))
+        for count in self.settings.rip_counts if found else ():
             paths = found[:count]
             for path in paths:
                 self.board.remove_path(path)
@@ -147,7 +147,7 @@ class WayMaker:
         placer.finder.known_departures.clear()
         again: dict[Path, Path] = {}
         for path in sorted(paths, key=lambda own: (not board.world.can_add(own.item), own.end.time - own.start.time)):
-            new = self.lead_path_again(path)
+            new = self.find_path_again(path)
             if new is None:
                 break
             board.add_path(new)
@@ -160,14 +160,14 @@ class WayMaker:
             board.remove_path(new)
         return None
 
-    def lead_path_again(self, path: Path) -> Path | None:
+    def find_path_again(self, path: Path) -> Path | None:
         """Returns a path between the ends of another one: this path if it, and the boxes' wires, have room."""
         board, finder = self.board, self.placer.finder
         if board.world.can_add(path.item) and board.has_room_for(path.wire, path.item.tiles):
             return path
         for _ in range(self.settings.end_tries):
             new = finder.path_from_anywhere(path.wire, path.end) if self.may_begin_anywhere(path) else \
-                finder.connect(path.wire, path.start, path.end, self.settings.path_tries)
+                finder.find_path(path.wire, path.start, path.end, self.settings.path_tries)
             if new and board.has_room_for(new.wire, new.item.tiles):
                 return new
         return None
@@ -175,7 +175,7 @@ class WayMaker:
     def may_begin_anywhere(self, path: Path) -> bool:
         """Whether a path may begin anywhere."""
         owner = next(step for step in self.board.steps if path in step.paths)
-        return owner.before[path.wire].ball is None
+        return owner.waiting_before[path.wire].ball is None
 
     def exchange_paths(self, again: dict[Path, Path]) -> None:
         """Gives the steps their new paths. Steps that an earlier board has stay as they are."""
@@ -208,7 +208,7 @@ class NearbyPaths:
             if first <= cell < last and self.left <= cell & ROW_STRIDE - 1 <= self.right:
                 owners.setdefault(cell, set()).add(owner)
 
-    def paths_met_by(self, item: Footprint) -> set[int] | None:
+    def path_numbers_met_by(self, item: Footprint) -> set[int] | None:
         """Returns the paths that an item meets in space, at whatever times; None if it meets something fixed."""
         met: set[int] = set()
         for cell in item.mirrors:

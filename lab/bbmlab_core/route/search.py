@@ -20,7 +20,7 @@ from ..texts.circuits import Circuit
 from ..texts.limits import SECOND_LIMITS, limits_for, with_limits_line
 from .attempt import Attempt, OutOfTimeError
 from .board import FailureKind, NoRouteError, Placement
-from .certificate import Certifier, bundle_text, circuit_section
+from .certificate import BundleMaker, bundle_text, circuit_section
 from .crowding import Crowding, crowding_of
 from .design import Design, cropped_design
 from .estimate import Estimate, estimate_of
@@ -45,7 +45,7 @@ MOST_EXTRA_ENDS = 20
 MAX_SHALLOW_STEPS = 200
 # The attempts of `--compact` after a layout, by the part of its area that the plane has at most. The first one that
 # succeeds gives the next layout.
-COMPACT_SHARES = (*(0.8,) * 3, *(0.9,) * 6)
+COMPACT_AREA_SHARES = (*(0.8,) * 3, *(0.9,) * 6)
 # How often paths to the last time make way for others in a part that is kept: fewer gates are tried sooner. With 30 in
 # place of 150, 53 of 60 placed gates were kept in eight seconds, and not 46.
 PARTIAL_RIPS = 30
@@ -58,7 +58,7 @@ class SearchOptions:
 
     seed: int = 1
     side: int | None = None
-    effort: float = 60.0
+    effort_seconds: float = 60.0
     jobs: int = 1
     is_compact: bool = False
     keeps_partial: bool = False
@@ -80,7 +80,7 @@ class RoutedBundle:
     width: int
     height: int
     steps: int
-    mirrors: int
+    mirror_cell_count: int
     modules: int
     most_cuts: int
     gates: int
@@ -90,17 +90,18 @@ class RoutedBundle:
 class SearchOutcome:
     """The result of a search: the bundle if there is one, else the reason, and the best part if it was asked for.
 
-    The reason is that of the attempt that placed most gates. `bounds` counts what ended each attempt that failed.
+    The reason is that of the attempt that placed most gates. `failure_counts` counts what ended each attempt that
+    failed.
     """
 
     routed: RoutedBundle | None = None
     reason: str = ""
-    bounds: Counter[FailureKind] = field(default_factory=Counter)
+    failure_counts: Counter[FailureKind] = field(default_factory=Counter)
     attempts: int = 0
     placed: int = 0
     total: int = 0
-    partial: list[Placement] = field(default_factory=list)
-    partial_size: int = 0
+    partial_placements: list[Placement] = field(default_factory=list)
+    partial_side: int = 0
     # The plane of the attempt that placed most gates, when it ended, if a map was asked for, and how many gates these
     # were.
     crowding: Crowding | None = None
@@ -202,7 +203,7 @@ def compact_plans(netlist: RouterNetlist, options: SearchOptions, settings: Sett
     """Yields what attempts on smaller planes than a layout are made with; `first` is the number of the first of them.
     """
     tight = compact_settings(settings)
-    for index, part in enumerate(COMPACT_SHARES, first):
+    for index, part in enumerate(COMPACT_AREA_SHARES, first):
         width, height = smaller_plane(routed.width, routed.height, part)
         if height >= LEAST_SIDE // 2:
             yield AttemptPlan(netlist, width, width, attempt_seed(options, index), tight, height)
@@ -226,7 +227,7 @@ def routed_bundle(circuit_text: str, design: Design, is_cropped: bool = True) ->
 
 def uncropped_bundle(circuit_text: str, design: Design) -> RoutedBundle:
     """Returns the bundle of a design as it is."""
-    certifier, circuit = Certifier(design), design.circuit
+    certifier, circuit = BundleMaker(design), design.circuit
     text, gates, wires = bundle_text(circuit_text, certifier), len(circuit.gates), len(circuit.wires)
     layout = circuit_section(circuit_text) + "\n".join(certifier.layout) + "\n"
     side = max(design.width, design.height)
@@ -245,7 +246,7 @@ class Search:
         self.netlists = netlists_of(circuit, options)
         self.settings = settings
         self.progress = progress
-        self.deadline = time.monotonic() + options.effort
+        self.deadline = time.monotonic() + options.effort_seconds
         self.outcome = SearchOutcome(total=len(self.netlists[0].gates))
 
     def estimate(self) -> Estimate:
@@ -290,7 +291,7 @@ class Search:
 
     def note_failure(self, error: NoRouteError, placed: int) -> None:
         """Notes why an attempt failed. The reason that counts is that of the attempt that placed most gates."""
-        self.outcome.bounds[error.bound] += 1
+        self.outcome.failure_counts[error.bound] += 1
         is_late = isinstance(error, OutOfTimeError)
         if not self.outcome.reason or placed >= self.outcome.placed and not is_late:
             self.outcome.reason = str(error)
@@ -307,8 +308,8 @@ class Search:
         """
         if not self.options.keeps_partial:
             self.outcome.placed = max(placed, self.outcome.placed)
-        elif len(steps) > len(self.outcome.partial):
-            self.outcome.placed, self.outcome.partial, self.outcome.partial_size = len(steps), steps, side
+        elif len(steps) > len(self.outcome.partial_placements):
+            self.outcome.placed, self.outcome.partial_placements, self.outcome.partial_side = len(steps), steps, side
 
 
 # What a process sends: that it placed gates, the side, and their steps if they are kept; how crowded its plane is; its
@@ -445,12 +446,12 @@ class AttemptPool:
 def partial_bundle(circuit: Circuit, outcome: SearchOutcome, options: SearchOptions,
                    settings: Settings) -> tuple[str, int] | None:
     """Returns a bundle of the part of a circuit that was placed, and its count of gates, or None if there is none."""
-    part = PartialRoute(circuit, outcome.partial, outcome.partial_size, options.most_side)
+    part = PartialRoute(circuit, outcome.partial_placements, outcome.partial_side, options.most_side)
     costs = replace(settings, wander_tries=80, end_rips=PARTIAL_RIPS)
     if outcome.is_interrupted:
         found = hurried_design(part, costs, INTERRUPT_SECONDS)
     else:
-        found = partial_design(part, costs, max(LEAST_SECONDS, EFFORT_SHARE * options.effort))
+        found = partial_design(part, costs, max(LEAST_SECONDS, EFFORT_SHARE * options.effort_seconds))
     if found is None:
         return None
     try:

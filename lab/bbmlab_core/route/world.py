@@ -34,7 +34,7 @@ RIM_CELLS = 2
 TILE = 16
 TILE_BITS = 4
 # Flights of at least so many cells are counted at once. The digits 0 and 1 for these numbers.
-LEAST_RANGE = 8
+LEAST_BULK_COUNT = 8
 DIGITS = bytes.maketrans(b"\0\1", b"01")
 # The square of `taken_count_around` has sides of twice this many cells.
 HALF_SQUARE_SIDE = 32
@@ -55,7 +55,7 @@ def cell_of_number(number: int) -> Cell:
 
 
 @cache
-def words_of_one(length: int) -> int:
+def repeated_one(length: int) -> int:
     """Returns a number in which each of so many words of 16 bits is 1."""
     return int.from_bytes(array("H", [1] * length).tobytes(), sys.byteorder)
 
@@ -293,7 +293,7 @@ class World:
         A cell's bits change if no other part is there. Those of a flight on its own diagonal change at once.
         """
         counts, bits, rows, falling, rising = self.counts, BITS, self.blocked, self.blocked_falling, self.blocked_rising
-        if not isinstance(part, range) or len(part) < LEAST_RANGE or part.stop < 0:
+        if not isinstance(part, range) or len(part) < LEAST_BULK_COUNT or part.stop < 0:
             for number in part:
                 counts[number] += change
                 if counts[number] == (change > 0):
@@ -306,7 +306,7 @@ class World:
         (x, y), length, own = cell_of_number(part.start), len(part), slice(part.start, part.stop, part.step)
         dx, dy = 1 if part.step % ROW_STRIDE == 1 else -1, 1 if part.step > 0 else -1
         before = counts[own]
-        total = int.from_bytes(before.tobytes(), sys.byteorder) + change * words_of_one(length)
+        total = int.from_bytes(before.tobytes(), sys.byteorder) + change * repeated_one(length)
         after = array("H", total.to_bytes(2 * length, sys.byteorder))
         counts[own] = after
         is_changed = bytes(map(operator.not_, before if change > 0 else after))
@@ -379,7 +379,7 @@ class World:
         bits &= (1 << x + 1) - 1
         return max(0, min(most, x - bits.bit_length())) if bits else most
 
-    def new_cell_count(self, ball: Ball, steps: int) -> int:
+    def flight_cost(self, ball: Ball, steps: int) -> int:
         """Returns how many cells that nothing touches yet a straight flight would touch, about."""
         x, y, dx, dy, _ = ball
         low, high = (x, x + steps) if dx > 0 else (x - steps, x)

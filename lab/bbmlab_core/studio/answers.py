@@ -23,11 +23,11 @@ from .routes import RouteSearches
 EXAMPLE_FOLDERS = [PACKAGE_FOLDER.parent.parent / "examples",
                    PACKAGE_FOLDER.parent.parent.parent / "share" / "doc" / "bbmcheck" / "examples"]
 BLANK_BUNDLE_TEXT = "circuit\nend\nlayout 48 48 40\nend\n"
-Answer = dict[str, Any]
-NO_PROGRAM_ANSWER: Answer = {"error": "The program was not found: name it with --program PATH or set BBMCHECK."}
+JsonObject = dict[str, Any]
+NO_PROGRAM_ANSWER: JsonObject = {"error": "The program was not found: name it with --program PATH or set BBMCHECK."}
 
 
-def text_member(body: Answer, name: str) -> str:
+def text_member(body: JsonObject, name: str) -> str:
     """Returns a member of a request that is a text."""
     value = body.get(name)
     if not isinstance(value, str):
@@ -36,7 +36,7 @@ def text_member(body: Answer, name: str) -> str:
 
 
 @lru_cache(maxsize=None)
-def cell_catalogue() -> list[Answer]:
+def cell_catalogue() -> list[JsonObject]:
     """Returns the standard cells with their layouts, circuits and ports."""
     found = []
     for name in standard_cells.cell_names():
@@ -51,7 +51,7 @@ def cell_catalogue() -> list[Answer]:
 
 
 @lru_cache(maxsize=None)
-def examples() -> dict[str, Path]:
+def example_paths() -> dict[str, Path]:
     """Returns the examples that have a layout, by their names."""
     folder = next((place for place in EXAMPLE_FOLDERS if place.is_dir()), None)
     found = sorted(folder.glob("*.txt")) if folder else []
@@ -66,14 +66,14 @@ class Answers:
     jobs: Jobs | None
     routes: RouteSearches | None = None
 
-    def answer(self, name: str, body: Answer) -> Answer:
+    def answer(self, name: str, body: JsonObject) -> JsonObject:
         """Returns the answer to a request."""
-        known: dict[str, Callable[[Answer], Answer]] = {
+        known: dict[str, Callable[[JsonObject], JsonObject]] = {
             "start": self.start, "open": self.open, "save": self.save, "files": self.files, "refusal": self.refusal,
-            "spelling": self.spelling,
-            "cells": self.cells, "template": self.template, "verdict": self.job, "explain": self.job,
-            "export": self.job, "route": self.route, "connect": self.connect,
-            "routed": self.routed, "unroute": self.unroute}
+            "spelling": self.spelled_text,
+            "cells": self.cells, "template": self.template, "verdict": self.run_job, "explain": self.run_job,
+            "export": self.run_job, "route": self.route, "connect": self.begin_connection,
+            "routed": self.search_state, "unroute": self.cancel_search}
         if name not in known:
             raise Denied(404, "there is no such request")
         try:
@@ -81,7 +81,7 @@ class Answers:
         except (FolderError, LabError) as error:
             return {"error": str(error)}
 
-    def start(self, _body: Answer) -> Answer:
+    def start(self, _body: JsonObject) -> JsonObject:
         """Returns the opened file, the program and the templates."""
         try:
             if self.jobs is None:
@@ -93,10 +93,10 @@ class Answers:
             program = {"path": None, "why": str(error)}
         opened = self.open({"name": self.folder.name})
         return {"program": program, "folder": str(self.folder.place),
-                "templates": ["empty", *standard_cells.cell_names()], "examples": list(examples()),
+                "templates": ["empty", *standard_cells.cell_names()], "examples": list(example_paths()),
                 **opened}
 
-    def open(self, body: Answer) -> Answer:
+    def open(self, body: JsonObject) -> JsonObject:
         """Returns a file of the folder. A file that is missing is an empty layout with the digest null."""
         name = text_member(body, "name")
         data = self.folder.read(name)
@@ -104,7 +104,7 @@ class Answers:
             return {"name": name, "text": BLANK_BUNDLE_TEXT, "digest": None}
         return {"name": name, "text": text_of(data), "digest": digest_of(data)}
 
-    def save(self, body: Answer) -> Answer:
+    def save(self, body: JsonObject) -> JsonObject:
         """Writes a file of the folder, unless it changed since the page read it."""
         data, known = bytes_of(text_member(body, "text")), body.get("digest")
         try:
@@ -114,11 +114,11 @@ class Answers:
             return {"changed": True, "digest": error.digest, "error": str(error)}
         return {"digest": digest}
 
-    def files(self, _body: Answer) -> Answer:
+    def files(self, _body: JsonObject) -> JsonObject:
         """Returns the files of the folder that can be opened."""
         return {"files": self.folder.names()}
 
-    def refusal(self, body: Answer) -> Answer:
+    def refusal(self, body: JsonObject) -> JsonObject:
         """Returns where the lab's reader refuses the circuit and the layout, or null."""
         source = bytes_of(text_member(body, "text")).decode("latin-1")
         text = spelling_of(source).text
@@ -129,36 +129,36 @@ class Answers:
         return {"refusal": {"line": source_line_number(source, text, document.refusal.line),
                             "code": document.refusal.code, "words": told.what, "rule": told.rule, "hints": told.hints}}
 
-    def spelling(self, body: Answer) -> Answer:
+    def spelled_text(self, body: JsonObject) -> JsonObject:
         """Returns a text in the one spelling that the program reads, and how many comments that leaves out."""
         made = spelling_of(bytes_of(text_member(body, "text")).decode("latin-1"))
-        return {"text": text_of(made.text.encode("latin-1")), "comments": made.comments}
+        return {"text": text_of(made.text.encode("latin-1")), "comments": made.comment_count}
 
-    def cells(self, _body: Answer) -> Answer:
+    def cells(self, _body: JsonObject) -> JsonObject:
         """Returns the standard cells."""
         return {"cells": cell_catalogue()}
 
-    def template(self, body: Answer) -> Answer:
+    def template(self, body: JsonObject) -> JsonObject:
         """Returns the text of an example, of a standard cell or of an empty layout."""
         name = text_member(body, "name")
         if name == "empty":
             return {"text": BLANK_BUNDLE_TEXT}
         if name.startswith("example "):
-            path = examples().get(name.removeprefix("example "))
+            path = example_paths().get(name.removeprefix("example "))
             if path is None:
                 raise LabError("there is no such example")
             return {"text": text_of(path.read_bytes())}
         return {"text": standard_cells.read_cell(name).document.text}
 
-    def route(self, body: Answer) -> Answer:
+    def route(self, body: JsonObject) -> JsonObject:
         """Begins a search for a layout of the circuit of a text."""
         return self.begin_search(body, None)
 
-    def connect(self, body: Answer) -> Answer:
+    def begin_connection(self, body: JsonObject) -> JsonObject:
         """Begins to lead the ball of an output of a text to an input."""
         return self.begin_search(body, (text_member(body, "output"), text_member(body, "input")))
 
-    def begin_search(self, body: Answer, ports: tuple[str, str] | None) -> Answer:
+    def begin_search(self, body: JsonObject, ports: tuple[str, str] | None) -> JsonObject:
         """Begins a search."""
         seconds, seed = body.get("seconds"), body.get("seed")
         if not isinstance(seconds, (int, float)) or not isinstance(seed, int) or bool in (type(seconds), type(seed)):
@@ -166,15 +166,15 @@ class Answers:
         text, tab = text_member(body, "text"), text_member(body, "tab")
         return self.routes.begin(tab, text, seconds, seed, ports) if self.routes else NO_PROGRAM_ANSWER
 
-    def routed(self, body: Answer) -> Answer:
+    def search_state(self, body: JsonObject) -> JsonObject:
         """Returns what became of the search of a tab."""
-        return self.routes.state(text_member(body, "tab")) if self.routes else NO_PROGRAM_ANSWER
+        return self.routes.poll_search(text_member(body, "tab")) if self.routes else NO_PROGRAM_ANSWER
 
-    def unroute(self, body: Answer) -> Answer:
+    def cancel_search(self, body: JsonObject) -> JsonObject:
         """Ends the search of a tab."""
         return self.routes.cancel(text_member(body, "tab")) if self.routes else NO_PROGRAM_ANSWER
 
-    def job(self, body: Answer) -> Answer:
+    def run_job(self, body: JsonObject) -> JsonObject:
         """Runs a job that may take a while."""
         if self.jobs is None:
             return NO_PROGRAM_ANSWER

@@ -17,7 +17,7 @@ from ..host.terminal import LabError
 from ..joining.command import SETTINGS
 from ..joining.composing import NamedPart
 from ..joining.modules import JoinedModules
-from ..joining.parts import ALWAYS_SIGNAL, PartText
+from ..joining.parts import ALWAYS_SIGNAL, PartBundle
 from ..joining.planning import BallJob, JoinPlan, PlacedPart
 from ..joining.wiring import JoinWiring, ball_words
 from ..route.balls import Ball, Leg
@@ -32,7 +32,7 @@ from ..texts.layouts import Cell, Layout
 from ..texts.limits import SECOND_LIMITS, limits_for, with_limits_line
 from ..texts.skimming import design_text
 from ..texts.spelling import spelling_of
-from .machines import EndBall, MachineRun
+from .machines import FinalBall, MachineRun
 from .verdicts import Judge
 
 # The columns and rows around the layout that may be used, and the steps to spare of the ball, by the attempts.
@@ -44,13 +44,13 @@ DETOUR_STEPS_PER_CELL = 0.35
 CHECK_SECONDS = 20.0
 
 
-class ModulesWithRoom(JoinedModules):
+class UnlimitedModules(JoinedModules):
     """The modules of a layout whose certificate is made later: each has room."""
 
     def __init__(self) -> None:
         """There is nothing to keep."""
 
-    def modules_of(self, path: BallPath) -> set[int]:
+    def modules_hearing(self, path: BallPath) -> set[int]:
         """Returns no modules."""
         return set()
 
@@ -66,13 +66,13 @@ class ConnectionWiring(JoinWiring):
     """The paths of a connection: between its ports straight or by a few bounces, if that can be."""
 
     def __init__(self, plan: JoinPlan, seed: int, deadline: float) -> None:
-        super().__init__(plan, ModulesWithRoom(), seed, SETTINGS, deadline)
+        super().__init__(plan, UnlimitedModules(), seed, SETTINGS, deadline)
         # All balls are of one layout, so none has to leave it.
         self.world.boxes, self.world.box_of_tile = [], {}
 
     def closed_end_words(self) -> str:
         """Says which open end no ball can leave even if no other ball is led, or returns nothing."""
-        for index, ball, sign in self.blocked_ends():
+        for index, ball, sign in self.closed_ends():
             where = "behind it" if sign > 0 else "before it"
             words = ball_words(self.plan.jobs[index])
             return (f"{words} at ({ball.x}, {ball.y}) at time {ball.time} has no room for a "
@@ -83,7 +83,7 @@ class ConnectionWiring(JoinWiring):
         """Returns a path between two balls."""
         steps = goal.time - start.time
         straight = [Leg(steps, None)] if start.flown(steps) == goal else None
-        legs = straight or self.finder.connect_short(start, goal, self.settings.path_tries)
+        legs = straight or self.finder.find_direct_legs(start, goal, self.settings.path_tries)
         path = self.finder.path_of_legs(wire, start, goal, legs) if legs else None
         return path or super().find_connecting_path(wire, start, goal)
 
@@ -94,7 +94,7 @@ class PortConnection:
     def __init__(self, document: Document, output: str, given: str) -> None:
         assert document.circuit and document.layout
         self.circuit, self.layout, self.output, self.input = document.circuit, document.layout, output, given
-        require_ports(self.circuit, output, given)
+        require_connectable(self.circuit, output, given)
         self.run = MachineRun(document)
         goals = [port.ball for port in self.run.starts if port.wire == given]
         outs = [end for end in self.run.ends if (end.kind, end.name) == ("out", output)]
@@ -127,23 +127,23 @@ class PortConnection:
         soon = {run.machine_of_ball(number) for number in range(len(run.starts))} - late
         placed = []
         for numbers, own_time in ((soon, 0), (late, delay)):
-            text = PartText(self.circuit, Layout(layout.width, layout.height, layout.steps), Certificate(), [], [],
-                            run.machines_footprint(numbers, own_time == 0))
+            text = PartBundle(self.circuit, Layout(layout.width, layout.height, layout.steps), Certificate(), [], [],
+                              run.machines_footprint(numbers, own_time == 0))
             placed.append(PlacedPart(NamedPart("", text), room, room, own_time))
         jobs = [BallJob(self.output, placed[0].placed_ball(self.out.ball), placed[1].placed_ball(self.goal), delay)]
         jobs += [BallJob(port.wire, None, placed[1].placed_ball(port.ball), delay) for number,
                  port in enumerate(run.starts)
                  if run.machine_of_ball(number) == self.late and port.ball != self.goal]
         jobs += [BallJob(end_ball.name or "", placed[0].placed_ball(end_ball.ball), None, end)
-                 for end_ball in self.moved_ends()]
+                 for end_ball in self.ends_to_extend()]
         return JoinPlan(side, end, placed, jobs, side, side)
 
-    def moved_ends(self) -> list[EndBall]:
+    def ends_to_extend(self) -> list[FinalBall]:
         """Returns the balls that are led on to the new last time."""
         return [end for end in self.run.ends
                 if self.run.machine_of_end_ball(end.ball) != self.late and end.ball != self.out.ball]
 
-    def new_wire_name(self, name: str) -> str:
+    def wire_name_after_connecting(self, name: str) -> str:
         """Returns what a wire is called afterwards."""
         return self.output if name == self.input else name
 
@@ -154,18 +154,19 @@ class PortConnection:
         for gate in circuit.gates:
             is_late = not late.isdisjoint(gate.ins)
             late.update(gate.outs if is_late else ())
-            gates[is_late].append(Gate(gate.kind, tuple(map(self.new_wire_name, gate.ins)), tuple(gate.outs),
-                                       gate.parameter))
+            gates[is_late].append(Gate(gate.kind, tuple(map(self.wire_name_after_connecting, gate.ins)),
+                                       tuple(gate.outs), gate.parameter))
         inputs = tuple(name for name in circuit.inputs if name != self.input)
-        outputs = tuple(self.new_wire_name(name) for name in circuit.outputs if name != self.output)
-        return str(Circuit(inputs, (*gates[0], *gates[1]), outputs, tuple(map(self.new_wire_name, circuit.spills))))
+        outputs = tuple(self.wire_name_after_connecting(name) for name in circuit.outputs if name != self.output)
+        return str(Circuit(inputs, (*gates[0], *gates[1]), outputs,
+                           tuple(map(self.wire_name_after_connecting, circuit.spills))))
 
 
-def require_ports(circuit: Circuit, output: str, given: str) -> None:
+def require_connectable(circuit: Circuit, output: str, given: str) -> None:
     """Raises LabError if the names are no ports, or if a loop would come about."""
     if output not in circuit.outputs or given not in circuit.inputs:
         raise LabError(f"There is no output {output} or no input {given}.")
-    free, _ = circuit.cone([output])
+    free, _ = circuit.cone_inputs_and_gates([output])
     if given in free:
         raise LabError(f"The output {output} follows from the input {given}: they would make a loop.")
 
@@ -191,13 +192,13 @@ class ConnectedText:
         bottom = max(room + layout.height, min(self.plan.side, max(ys) + RIM_CELLS + 2 & ~1))
         return left, top, right - left, bottom - top
 
-    def moved_cell(self, cell: Cell) -> Cell:
+    def cell_from_plane(self, cell: Cell) -> Cell:
         """Returns a cell of the plane in the new layout."""
         return cell[0] - self.left, cell[1] - self.top
 
     def moved_old_cell(self, cell: Cell) -> Cell:
         """Returns a cell of the old layout in the new one."""
-        return self.moved_cell((cell[0] + self.room, cell[1] + self.room))
+        return self.cell_from_plane((cell[0] + self.room, cell[1] + self.room))
 
     def text(self) -> str:
         """Returns the circuit and the layout."""
@@ -212,7 +213,7 @@ class ConnectedText:
         for part in own.layout.of_kind("mirror"):
             x, y = self.moved_old_cell(part.cell)
             yield f"mirror {x} {y} {part.width} {part.height}"
-        new = {self.moved_cell(cell_of_number(number)) for path in self.paths for number in path.item.mirrors}
+        new = {self.cell_from_plane(cell_of_number(number)) for path in self.paths for number in path.item.mirrors}
         for x, y, width, height in rectangles(new):
             yield f"mirror {x} {y} {width} {height}"
         ports = sorted(self.ports(), key=lambda port: ("ball", "in", "out", "waste").index(port[0]))
@@ -225,23 +226,23 @@ class ConnectedText:
         own, run = self.connection, self.connection.run
         led = {cell for number, port in enumerate(run.starts) if run.machine_of_ball(number) == own.late
                for cell in port.ball.cells()}
-        ended = {cell for end in (*own.moved_ends(), own.out) for cell in end.ball.cells()}
+        ended = {cell for end in (*own.ends_to_extend(), own.out) for cell in end.ball.cells()}
         for part in own.layout.parts:
             is_led = part.cell in (led if part.kind in ("ball", "in") else ended)
             if part.kind != "mirror" and not is_led:
-                yield part.kind, part.name and own.new_wire_name(part.name), self.moved_old_cell(part.cell)
+                yield part.kind, part.name and own.wire_name_after_connecting(part.name), self.moved_old_cell(part.cell)
         for job, path in zip(self.plan.jobs, self.paths):
             if job.start is None:
                 for cell in path.start.cells():
                     is_constant = job.wire == ALWAYS_SIGNAL
-                    yield "ball" if is_constant else "in", None if is_constant else job.wire, self.moved_cell(cell)
-        moved = self.paths[len(self.paths) - len(own.moved_ends()):]
-        for end, path in zip(own.moved_ends(), moved):
+                    yield "ball" if is_constant else "in", None if is_constant else job.wire, self.cell_from_plane(cell)
+        moved = self.paths[len(self.paths) - len(own.ends_to_extend()):]
+        for end, path in zip(own.ends_to_extend(), moved):
             for cell in path.end.cells():
-                yield end.kind, end.name and own.new_wire_name(end.name), self.moved_cell(cell)
+                yield end.kind, end.name and own.wire_name_after_connecting(end.name), self.cell_from_plane(cell)
 
 
-def lead_all(connection: PortConnection, deadline: float, seed: int) -> ConnectedText:
+def lead_all_balls(connection: PortConnection, deadline: float, seed: int) -> ConnectedText:
     """Leads all balls, on ever larger planes. Raises LabError if that was not done in time."""
     why = ""
     for room in MARGINS_BY_ATTEMPT:
@@ -266,7 +267,7 @@ def connect_ports(text: str, ports: tuple[str, str], deadline: float, seed: int)
     document = read_document(head, "design")
     if document.refusal or not document.circuit or not document.layout:
         raise LabError("The circuit and the layout cannot be read: fix this first.")
-    return lead_all(PortConnection(document, *ports), deadline, seed)
+    return lead_all_balls(PortConnection(document, *ports), deadline, seed)
 
 
 def main() -> int:

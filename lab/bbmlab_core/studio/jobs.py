@@ -120,7 +120,7 @@ class Jobs:
             try:
                 found = worker.answer(job, self.seconds + MORE_SECONDS)
                 is_good = found is not None and not worker.is_ended and self.newest[tab] == ticket
-                return found if found is not None and is_good else self.end_worker(worker, tab, ticket)
+                return found if found is not None and is_good else self.end_and_explain(worker, tab, ticket)
             finally:
                 with self.lock:
                     self.running = None
@@ -135,7 +135,7 @@ class Jobs:
         """Returns a new process."""
         return JobWorker(self.program, self.seconds, self.memory)
 
-    def end_worker(self, worker: JobWorker, tab: str, ticket: int) -> dict[str, Any]:
+    def end_and_explain(self, worker: JobWorker, tab: str, ticket: int) -> dict[str, Any]:
         """Ends a process that gave no answer, and says why there is none."""
         was_replaced = worker.is_ended or self.newest[tab] != ticket
         ended = "" if was_replaced or worker.is_late else worker.how_ended()

@@ -8,10 +8,10 @@ from array import array
 from dataclasses import dataclass, replace
 
 from ..host.terminal import LabError
-from ..joining.flight_claims import flights_in
+from ..joining.flight_claims import pop_flight_ranges
 from ..joining.lone_ways import whole_balls_of
 from ..joining.parts import part_footprint, start_ports
-from ..pictures.drawing import wire_tables
+from ..pictures.drawing import wire_tables_and_column
 from ..route.balls import Ball, block_corner, start_state, state_after_step
 from ..route.world import ROW_STRIDE, STEP_STRIDE, Footprint, cell_number
 from ..texts.documents import Document
@@ -22,7 +22,7 @@ MAX_MOVES = 2_000_000
 
 
 @dataclass(frozen=True)
-class EndBall:
+class FinalBall:
     """A ball at the last time, with the kind and the name of its port."""
 
     kind: str
@@ -37,7 +37,7 @@ class MachineRun:
         layout = document.layout
         assert layout
         self.layout, self.mirrors = layout, layout.mirror_cells()
-        self.tables, self.full, _ = wire_tables(document, [])
+        self.tables, self.full, _ = wire_tables_and_column(document, [])
         self.starts, fault = start_ports(layout)
         if fault:
             raise LabError(f"{fault[:1].upper()}{fault[1:]}, and only these can be led.")
@@ -76,7 +76,7 @@ class MachineRun:
             self.machine = {cell: blocks[block_corner(cell, time)] for cell in following}
             live = following
 
-    def end_balls(self) -> list[EndBall]:
+    def end_balls(self) -> list[FinalBall]:
         """Returns the balls at the last time. Raises LabError if cells there are none."""
         groups: dict[tuple[str, str | None], list[Cell]] = {}
         for part in self.layout.parts:
@@ -88,7 +88,7 @@ class MachineRun:
             if balls is None:
                 raise LabError(f"The cells of {name or 'waste'} at the end, such as {cells[0]}, are not balls of two "
                                "cells, and only these can be led.")
-            found += [EndBall(kind, name, ball) for ball in balls]
+            found += [FinalBall(kind, name, ball) for ball in balls]
         return found
 
     def machine_of_end_ball(self, ball: Ball) -> int:
@@ -99,5 +99,5 @@ class MachineRun:
         """Returns what some machines take. Mirrors, which are nobody's, are in one of the items."""
         claims = {claim for number, own in enumerate(self.claims) if self.machine_of_ball(number) in numbers
                   for claim in own}
-        machines_item = part_footprint(frozenset(map(cell_number, self.mirrors)), list(flights_in(claims)))
+        machines_item = part_footprint(frozenset(map(cell_number, self.mirrors)), list(pop_flight_ranges(claims)))
         return machines_item if is_for_mirrors else replace(machines_item, mirrors=frozenset())

@@ -33,7 +33,7 @@ class RouteSearch:
     """A search: its process, its files, and when the page asked for it last."""
 
     process: subprocess.Popen[bytes]
-    room: tempfile.TemporaryDirectory[str]
+    work_folder: tempfile.TemporaryDirectory[str]
     seconds: float
     begun: float = field(default_factory=time.monotonic)
     asked: float = field(default_factory=time.monotonic)
@@ -41,7 +41,7 @@ class RouteSearch:
 
     def progress_lines(self) -> list[str]:
         """Returns what the search wrote to standard error so far, without its name before each line."""
-        text = Path(self.room.name, "said").read_text(encoding="utf-8", errors="replace")
+        text = Path(self.work_folder.name, "said").read_text(encoding="utf-8", errors="replace")
         return [line.removeprefix("bbmlab: ") for line in text.splitlines() if line.strip()]
 
     def end(self) -> None:
@@ -83,11 +83,11 @@ class RouteSearches:
             if any(route.process.poll() is None for route in self.found.values()) or self.is_closed:
                 raise LabError("Another search is running. It can be cancelled in its tab.")
             self.drop(tab)
-            route = self.found[tab] = self.start_search(bytes_of(text), words, seconds)
+            route = self.found[tab] = self.start_process(bytes_of(text), words, seconds)
         threading.Thread(target=self.watch, args=(route,), daemon=True).start()
         return {"state": "runs", "seconds": 0.0, "said": []}
 
-    def start_search(self, text: bytes, words: list[str], seconds: float) -> RouteSearch:
+    def start_process(self, text: bytes, words: list[str], seconds: float) -> RouteSearch:
         """Returns a new search: Python with some words, in a folder with the text."""
         room = tempfile.TemporaryDirectory(prefix="bbmlab-route-")
         Path(room.name, "text.txt").write_bytes(text)
@@ -104,7 +104,7 @@ class RouteSearches:
             pass
         return RouteSearch(process, room, seconds)
 
-    def state(self, tab: str) -> dict[str, Any]:
+    def poll_search(self, tab: str) -> dict[str, Any]:
         """Returns what became of a tab's search:
 
         `runs`, `found` with the bundle, `failed`, `cancelled` or `none`. It waits a moment for the end.
@@ -118,7 +118,7 @@ class RouteSearches:
             status = route.process.wait(WAIT_SECONDS)
         except subprocess.TimeoutExpired:
             return {"state": "runs", "seconds": time.monotonic() - route.begun, "said": route.progress_lines()}
-        said, bundle = route.progress_lines(), Path(route.room.name, "bundle.txt")
+        said, bundle = route.progress_lines(), Path(route.work_folder.name, "bundle.txt")
         answer: dict[str, Any] = {"state": "cancelled" if route.is_cancelled else "failed", "said": said}
         if status == 0 and bundle.is_file():
             answer = {"state": "found", "said": said, "text": text_of(bundle.read_bytes())}
@@ -135,7 +135,7 @@ class RouteSearches:
             return {"state": "none"}
         route.is_cancelled = True
         route.end()
-        return self.state(tab)
+        return self.poll_search(tab)
 
     def watch(self, route: RouteSearch) -> None:
         """Ends a search whose page no longer asks."""
@@ -151,7 +151,7 @@ class RouteSearches:
         """Forgets a tab's search that has ended, with its files."""
         route = self.found.pop(tab, None)
         if route:
-            route.room.cleanup()
+            route.work_folder.cleanup()
 
     def close(self) -> None:
         """Ends all searches."""
@@ -160,4 +160,4 @@ class RouteSearches:
             routes = list(self.found.values())
         for route in routes:
             route.end()
-            route.room.cleanup()
+            route.work_folder.cleanup()

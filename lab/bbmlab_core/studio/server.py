@@ -15,7 +15,7 @@ from ..view import viewing
 from .answers import Answers, text_member
 from .guard import MAX_REQUEST_BYTES, Denied, Guard
 
-ADDRESS = "127.0.0.1"
+HOST = "127.0.0.1"
 STUDIO_FOLDER = Path(__file__).resolve().parent
 CONTENT_TYPES = {".js": "text/javascript", ".css": "text/css", ".html": "text/html"}
 POLICY = ("default-src 'none'; script-src 'self'; worker-src 'self'; style-src 'self'; connect-src 'self'; img-src "
@@ -51,9 +51,9 @@ class Studio(ThreadingHTTPServer):
     allow_reuse_address = True
 
     def __init__(self, port: int, answers: Answers) -> None:
-        super().__init__((ADDRESS, port), Handler)
+        super().__init__((HOST, port), Handler)
         self.answers = answers
-        self.guard = Guard(f"{ADDRESS}:{self.server_address[1]}")
+        self.guard = Guard(f"{HOST}:{self.server_address[1]}")
         self.files = page_files()
         # Called when a browser was let in.
         self.on_entry: Callable[[], None] = lambda: None
@@ -160,7 +160,7 @@ def is_free_port(port: int) -> bool:
     with socket.socket() as probe:
         probe.setsockopt(socket.SOL_SOCKET, socket.SO_REUSEADDR, 1)
         try:
-            probe.bind((ADDRESS, port))
+            probe.bind((HOST, port))
         except OSError:
             return False
     return True

@@ -15,7 +15,7 @@ from ..host.processor import processor_seconds
 from ..host.program import Answer, Executable, BadProgramError, ProgramTimeout, ask
 from ..host.terminal import LabError
 from ..texts.certificates import MAX_BOX_SIDE, MAX_CUTS, MAX_USES, Certificate, whole_module
-from ..texts.circuits import Circuit, values_under
+from ..texts.circuits import Circuit, values_and_undefined_gate
 from ..texts.documents import Document, read_document
 from ..texts.layouts import Cell, Layout
 from ..texts.refusals import explain_code, explain_refusal
@@ -151,15 +151,16 @@ class Judge:
         """Returns the verdict with a certificate that `certify` makes: first without runs of its modules, which the
         program repeats."""
         try:
-            plan = CertificateOptions(until=self.until, is_tried=False)
+            plan = CertificateOptions(processor_deadline=self.until, runs_modules=False)
             quick = self.bundle_verdict(certified_text(design, None, plan), "certify")
             if quick.verdict == "yes":
                 return quick
             outcome = Diagnosis(read_document(quick.bundle, "check")).whole_outcome
-            if outcome.is_right is Tristate.NO:
+            if outcome.correctness is Tristate.NO:
                 quick.words.append(outcome.why_no_yes)
                 return quick
-            return self.bundle_verdict(certified_text(design, None, CertificateOptions(until=self.until)), "certify")
+            return self.bundle_verdict(certified_text(design, None, CertificateOptions(processor_deadline=self.until)),
+                                       "certify")
         except LabError as error:
             reason = str(error)
             return Verdict("none", [f"{reason[:1].upper()}{reason[1:]}."], "certify")
@@ -197,7 +198,7 @@ def wrong_cell(circuit: Circuit, layout: Layout, on: set[str], live: set[Cell]) 
 
     None if a gate lacks its row.
     """
-    values, missing = values_under(circuit, on)
+    values, missing = values_and_undefined_gate(circuit, on)
     if missing is not None:
         return None
     wanted = {part.cell for part in layout.of_kind("out") if values.get(part.name or "")}
@@ -233,7 +234,7 @@ def fault_json(cuts: list[list[str]], inputs: Sequence[str], finding: ReportLine
 # ---- explanations and fixes
 
 
-def explained_answer(text: str, bundle: str, output: str, program: Executable, seconds: float) -> dict[str, Any]:
+def explanation_json(text: str, bundle: str, output: str, program: Executable, seconds: float) -> dict[str, Any]:
     """Returns a no or a refusal in words, with fixes that were tried.
 
     `text` is the page's, `bundle` is what the program read.
@@ -270,10 +271,10 @@ def fix_json(fix: Fix | None, report: ReportOrRefusal, has_own: bool) -> dict[st
     return {"words": [*fix.words, outcome_words(report, fix)], "verdict": fix.report.verdict, "text": text}
 
 
-def fixes_of_design(text: str, program: Executable, seconds: float) -> dict[str, Any]:
+def design_explanation_json(text: str, program: Executable, seconds: float) -> dict[str, Any]:
     """Returns fixes of a text for which no certificate was found."""
     trial, head = TrialRunner(program, Budget(200, seconds)), design_text(spelling_of(text).text)
-    report = trial.report(head)
+    report = trial.try_text(head)
     fixer = Fixer(head, report, trial) if report else None
     whole = fixer.find_fix() if fixer else None
     assert fixer is None or report is not None

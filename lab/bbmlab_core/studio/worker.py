@@ -30,7 +30,7 @@ from ..texts.reports import ReportError
 from ..texts.spelling import spelling_of
 from ..view import viewing
 from .folder import FolderError, bytes_of
-from .verdicts import Judge, explained_answer, fixes_of_design
+from .verdicts import Judge, explanation_json, design_explanation_json
 
 # How many seconds a search for fixes takes, at most.
 FIX_SECONDS = 8.0
@@ -38,14 +38,14 @@ FIX_SECONDS = 8.0
 EXPORT_FORMS = ("svg", "golly", "page")
 
 
-def text_of_bytes(text: str) -> str:
+def byte_characters(text: str) -> str:
     """Returns a text of the page as the lab has it: one character for each byte."""
     return bytes_of(text).decode("latin-1")
 
 
 def verdict(job: dict[str, Any], asked: Executable, seconds: float) -> dict[str, Any]:
     """Returns the verdict on a text."""
-    judge = Judge(text_of_bytes(job["text"]), asked, seconds, text_of_bytes(job.get("earlier", "")))
+    judge = Judge(byte_characters(job["text"]), asked, seconds, byte_characters(job.get("earlier", "")))
     return asdict(judge.verdict(job.get("stage", "")))
 
 
@@ -54,13 +54,13 @@ def explain(job: dict[str, Any], asked: Executable, seconds: float) -> dict[str,
     """
     limit = min(FIX_SECONDS, seconds)
     if not job["report"]:
-        return fixes_of_design(text_of_bytes(job["text"]), asked, limit)
-    return explained_answer(text_of_bytes(job["text"]), job["bundle"], job["report"], asked, limit)
+        return design_explanation_json(byte_characters(job["text"]), asked, limit)
+    return explanation_json(byte_characters(job["text"]), job["bundle"], job["report"], asked, limit)
 
 
 def export(job: dict[str, Any], asked: Executable, seconds: float) -> dict[str, Any]:
     """Returns a text in another form: `svg`, `golly` or `page`."""
-    document = read_document(spelling_of(text_of_bytes(job["bundle"] or job["text"])).text)
+    document = read_document(spelling_of(byte_characters(job["bundle"] or job["text"])).text)
     if document.refusal or document.layout is None:
         raise LabError("The text is refused, so it cannot be exported.")
     form, name = job["form"], str(job["name"])
@@ -71,7 +71,7 @@ def export(job: dict[str, Any], asked: Executable, seconds: float) -> dict[str, 
     if form == "golly":
         on = tracing.chosen_inputs(document, ",".join(job["on"]) or None)
         start = tracing.state_at(document.layout, on, 0)
-        return {"text": golly.golly_text(document.layout, start, on, tracing.layout_lines(document))}
+        return {"text": golly.golly_text(document.layout, start, on, tracing.layout_section_lines(document))}
     explanation = None
     if document.certificate:
         answer = program.ask(asked, "check", document.text.encode("latin-1"), seconds)
@@ -83,10 +83,10 @@ def ways_picture(document: Document, layout: Layout, name: str) -> str:
     """Returns the ways of the balls as SVG."""
     shown = drawing.Drawing(modules=document.certificate.modules if document.certificate else [])
     on = tracing.chosen_inputs(document, None)
-    shown.ways, shown.labels = drawing.ball_ways(document, None, layout.steps)
+    shown.ways, shown.wire_labels = drawing.ball_ways_and_labels(document, None, layout.steps)
     shown.title = f"{name}: ways of the balls{drawing.sampled_words(document)}"
     most = len(drawing.COLOURS) if max(layout.width, layout.height) > drawing.LARGE_SIDE else drawing.MAX_LEGEND
-    wires = drawing.group_by_levels(shown, document.circuit, most) if document.circuit else on
+    wires = drawing.group_ways_by_level(shown, document.circuit, most) if document.circuit else on
     return drawing.svg(layout, shown, wires)
 
 
@@ -108,7 +108,7 @@ def answer(line: str, asked: Executable, seconds: float) -> dict[str, Any]:
         return {"error": f"The program gave no answer: {error}."}
 
 
-def kill_program(_number: int, _frame: FrameType | None) -> None:
+def kill_program_and_exit(_number: int, _frame: FrameType | None) -> None:
     """Kills the program that runs, and ends soon."""
     if program.SHARED_RUNNING_PROGRAMS:
         program.SHARED_RUNNING_PROGRAMS.kill_all()
@@ -126,8 +126,8 @@ def main() -> int:
     resource.setrlimit(resource.RLIMIT_AS, (limit, limit))
     resource.setrlimit(resource.RLIMIT_CORE, (0, 0))
     program.SHARED_RUNNING_PROGRAMS = program.RunningPrograms()
-    signal.signal(signal.SIGTERM, kill_program)
-    signal.signal(signal.SIGHUP, kill_program)
+    signal.signal(signal.SIGTERM, kill_program_and_exit)
+    signal.signal(signal.SIGHUP, kill_program_and_exit)
     signal.signal(signal.SIGINT, signal.SIG_IGN)
     keep_interrupting()
     answers, sys.stdout = sys.stdout, sys.stderr

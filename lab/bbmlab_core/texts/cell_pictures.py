@@ -10,7 +10,7 @@ LEGEND = ("o live   # live mirror   . dead   - mirror that is dead   X live, to 
           "from a neighbour")
 
 
-def window_around(low: int, size: int, focus: int, most: int) -> range:
+def range_around(low: int, size: int, focus: int, most: int) -> range:
     """Returns at most `most` numbers from low on that have `focus` near their middle."""
     if size <= most:
         return range(low, low + size)
@@ -35,8 +35,8 @@ def text_picture(box: tuple[int, int, int, int], live: set[Cell], mirrors: set[C
     """
     x, y, width, height = box
     focus = marked or (x + width // 2, y + height // 2)
-    columns = window_around(x - 1, width + 2, focus[0], MAX_COLUMNS)
-    rows = window_around(y - 1, height + 2, focus[1], MAX_ROWS)
+    columns = range_around(x - 1, width + 2, focus[0], MAX_COLUMNS)
+    rows = range_around(y - 1, height + 2, focus[1], MAX_ROWS)
     tens = "".join(str(u // 10 % 10) if u >= 10 and u % 10 == 0 else " " for u in columns)
     ones = "".join(str(u % 10) if u >= 0 else " " for u in columns)
     heads = [f"     {tens}", f"     {ones}"]

@@ -57,7 +57,7 @@ class Stop(NamedTuple):
         return self.time, self.y, self.x
 
 
-def line_words(kind: str, line: Border | Stop) -> str:
+def certificate_line_text(kind: str, line: Border | Stop) -> str:
     """Writes an `edge`, a `halo` or a `stop` line."""
     if isinstance(line, Stop):
         return f"stop {line.time} {line.name} {line.x} {line.y}"
@@ -112,10 +112,11 @@ class Module:
 
     def __str__(self) -> str:
         """Writes the module's lines."""
-        lines = [f"module {self.box.words}", *(f"cut {name}" for name in self.cuts),
+        lines = [f"module {self.box.numbers_text}", *(f"cut {name}" for name in self.cuts),
                  *(f"use {gate}" for gate in self.uses), *(f"keep {gate}" for gate in self.keeps),
-                 *(line_words("edge", line) for line in self.edges), *(line_words("halo", line) for line in self.halos),
-                 *(line_words("stop", line) for line in self.stops)]
+                 *(certificate_line_text("edge", line) for line in self.edges),
+                 *(certificate_line_text("halo", line) for line in self.halos),
+                 *(certificate_line_text("stop", line) for line in self.stops)]
         return "\n".join(lines) + "\n"
 
     def border_lines(self, kind: str) -> tuple[Border, ...]:
@@ -210,14 +211,15 @@ class Certificate:
 
     def neighbours(self, module: Module) -> list[Module]:
         """Returns the modules whose boxes touch that of `module`."""
-        return [self.modules[number] for number in self.owners.modules_near(module.box) if number != module.number]
+        return [self.modules[number] for number in self.owners.module_numbers_near(module.box)
+                if number != module.number]
 
     def stops_of(self, wire: str) -> list[tuple[Module, Stop]]:
         """Returns the stops of a wire with their modules, in order of time."""
         found = [(module, stop) for module in self.modules for stop in module.stops if stop.name == wire]
         return sorted(found, key=lambda pair: pair[1].order_key)
 
-    def halo_lines(self, module: Module) -> Sequence[Border]:
+    def heard_lines(self, module: Module) -> Sequence[Border]:
         """Returns what the module hears: its halo lines, in version 2 the edge lines beside it."""
         if self.version == 1:
             return module.halos
@@ -253,7 +255,7 @@ class CertificateReader(SectionReader):
         """Returns the forms, in version 2 without `halo`."""
         return self.forms_of_version_2 if self.version == 2 else self.forms
 
-    def current_draft(self, kind: str) -> ModuleDraft:
+    def require_draft(self, kind: str) -> ModuleDraft:
         """Returns the module that is open. Refuses a line before the first one, and a kind after a later kind."""
         if self.draft is None:
             self.lines.refuse(6, "before_first_module", kind=kind)
@@ -295,7 +297,7 @@ class CertificateReader(SectionReader):
 
     def read_cut(self, name: str) -> None:
         """Reads a line `cut`."""
-        module = self.current_draft("cut")
+        module = self.require_draft("cut")
         if len(module.cuts) == MAX_CUTS:
             self.lines.refuse(2, "cut_count", module=module.number, name=name)
         self.require_wire(name)
@@ -311,7 +313,7 @@ class CertificateReader(SectionReader):
 
     def read_use(self, number: int) -> None:
         """Reads a line `use`."""
-        module = self.current_draft("use")
+        module = self.require_draft("use")
         self.require_rising_gate("use", module.uses, number)
         if len(module.uses) == MAX_USES:
             self.lines.refuse(2, "use_count", module=module.number)
@@ -330,7 +332,7 @@ class CertificateReader(SectionReader):
 
     def read_keep(self, number: int) -> None:
         """Reads a line `keep`."""
-        module = self.current_draft("keep")
+        module = self.require_draft("keep")
         self.require_rising_gate("keep", module.keeps, number)
         if number >= len(self.circuit.gates):
             self.lines.refuse(3, "gate_unknown", number=number, count=len(self.circuit.gates))
@@ -365,7 +367,7 @@ class CertificateReader(SectionReader):
 
     def read_border(self, time: int | None, x: int, y: int, signal: str, kind: str) -> None:
         """Reads an `edge` or `halo` line."""
-        module, line = self.current_draft(kind), Border(time, x, y, signal)
+        module, line = self.require_draft(kind), Border(time, x, y, signal)
         lines = module.edges if kind == "edge" else module.halos
         self.require_rising_line(kind, lines, line)
         self.require_border_place(kind, line, module)
@@ -400,7 +402,7 @@ class CertificateReader(SectionReader):
 
     def read_stop(self, time: int, name: str, x: int, y: int) -> None:
         """Reads a line `stop`."""
-        module, stop = self.current_draft("stop"), Stop(time, name, x, y)
+        module, stop = self.require_draft("stop"), Stop(time, name, x, y)
         self.require_rising_line("stop", module.stops, stop)
         late, outside = time > self.layout.steps, not module.box.has((x, y))
         if late or outside:

@@ -5,7 +5,7 @@ from dataclasses import dataclass, field, replace
 from functools import cached_property, partial
 from typing import Any, Iterable, Sequence
 
-from .gates import GATE_SIZES, INVERSE_GATES, Table, gate_row, input_tables
+from .gates import GATE_SIZES, INVERSE_GATES, Table, gate_tables, input_tables
 from .lines import Lines, SectionReader, forms_of, later_kinds, match_line, section_text
 
 MAX_DELAY = 4096
@@ -97,7 +97,8 @@ class Circuit:
         """The gate that makes each wire but the inputs."""
         return {name: gate for gate in self.gates for name in gate.outs}
 
-    def cone(self, wires: Iterable[str], stop_at: frozenset[str] = frozenset()) -> tuple[list[str], list[int]]:
+    def cone_inputs_and_gates(self, wires: Iterable[str],
+                              stop_at: frozenset[str] = frozenset()) -> tuple[list[str], list[int]]:
         """Returns the free wires and the gates from which `wires` follow. Free are inputs and the wires of `stop_at`.
         """
         todo, free, used = list(wires), set(), set()
@@ -117,7 +118,7 @@ class Circuit:
 
 
 @dataclass
-class Valuation:
+class WireTables:
     """Tables of wires over assignments of some free wires, and where each gate has a row.
 
     A bit of a table is a column. If `is_all`, column A is assignment A, and there is one for each choice of the free
@@ -128,10 +129,10 @@ class Valuation:
     full: Table
     tables: dict[str, Table]
     # The columns at which each gate and all gates before it have a row.
-    rows: dict[int, Table]
+    defined_columns_by_gate: dict[int, Table]
     is_all: bool = True
 
-    def true_names(self, column: int) -> list[str]:
+    def true_free_wires(self, column: int) -> list[str]:
         """Returns the free wires that are true in a column."""
         return [name for name in self.free if self.tables[name] >> column & 1]
 
@@ -139,7 +140,7 @@ class Valuation:
     def defined_columns(self) -> Table:
         """The columns at which all gates have a row."""
         defined = self.full
-        for table in self.rows.values():
+        for table in self.defined_columns_by_gate.values():
             defined &= table
         return defined
 
@@ -152,18 +153,18 @@ class Valuation:
         return f"in {count} sampled choices of the inputs"
 
 
-def evaluate(circuit: Circuit, free: Sequence[str], gates: Iterable[int]) -> Valuation:
+def evaluate_gates(circuit: Circuit, free: Sequence[str], gates: Iterable[int]) -> WireTables:
     """Returns the tables of the free wires and of the outputs of `gates`, in order of gates, over all assignments."""
     full = (1 << (1 << len(free))) - 1
     return evaluate_under(circuit, dict(zip(free, input_tables(len(free)))), full, gates)
 
 
-def evaluate_all(circuit: Circuit) -> Valuation:
+def evaluate_all(circuit: Circuit) -> WireTables:
     """Returns the tables of all wires in all choices of the inputs."""
-    return evaluate(circuit, circuit.inputs, range(len(circuit.gates)))
+    return evaluate_gates(circuit, circuit.inputs, range(len(circuit.gates)))
 
 
-def evaluate_choices(circuit: Circuit, most_inputs: int, samples: int) -> Valuation:
+def evaluate_all_or_samples(circuit: Circuit, most_inputs: int, samples: int) -> WireTables:
     """Returns the tables of all wires in all choices of up to `most_inputs` inputs, or in samples if they are more."""
     return evaluate_all(circuit) if len(circuit.inputs) <= most_inputs else evaluate_samples(circuit, samples)
 
@@ -193,7 +194,7 @@ def number_from_bits(bits: Iterable[str]) -> int:
     return int("".join(bits)[::-1] or "0", 2)
 
 
-def evaluate_samples(circuit: Circuit, count: int, first: Iterable[str] = ()) -> Valuation:
+def evaluate_samples(circuit: Circuit, count: int, first: Iterable[str] = ()) -> WireTables:
     """Returns the tables of all wires in `count` sampled choices of the inputs.
 
     In the first choice the inputs of `first` are on.
@@ -204,7 +205,7 @@ def evaluate_samples(circuit: Circuit, count: int, first: Iterable[str] = ()) ->
     return values
 
 
-def evaluate_under(circuit: Circuit, free: dict[str, Table], full: Table, gates: Iterable[int]) -> Valuation:
+def evaluate_under(circuit: Circuit, free: dict[str, Table], full: Table, gates: Iterable[int]) -> WireTables:
     """Returns the tables of wires that follow from those of the free wires by `gates`, in order of gates.
 
     `full` has all columns.
@@ -213,19 +214,19 @@ def evaluate_under(circuit: Circuit, free: dict[str, Table], full: Table, gates:
     defined, rows = full, {}
     for number in gates:
         gate = circuit.gates[number]
-        outs, has_row = gate_row(gate.kind, gate.parameter, [tables[name] for name in gate.ins], full)
+        outs, has_row = gate_tables(gate.kind, gate.parameter, [tables[name] for name in gate.ins], full)
         defined &= has_row
         rows[number] = defined
         tables.update((name, table & defined) for name, table in zip(gate.outs, outs))
-    return Valuation(list(free), full, tables, rows)
+    return WireTables(list(free), full, tables, rows)
 
 
-def values_under(circuit: Circuit, on: set[str]) -> tuple[dict[str, bool], int | None]:
+def values_and_undefined_gate(circuit: Circuit, on: set[str]) -> tuple[dict[str, bool], int | None]:
     """Returns the value of each wire under one assignment, and the first gate without a row, behind which there are
     none."""
     values = {name: name in on for name in circuit.inputs}
     for gate in circuit.gates:
-        outs, has_row = gate_row(gate.kind, gate.parameter, [int(values[name]) for name in gate.ins], 1)
+        outs, has_row = gate_tables(gate.kind, gate.parameter, [int(values[name]) for name in gate.ins], 1)
         if not has_row:
             return values, gate.number
         values.update((name, bool(table)) for name, table in zip(gate.outs, outs))
@@ -254,7 +255,7 @@ class CircuitReader(SectionReader):
     def read_input(self, name: str) -> None:
         """Reads a line `input`."""
         self.require_kind_order("input", LATER_KINDS)
-        self.require_room([name])
+        self.require_wire_room([name])
         self.define([name])
         self.inputs.append(name)
 
@@ -275,7 +276,7 @@ class CircuitReader(SectionReader):
         gate = gate_from_values(kind, values, len(self.gates), self.lines.taken)
         if kind == "delay" and not 1 <= (gate.parameter or 0) <= MAX_DELAY:
             self.lines.refuse(2, "delay_limit", number=gate.parameter)
-        self.require_room(gate.outs)
+        self.require_wire_room(gate.outs)
         if len(self.gates) == self.lines.limits.max_gates:
             self.lines.refuse(2, "gate_count", limits=self.lines.limits)
         self.consume(gate.ins)
@@ -289,7 +290,7 @@ class CircuitReader(SectionReader):
         if unused:
             self.lines.refuse(11, "wire_not_consumed", names=unused, defined=dict(self.defined))
 
-    def require_room(self, outs: Sequence[str]) -> None:
+    def require_wire_room(self, outs: Sequence[str]) -> None:
         """Refuses the line that would pass the limit of wires."""
         if len(self.defined) + len(outs) > self.lines.limits.max_wires:
             self.lines.refuse(2, "wire_count", limits=self.lines.limits)

@@ -34,7 +34,7 @@ def read_freely_written(name: str, text: str, command: str | None = None) -> Doc
 LONG_TEXT_CHARACTERS = 500_000
 
 
-def read_design(name: str, has_certificate: bool = True) -> tuple[Document, Layout]:
+def read_layout_file(name: str, has_certificate: bool = True) -> tuple[Document, Layout]:
     """Returns a text and its layout; raises LabError if it is refused. Sections other than the layout may be missing.
 
     The certificate of a long text is not read if it is not needed.
@@ -62,15 +62,15 @@ def require_report_of(document: Document, report: ReportOrRefusal) -> None:
         raise ReportError(
             f"this is no whole report: it says {report.verdict}, with {len(report.faults)} reasons for a no")
     for finding in report.findings:
-        if not is_about(document, finding):
+        if not is_possible_finding(document, finding):
             raise ReportError(f"the report is not of this text: the text gives no line `{finding.text}`")
 
 
-def is_about(document: Document, finding: ReportLine) -> bool:
+def is_possible_finding(document: Document, finding: ReportLine) -> bool:
     """Whether the numbers of a line of a report are those of things that a text has."""
     values = {name: value for name, value in finding.values.items() if isinstance(value, int)}
     if finding.word in ("local", "keep", "border"):
-        return is_about_module(document, finding, values)
+        return is_possible_module_finding(document, finding, values)
     circuit, certificate = document.circuit, document.certificate
     if circuit is None or certificate is None or values["gate"] >= len(circuit.gates):
         return False
@@ -80,7 +80,7 @@ def is_about(document: Document, finding: ReportLine) -> bool:
     return gate.kind == "delay" if finding.word == "delay" else gate.is_inverse
 
 
-def is_about_module(document: Document, finding: ReportLine, values: dict[str, int]) -> bool:
+def is_possible_module_finding(document: Document, finding: ReportLine, values: dict[str, int]) -> bool:
     """Whether the numbers of a line on a module are those of things that a text has."""
     layout, certificate = document.layout, document.certificate
     if layout is None or certificate is None or values["module"] >= len(certificate.modules):
@@ -97,7 +97,7 @@ def is_about_module(document: Document, finding: ReportLine, values: dict[str, i
     return time <= layout.steps and module.box.has(cell) and (finding.values["kind"] != "stop" or is_stop)
 
 
-def report_for(options: argparse.Namespace, document: Document) -> ReportOrRefusal | None:
+def report_from_option(options: argparse.Namespace, document: Document) -> ReportOrRefusal | None:
     """Returns the report of the option `--report`, if it is given.
 
     Raises ReportError if it is a verdict on another text.

@@ -14,9 +14,9 @@ from .limits import Limits, limits_of
 from .lines import Lines, Refusal, RefusedTextError
 
 BUNDLE_COMMANDS = ("check", "modules", "migrate")
-HEADERS = ("circuit", "layout", "assign", "certificate")
+HEADER_WORDS = ("circuit", "layout", "assign", "certificate")
 # A line whose first word is a header, with any blanks around its words.
-HEADER_LINE_PATTERN = re.compile(rf"^[^\S\n]*({'|'.join(HEADERS)})(?= |[^\S\n]*$)", re.MULTILINE)
+HEADER_LINE_PATTERN = re.compile(rf"^[^\S\n]*({'|'.join(HEADER_WORDS)})(?= |[^\S\n]*$)", re.MULTILINE)
 
 
 @dataclass

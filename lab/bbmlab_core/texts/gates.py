@@ -13,28 +13,28 @@ GATE_SIZES = {
 INVERSE_GATES = {"unswitch": "switch", "uninteract": "interact"}
 
 Table = int
-Row = tuple[list[Table], Table]
+GateTables = tuple[list[Table], Table]
 
 
-def uninteract_row(full: Table, a: Table, b: Table, c: Table, d: Table) -> Row:
+def uninteract_tables(full: Table, a: Table, b: Table, c: Table, d: Table) -> GateTables:
     """Returns the outputs of `uninteract`, and where it has a row."""
     alone = b & ~(a | c | d) | c & ~(a | b | d)
     return [a | c, a | b], full & (~(a | b | c | d) | alone | a & d & ~(b | c))
 
 
 # The outputs of each gate, and where it has a row.
-GATE_RULES: dict[str, Callable[..., Row]] = {
+GATE_RULES: dict[str, Callable[..., GateTables]] = {
     "fredkin": lambda full, c, x, y: ([c, c & x | (full ^ c) & y, c & y | (full ^ c) & x], full),
     "cswap": lambda full, c, x, y: ([c, c & y | (full ^ c) & x, c & x | (full ^ c) & y], full),
     "interact": lambda full, p, q: ([p & q, q & ~p, p & ~q, p & q], full),
     "switch": lambda full, c, x: ([c, c & x, x & ~c], full),
     "delay": lambda full, a: ([a], full),
     "unswitch": lambda full, c, y, z: ([c, y | z], full & ~(c & z | y & ~c)),
-    "uninteract": uninteract_row,
+    "uninteract": uninteract_tables,
 }
 
 
-def gate_row(word: str, number: int | None, inputs: list[Table], full: Table) -> Row:
+def gate_tables(word: str, number: int | None, inputs: list[Table], full: Table) -> GateTables:
     """Returns the tables of a gate's outputs, and the table of the assignments under which the gate has a row.
 
     A table is a number whose bit A says whether a wire is true under assignment A. `full` has the bits of all

@@ -44,11 +44,11 @@ def report_json(report: ReportOrRefusal) -> dict[str, Any]:
     """Returns a report as JSON values."""
     if report.refused:
         return {"refused": {"line": report.refused[0], "code": report.refused[1]}}
-    return {"verdict": report.verdict, "certificate": report.digest, "modules": report.modules,
+    return {"verdict": report.verdict, "certificate": report.digest, "modules": report.module_count,
             "findings": [{"kind_of_line": finding.word, **finding.values} for finding in report.findings]}
 
 
-def document_json(document: Document, report: ReportOrRefusal | None) -> str:
+def document_json_text(document: Document, report: ReportOrRefusal | None) -> str:
     """Writes the sections of a text, and a report if there is one, as one JSON document."""
     if document.refusal:
         raise LabError(f"the text is refused: {refusal_words(document)}", 1)

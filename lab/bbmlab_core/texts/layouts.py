@@ -10,8 +10,8 @@ from .lines import Lines, SectionReader, forms_of, later_kinds, section_text
 KIND_ORDER = ["mirror", "ball", "in", "out", "waste"]
 LATER_KINDS = later_kinds(KIND_ORDER)
 # The kinds besides mirrors whose cells are taken at the start, and those whose cells are taken at the end.
-START_PART_KINDS = ("ball", "in")
-END_PART_KINDS = ("out", "waste")
+START_ONLY_KINDS = ("ball", "in")
+END_ONLY_KINDS = ("out", "waste")
 # The side of the tiles by which the parts near a place are found.
 TILE_SIDE = 64
 
@@ -69,7 +69,7 @@ class Box(NamedTuple):
         return Box(self.x - 1, self.y - 1, self.width + 2, self.height + 2).ring()
 
     @property
-    def words(self) -> str:
+    def numbers_text(self) -> str:
         """The box as its line has it."""
         return f"{self.x} {self.y} {self.width} {self.height}"
 
@@ -178,7 +178,7 @@ class Layout:
         return Layout(self.width, self.height, self.steps, mirrors, balls, ins, outs, wastes)
 
     @cached_property
-    def tiles(self) -> dict[Cell, list[int]]:
+    def part_numbers_by_tile(self) -> dict[Cell, list[int]]:
         """The numbers of the parts that have cells in each tile."""
         tiles: dict[Cell, list[int]] = {}
         for number, part in enumerate(self.parts):
@@ -188,7 +188,7 @@ class Layout:
 
     def parts_near(self, box: Box) -> list[Part]:
         """Returns the parts that may have a cell in a box, in order, without a look at all others."""
-        near = {number for tile in tiles_of(*box) for number in self.tiles.get(tile, ())}
+        near = {number for tile in tiles_of(*box) for number in self.part_numbers_by_tile.get(tile, ())}
         return [self.parts[number] for number in sorted(near)]
 
     def clipped(self, box: Box) -> "Layout":
@@ -259,20 +259,20 @@ class LayoutReader(SectionReader):
     def read_mirror(self, x: int, y: int, width: int, height: int) -> None:
         """Reads a line `mirror`."""
         box = Box(x, y, width, height)
-        self.require_place("mirror", box)
+        self.take_place("mirror", box)
         self.mirrors.append(box)
 
     def read_cell(self, x: int, y: int, kind: str) -> None:
         """Reads a line `ball` or `waste`."""
-        self.require_place(kind, Box(x, y, 1, 1))
+        self.take_place(kind, Box(x, y, 1, 1))
         self.cells[kind].append((x, y))
 
     def read_port(self, name: str, x: int, y: int, kind: str) -> None:
         """Reads a line `in` or `out`."""
-        self.require_place(kind, Box(x, y, 1, 1), name)
+        self.take_place(kind, Box(x, y, 1, 1), name)
         self.ports[kind].append(Port(name, x, y))
 
-    def require_place(self, kind: str, box: Box, name: str | None = None) -> None:
+    def take_place(self, kind: str, box: Box, name: str | None = None) -> None:
         """Refuses a line of any kind but header and end that is out of order, or whose cells it may not take."""
         self.require_kind_order(kind, LATER_KINDS)
         for what, side in (("width", box.width), ("height", box.height)):
@@ -281,10 +281,10 @@ class LayoutReader(SectionReader):
         self.require_port(kind, name)
         if box.x + box.width > self.width or box.y + box.height > self.height:
             self.lines.refuse(7, "cell_outside", kind=kind, box=box, size=(self.width, self.height))
-        if kind not in END_PART_KINDS:
-            self.take_cells(kind, box, self.starts, START_PART_KINDS)
-        if kind not in START_PART_KINDS:
-            self.take_cells(kind, box, self.ends, END_PART_KINDS)
+        if kind not in END_ONLY_KINDS:
+            self.take_cells(kind, box, self.starts, START_ONLY_KINDS)
+        if kind not in START_ONLY_KINDS:
+            self.take_cells(kind, box, self.ends, END_ONLY_KINDS)
 
     def require_port(self, kind: str, name: str | None) -> None:
         """Refuses an `in` that is no input and an `out` that is no output of the circuit."""

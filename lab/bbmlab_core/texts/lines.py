@@ -18,7 +18,7 @@ NAME_PLACEHOLDERS = {"NAME", "A", "B", "C", "D", "E", "F"}
 
 LineForm = tuple[str, ...]
 # The kinds of line that come later than each kind.
-KindOrder = dict[str, list[str]]
+LaterKinds = dict[str, list[str]]
 Values = list[Any]
 
 
@@ -40,7 +40,7 @@ class RefusedTextError(Exception):
         self.refusal = refusal
 
 
-def later_kinds(kinds: Iterable[str]) -> KindOrder:
+def later_kinds(kinds: Iterable[str]) -> LaterKinds:
     """Returns the kinds that come later than each kind."""
     listed = list(kinds)
     return {kind: listed[index:] for index, kind in enumerate(listed, 1)}
@@ -177,7 +177,7 @@ class SectionReader:
     def read_nothing(self) -> None:
         """Reads a line without values, behind which nothing is left to do."""
 
-    def require_kind_order(self, keyword: str, order: KindOrder) -> None:
+    def require_kind_order(self, keyword: str, order: LaterKinds) -> None:
         """Refuses a kind of line that comes after a later kind."""
         if not self.kind_lines.keys().isdisjoint(order[keyword]):
             later = [kind for kind in order[keyword] if kind in self.kind_lines]

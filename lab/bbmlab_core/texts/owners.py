@@ -55,7 +55,7 @@ class Owners:
         return self.numbers[row * self.columns
                             + column] if 0 <= column < self.columns and 0 <= row < self.rows else NOBODY
 
-    def modules_near(self, box: Box) -> list[int]:
+    def module_numbers_near(self, box: Box) -> list[int]:
         """Returns the modules that own blocks of a box or blocks that touch it, in order."""
         spans = list(self.block_spans(Box(box.x - 2, box.y - 2, box.width + 4, box.height + 4)))
         found: set[int] = set()

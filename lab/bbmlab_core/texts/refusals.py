@@ -7,7 +7,7 @@ from dataclasses import dataclass, field
 from string import Formatter
 from typing import Any, Callable, NamedTuple, Sequence
 
-from .certificates import line_words
+from .certificates import certificate_line_text
 from .documents import Document
 from .limits import limits_line_hint
 from .lines import Refusal
@@ -84,15 +84,15 @@ def corner_words(x: int, y: int, width: int, height: int) -> str:
 class Sentences(NamedTuple):
     """What is wrong, and a hint, as format strings over the facts of a cause.
 
-    `names` and `lines` say where the facts have the names and lines that are meant. The hint goes on with how the line
-    is called for which `limits 2` is needed, if that is given.
+    `names_field` and `lines_field` say where the facts have the names and lines that are meant. The hint goes on with
+    how the line is called for which `limits 2` is needed, if that is given.
     """
 
     what: str
     hint: str
-    names: str = ""
-    lines: str = ""
-    large: str = ""
+    names_field: str = ""
+    lines_field: str = ""
+    beyond_limits: str = ""
 
 
 SENTENCES = {
@@ -105,32 +105,32 @@ SENTENCES = {
         "Write the header `{header}` first."),
     "kind_after_later_kind": Sentences(
         "This {kind_words} line comes after the {later_words} line {at}; it belongs before all {later_words} lines.",
-        "Move the line up. `bbmlab fmt` sorts the kinds.", lines="at"),
+        "Move the line up. `bbmlab fmt` sorts the kinds.", lines_field="at"),
     "no_module": Sentences(
         "The certificate has no module.",
         "Add modules that cover the rectangle of {size[0]} by {size[1]} cells, such as `module 0 0 {largest_sides}`."),
     "second_header": Sentences("The {section} section has a second header; the first is line {first}.",
-                               "Remove this header, or write `end` before it.", lines="first"),
+                               "Remove this header, or write `end` before it.", lines_field="first"),
     "before_first_module": Sentences(
         "This `{kind}` line comes before the first `module` line, so it belongs to no module.",
         "Write a line `module X Y W H` before it."),
     "layout_steps": Sentences("The layout runs {number} steps; {limits.max_steps} is the most.", "Take fewer steps.",
-                              large="A layout of more than {limits.max_steps} steps"),
+                              beyond_limits="A layout of more than {limits.max_steps} steps"),
     "delay_limit": Sentences("The delay has {number} steps; it has 1 to 4096.",
                              "Take a number from 1 to 4096, or several delays in a row."),
     "wire_count": Sentences("With this line the circuit has more than {limits.max_wires} wires.",
                             "Split the design into smaller circuits.",
-                            large="A circuit of more than {limits.max_wires} wires"),
+                            beyond_limits="A circuit of more than {limits.max_wires} wires"),
     "gate_count": Sentences("With this line the circuit has more than {limits.max_gates} gates, sources among them.",
                             "Split the design into smaller circuits.",
-                            large="A circuit of more than {limits.max_gates} gates"),
+                            beyond_limits="A circuit of more than {limits.max_gates} gates"),
     "box_side": Sentences("The {what} of the box is {number}, which is {why_no_side}.",
                           "Take an even {what} from 2 to 64."),
     "certificate_version": Sentences("There is no certificate version {number}.",
                                      "Write `certificate 2`, or `certificate 1` with `halo` lines."),
     "module_count": Sentences(
         "This is module {limits.max_modules} from 0; a certificate has at most {limits.max_modules} modules.",
-        "Take larger boxes.", large="A certificate of more than {limits.max_modules} modules"),
+        "Take larger boxes.", beyond_limits="A certificate of more than {limits.max_modules} modules"),
     "cut_count": Sentences("Module {module} has 12 `cut` lines already; `{name}` would be the thirteenth.",
                            "Use gates in place of cutting their outputs, or take a smaller box."),
     "use_count": Sentences("Module {module} has 64 `use` lines already.",
@@ -140,9 +140,9 @@ SENTENCES = {
     "wire_not_defined": Sentences(
         "The wire `{name}` is not defined before this line.{near}",
         "Define `{name}` first, by an `input` or behind the arrow of an earlier gate. A circuit has no loops.",
-        names="name"),
+        names_field="name"),
     "wire_unknown": Sentences("The circuit has no wire `{name}`.{near}", "Write the name as the circuit has it.",
-                              names="name"),
+                              names_field="name"),
     "gate_unknown": Sentences(
         "There is no gate {number}: the circuit has {gate_numbers}.",
         "Count gate lines from 0, `source` lines among them, in the order of their lines.", "number"),
@@ -153,7 +153,7 @@ SENTENCES = {
     "on_twice": Sentences("`{name}` is on already (line {at}).", "Remove one of the two lines.", "name", "at"),
     "gate_not_rising": Sentences(
         "`{kind} {number}` has {same_or_lower} `{kind} {last}` on line {at}; the gate numbers of a module rise.",
-        "{sort_or_remove}", lines="at"),
+        "{sort_or_remove}", lines_field="at"),
     "port_unknown": Sentences("`{name}` is no {side} of the circuit.{near_port}", "{names_of_side}", "name"),
     "wire_defined": Sentences("The wire `{name}` is defined already ({earlier}).",
                               "Give one of the two another name.", "name", "at"),
@@ -171,14 +171,15 @@ SENTENCES = {
         "The `{kind}` lies at {corners}, outside the rectangle of {size[0]} by {size[1]} cells, from (0, 0) to "
         "{last_cell}.", "Move it, or make the layout larger."),
     "cell_taken": Sentences("The cell ({cell[0]}, {cell[1]}) is taken by {other_part} already (line {at}).",
-                            "Move one of the two, or remove it. An `in` and an `out` may share a cell.", lines="at"),
+                            "Move one of the two, or remove it. An `in` and an `out` may share a cell.",
+                            lines_field="at"),
     "box_odd": Sentences("The corner of the box is odd: {odd_sides}.", "Move the box so that X and Y are even."),
     "box_outside": Sentences(
         "The box ({box_words}) is not inside the rectangle of {size[0]} by {size[1]} cells.",
         "Make the box smaller, or move it."),
     "box_overlap": Sentences(
         "The box ({box_words}) overlaps that of module {other} ({other_box_words}, line {at}): the cell ({cell[0]}, "
-        "{cell[1]}) is in both.", "Move one of the boxes, or make it smaller.", lines="at"),
+        "{cell[1]}) is in both.", "Move one of the boxes, or make it smaller.", lines_field="at"),
     "use_input_not_local": Sentences(
         "Gate {gate.number} (`{gate.kind}`, line {gate.line}) uses {listed}, which {is_or_are} not local in module "
         "{module}.", "Add `cut {names[0]}`, or `use` the gate that makes `{names[0]}`, before this line.",
@@ -226,7 +227,7 @@ DERIVED_FACTS: dict[str, Callable[[Facts], str]] = {
     "names_of_side": lambda facts: (f"Name one of the {facts['side']}s: {names_words(facts['known'])}."
                                     if facts["known"]
                                     else f"The circuit has no {facts['side']}."),
-    "make_local": lambda facts: local_wire_words(facts["name"], facts["gate"]),
+    "make_local": lambda facts: nonlocal_wire_hint(facts["name"], facts["gate"]),
     "wires_of_gate": lambda facts: names_words(facts["gate"].ins),
 }
 
@@ -244,9 +245,10 @@ def explained_by_sentences(sentences: Sentences, facts: Facts) -> ExplainedRefus
     words = FactWords(facts)
     named, lines = (value if isinstance(value, list) else [value]
                     for value in (Formatter().get_field(place, (), words)[0] if place else []
-                                  for place in (sentences.names, sentences.lines)))
+                                  for place in (sentences.names_field, sentences.lines_field)))
     names = list(map(str, named))
-    more = limits_line_hint(sentences.large.format_map(words), facts["limits"]) if sentences.large else ""
+    more = limits_line_hint(sentences.beyond_limits.format_map(words),
+                            facts["limits"]) if sentences.beyond_limits else ""
     return ExplainedRefusal([sentences.what.format_map(words)], [sentences.hint.format_map(words) + more], names=names,
                             lines=lines)
 
@@ -274,8 +276,9 @@ def explain_border_not_rising(facts: Facts) -> ExplainedRefusal:
     else:
         part = next(name for name, a, b in zip(("time", "y", "x"), new.order_key, last.order_key) if a != b)
         what, hint = f"has a smaller {part} than", "Sort by time, then y, then x. `bbmlab fmt` does."
-    return ExplainedRefusal([f"`{line_words(kind, new)}` {what} the line before it in the list, "
-                             f"`{line_words(kind, last)}` (line {facts['at']})."], [hint], lines=[facts["at"]])
+    return ExplainedRefusal([f"`{certificate_line_text(kind, new)}` {what} the line before it in the list, "
+                             f"`{certificate_line_text(kind, last)}` (line {facts['at']})."], [hint],
+                            lines=[facts["at"]])
 
 
 # ---- code 11
@@ -308,13 +311,13 @@ def explain_port_not_local(facts: Facts) -> ExplainedRefusal:
     what = [f"Module {facts['module']} (line {facts['at']}) has the cell of `{port.kind} {port.name} {port.x} "
             f"{port.y}` (line {port.line}) "
             f"in its box, and does not know the wire `{port.name}`." for port in facts["ports"][:8]]
-    hints = [local_wire_words(port.name, facts["makers"][port.name]) for port in facts["ports"][:8]]
+    hints = [nonlocal_wire_hint(port.name, facts["makers"][port.name]) for port in facts["ports"][:8]]
     names = list(dict.fromkeys(port.name for port in facts["ports"]))
     return ExplainedRefusal(what, list(dict.fromkeys(hints)), names=names,
                             lines=[facts["at"]] + [port.line for port in facts["ports"]])
 
 
-def local_wire_words(name: str, gate: Any) -> str:
+def nonlocal_wire_hint(name: str, gate: Any) -> str:
     """Returns how a module comes to know a wire."""
     if gate is None:
         return f"Add `cut {name}` to the module."
@@ -339,8 +342,9 @@ def explain_gap(facts: Facts) -> ExplainedRefusal:
 def explain_heard_not_local(facts: Facts) -> ExplainedRefusal:
     """Explains an edge line beside a module that does not know its wire."""
     missing = facts["missing"]
-    what = [f"Module {module} does not know the wire `{line.signal}`: line {at} (`{line_words('edge', line)}`, of "
-            f"module {other}) speaks of a cell beside its box." for module, line, other, at in missing[:4]]
+    what = [f"Module {module} does not know the wire `{line.signal}`: line {at} "
+            f"(`{certificate_line_text('edge', line)}`, of module {other}) speaks of a cell beside its box."
+            for module, line, other, at in missing[:4]]
     more = [f"There are {len(missing) - 4} more lines of that kind."] if len(missing) > 4 else []
     hints = [f"Add `cut {line.signal}` to module {module}, or `use` the gate that makes it."
              for module, line, _, _ in missing[:4]]
@@ -379,7 +383,7 @@ def even_time_hint(time: int, steps: int) -> str:
     return f"Take the odd time at which the cell is live: {' or '.join(times)}." if times else "Remove the line."
 
 
-def place_words(fault: str, facts: Facts) -> tuple[str, str]:
+def place_fault_and_hint(fault: str, facts: Facts) -> tuple[str, str]:
     """Returns what is wrong with a time or a cell, and a hint."""
     new, box, steps = facts["new"], facts["box"], facts["steps"]
     cell, last = f"({new.x}, {new.y})", steps - 1 if steps % 2 == 0 else steps - 2
@@ -411,7 +415,7 @@ def place_words(fault: str, facts: Facts) -> tuple[str, str]:
 
 def explain_border_place(facts: Facts) -> ExplainedRefusal:
     """Explains a time or a cell at which no line may be."""
-    told = [place_words(fault, facts) for fault in facts["faults"]]
+    told = [place_fault_and_hint(fault, facts) for fault in facts["faults"]]
     star = [facts["star"]] if facts["star"] else []
     return ExplainedRefusal([what for what, _ in told], [hint for _, hint in told], lines=star)
 

@@ -42,7 +42,7 @@ class ReportOrRefusal:
 
     verdict: str = ""
     digest: str = ""
-    modules: int = 0
+    module_count: int = 0
     findings: list[ReportLine] = field(default_factory=list)
     refused: tuple[int, int] | None = None
 

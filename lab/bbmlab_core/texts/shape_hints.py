@@ -65,7 +65,7 @@ def character_hints(line: str) -> list[Hint]:
     return hints
 
 
-def word_hint(word: str, place: str) -> str | None:
+def word_mismatch(word: str, place: str) -> str | None:
     """Returns why a word does not fit its place in a form, or None where it does."""
     try:
         word_value(word, place)
@@ -79,11 +79,11 @@ def word_hint(word: str, place: str) -> str | None:
     if place == "SIGNAL" and word == "0":
         return "There is no signal `0`: a cell without a line is dead."
     if place in ("SIGNAL", "NAME") or len(place) == 1 and place in "ABCDEF":
-        return name_hint(word)
-    return number_hint(word, place)
+        return name_mismatch(word)
+    return number_mismatch(word, place)
 
 
-def name_hint(word: str) -> str:
+def name_mismatch(word: str) -> str:
     """Returns why a word is no name."""
     if NUMBER_PATTERN.match(word):
         return f"`{word}` is a number, and a name stands here. A name begins with a small letter."
@@ -94,7 +94,7 @@ def name_hint(word: str) -> str:
     return f"`{word}` is no name: a small letter first, then small letters, digits and underscores."
 
 
-def number_hint(word: str, place: str) -> str:
+def number_mismatch(word: str, place: str) -> str:
     """Returns why a word is no number."""
     what = {"T": "time", "TIME": "time", "STEPS": "number of steps", "GATE": "gate number"}.get(place, "number")
     if re.fullmatch(r"0\d+", word):
@@ -122,7 +122,7 @@ def form_hint(words: list[str], form: LineForm, section: str) -> Hint:
             text = f"The arrow `->` is missing in this `{form[0]}` line."
         return text, f"Write it as `{shown}`."
     for word, place in zip(words[1:], form[1:]):
-        hint = word_hint(word, place)
+        hint = word_mismatch(word, place)
         if hint:
             return hint, f"Write it as `{shown}`."
     return f"The line is no `{form[0]}` line of the {section} section.", f"Write it as `{shown}`."
@@ -179,6 +179,6 @@ def shape_hints(line: str, section: str, begun: bool, forms: dict[str, LineForm]
     if form is None:
         return [*hints, keyword_hint(words[0], section, begun, forms)]
     hint = form_hint(words, form, section)
-    is_fixed = len(words) == len(form) and all(word_hint(word, place) is None for word,
+    is_fixed = len(words) == len(form) and all(word_mismatch(word, place) is None for word,
                                                place in zip(words[1:], form[1:]))
     return hints if hints and is_fixed else [*hints, hint]

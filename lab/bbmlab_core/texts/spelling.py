@@ -23,7 +23,7 @@ class Spelling:
 
     text: str = ""
     notes: list[str] = field(default_factory=list)
-    comments: int = 0
+    comment_count: int = 0
 
 
 def words_without_comment(line: str) -> list[str]:
@@ -55,7 +55,7 @@ def lines_without_comments(text: str, spelling: Spelling) -> Iterator[str]:
         if is_spelled(line):
             yield line
             continue
-        spelling.comments += "#" in line
+        spelling.comment_count += "#" in line
         words = words_without_comment(line)
         if words:
             yield " ".join(words)
@@ -95,7 +95,7 @@ def rank_of(line: str, order: list[str]) -> int:
     return order.index(kind) if kind in order else len(order)
 
 
-def sorted_module(lines: list[str], spelling: Spelling) -> list[str]:
+def sorted_distinct_lines(lines: list[str], spelling: Spelling) -> list[str]:
     """Returns the lines of a module, the first aside, in their order, each once."""
     ordered = sorted(lines, key=module_line_key)
     kept: list[str] = []
@@ -113,14 +113,14 @@ def sorted_certificate(lines: list[str], spelling: Spelling) -> list[str]:
     module: list[str] | None = None
     for line in lines:
         if first_word(line) == "module":
-            result += sorted_module(module or [], spelling)
+            result += sorted_distinct_lines(module or [], spelling)
             result.append(line)
             module = []
         elif module is None:
             result.append(line)
         else:
             module.append(line)
-    return result + sorted_module(module or [], spelling)
+    return result + sorted_distinct_lines(module or [], spelling)
 
 
 def sorted_section(lines: list[str], spelling: Spelling) -> list[str]:

@@ -5,7 +5,7 @@ from the inputs.
 from typing import Any
 
 from ..physics.simulation import Table, cell_of
-from ..pictures.drawing import sampled_words, wire_tables
+from ..pictures.drawing import sampled_words, wire_tables_and_column
 from ..pictures.ways import WayRun
 from ..texts.circuits import Circuit
 from ..texts.documents import Document
@@ -18,7 +18,7 @@ STEPS_BETWEEN_COUNTS = 256
 NO_WIRE = -1
 
 
-def levels_of(circuit: Circuit) -> dict[str, int]:
+def wire_levels(circuit: Circuit) -> dict[str, int]:
     """Returns how many gates lie between the inputs and each wire, at most. Sources and delays do not count."""
     levels = dict.fromkeys(circuit.inputs, 0)
     for gate in circuit.gates:
@@ -27,12 +27,12 @@ def levels_of(circuit: Circuit) -> dict[str, int]:
     return levels
 
 
-def timed_run(document: Document, tables: dict[str, Table], full: Table) -> WayRun | None:
+def run_within_limit(document: Document, tables: dict[str, Table], full: Table) -> WayRun | None:
     """Returns the run of a layout to its end, or None if it has too many moves."""
     layout = document.layout
     assert layout
     run = WayRun(layout, tables, full)
-    while run.time < layout.steps and run.run_to(min(STEPS_BETWEEN_COUNTS, layout.steps - run.time)):
+    while run.time < layout.steps and run.run_steps(min(STEPS_BETWEEN_COUNTS, layout.steps - run.time)):
         if run.move_count > MAX_MOVES:
             return None
     return run
@@ -45,8 +45,8 @@ def page_ways(document: Document) -> dict[str, Any] | None:
     the first. The name is "1" for a constant, and empty for assignments that are no wire's. `equal` lists the wires
     that are equal to it.
     """
-    tables, full, _ = wire_tables(document, [])
-    run = timed_run(document, tables, full)
+    tables, full, _ = wire_tables_and_column(document, [])
+    run = run_within_limit(document, tables, full)
     if run is None:
         return None
     equal: dict[Table, list[str]] = {}
@@ -57,7 +57,7 @@ def page_ways(document: Document) -> dict[str, Any] | None:
     for start, end, table, time in run.pieces():
         if start != end:
             found.setdefault(table if table in names else NO_WIRE, []).extend((*cell_of(start), *cell_of(end), time))
-    levels = levels_of(document.circuit) if document.circuit else {}
+    levels = wire_levels(document.circuit) if document.circuit else {}
     order = {table: number for number, table in enumerate(names)}
     return {"sampled": sampled_words(document).strip(),
             "wires": [{"name": names[table][0] if table in names else "", "equal": names.get(table, [""])[1:],

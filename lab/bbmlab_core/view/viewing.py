@@ -24,7 +24,7 @@ RENAMED_EXPORT_PATTERN = re.compile(r"(\w+) as (\w+)")
 
 def page_data(document: Document, explanation: ExplainedAnswer | None) -> str:
     """Returns what the page shows, as JSON that may stand in a script element."""
-    parts = json.loads(json_form.document_json(document, None))
+    parts = json.loads(json_form.document_json_text(document, None))
     parts["explanation"] = asdict(explanation) if explanation else None
     parts["ways"] = page_ways(document)
     return json.dumps(parts, separators=(",", ":")).replace("<", "\\u003c")
@@ -35,12 +35,12 @@ def template_text(name: str) -> str:
     return (TEMPLATE_FOLDER / name).read_text(encoding="utf-8")
 
 
-def with_imported_modules(name: str, found: dict[str, str]) -> dict[str, str]:
+def add_with_imports(name: str, found: dict[str, str]) -> dict[str, str]:
     """Adds a module's text to those found, after the modules that it imports, and returns them by their names."""
     text = template_text(f"{name}.js")
     for line in IMPORT_PATTERN.finditer(text):
         if line[3] not in found:
-            with_imported_modules(line[3], found)
+            add_with_imports(line[3], found)
     found[name] = text
     return found
 
@@ -60,7 +60,7 @@ def module_expression(text: str) -> str:
 
 def joined_script(name: str) -> str:
     """Returns a module and those that it needs as one script: a page of one file has no other files to import."""
-    needed = with_imported_modules(name, {}).items()
+    needed = add_with_imports(name, {}).items()
     return '"use strict";\nconst bbmlab = {};\n' + "".join(
         f"bbmlab.{own} = {module_expression(text)};\n" for own, text in needed)
 

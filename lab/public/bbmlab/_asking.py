@@ -10,7 +10,7 @@ from typing import Any
 from bbmlab_core.commands.explain import explanation_text
 from bbmlab_core.explain.explaining import as_json, explain_answer
 from bbmlab_core.explain.trials import Budget, TrialRunner
-from bbmlab_core.farm.answering import why_no_verdict
+from bbmlab_core.farm.answering import why_bad_answer
 from bbmlab_core.host import program as programs
 from bbmlab_core.texts.documents import command_for, read_document
 from bbmlab_core.texts.refusals import explain_code, explain_refusal
@@ -20,10 +20,10 @@ from bbmlab_core.texts.sections import Bundle
 from ._errors import ProgramError, RefusedError
 from ._reading import byte_characters
 
-STATUSES = {0: "yes", 1: "no"}
-COLOUR = re.compile(r"\033\[\d*m")
+VERDICT_OF_STATUS = {0: "yes", 1: "no"}
+COLOUR_PATTERN = re.compile(r"\033\[\d*m")
 # The command of the program for texts that the lab knows and the program has no command for.
-COMMANDS = {"design": "check", "layout": "run", "circuit": "value"}
+PROGRAM_COMMAND_OF = {"design": "check", "layout": "run", "circuit": "value"}
 
 
 @dataclass(frozen=True)
@@ -87,7 +87,7 @@ class Explanation:
 def opened_program(program: str | None) -> programs.Executable:
     """Opens the program. Raises ProgramError if there is none."""
     try:
-        return programs.find_program(program)
+        return programs.find_and_open_program(program)
     except programs.BadProgramError as error:
         raise ProgramError(str(error)) from error
 
@@ -128,11 +128,11 @@ def check(text: str | Bundle, *, program: str | None = None, timeout: float | No
         raise ProgramError(str(error)) from error
     if answer.status == 3 and report.refused:
         raise refused_error(data, *report.refused)
-    if report.refused or STATUSES.get(answer.status) != report.verdict:
+    if report.refused or VERDICT_OF_STATUS.get(answer.status) != report.verdict:
         raise ProgramError(f"the program ended with status {answer.status}, which its report does not fit")
     findings = tuple(Finding(finding.word, finding.text, finding.is_against, **finding.values)  # type: ignore[arg-type]
                      for finding in report.findings)
-    return Report(report.verdict, answer.status, report.digest, report.modules, findings, answer.output)
+    return Report(report.verdict, answer.status, report.digest, report.module_count, findings, answer.output)
 
 
 def explain(text: str | Bundle, *, effort: float = 30.0, program: str | None = None) -> Explanation:
@@ -143,9 +143,9 @@ def explain(text: str | Bundle, *, effort: float = 30.0, program: str | None = N
     """
     data = byte_characters(text)
     command, asked = command_for(data), opened_program(program)
-    command = COMMANDS.get(command, command)
+    command = PROGRAM_COMMAND_OF.get(command, command)
     answer = answer_of(asked, command, data, None)
-    why = why_no_verdict(answer) if command == "check" else None
+    why = why_bad_answer(answer) if command == "check" else None
     if why:
         raise ProgramError(f"the program gave no verdict: {why}")
     try:
@@ -153,5 +153,5 @@ def explain(text: str | Bundle, *, effort: float = 30.0, program: str | None = N
     except ReportError as error:
         raise ProgramError(str(error)) from error
     fixed = None if explanation.fixed is None else explanation.fixed.encode("latin-1").decode("utf-8", "replace")
-    return Explanation(explanation.verdict, COLOUR.sub("", explanation_text(explanation)),
+    return Explanation(explanation.verdict, COLOUR_PATTERN.sub("", explanation_text(explanation)),
                        json.loads(as_json(explanation)), fixed)

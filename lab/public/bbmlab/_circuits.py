@@ -13,7 +13,7 @@ from bbmlab_core.circuits.inverting import inverse as inverse_lines
 from bbmlab_core.circuits.netlists.model import LogicNetlist as CoreNetlist
 from bbmlab_core.circuits.simplifying import simplify as simple_lines
 from bbmlab_core.host.terminal import LabError
-from bbmlab_core.texts.circuits import Circuit, values_under
+from bbmlab_core.texts.circuits import Circuit, values_and_undefined_gate
 from bbmlab_core.texts.sections import Bundle, text_of_section
 
 from ._errors import NotFoundError
@@ -60,7 +60,8 @@ def read_netlist(text: str, *, form: str | None = None) -> Netlist:
         raise ValueError(str(error)) from error
     assert known is not None
     stored = tuple(latch.name for latch in netlist.latches)
-    return Netlist(known.value, tuple(netlist.inputs), tuple(name for name, _ in netlist.outputs), stored, netlist)
+    return Netlist(known.value, tuple(netlist.inputs), tuple(name for name, _ in netlist.outputs_with_nets), stored,
+                   netlist)
 
 
 def to_conservative(netlist: Netlist | str, *, cycles: int | None = None, state: str = "ports") -> Circuit:
@@ -130,7 +131,7 @@ def table(circuit: Circuit) -> tuple[Row, ...]:
         raise ValueError(str(error)) from error
     rows = []
     for on in choices:
-        values, gate = values_under(model, on)
+        values, gate = values_and_undefined_gate(model, on)
         true = frozenset(name for name in model.outputs if values[name]) if gate is None else None
         rows.append(Row(frozenset(on), true, gate))
     return tuple(rows)
@@ -143,11 +144,11 @@ def stats(text: Bundle | Circuit) -> dict[str, int]:
     """
     document = document_of(text_of_section(text) if isinstance(text, Circuit) else str(text),
                            "circuit" if isinstance(text, Circuit) else None)
-    return {name.strip(): int(value) for name, value in truth.section_figures(document) if value.isdecimal()}
+    return {name.strip(): int(value) for name, value in truth.document_figures(document) if value.isdecimal()}
 
 
 def equivalent(one: Circuit, other: Circuit, *, common: bool = False) -> Comparison:
     """Compares the outputs of two circuits by their names, or only those that both have: in all choices of up to 16
     inputs, or in samples."""
-    differs, scope = truth.output_difference(accepted_circuit(one), accepted_circuit(other), common)
+    differs, scope = truth.difference_and_scope_words(accepted_circuit(one), accepted_circuit(other), common)
     return Comparison(not differs, differs, scope)

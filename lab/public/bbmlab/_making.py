@@ -10,7 +10,7 @@ from typing import Callable, Iterable
 
 from bbmlab_core.certify.certifier import CertificateOptions, certified_text, legal_grid_boxes
 from bbmlab_core.circuits.netlists import NetlistError, map_netlist, netlist_format
-from bbmlab_core.circuits.row_check import first_gate_without_row
+from bbmlab_core.circuits.row_check import first_missing_row_words
 from bbmlab_core.host.terminal import LabError
 from bbmlab_core.route.certificate import circuit_section
 from bbmlab_core.route.command import require_all_keeps, require_legal_side
@@ -28,15 +28,15 @@ from ._errors import NotFoundError, RefusedError
 from ._reading import document_of, read
 
 # The status of a LabError for wrong arguments.
-WRONG_ARGUMENTS = 2
+WRONG_ARGUMENTS_STATUS = 2
 
 
 def api_error(error: LabError) -> Exception:
     """Returns the error of the API for one of `bbmlab_core`."""
-    return ValueError(str(error)) if error.status == WRONG_ARGUMENTS else NotFoundError(str(error))
+    return ValueError(str(error)) if error.status == WRONG_ARGUMENTS_STATUS else NotFoundError(str(error))
 
 
-def known_stops(bundle: Bundle) -> list[Stop]:
+def stops_of_bundle(bundle: Bundle) -> list[Stop]:
     """Returns the stops of a bundle's certificate, if the bundle is not refused."""
     if bundle.certificate is None or read_document(str(bundle), "check").refusal:
         return []
@@ -61,7 +61,7 @@ def certify(bundle: Bundle, *, grid: tuple[int, int] | None = None,
     try:
         if grid is not None:
             chosen = legal_grid_boxes(document.layout, *grid)
-        text = certified_text(document, chosen, CertificateOptions(version, cuts, known_stops(bundle)))
+        text = certified_text(document, chosen, CertificateOptions(version, cuts, stops_of_bundle(bundle)))
     except LabError as error:
         raise api_error(error) from error
     try:
@@ -108,12 +108,12 @@ def route(circuit: Circuit | str, *, seed: int = 1, size: int | None = None, eff
     assert model is not None
     try:
         require_legal_side(size)
-        why = first_gate_without_row(model)
+        why = first_missing_row_words(model)
         if why:
             raise NotFoundError(why)
         require_all_keeps("the circuit", model)
     except LabError as error:
-        raise ValueError(str(error).removeprefix("--")) if error.status == WRONG_ARGUMENTS else api_error(
+        raise ValueError(str(error).removeprefix("--")) if error.status == WRONG_ARGUMENTS_STATUS else api_error(
             error) from error
     is_cancelled = False
 

@@ -16,7 +16,7 @@ from ...texts.sections import text_of_section
 from .aiger import read_aiger
 from .blif import read_blif
 from .circuit_text import NamedCircuit
-from .comparing import agreement_words, netlist_tables
+from .comparing import require_agreement, net_tables
 from .exchanging import map_exchanges
 from .gate_text import is_gate_text, read_gates
 from .graph import MAX_TABLE_INPUTS, Graph, graph_of, table_literal
@@ -29,8 +29,8 @@ from .search import map_graph
 from .unrolling import unrolled_netlist
 from .yosys_json import read_yosys_json
 
-__all__ = ["MappedNetlist", "NetlistError", "NetlistFormat", "ReadingOptions", "circuit_from_netlist", "map_netlist",
-           "map_parsed_netlist", "netlist_format", "read_netlist"]
+__all__ = ["MappedNetlist", "NetlistError", "NetlistFormat", "ReadingOptions", "circuit_text_from_netlist",
+           "map_netlist", "map_parsed_netlist", "netlist_format", "read_netlist"]
 
 MAX_NETLIST_BYTES = 16_777_216
 # The most outputs of a netlist whose tables are tried.
@@ -42,7 +42,7 @@ BYTE_ORDER_MARK = "\xef\xbb\xbf"
 AIGER_HEAD = re.compile(r"a[ai]g [0-9]+ [0-9]+ [0-9]+ [0-9]+ [0-9]+")
 QASM_HEAD = re.compile(r"OPENQASM\b|include\s*\"|qreg\b|qubit\b|creg\b|gate\s+\w+\s*[\w(].*\{")
 # A comment of OpenQASM at the beginning of a text.
-BLOCK_COMMENT = re.compile(r"\A(?:\s|//[^\n]*\n|/\*.*?\*/)+", re.DOTALL)
+LEADING_COMMENTS = re.compile(r"\A(?:\s|//[^\n]*\n|/\*.*?\*/)+", re.DOTALL)
 READERS: dict[NetlistFormat, Callable[[str], LogicNetlist]] = {
     NetlistFormat.BLIF: read_blif, NetlistFormat.YOSYS_JSON: read_yosys_json, NetlistFormat.REAL: read_real,
     NetlistFormat.QASM: read_qasm,
@@ -101,7 +101,7 @@ def netlist_format(text: str) -> NetlistFormat | None:
 
 def first_line_without_comment(text: str) -> str:
     """Returns the first line with more than a comment, without spaces around it."""
-    for line in BLOCK_COMMENT.sub(" ", text).split("\n"):
+    for line in LEADING_COMMENTS.sub(" ", text).split("\n"):
         words = line.split("#")[0].split("//")[0].strip()
         if words:
             return words
@@ -132,7 +132,7 @@ def map_netlist(text: str, form: NetlistFormat | None = None,
 def map_parsed_netlist(netlist: LogicNetlist, reading: ReadingOptions = ReadingOptions()) -> MappedNetlist:
     """Maps a netlist that was read, as `map_netlist` does."""
     netlist = unrolled_netlist(netlist, reading.cycles, reading.has_state_ports)
-    if isinstance(netlist, LineNetlist) and netlist.exchanges is not None:
+    if isinstance(netlist, LineNetlist) and netlist.exchanges_if_all is not None:
         found = map_exchanges(netlist)
     else:
         found = cheapest_circuit(netlist)
@@ -140,7 +140,7 @@ def map_parsed_netlist(netlist: LogicNetlist, reading: ReadingOptions = ReadingO
     document = read_document(text, "circuit")
     if document.circuit is None or document.refusal is not None:
         raise NetlistError(f"The mapped circuit is wrong: {document.refusal}.")
-    scope = agreement_words(netlist, document.circuit)
+    scope = require_agreement(netlist, document.circuit)
     notes = [*netlist.notes, *found.notes, f"The circuit has the outputs of the netlist in {scope}."]
     return MappedNetlist(text, notes, document.circuit)
 
@@ -152,18 +152,18 @@ def cheapest_circuit(netlist: LogicNetlist) -> NamedCircuit:
     Networks of reversible gates often make values that no output needs, so that their tables are simpler than they are.
     """
     found = map_graph(graph_of(netlist))
-    if len(netlist.inputs) > MAX_TABLE_INPUTS or len(netlist.outputs) > MAX_TABLE_OUTPUTS:
+    if len(netlist.inputs) > MAX_TABLE_INPUTS or len(netlist.outputs_with_nets) > MAX_TABLE_OUTPUTS:
         return found
     full = (1 << (1 << len(netlist.inputs))) - 1
-    tables = netlist_tables(netlist, dict(zip(netlist.inputs, input_tables(len(netlist.inputs)))), full)
+    tables = net_tables(netlist, dict(zip(netlist.inputs, input_tables(len(netlist.inputs)))), full)
     graph = Graph(netlist.inputs)
     literals = [2 * at + 2 for at in range(len(netlist.inputs))]
-    graph.outputs = [(name, table_literal(graph, tables[net], literals)) for name, net in netlist.outputs]
+    graph.outputs = [(name, table_literal(graph, tables[net], literals)) for name, net in netlist.outputs_with_nets]
     if len(graph.needed_nodes()) > 2 * len(found.circuit.gates):
         return found
     return min(found, map_graph(graph), key=NamedCircuit.cost)
 
 
-def circuit_from_netlist(text: str) -> str:
+def circuit_text_from_netlist(text: str) -> str:
     """Returns the circuit section for a netlist. Raises NetlistError as `map_netlist` does."""
     return map_netlist(text).text

@@ -5,7 +5,7 @@ Wieringa 2011).
 import re
 from dataclasses import replace
 
-from .model import MAX_NODES, Cell, CellNode, Latch, LogicNetlist, NetlistError, TableNode
+from .model import MAX_NODES, CellType, CellNode, Latch, LogicNetlist, NetlistError, TableNode
 
 HEADER = re.compile(r"(aag|aig) ([0-9]{1,9}) ([0-9]{1,9}) ([0-9]{1,9}) ([0-9]{1,9}) ([0-9]{1,9})((?: [0-9]{1,9})*)\n")
 SYMBOL_LINE = re.compile(r"^([ilo])([0-9]{1,9}) (.+)$", re.MULTILINE)
@@ -52,7 +52,7 @@ class AigerReader:
                 return value
             shift += 7
 
-    def net_of_literal(self, literal: int) -> str:
+    def ensure_literal_net(self, literal: int) -> str:
         """Returns the net of a literal, and makes that of an inverted one."""
         variable, name = literal >> 1, f" {literal}"
         if variable > self.most:
@@ -61,7 +61,7 @@ class AigerReader:
             self.netlist.add_node(TableNode(name, (), ("",) if literal else (), True))
         elif literal & 1 and literal > 1 and literal not in self.inverted:
             self.inverted.add(literal)
-            self.netlist.add_node(CellNode(name, Cell.NOT, (f" {literal - 1}",)))
+            self.netlist.add_node(CellNode(name, CellType.NOT, (f" {literal - 1}",)))
         return name
 
     def read(self) -> LogicNetlist:
@@ -71,7 +71,8 @@ class AigerReader:
                                                                              for _ in range(self.input_count)]
         latches = [self.next_latch(at) for at in range(self.latch_count)]
         outputs = [self.next_numbers(1)[0] for _ in range(self.output_count)]
-        gates = [self.next_numbers(3) for _ in range(self.and_count)] if not self.is_binary else self.binary_gates()
+        gates = [self.next_numbers(3)
+                 for _ in range(self.and_count)] if not self.is_binary else self.read_binary_gates()
         names = {(found[1], int(found[2])): found[3]
                  for found in SYMBOL_LINE.finditer(self.text[self.at:].split("\nc\n")[0])
                  if int(found[2]) < MAX_NODES}
@@ -84,13 +85,14 @@ class AigerReader:
         for left, one, other in gates:
             if left & 1 or left < 2:
                 raise NetlistError(f"An AND gate defines {left}, which is no even number from 2.")
-            self.netlist.add_node(CellNode(f" {left}", Cell.AND,
-                                           (self.net_of_literal(one), self.net_of_literal(other))))
+            self.netlist.add_node(CellNode(f" {left}", CellType.AND,
+                                           (self.ensure_literal_net(one), self.ensure_literal_net(other))))
         for at, (literal, follower, start) in enumerate(latches):
             first = None if start == literal else bool(start)
-            self.netlist.add_latch(Latch(names.get(("l", at), f"l{at}"), f" {literal}", self.net_of_literal(follower),
-                                         first))
-        pairs = [(names.get(("o", at), f"o{at}"), self.net_of_literal(literal)) for at, literal in enumerate(outputs)]
+            self.netlist.add_latch(Latch(names.get(("l", at), f"l{at}"), f" {literal}",
+                                         self.ensure_literal_net(follower), first))
+        pairs = [(names.get(("o", at), f"o{at}"), self.ensure_literal_net(literal)) for at,
+                 literal in enumerate(outputs)]
         return self.with_port_names(inputs, names, pairs)
 
     def next_latch(self, at: int) -> tuple[int, int, int]:
@@ -102,7 +104,7 @@ class AigerReader:
             raise NetlistError(f"Line {self.line - 1}: the first value of a latch is 0, 1 or the latch itself.")
         return literal, follower, start[0] if start else 0
 
-    def binary_gates(self) -> list[list[int]]:
+    def read_binary_gates(self) -> list[list[int]]:
         """Returns the AND gates of a binary file."""
         gates = []
         for at in range(self.and_count):
@@ -120,13 +122,13 @@ class AigerReader:
         if len(set(own.values())) != len(own) or len({name for name, _ in outputs}) != len(outputs):
             raise NetlistError("Two inputs or two outputs have one name.")
         netlist = LogicNetlist("", inputs=list(own.values()),
-                               outputs=[(name, own.get(net, net)) for name, net in outputs])
+                               outputs_with_nets=[(name, own.get(net, net)) for name, net in outputs])
         netlist.latches = [replace(latch, data=own.get(latch.data, latch.data)) for latch in self.netlist.latches]
         for node in self.netlist.nodes.values():
             ins = tuple(own.get(net, net) for net in node.inputs)
             if node.output in own:
                 raise NetlistError(f"The input {node.output.strip()} is driven by a gate.")
-            netlist.add_node(CellNode(node.output, node.cell, ins) if isinstance(node, CellNode)
+            netlist.add_node(CellNode(node.output, node.cell_type, ins) if isinstance(node, CellNode)
                              else TableNode(node.output, ins, node.rows, node.value))
         return netlist
 

@@ -137,7 +137,7 @@ class BlifReader:
         driven = next((name for name in inputs if name in self.netlist.nodes), None)
         if driven is not None:
             raise NetlistError(f"The net `{driven}` is an input, and a table drives it.")
-        self.netlist.outputs = [(name, name) for name in self.outputs]
+        self.netlist.outputs_with_nets = [(name, name) for name in self.outputs]
         return self.netlist
 
 

@@ -25,7 +25,7 @@ class NamedCircuit:
 def named_circuit(graph: Graph, wiring: MappedGates) -> NamedCircuit:
     """Returns the circuit of a wiring, with a name for each wire."""
     book, names, gates = NameBook(), dict[Wire, str](), list(wiring.gates)
-    inputs = [book.port_name(name) for name in graph.input_names]
+    inputs = [book.fresh_port_name(name) for name in graph.input_names]
     names.update(enumerate(inputs))
     next_wire = 1 + max([len(inputs) - 1, *(wire for gate in gates for wire in gate.outs)])
     outputs = []
@@ -34,15 +34,16 @@ def named_circuit(graph: Graph, wiring: MappedGates) -> NamedCircuit:
             # An input that goes straight to an output: a delay gives it the name of the output.
             gates.append(NumberedGate("delay", 1, [wire], [next_wire]))
             wire, next_wire = next_wire, next_wire + 1
-        names[wire] = book.port_name(wanted)
+        names[wire] = book.fresh_port_name(wanted)
         outputs.append(names[wire])
     garbage = set(wiring.garbage)
     for gate in gates:
         for wire in gate.outs:
             if wire not in names:
-                names[wire] = book.numbered_name("g" if wire in garbage else "k" if gate.word == "source" else "w")
+                names[wire] = book.fresh_numbered_name("g" if wire in garbage else "k" if gate.gate_kind == "source"
+                                                       else "w")
     # `g2` comes before `g10`.
     spills = sorted((names[wire] for wire in garbage), key=lambda name: (len(name), name))
-    lines = (Gate(gate.word, tuple(names[wire] for wire in gate.ins), tuple(names[wire] for wire in gate.outs),
+    lines = (Gate(gate.gate_kind, tuple(names[wire] for wire in gate.ins), tuple(names[wire] for wire in gate.outs),
                   gate.parameter) for gate in gates)
     return NamedCircuit(Circuit(tuple(inputs), tuple(lines), tuple(outputs), tuple(spills)), book.renaming_notes())

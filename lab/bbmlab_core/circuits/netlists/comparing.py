@@ -2,7 +2,7 @@
 
 from ...texts.circuits import Circuit, evaluate_under, sampled_tables
 from ...texts.gates import input_tables
-from .model import Cell, CellNode, LogicNetlist, NetlistError, TableNode
+from .model import CellType, CellNode, LogicNetlist, NetlistError, TableNode
 
 # Up to so many inputs all choices are tried, and above them so many samples.
 MAX_EXHAUSTIVE_INPUTS = 16
@@ -11,15 +11,16 @@ SAMPLE_COUNT = 4096
 Table = int
 
 
-def cell_table(cell: Cell, full: Table, ins: list[Table]) -> Table:
+def cell_table(cell: CellType, full: Table, ins: list[Table]) -> Table:
     """Returns the table of a simple cell of yosys."""
     a, b, c, d = (ins + [0, 0, 0])[:4]
     values = {
-        Cell.BUF: a, Cell.NOT: ~a, Cell.AND: a & b, Cell.NAND: ~(a & b), Cell.OR: a | b, Cell.NOR: ~(a | b),
-        Cell.XOR: a ^ b, Cell.XNOR: ~(a ^ b),
-        Cell.ANDNOT: a & ~b, Cell.ORNOT: a | ~b, Cell.MUX: c & b | ~c & a, Cell.NMUX: ~(c & b | ~c & a),
-        Cell.AOI3: ~(a & b | c),
-        Cell.OAI3: ~((a | b) & c), Cell.AOI4: ~(a & b | c & d), Cell.OAI4: ~((a | b) & (c | d)),
+        CellType.BUF: a, CellType.NOT: ~a, CellType.AND: a & b, CellType.NAND: ~(a & b), CellType.OR: a | b,
+        CellType.NOR: ~(a | b),
+        CellType.XOR: a ^ b, CellType.XNOR: ~(a ^ b),
+        CellType.ANDNOT: a & ~b, CellType.ORNOT: a | ~b, CellType.MUX: c & b | ~c & a, CellType.NMUX: ~(c & b | ~c & a),
+        CellType.AOI3: ~(a & b | c),
+        CellType.OAI3: ~((a | b) & c), CellType.AOI4: ~(a & b | c & d), CellType.OAI4: ~((a | b) & (c | d)),
     }
     return values[cell] & full
 
@@ -35,17 +36,17 @@ def node_table(node: TableNode, full: Table, ins: list[Table]) -> Table:
     return fits if node.value else full & ~fits
 
 
-def netlist_tables(netlist: LogicNetlist, tables: dict[str, Table], full: Table) -> dict[str, Table]:
+def net_tables(netlist: LogicNetlist, tables: dict[str, Table], full: Table) -> dict[str, Table]:
     """Returns the table of each net on which outputs depend, from those of the inputs."""
     found = dict(tables)
-    for node in netlist.sorted_nodes():
+    for node in netlist.needed_nodes_in_order():
         ins = [found[net] for net in node.inputs]
-        found[node.output] = cell_table(node.cell, full, ins) if isinstance(node,
-                                                                            CellNode) else node_table(node, full, ins)
+        found[node.output] = (cell_table(node.cell_type, full, ins) if isinstance(node, CellNode)
+                              else node_table(node, full, ins))
     return found
 
 
-def agreement_words(netlist: LogicNetlist, circuit: Circuit) -> str:
+def require_agreement(netlist: LogicNetlist, circuit: Circuit) -> str:
     """Returns in which inputs the circuit has the outputs of the netlist, in words.
 
     Raises NetlistError where it has others.
@@ -58,10 +59,10 @@ def agreement_words(netlist: LogicNetlist, circuit: Circuit) -> str:
     else:
         full, scope = (1 << SAMPLE_COUNT) - 1, f"{SAMPLE_COUNT} samples of the {count} inputs"
         columns = sampled_tables(netlist.inputs, SAMPLE_COUNT)
-    theirs = netlist_tables(netlist, columns, full)
+    theirs = net_tables(netlist, columns, full)
     mine = {name: columns[net] for name, net in zip(circuit.inputs, netlist.inputs)}
     own = evaluate_under(circuit, mine, full, range(len(circuit.gates)))
-    for name, (port, net) in zip(circuit.outputs, netlist.outputs):
+    for name, (port, net) in zip(circuit.outputs, netlist.outputs_with_nets):
         if own.defined_columns != full or own.tables[name] != theirs[net]:
             raise NetlistError(f"The mapped circuit is wrong: its output `{name}` is not always `{port}` of the "
                                "netlist. This is a fault of the lab.")

@@ -21,7 +21,7 @@ def map_exchanges(netlist: LineNetlist) -> NamedCircuit:
     for line, bit in netlist.constants.items():
         wiring.gates.append(NumberedGate("source", int(bit), [], [made]))
         wires[line], made = made, made + 1
-    for it in netlist.exchanges or []:
+    for it in netlist.exchanges_if_all or []:
         if it.control is None:
             wires[it.first], wires[it.second] = wires[it.second], wires[it.first]
             continue
@@ -30,7 +30,7 @@ def map_exchanges(netlist: LineNetlist) -> NamedCircuit:
         wires.update({it.control: made, it.first: made + 1, it.second: made + 2})
         made += 3
     graph = Graph(netlist.inputs)
-    graph.outputs = [(name, 0) for name in netlist.ends.values() if name is not None]
-    wiring.outputs = [wires[line] for line, name in netlist.ends.items() if name is not None]
-    wiring.garbage = [wires[line] for line, name in netlist.ends.items() if name is None]
+    graph.outputs = [(name, 0) for name in netlist.output_names.values() if name is not None]
+    wiring.outputs = [wires[line] for line, name in netlist.output_names.items() if name is not None]
+    wiring.garbage = [wires[line] for line, name in netlist.output_names.items() if name is None]
     return named_circuit(graph, wiring)

@@ -8,34 +8,37 @@ import re
 
 from ...texts.lines import NAME_PATTERN
 from ...texts.spelling import words_without_comment
-from .model import MAX_PORTS, Cell, CellNode, LogicNetlist, NetlistError, TableNode
+from .model import MAX_PORTS, CellType, CellNode, LogicNetlist, NetlistError, TableNode
 
 # Gates of two or more inputs: the cell that joins two of them, and the last one.
-VARIADIC_CELLS = {"and": (Cell.AND, Cell.AND), "or": (Cell.OR, Cell.OR), "xor": (Cell.XOR, Cell.XOR),
-                  "nand": (Cell.AND, Cell.NAND), "nor": (Cell.OR, Cell.NOR), "xnor": (Cell.XOR, Cell.XNOR)}
+VARIADIC_CELLS = {"and": (CellType.AND, CellType.AND), "or": (CellType.OR, CellType.OR),
+                  "xor": (CellType.XOR, CellType.XOR), "nand": (CellType.AND, CellType.NAND),
+                  "nor": (CellType.OR, CellType.NOR), "xnor": (CellType.XOR, CellType.XNOR)}
 # Gates with a fixed number of inputs and outputs, and for each output its cell and the places of its inputs.
-FIXED_SIZE_CELLS: dict[str, tuple[int, list[tuple[Cell, tuple[int, ...]]]]] = {
-    "not": (1, [(Cell.NOT, (0,))]), "buf": (1, [(Cell.BUF, (0,))]), "mux": (3, [(Cell.MUX, (2, 1, 0))]),
-    "fredkin": (3, [(Cell.BUF, (0,)), (Cell.MUX, (2, 1, 0)), (Cell.MUX, (1, 2, 0))]),
-    "cswap": (3, [(Cell.BUF, (0,)), (Cell.MUX, (1, 2, 0)), (Cell.MUX, (2, 1, 0))]),
-    "interact": (2, [(Cell.AND, (0, 1)), (Cell.ANDNOT, (1, 0)), (Cell.ANDNOT, (0, 1)), (Cell.AND, (0, 1))]),
-    "switch": (2, [(Cell.BUF, (0,)), (Cell.AND, (0, 1)), (Cell.ANDNOT, (1, 0))]),
+FIXED_SIZE_CELLS: dict[str, tuple[int, list[tuple[CellType, tuple[int, ...]]]]] = {
+    "not": (1, [(CellType.NOT, (0,))]), "buf": (1, [(CellType.BUF, (0,))]), "mux": (3, [(CellType.MUX, (2, 1, 0))]),
+    "fredkin": (3, [(CellType.BUF, (0,)), (CellType.MUX, (2, 1, 0)), (CellType.MUX, (1, 2, 0))]),
+    "cswap": (3, [(CellType.BUF, (0,)), (CellType.MUX, (1, 2, 0)), (CellType.MUX, (2, 1, 0))]),
+    "interact": (2, [(CellType.AND, (0, 1)), (CellType.ANDNOT, (1, 0)), (CellType.ANDNOT, (0, 1)),
+                     (CellType.AND, (0, 1))]),
+    "switch": (2, [(CellType.BUF, (0,)), (CellType.AND, (0, 1)), (CellType.ANDNOT, (1, 0))]),
 }
 # How much of a text is looked at for its first word.
 HEAD_CHARACTERS = 100_000
 INVERSE_KINDS = {"unswitch", "uninteract"}
 # A line of a gate that a circuit section does not have. It may be wrong: then the reader says how.
-PLAIN_LINE = re.compile(r"^[ \t]*(?:and|or|xor|nand|nor|xnor|not|buf|mux)[ \t][^\n>]*->", re.MULTILINE | re.IGNORECASE)
-FIRST_WORD = re.compile(r"(?:[ \t\r\n]|#[^\n]*\n)*(circuit|input|source|and|or|xor|nand|nor|xnor|not|buf|mux)(?:[ "
-                        r"\t\r\n]|\Z)")
+LOGIC_GATE_LINE = re.compile(r"^[ \t]*(?:and|or|xor|nand|nor|xnor|not|buf|mux)[ \t][^\n>]*->",
+                             re.MULTILINE | re.IGNORECASE)
+GATE_TEXT_HEAD = re.compile(r"(?:[ \t\r\n]|#[^\n]*\n)*(circuit|input|source|and|or|xor|nand|nor|xnor|not|buf|mux)(?:[ "
+                            r"\t\r\n]|\Z)")
 
 
 def is_gate_text(text: str) -> bool:
     """Whether a text is a circuit with at least one gate that a circuit section does not have, and no layout."""
     end = text.find("\nend")
     last = len(text) if end < 0 else end
-    return (FIRST_WORD.match(text[:HEAD_CHARACTERS]) is not None and PLAIN_LINE.search(text, 0, last) is not None
-            and "\nlayout " not in text)
+    return (GATE_TEXT_HEAD.match(text[:HEAD_CHARACTERS]) is not None and LOGIC_GATE_LINE.search(text, 0, last) is not
+            None and "\nlayout " not in text)
 
 
 class GateReader:
@@ -78,8 +81,8 @@ class GateReader:
                 if name in self.outputs:
                     raise self.line_error(f"the output `{name}` is named twice")
                 self.outputs.add(name)
-                self.netlist.outputs.append((name, name))
-        if not names or max(len(self.netlist.inputs), len(self.netlist.outputs)) > MAX_PORTS:
+                self.netlist.outputs_with_nets.append((name, name))
+        if not names or max(len(self.netlist.inputs), len(self.netlist.outputs_with_nets)) > MAX_PORTS:
             raise self.line_error(f"`{keyword}` takes names, and a circuit has at most {MAX_PORTS} wires")
 
     def read_gate(self, keyword: str, ins: list[str], outs: list[str]) -> None:
@@ -113,14 +116,14 @@ class GateReader:
         self.define_wire(outs[0])
         self.netlist.add_node(TableNode(outs[0], (), ("",) if ins[0] == "1" else (), True))
 
-    def add_cell_tree(self, inner: Cell, last: Cell, ins: list[str], out: str) -> None:
+    def add_cell_tree(self, inner: CellType, last: CellType, ins: list[str], out: str) -> None:
         """Adds the cells that join some wires, as a tree of small depth."""
         level = list(ins)
         while len(level) > 2:
-            level = [self.add_pair_cell(inner, level[at:at + 2]) for at in range(0, len(level), 2)]
+            level = [self.add_inner_cell(inner, level[at:at + 2]) for at in range(0, len(level), 2)]
         self.netlist.add_node(CellNode(out, last, tuple(level)))
 
-    def add_pair_cell(self, cell: Cell, pair: list[str]) -> str:
+    def add_inner_cell(self, cell: CellType, pair: list[str]) -> str:
         """Returns the net of a cell over two wires, or the one that is left."""
         if len(pair) == 1:
             return pair[0]
@@ -159,6 +162,6 @@ def read_gates(text: str) -> LogicNetlist:
         has_ended = has_ended or words == ["end"]
         if words and not has_ended:
             reader.read_line(number, words)
-    if not reader.netlist.outputs:
+    if not reader.netlist.outputs_with_nets:
         raise NetlistError("The text names no output.")
     return reader.netlist

@@ -10,7 +10,7 @@ from typing import Callable
 
 from ...texts.gates import input_tables
 from ...texts.limits import SECOND_LIMITS
-from .model import Cell, CellNode, LogicNetlist, NetlistError, TableNode
+from .model import CellType, CellNode, LogicNetlist, NetlistError, TableNode
 
 MAX_GRAPH_NODES = 200_000
 # Tables of more inputs become sums of products.
@@ -51,7 +51,7 @@ class Graph:
         self.numbers: dict[GraphNode, int] = {}
         self.outputs: list[tuple[str, Literal]] = []
 
-    def literal(self, kind: Kind, *inputs: Literal) -> Literal:
+    def make_literal(self, kind: Kind, *inputs: Literal) -> Literal:
         """Returns the literal of a node, which is made if there is none."""
         node = GraphNode(kind, inputs)
         if node not in self.numbers:
@@ -86,8 +86,8 @@ class Graph:
             if left in (TRUE, right):
                 return right
             simpler = self._absorption(left, right) or self._absorption(right, left)
-        joined = self._join_literal(left, right) if left & 1 and right & 1 else None
-        return self.literal(Kind.AND, left, right) if joined is None else joined ^ 1
+        joined = self._join_of_inverses(left, right) if left & 1 and right & 1 else None
+        return self.make_literal(Kind.AND, left, right) if joined is None else joined ^ 1
 
     def _absorption(self, one: Literal, other: Literal) -> tuple[Literal, Literal] | None:
         """Returns two literals whose AND is a simpler form of "one and other" where `other` depends on the value of
@@ -108,7 +108,7 @@ class Graph:
             return one, rest ^ (other & 1) ^ (~one & 1)
         return None
 
-    def _join_literal(self, left: Literal, right: Literal) -> Literal | None:
+    def _join_of_inverses(self, left: Literal, right: Literal) -> Literal | None:
         """Returns the literal of the join whose inverse "left and right" is, if the inverses of both exclude each
         other."""
         first, second = self.implied_literals(left ^ 1), self.implied_literals(right ^ 1)
@@ -116,9 +116,9 @@ class Graph:
         if not common or not (self.and_factors(left ^ 1) and self.and_factors(right ^ 1)):
             return None
         select = next((literal for literal in common if self.nodes[literal >> 1].kind is Kind.XOR), common[0])
-        return self._select_literal(select, left ^ 1, right ^ 1)
+        return self._make_join(select, left ^ 1, right ^ 1)
 
-    def _select_literal(self, select: Literal, high: Literal, low: Literal) -> Literal:
+    def _make_join(self, select: Literal, high: Literal, low: Literal) -> Literal:
         """Returns "high or low", where `high` implies `select` and `low` excludes it."""
         factors = self.and_factors(high), self.and_factors(low)
         if all(factors) and factors[0] and factors[1]:
@@ -127,7 +127,7 @@ class Graph:
                 return self.xor(select, next(iter(seconds)))
         if select & 1:
             select, high, low = select ^ 1, low, high
-        return self.literal(Kind.JOIN, select, high, low)
+        return self.make_literal(Kind.JOIN, select, high, low)
 
     def implied_literals(self, literal: Literal) -> set[Literal]:
         """Returns literals that are true if `literal` is, among them those of XOR nodes over pairs of them."""
@@ -153,7 +153,7 @@ class Graph:
         inverted, (left, right) = (left ^ right) & 1, sorted((left & ~1, right & ~1))
         if left == right:
             return FALSE ^ inverted
-        return (right if left == FALSE else self.literal(Kind.XOR, left, right)) ^ inverted
+        return (right if left == FALSE else self.make_literal(Kind.XOR, left, right)) ^ inverted
 
     def mux(self, select: Literal, high: Literal, low: Literal) -> Literal:
         """Returns `high` if `select` is true, else `low`."""
@@ -166,7 +166,7 @@ class Graph:
         first, second = self.and_(select, high), self.and_(select ^ 1, low)
         if FALSE in (first, second) or first == select or second == select ^ 1:
             return self.or_(first, second)
-        return self._select_literal(select, first, second)
+        return self._make_join(select, first, second)
 
     def needed_nodes(self) -> list[int]:
         """Returns the nodes on which the outputs depend, each after its inputs."""
@@ -202,11 +202,11 @@ def table_literal(graph: Graph, table: int, literals: list[Literal]) -> Literal:
     for index, (cofactors, rest) in reversed(list(enumerate(halves))):
         if cofactors[0] ^ cofactors[1] == low_half:
             return graph.xor(literals[index], table_literal(graph, cofactors[0], rest))
-    symmetric = symmetric_literal(graph, table, literals)
-    return choice_literal(graph, halves, literals) if symmetric is None else symmetric
+    symmetric = literal_by_symmetric_pair(graph, table, literals)
+    return shannon_literal(graph, halves, literals) if symmetric is None else symmetric
 
 
-def symmetric_literal(graph: Graph, table: int, literals: list[Literal]) -> Literal | None:
+def literal_by_symmetric_pair(graph: Graph, table: int, literals: list[Literal]) -> Literal | None:
     """Returns the literal of a table that treats two of its inputs alike, by the XOR of the two, as in a majority; else
     None."""
     count = len(literals)
@@ -222,8 +222,8 @@ def symmetric_literal(graph: Graph, table: int, literals: list[Literal]) -> Lite
     return None
 
 
-def choice_literal(graph: Graph, halves: list[tuple[tuple[int, int], list[Literal]]],
-                   literals: list[Literal]) -> Literal:
+def shannon_literal(graph: Graph, halves: list[tuple[tuple[int, int], list[Literal]]],
+                    literals: list[Literal]) -> Literal:
     """Returns the literal of a table as a choice by the input that leaves the fewest inputs to its two halves."""
     def weight(index: int) -> int:
         """Returns on how many inputs the two halves depend."""
@@ -277,21 +277,22 @@ def table_node_literal(graph: Graph, node: TableNode, inputs: list[Literal]) -> 
     return balanced_tree(graph, products, False) ^ inverted
 
 
-def cell_literal(graph: Graph, cell: Cell, inputs: list[Literal]) -> Literal:
+def cell_literal(graph: Graph, cell: CellType, inputs: list[Literal]) -> Literal:
     """Returns the literal of a simple cell, by the rules of the cell library of yosys."""
     first, second, third, fourth = (inputs + [FALSE] * 3)[:4]
     both, one = (graph.and_, graph.or_)
-    rules: dict[Cell, Callable[[], Literal]] = {
-        Cell.BUF: lambda: first, Cell.NOT: lambda: first ^ 1,
-        Cell.AND: lambda: both(first, second), Cell.NAND: lambda: both(first, second) ^ 1,
-        Cell.OR: lambda: one(first, second), Cell.NOR: lambda: one(first, second) ^ 1,
-        Cell.XOR: lambda: graph.xor(first, second), Cell.XNOR: lambda: graph.xor(first, second) ^ 1,
-        Cell.ANDNOT: lambda: both(first, second ^ 1), Cell.ORNOT: lambda: one(first, second ^ 1),
-        Cell.MUX: lambda: graph.mux(third, second, first),
-        Cell.NMUX: lambda: graph.mux(third, second, first) ^ 1, Cell.AOI3: lambda: one(both(first, second), third) ^ 1,
-        Cell.OAI3: lambda: both(one(first, second), third) ^ 1,
-        Cell.AOI4: lambda: one(both(first, second), both(third, fourth)) ^ 1,
-        Cell.OAI4: lambda: both(one(first, second), one(third, fourth)) ^ 1,
+    rules: dict[CellType, Callable[[], Literal]] = {
+        CellType.BUF: lambda: first, CellType.NOT: lambda: first ^ 1,
+        CellType.AND: lambda: both(first, second), CellType.NAND: lambda: both(first, second) ^ 1,
+        CellType.OR: lambda: one(first, second), CellType.NOR: lambda: one(first, second) ^ 1,
+        CellType.XOR: lambda: graph.xor(first, second), CellType.XNOR: lambda: graph.xor(first, second) ^ 1,
+        CellType.ANDNOT: lambda: both(first, second ^ 1), CellType.ORNOT: lambda: one(first, second ^ 1),
+        CellType.MUX: lambda: graph.mux(third, second, first),
+        CellType.NMUX: lambda: graph.mux(third, second, first) ^ 1,
+        CellType.AOI3: lambda: one(both(first, second), third) ^ 1,
+        CellType.OAI3: lambda: both(one(first, second), third) ^ 1,
+        CellType.AOI4: lambda: one(both(first, second), both(third, fourth)) ^ 1,
+        CellType.OAI4: lambda: both(one(first, second), one(third, fourth)) ^ 1,
     }
     return rules[cell]()
 
@@ -303,9 +304,9 @@ def graph_of(netlist: LogicNetlist) -> Graph:
     """
     graph = Graph(netlist.inputs)
     literals = {name: 2 * (index + 1) for index, name in enumerate(netlist.inputs)}
-    for node in netlist.sorted_nodes():
+    for node in netlist.needed_nodes_in_order():
         inputs = [literals[name] for name in node.inputs]
-        literals[node.output] = (cell_literal(graph, node.cell, inputs) if isinstance(node, CellNode)
+        literals[node.output] = (cell_literal(graph, node.cell_type, inputs) if isinstance(node, CellNode)
                                  else table_node_literal(graph, node, inputs))
-    graph.outputs = [(name, literals[net]) for name, net in netlist.outputs]
+    graph.outputs = [(name, literals[net]) for name, net in netlist.outputs_with_nets]
     return graph

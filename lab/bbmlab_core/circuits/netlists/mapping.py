@@ -30,13 +30,13 @@ Way = tuple[float, str, tuple[Literal, ...]]
 
 @dataclass
 class NumberedGate:
-    """A gate with numbers of wires. `node` is the node that an inverse gate joins."""
+    """A gate with numbers of wires. `joined_node` is the node that an inverse gate joins."""
 
-    word: str
+    gate_kind: str
     parameter: int | None
     ins: list[Wire]
     outs: list[Wire]
-    node: int | None = None
+    joined_node: int | None = None
 
 
 @dataclass
@@ -53,7 +53,7 @@ class MappedGates:
         for gate in self.gates:
             depth = 1 + max((depths.get(wire, 0) for wire in gate.ins), default=-1)
             depths.update((wire, depth) for wire in gate.outs)
-        gates = sum(GATE_COSTS[gate.word] for gate in self.gates)
+        gates = sum(GATE_COSTS[gate.gate_kind] for gate in self.gates)
         return gates + GARBAGE_COST * len(self.garbage) + DEPTH_COST * max(depths.values(), default=0)
 
 
@@ -157,7 +157,7 @@ class Mapper:
         """Returns the pool of a literal."""
         return self.pool.setdefault(literal, [])
 
-    def carrier_count(self, literal: Literal) -> int:
+    def node_wire_count(self, literal: Literal) -> int:
         """Returns how many wires carry a literal or its inverse."""
         return len(self.pool_of(literal)) + len(self.pool_of(literal ^ 1))
 
@@ -172,14 +172,14 @@ class Mapper:
         """Takes a wire of a literal out of its pool. One of it or of its inverse stays while there are uses."""
         if not self.pool_of(literal):
             self.duplicate_wire(literal ^ 1)
-        elif self.carrier_count(literal) == 1 and self.uses[literal >> 1] > 0:
+        elif self.node_wire_count(literal) == 1 and self.uses[literal >> 1] > 0:
             self.duplicate_wire(literal)
         return self.pool[literal].pop()
 
     def take_cost(self, literal: Literal, made: int = 0) -> float:
         """Returns what `take` costs if `made` uses of the literal go, since their products are made by the same gate.
         """
-        is_free = self.pool_of(literal) and (self.carrier_count(literal) > 1 or self.uses[literal >> 1] <= made)
+        is_free = self.pool_of(literal) and (self.node_wire_count(literal) > 1 or self.uses[literal >> 1] <= made)
         return 0 if is_free else COPY_COST
 
     def borrow_wire(self, literal: Literal) -> tuple[Literal, Wire]:
@@ -225,7 +225,7 @@ class Mapper:
             gain = self.product_worth(control ^ 1, other)
             ways.append((1 + inversion + self.take_cost(other, gain) - gain, "product", (control, other)))
             if inversion and number not in self.separate:
-                second = 0.0 if self.carrier_count(control) > 1 else COPY_COST
+                second = 0.0 if self.node_wire_count(control) > 1 else COPY_COST
                 ways.append((2 + second + self.take_cost(other ^ 1), "sum", (control ^ 1, other ^ 1)))
         left, right = inputs
         gain = self.product_worth(left ^ 1, right) + self.product_worth(left, right ^ 1)
@@ -258,7 +258,7 @@ class Mapper:
     def map_or_by_switch(self, number: int, control: Literal, other: Literal) -> None:
         """Maps the inverse of an AND node, "control or other", by a switch and a join."""
         product = self.claim_product(control, other)
-        if self.carrier_count(control) < 2 or not self.pool_of(control):
+        if self.node_wire_count(control) < 2 or not self.pool_of(control):
             self.duplicate_wire(control if self.pool_of(control) else control ^ 1)
         wire, first = self.take_wire(other), self.pool[control].pop()
         found, select = self.borrow_wire(control)
@@ -282,10 +282,10 @@ class Mapper:
                 for two in (second, second ^ 1):
                     if self.pool_of(one) and self.pool_of(two):
                         gain = self.product_worth(one, two)
-                        copies = (self.carrier_count(first) < 2) + (self.carrier_count(second) < 2
-                                                                    and self.uses[second >> 1] > gain)
+                        copies = (self.node_wire_count(first) < 2) + (self.node_wire_count(second) < 2
+                                                                      and self.uses[second >> 1] > gain)
                         ways.append((1.8 + COPY_COST * copies - gain, "meeting_join", (one, two)))
-            spare = self.pool_of(second) and self.pool_of(second ^ 1) and (self.carrier_count(second) > 2
+            spare = self.pool_of(second) and self.pool_of(second ^ 1) and (self.node_wire_count(second) > 2
                                                                            or not self.uses[second >> 1])
             if spare:
                 gains = sum(self.product_worth(one, two) for one in (first, first ^ 1) for two in (second, second ^ 1))
@@ -296,7 +296,7 @@ class Mapper:
         """Maps a XOR node by an interaction and a join. A wire of `left` is consumed, and another one is the control.
         """
         product = self.claim_product(left, right)
-        if self.carrier_count(left) < 2:
+        if self.node_wire_count(left) < 2:
             self.duplicate_wire(left)
         wire, other = self.pool[left].pop(), self.take_wire(right)
         both, right_alone, left_alone, again = self.add_gate("interact", None, [wire, other], 4)
@@ -323,7 +323,7 @@ class Mapper:
     def map_xor_by_fredkin(self, number: int, left: Literal, right: Literal) -> None:
         """Maps a XOR node by a Fredkin gate over a wire and its inverse."""
         while not (self.pool_of(right) and self.pool_of(right ^ 1)
-                   and (self.carrier_count(right) > 2 or not self.uses[right >> 1])):
+                   and (self.node_wire_count(right) > 2 or not self.uses[right >> 1])):
             self.duplicate_wire(right if self.pool_of(right) else right ^ 1)
         found, select = self.borrow_wire(left)
         ins = [select, self.pool[right ^ 1].pop(), self.pool[right].pop()]

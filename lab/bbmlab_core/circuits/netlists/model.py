@@ -30,8 +30,8 @@ class NetlistFormat(Enum):
     GATES = "gates"
 
 
-class Cell(Enum):
-    """The simple cells of yosys, by their types. Inputs come in the order of `PORTS`."""
+class CellType(Enum):
+    """The simple cells of yosys, by their types. Inputs come in the order of `INPUT_PORTS`."""
 
     BUF = "$_BUF_"
     NOT = "$_NOT_"
@@ -51,12 +51,11 @@ class Cell(Enum):
     OAI4 = "$_OAI4_"
 
 
-PORTS = {
-    Cell.BUF: "A", Cell.NOT: "A", Cell.AND: "AB", Cell.NAND: "AB", Cell.OR: "AB", Cell.NOR: "AB", Cell.XOR: "AB",
-    Cell.XNOR: "AB",
-    Cell.ANDNOT: "AB", Cell.ORNOT: "AB", Cell.MUX: "ABS", Cell.NMUX: "ABS", Cell.AOI3: "ABC", Cell.OAI3: "ABC",
-    Cell.AOI4: "ABCD",
-    Cell.OAI4: "ABCD",
+INPUT_PORTS = {
+    CellType.BUF: "A", CellType.NOT: "A", CellType.AND: "AB", CellType.NAND: "AB", CellType.OR: "AB",
+    CellType.NOR: "AB", CellType.XOR: "AB", CellType.XNOR: "AB", CellType.ANDNOT: "AB", CellType.ORNOT: "AB",
+    CellType.MUX: "ABS", CellType.NMUX: "ABS", CellType.AOI3: "ABC", CellType.OAI3: "ABC", CellType.AOI4: "ABCD",
+    CellType.OAI4: "ABCD",
 }
 
 
@@ -65,7 +64,7 @@ class CellNode:
     """A simple cell that drives the net `output`."""
 
     output: str
-    cell: Cell
+    cell_type: CellType
     inputs: tuple[str, ...]
 
 
@@ -90,25 +89,27 @@ class Latch:
     """A bit that is stored from one cycle to the next: the net that it drives, the net of its next value, and its first
     value if it has one.
 
-    `clock` is the net at whose edge the bit changes, with the word for the edge, or None for a clock that is not
-    written.
+    `clock_and_edge` is the net at whose edge the bit changes, with the word for the edge, or None for a clock that is
+    not written.
     """
 
     name: str
     output: str
     data: str
     start: bool | None = None
-    clock: tuple[str, str] | None = None
+    clock_and_edge: tuple[str, str] | None = None
 
 
 @dataclass
 class LogicNetlist:
-    """A netlist. `outputs` are pairs of a port's name and the net that drives it. Without latches it is combinational.
+    """A netlist. `outputs_with_nets` are pairs of a port's name and the net that drives it.
+
+    Without latches it is combinational.
     """
 
     name: str
     inputs: list[str] = field(default_factory=list)
-    outputs: list[tuple[str, str]] = field(default_factory=list)
+    outputs_with_nets: list[tuple[str, str]] = field(default_factory=list)
     nodes: dict[str, Node] = field(default_factory=dict)
     notes: list[str] = field(default_factory=list)
     latches: list[Latch] = field(default_factory=list)
@@ -129,13 +130,13 @@ class LogicNetlist:
                                f"{SECOND_LIMITS.max_gates} gates.")
         self.nodes[node.output] = node
 
-    def sorted_nodes(self) -> list[Node]:
+    def needed_nodes_in_order(self) -> list[Node]:
         """Returns the nodes on which the outputs depend, each after the nodes that drive its inputs.
 
         Raises NetlistError at a net without a driver and at a combinational loop.
         """
         known, open_nets, ordered = set(self.inputs), set[str](), list[Node]()
-        todo = [(net, False) for _, net in reversed(self.outputs)]
+        todo = [(net, False) for _, net in reversed(self.outputs_with_nets)]
         while todo:
             net, is_leaving = todo.pop()
             if is_leaving:

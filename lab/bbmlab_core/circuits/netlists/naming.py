@@ -14,7 +14,7 @@ class NameBook:
         self.changed: list[tuple[str, str]] = []
         self.last: dict[str, int] = {}
 
-    def port_name(self, wanted: str) -> str:
+    def fresh_port_name(self, wanted: str) -> str:
         """Returns the name for a port, and remembers it if it is another one than the netlist has."""
         name = self.fresh_name(legal_name(wanted))
         if name != wanted:
@@ -36,7 +36,7 @@ class NameBook:
         self.taken.add(name)
         return name
 
-    def numbered_name(self, stem: str) -> str:
+    def fresh_numbered_name(self, stem: str) -> str:
         """Returns `stem` with the first number from 0 that makes a new name."""
         number = self.last.get(f"{stem} number", -1) + 1
         while f"{stem}{number}" in self.taken:

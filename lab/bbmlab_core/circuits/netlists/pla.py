@@ -59,7 +59,7 @@ class PlaReader:
         for at, name in enumerate(outs):
             rows = tuple(dict.fromkeys(product for product, values in self.rows if values[at] == "1"))
             netlist.add_node(TableNode(f" {name}", tuple(ins), rows, True))
-            netlist.outputs.append((name, f" {name}"))
+            netlist.outputs_with_nets.append((name, f" {name}"))
         return netlist
 
 

@@ -16,7 +16,7 @@ KNOWN_GATES = {"x": (0, 1), "cx": (1, 1), "CX": (1, 1), "cnot": (1, 1), "ccx": (
 REGISTER = re.compile(r"(?:(qreg|creg)\s+(\w+)\s*\[\s*(\d+)\s*\]|(qubit|bit)\s*(?:\[\s*(\d+)\s*\])?\s*(\w+))\Z")
 MEASURE = re.compile(r"(?:measure\s+(.+?)\s*->\s*(.+)|(.+?)\s*=\s*measure\s+(.+))\Z", re.DOTALL)
 CALL = re.compile(r"((?:(?:neg)?ctrl(?:\s*\(\s*\d+\s*\))?\s*@\s*)*)(\w+)\s*(\([^)]*\))?\s+(.+)\Z", re.DOTALL)
-MODIFIER = re.compile(r"(neg)?ctrl(?:\s*\(\s*(\d+)\s*\))?\s*@")
+CONTROL_MODIFIER = re.compile(r"(neg)?ctrl(?:\s*\(\s*(\d+)\s*\))?\s*@")
 DEFINITION = re.compile(r"gate\s+(\w+)\s*(\([^)]*\))?\s*([\w\s,]+?)\s*\{(.*)\}\Z", re.DOTALL)
 OPERAND = re.compile(r"(\w+)(?:\s*\[\s*(\d+)\s*\])?\Z")
 MAX_DEPTH = 64
@@ -152,7 +152,7 @@ class QasmReader:
             raise NetlistError(f"Line {number}: the definitions of gates call too many others.")
         require_distinct(number, lines)
         controls: list[Control] = []
-        for is_negative, count in MODIFIER.findall(modifiers):
+        for is_negative, count in CONTROL_MODIFIER.findall(modifiers):
             taken, lines = lines[:int(count or 1)], lines[int(count or 1):]
             controls += [(line, not is_negative) for line in taken]
         if name in self.definitions and not controls:

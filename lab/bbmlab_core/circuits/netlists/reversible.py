@@ -5,7 +5,7 @@ Sources: Toffoli 1980 and Fredkin and Toffoli 1982 for the gates; Peres 1985 for
 
 from dataclasses import dataclass, field
 
-from .model import MAX_NODES, Cell, CellNode, LogicNetlist, NetlistError, TableNode
+from .model import MAX_NODES, CellType, CellNode, LogicNetlist, NetlistError, TableNode
 
 # A control: a line, and the value at which it lets the gate act.
 Control = tuple[str, bool]
@@ -24,14 +24,14 @@ class Exchange:
 class LineNetlist(LogicNetlist):
     """A netlist that was made of gates on lines.
 
-    `exchanges` has them if all only exchange lines, which is conservative.
+    `exchanges_if_all` has them if all only exchange lines, which is conservative.
     """
 
     lines: list[str] = field(default_factory=list)
     constants: dict[str, bool] = field(default_factory=dict)
     # The name of each line's output, or None for garbage.
-    ends: dict[str, str | None] = field(default_factory=dict)
-    exchanges: list[Exchange] | None = field(default_factory=list[Exchange])
+    output_names: dict[str, str | None] = field(default_factory=dict)
+    exchanges_if_all: list[Exchange] | None = field(default_factory=list[Exchange])
 
 
 class LineBuilder:
@@ -63,48 +63,48 @@ class LineBuilder:
         self.netlist.constants[line] = bit
         self.nets[line] = net
 
-    def add_cell(self, cell: Cell, *inputs: str) -> str:
+    def add_cell(self, cell: CellType, *inputs: str) -> str:
         """Adds a cell, and returns its net."""
         net = self.fresh_net()
         self.netlist.add_node(CellNode(net, cell, inputs))
         return net
 
-    def condition_net(self, controls: list[Control]) -> str | None:
+    def add_condition(self, controls: list[Control]) -> str | None:
         """Returns the net that is true if all controls have their values, or None if there are no controls."""
         found: str | None = None
         for line, value in controls:
             own = self.nets[line]
             if found is None:
-                found = own if value else self.add_cell(Cell.NOT, own)
+                found = own if value else self.add_cell(CellType.NOT, own)
             else:
-                found = self.add_cell(Cell.AND if value else Cell.ANDNOT, found, own)
+                found = self.add_cell(CellType.AND if value else CellType.ANDNOT, found, own)
         return found
 
     def add_not(self, controls: list[Control], target: str) -> None:
         """Adds a NOT of a line, if all controls have their values."""
-        self.netlist.exchanges = None
-        own, condition = self.nets[target], self.condition_net(controls)
-        self.nets[target] = (self.add_cell(Cell.NOT, own) if condition is None
-                             else self.add_cell(Cell.XOR, own, condition))
+        self.netlist.exchanges_if_all = None
+        own, condition = self.nets[target], self.add_condition(controls)
+        self.nets[target] = (self.add_cell(CellType.NOT, own) if condition is None
+                             else self.add_cell(CellType.XOR, own, condition))
 
     def add_swap(self, controls: list[Control], first: str, second: str) -> None:
         """Exchanges two lines, if all controls have their values."""
-        exchanges = self.netlist.exchanges
+        exchanges = self.netlist.exchanges_if_all
         if len(controls) > 1 or not all(value for _, value in controls):
-            self.netlist.exchanges = None
+            self.netlist.exchanges_if_all = None
         elif exchanges is not None:
             exchanges.append(Exchange(controls[0][0] if controls else None, first, second))
-        condition, one, other = self.condition_net(controls), self.nets[first], self.nets[second]
+        condition, one, other = self.add_condition(controls), self.nets[first], self.nets[second]
         if condition is None:
             self.nets[first], self.nets[second] = other, one
         else:
-            self.nets[first] = self.add_cell(Cell.MUX, one, other, condition)
-            self.nets[second] = self.add_cell(Cell.MUX, other, one, condition)
+            self.nets[first] = self.add_cell(CellType.MUX, one, other, condition)
+            self.nets[second] = self.add_cell(CellType.MUX, other, one, condition)
 
     def finish(self, ends: dict[str, str | None]) -> LineNetlist:
         """Returns the netlist. `ends` has the name of each line's output, or None for garbage."""
-        self.netlist.ends = ends
-        self.netlist.outputs = [(name, self.nets[line]) for line, name in ends.items() if name is not None]
+        self.netlist.output_names = ends
+        self.netlist.outputs_with_nets = [(name, self.nets[line]) for line, name in ends.items() if name is not None]
         return self.netlist
 
 

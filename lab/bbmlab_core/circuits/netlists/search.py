@@ -61,8 +61,8 @@ def map_graph(graph: Graph) -> NamedCircuit:
         found = named_circuit(graph, wiring)
         require_section_limits(len(found.circuit.gates), len(found.circuit.wires))
         # The nodes whose inverse gate has no cone that shows that it always has a row.
-        failed = frozenset(gate.node for number, gate in enumerate(wiring.gates)
-                           if gate.word == "unswitch" and gate.node is not None
+        failed = frozenset(gate.joined_node for number, gate in enumerate(wiring.gates)
+                           if gate.gate_kind == "unswitch" and gate.joined_node is not None
                            and cone_for_inverse_gate(found.circuit, number) is None)
         if not failed:
             return found

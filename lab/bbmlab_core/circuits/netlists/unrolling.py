@@ -21,14 +21,13 @@ def unrolled_netlist(netlist: LogicNetlist, cycles: int | None, has_state_ports:
         count = len(netlist.latches)
         raise NetlistError(f"The netlist stores {count} bit{'s' if count > 1 else ''}: say for how many cycles it "
                            "runs, such as --cycles 4.")
-    require_distinct_names(netlist)
+    require_distinct_latches(netlist)
     clock = clock_of(netlist)
-    core = replace(netlist,
-                   inputs=[name for name in netlist.inputs if name != clock]
-                   + [latch.output for latch in netlist.latches], latches=[],
-                   outputs=netlist.outputs + [(latch.name, latch.data) for latch in netlist.latches])
-    order = nodes_in_order(core, clock)
-    if cycles * max(1, len(order), len(core.inputs), len(core.outputs)) > MAX_NODES:
+    inputs = [name for name in netlist.inputs if name != clock] + [latch.output for latch in netlist.latches]
+    outputs = netlist.outputs_with_nets + [(latch.name, latch.data) for latch in netlist.latches]
+    core = replace(netlist, inputs=inputs, latches=[], outputs_with_nets=outputs)
+    order = cycle_nodes(core, clock)
+    if cycles * max(1, len(order), len(core.inputs), len(core.outputs_with_nets)) > MAX_NODES:
         raise NetlistError(f"{cycles} cycles of {len(order)} nodes of logic and {len(netlist.latches)} stored bits are "
                            "too many: all together "
                            f"have at most {MAX_NODES} nodes and {MAX_PORTS} ports.")
@@ -36,20 +35,20 @@ def unrolled_netlist(netlist: LogicNetlist, cycles: int | None, has_state_ports:
                     order).run(cycles, has_state_ports)
 
 
-def nodes_in_order(core: LogicNetlist, clock: str | None) -> list[Node]:
+def cycle_nodes(core: LogicNetlist, clock: str | None) -> list[Node]:
     """Returns the nodes of one cycle in order. Raises NetlistError if the clock is used as a bit."""
     driven = next((name for name in core.inputs if name in core.nodes), None)
     if driven is not None:
         raise NetlistError(f"The net `{driven.strip()}` is driven by a latch or an input and by logic.")
     known = core if clock is None else replace(core, inputs=[*core.inputs, clock])
-    order = known.sorted_nodes()
-    used = {name for node in order for name in node.inputs} | {net for _, net in core.outputs}
+    order = known.needed_nodes_in_order()
+    used = {name for node in order for name in node.inputs} | {net for _, net in core.outputs_with_nets}
     if clock is not None and clock in used:
         raise NetlistError(f"The clock `{clock}` is also used as a bit, which it is not in an unrolled machine.")
     return order
 
 
-def require_distinct_names(netlist: LogicNetlist) -> None:
+def require_distinct_latches(netlist: LogicNetlist) -> None:
     """Raises NetlistError if two stored bits have one name or one net."""
     for kind, names in (("name", [latch.name for latch in netlist.latches]),
                         ("net", [latch.output for latch in netlist.latches])):
@@ -65,7 +64,7 @@ def clock_of(netlist: LogicNetlist) -> str | None:
 
     Raises NetlistError if there are two clocks or edges, or if the clock is made by logic.
     """
-    clocks = {latch.clock: latch for latch in netlist.latches}
+    clocks = {latch.clock_and_edge: latch for latch in netlist.latches}
     if len(clocks) > 1:
         one, other = list(clocks.values())[:2]
         raise NetlistError(f"The stored bits `{one.name}` and `{other.name}` have different clocks or edges. One edge "
@@ -93,16 +92,16 @@ class Unroller:
 
     def run(self, cycles: int, has_state_ports: bool) -> LogicNetlist:
         """Returns the netlist of all cycles."""
-        state = {latch.output: self.first_value_net(latch, has_state_ports) for latch in self.netlist.latches}
+        state = {latch.output: self.add_first_value(latch, has_state_ports) for latch in self.netlist.latches}
         for cycle in range(cycles):
             state = self.add_cycle(cycle, state)
-        self.result.outputs += [(f"{latch.name}_end", state[latch.output]) for latch in self.netlist.latches]
+        self.result.outputs_with_nets += [(f"{latch.name}_end", state[latch.output]) for latch in self.netlist.latches]
         begins = "comes in by `NAME_start`" if has_state_ports else "begins with its first values"
         self.result.notes.append(f"The machine runs for {cycles} cycle{'s' if cycles > 1 else ''}. Its state {begins} "
                                  "and leaves by `NAME_end`.")
         return self.result
 
-    def first_value_net(self, latch: Latch, has_state_ports: bool) -> str:
+    def add_first_value(self, latch: Latch, has_state_ports: bool) -> str:
         """Returns the net of the first value of a latch: an input, or a constant."""
         net = f"{latch.name}_start"
         if has_state_ports:
@@ -124,8 +123,9 @@ class Unroller:
             nets[node.output] = f" {cycle} {node.output}"
             ins = tuple(nets[name] for name in node.inputs)
             if isinstance(node, CellNode):
-                self.result.add_node(CellNode(nets[node.output], node.cell, ins))
+                self.result.add_node(CellNode(nets[node.output], node.cell_type, ins))
             else:
                 self.result.add_node(TableNode(nets[node.output], ins, node.rows, node.value))
-        self.result.outputs += [(f"{name}_{cycle}", nets[net]) for name, net in self.netlist.outputs]
+        self.result.outputs_with_nets += [(f"{name}_{cycle}", nets[net]) for name,
+                                          net in self.netlist.outputs_with_nets]
         return {latch.output: nets[latch.data] for latch in self.netlist.latches}

@@ -5,10 +5,10 @@ import re
 from dataclasses import replace
 from typing import Any
 
-from .model import MAX_PORTS, PORTS, Cell, CellNode, Latch, LogicNetlist, NetlistError, TableNode
+from .model import MAX_PORTS, INPUT_PORTS, CellType, CellNode, Latch, LogicNetlist, NetlistError, TableNode
 
 MAX_LUT_WIDTH = 8
-SIMPLE_CELLS = {cell.value: cell for cell in Cell}
+SIMPLE_CELLS = {cell.value: cell for cell in CellType}
 STORING_CELL_TYPES = ("$_DFF", "$_SDFF", "$_ALDFF", "$_DLATCH", "$_SR", "$_FF_", "$dff", "$adff", "$sdff", "$dlatch",
                       "$mem", "$ff", "$aldff")
 # A flip-flop by its clock, with or without an enable or a reset at the edge of the clock: whether the enable comes
@@ -52,7 +52,7 @@ class ModuleReader:
         self.netlist, self.module = LogicNetlist(name), module
         self.made = 0
 
-    def net_of(self, bit: Any, where: str) -> str:
+    def ensure_net(self, bit: Any, where: str) -> str:
         """Returns the name of the net of a bit: a number, or a constant of one character."""
         if isinstance(bit, int) and not isinstance(bit, bool):
             return f"net {bit}"
@@ -77,12 +77,12 @@ class ModuleReader:
             if len(bits) > MAX_PORTS:
                 raise NetlistError(f"The port `{name}` has {len(bits)} bits. A circuit has at most {MAX_PORTS} wires.")
             for position, bit in enumerate(bits):
-                named = name if len(bits) == 1 else f"{name}[{bit_index(port, position, len(bits))}]"
-                net = self.net_of(bit, f"The port `{named}`")
+                named = name if len(bits) == 1 else f"{name}[{verilog_index(port, position, len(bits))}]"
+                net = self.ensure_net(bit, f"The port `{named}`")
                 if direction == "input":
                     self.add_input(named, net)
                 else:
-                    self.netlist.outputs.append((named, net))
+                    self.netlist.outputs_with_nets.append((named, net))
 
     def add_input(self, name: str, net: str) -> None:
         """Adds an input port: a net of its own name, which drives the net with the number."""
@@ -97,7 +97,7 @@ class ModuleReader:
             kind = member(cell, "type", str, f"the cell `{name}`")
             if kind in SIMPLE_CELLS:
                 simple = SIMPLE_CELLS[kind]
-                inputs = tuple(self.port_nets(cell, name, port, 1)[0] for port in PORTS[simple])
+                inputs = tuple(self.port_nets(cell, name, port, 1)[0] for port in INPUT_PORTS[simple])
                 self.netlist.add_node(CellNode(self.port_nets(cell, name, "Y", 1)[0], simple, inputs))
             elif kind == "$lut":
                 self.read_lut(name, cell)
@@ -128,16 +128,16 @@ class ModuleReader:
             attributes = net.get("attributes")
             init = attributes.get("init", "") if isinstance(attributes, dict) else ""
             signs = init[::-1] if isinstance(init, str) else ""
-            for position, wire in ((position, f"net {bit}") for position,
-                                   bit in enumerate(bits) if isinstance(bit, int) and f"net {bit}" in stored):
-                before = names.get(wire,
-                                   (name if len(bits) == 1 else f"{name}[{bit_index(net, position, len(bits))}]", None))
+            for position, wire in ((position, f"net {bit}") for position, bit in enumerate(bits)
+                                   if isinstance(bit, int) and f"net {bit}" in stored):
+                own = name if len(bits) == 1 else f"{name}[{verilog_index(net, position, len(bits))}]"
+                before = names.get(wire, (own, None))
                 names[wire] = before[0], {"0": False, "1": True}.get(signs[position:position + 1], before[1])
         found = ((latch, *names.get(latch.output, (latch.name, None))) for latch in latches)
         self.netlist.latches = sorted((replace(latch, name=name, start=start) for latch, name, start in found),
                                       key=lambda latch: natural_key(latch.name))
 
-    def add_cell(self, cell: Cell, *inputs: str) -> str:
+    def add_cell(self, cell: CellType, *inputs: str) -> str:
         """Returns the net of a new cell."""
         self.made += 1
         self.netlist.add_node(CellNode(f"made {self.made}", cell, inputs))
@@ -151,14 +151,14 @@ class ModuleReader:
         output, data = self.port_nets(cell, name, "Q", 1)[0], self.port_nets(cell, name, "D", 1)[0]
         chosen: list[tuple[str, bool, str]] = []
         if "r" in signs:
-            chosen.append((self.port_nets(cell, name, "R", 1)[0], signs["r"] == "P", self.net_of(signs["v"], name)))
+            chosen.append((self.port_nets(cell, name, "R", 1)[0], signs["r"] == "P", self.ensure_net(signs["v"], name)))
         if "e" in signs:
             # Without the enable the flip-flop keeps its bit.
             chosen.append((self.port_nets(cell, name, "E", 1)[0], signs["e"] == "N", output))
         # The choice that comes last in the list of cells is the first one to be made: a reset, unless the enable comes
         # before it.
         for select, is_high, value in chosen if signs.get("f") else chosen[::-1]:
-            data = self.add_cell(Cell.MUX, *((data, value) if is_high else (value, data)), select)
+            data = self.add_cell(CellType.MUX, *((data, value) if is_high else (value, data)), select)
         clock = (self.port_nets(cell, name, "C", 1)[0], "rising edge" if signs["c"] == "P"
                  else "falling edge") if "c" in signs else None
         self.netlist.add_latch(Latch(name, output, data, None, clock))
@@ -169,7 +169,7 @@ class ModuleReader:
                       f"the connections of `{name}`")
         if len(bits) != width:
             raise NetlistError(f"The port `{port}` of the cell `{name}` has {len(bits)} bits in place of {width}.")
-        return [self.net_of(bit, f"The port `{port}` of the cell `{name}`") for bit in bits]
+        return [self.ensure_net(bit, f"The port `{port}` of the cell `{name}`") for bit in bits]
 
     def read_lut(self, name: str, cell: Any) -> None:
         """Reads a cell `$lut`: bit I of the parameter LUT is the output at the inputs that make the number I."""
@@ -189,7 +189,7 @@ class ModuleReader:
                                         tuple(self.port_nets(cell, name, "A", width)), rows, True))
 
 
-def bit_index(port: Any, position: int, width: int) -> int:
+def verilog_index(port: Any, position: int, width: int) -> int:
     """Returns the index that Verilog has for a bit of a port: bits come from the lowest, whose index is the last one of
     `[0:3]`."""
     offset = port.get("offset", 0)
