@@ -18,7 +18,7 @@ from typing import Iterable
 from unittest import mock
 
 import support
-from bbmlab_core.joining import coil_ways, coils, command, lone_ways, modules, planning, wiring
+from bbmlab_core.joining import command, lone_ways, modules, planning, wiring
 from bbmlab_core.joining.composing import Composition, Connection, NamedPart, compose, feeding_order
 from bbmlab_core.joining.lone_ways import whole_balls_of
 from bbmlab_core.joining.parts import read_part
@@ -26,6 +26,7 @@ from bbmlab_core.joining.places import LEAST_GAP, Extent, all_places
 from bbmlab_core.joining.slack import LoneWayCuts, WayCut
 from bbmlab_core.joining.turning import ORIENTATIONS, UPRIGHT, Placing
 from bbmlab_core.physics.simulation import layout_run
+from bbmlab_core.route import coil_ways, coils
 from bbmlab_core.route.attempt import Attempt
 from bbmlab_core.route.balls import BOUNCE_STEPS, Ball, Turn, bounce, follow_legs, mirror_cells
 from bbmlab_core.route.command import ProgressLine
@@ -393,7 +394,7 @@ class Joining(unittest.TestCase):
             job = planning.BallJob("w", None, ball, 1000) if number % 2 else planning.BallJob("w", ball, None, 4000)
             path = own.find_path(job)
             assert path
-            assert isinstance(path, wiring.CoiledPath)
+            assert isinstance(path, wiring.SealedPath)
             before = len(own.world.claims), len(own.world.mirrors)
             own.world.add(path.sealed)
             self.assertEqual(follow_legs(path.start, path.legs)[0], path.end)

@@ -11,6 +11,8 @@ from bbmlab_core.route.attempt import Attempt
 from bbmlab_core.route.balls import BOUNCE_STEPS, Ball, Leg, Turn, follow_legs, path_run, reversed_legs
 from bbmlab_core.route.board import Board, NoRouteError
 from bbmlab_core.route.design import time_reversed_path
+from bbmlab_core.route.ends import EndWiring
+from bbmlab_core.route.escapes import Escapes
 from bbmlab_core.route.netlist import RouterNetlist
 from bbmlab_core.route.paths import Path
 from bbmlab_core.route.ripup import WayMaker
@@ -32,7 +34,23 @@ DELAYS = [
 ]
 
 
-class Backward(unittest.TestCase):
+class BoardTests(unittest.TestCase):
+    """Tests that compare a board with its world."""
+
+    def assert_books(self, board: Board) -> None:
+        """Asserts that the world has exactly the items of the board."""
+        world = World(board.width)
+        items = [item for step in board.steps for item in [step.gate.item,
+                                                           *(path.item for path in [*step.paths, *step.parking_paths])]]
+        items += [path.item for path in board.ends]
+        for item in [*items, *(own.item for own in board.waiting.values() if own.item)]:
+            self.assertTrue(world.can_add(item))
+            world.add(item)
+        self.assertEqual((world.claims, world.mirrors, world.counts),
+                         (board.world.claims, board.world.mirrors, board.world.counts))
+
+
+class Backward(BoardTests):
     """What is made backwards runs forward, and paths are taken out and led again."""
 
     def assert_yes(self, text: str, seed: int) -> None:
@@ -86,18 +104,6 @@ class Backward(unittest.TestCase):
                              (path.item.mirrors, path.item.touched, path.item.claims))
             done += 1
 
-    def assert_books(self, board: Board) -> None:
-        """Asserts that the world has exactly the items of the board."""
-        world = World(board.width)
-        items = [item for step in board.steps for item in [step.gate.item,
-                                                           *(path.item for path in [*step.paths, *step.parking_paths])]]
-        items += [path.item for path in board.ends]
-        for item in [*items, *(own.item for own in board.waiting.values() if own.item)]:
-            self.assertTrue(world.can_add(item))
-            world.add(item)
-        self.assertEqual((world.claims, world.mirrors, world.counts),
-                         (board.world.claims, board.world.mirrors, board.world.counts))
-
     def test_books(self) -> None:
         """After each way that was made, and after each that was not, no two items meet and the books agree."""
         right, results = WayMaker.place_by_ripping, []
@@ -121,22 +127,22 @@ class Backward(unittest.TestCase):
     def test_books_of_ends(self) -> None:
         """If no ball finds its way to the last time at once, paths to gates make way for some, and the books agree in
         the end."""
-        right, lead, made, asked = Attempt.add_path_making_way, Attempt.add_end_path, [], set()
+        right, lead, made, asked = EndWiring.add_path_making_way, EndWiring.add_end_path, [], set()
 
-        def unwilling(self: Attempt, root: str, ball: Ball | None, end: int) -> Path | None:
+        def unwilling(self: EndWiring, root: str, ball: Ball | None, end: int) -> Path | None:
             if root in asked:
                 return lead(self, root, ball, end)
             asked.add(root)
             return None
 
-        def counted(self: Attempt, root: str, ball: Ball | None, end: int) -> Path | None:
+        def counted(self: EndWiring, root: str, ball: Ball | None, end: int) -> Path | None:
             path = right(self, root, ball, end)
             made.extend([path] if path else [])
             return path
 
         attempt = Attempt(RouterNetlist(read_circuit(made_circuit("forward", 12, 8, 1))), 384, 1, Settings())
-        with mock.patch.object(Attempt, "add_path_making_way", counted), \
-                mock.patch.object(Attempt, "add_end_path", unwilling):
+        with mock.patch.object(EndWiring, "add_path_making_way", counted), \
+                mock.patch.object(EndWiring, "add_end_path", unwilling):
             attempt.run()
         self.assert_books(attempt.board)
         self.assertEqual(len({path.end.time for path in attempt.board.ends}), 1)
@@ -145,7 +151,8 @@ class Backward(unittest.TestCase):
     def test_long_ways(self) -> None:
         """A ball is led on for 9,000 steps, which take more legs than the tries of a short wander."""
         attempt = Attempt(RouterNetlist(read_circuit(circuit_text("a", "", "a"))), 1200, 1, Settings())
-        path = attempt.add_end_path("a", Ball(600, 600, 1, 1, 0), 9000)
+        with mock.patch.object(Escapes, "add_path_to_coil", return_value=None):
+            path = attempt.ends.add_end_path("a", Ball(600, 600, 1, 1, 0), 9000)
         self.assertEqual((path.end.time, follow_legs(path.start, path.legs)[0]), (9000, path.end))
         world = World(1200)
         world.add(path.item)

@@ -145,7 +145,7 @@ class BitRows(unittest.TestCase):
                           *(f"output {name}_late" for name in names), "end"]) + "\n"
         for most, is_grown in ((4096, True), (160, False)):
             attempt = Attempt(RouterNetlist(read_circuit(text)), 160, 1, Settings(), most_size=most)
-            attempt.make_room_for_ends()
+            attempt.ends.make_room_for_ends()
             side, least = attempt.board.width, (30 * 300 * Settings().step_cells / Settings().end_fill_share) ** 0.5
             self.assertEqual(side > 160, is_grown)
             self.assertLess(side, 1.3 * least)

@@ -19,6 +19,7 @@ from bbmlab_core.route.balls import Ball, Leg
 from bbmlab_core.route.board import NoRouteError, Placement, WaitingBall
 from bbmlab_core.route.command import report_failure
 from bbmlab_core.route.design import Design
+from bbmlab_core.route.ends import EndWiring
 from bbmlab_core.route.netlist import RouterNetlist
 from bbmlab_core.route.partial import (PartialRoute, finishable_placement_count, partial_circuit, partial_design,
                                        circuit_section_text, placements_without_maker)
@@ -82,14 +83,14 @@ class Parts(support.InRoom):
     def test_paths_make_way(self) -> None:
         """Some ball of these parts has a way to the end only since paths to gates were led again."""
         made: Counter[bool] = Counter()
-        right = partial.Attempt.add_path_making_way
+        right = EndWiring.add_path_making_way
 
-        def counted(self: Attempt, root: str, ball: Ball | None, end: int) -> BallPath | None:
+        def counted(self: EndWiring, root: str, ball: Ball | None, end: int) -> BallPath | None:
             path = right(self, root, ball, end)
             made[path is not None] += 1
             return path
 
-        with mock.patch.object(partial.Attempt, "add_path_making_way", counted):
+        with mock.patch.object(EndWiring, "add_path_making_way", counted):
             for seed in range(1, 30):
                 part = placed_part(made_circuit("inverse", 40, 10, 1), 256, seed)
                 self.assert_yes(part, len(part.placements))

@@ -6,6 +6,6 @@ reaches it if no other ball enters a block in which one of its own balls moves, 
 The modules, from the lowest: `flight_claims` keeps which blocks balls claim, `lone_ways` finds what a join leaves out
 of a part, `parts` reads bundles and finds their balls and what they take, `composing` makes the circuit, `turning`
 mirrors and turns parts, `places` and `planning` choose places and times. `slack` keeps balls with time to spare inside
-the parts, `modules` keeps the modules of the joined bundle, `coils` has boxes in which balls wait, `coil_ways` leads
-balls to them and out of parts, `wiring` leads all balls, `bundles` writes the text, and `command` is `bbmlab join`.
+the parts, `modules` keeps the modules of the joined bundle, `wiring` leads all balls, `bundles` writes the text, and
+`command` is `bbmlab join`.
 """

@@ -13,11 +13,11 @@ from typing import Callable, Collection, Iterator
 
 from ..route.balls import Ball, Leg, follow_legs, reversed_legs
 from ..route.board import FailureKind, NoRouteError
+from ..route.coil_ways import CoiledPath, CoilGround, CoilSearch, OpenSearch
 from ..route.paths import Path, PathFinder, Trail, is_in_reach
 from ..route.settings import Settings
 from ..route.world import STEP_STRIDE, TILE, Footprint, World, cell_number, cell_of_number, path_item
 from ..texts.layouts import Box
-from .coil_ways import CoilGround, CoilSearch, OpenSearch
 from .flight_claims import FlightClaims
 from .modules import JoinedModules
 from .parts import ALWAYS_SIGNAL
@@ -67,16 +67,15 @@ class TightError(NoRouteError):
 
 
 @dataclass(frozen=True, eq=False)
-class CoiledPath(Path):
-    """A path that waits in a coil. `sealed` keeps all other balls out of the coil's `box`, without its claims there."""
+class SealedPath(CoiledPath):
+    """A path that waits in a coil. `sealed` keeps all other balls out of the coil's box, without its claims there."""
 
     sealed: Footprint
-    box: Box
 
 
 def world_item(path: Path) -> Footprint:
     """Returns what a path takes in the world."""
-    return path.sealed if isinstance(path, CoiledPath) else path.item
+    return path.sealed if isinstance(path, SealedPath) else path.item
 
 
 def sealed_item(item: Footprint, box: Box) -> Footprint:
@@ -320,7 +319,7 @@ class JoinWiring:
             path = self.finder.path_of_legs(job.wire, start, follow_legs(start, legs)[0], legs)
             if path is not None:
                 sealed = sealed_item(path.item, coil.box)
-                return CoiledPath(job.wire, start, path.end, path.legs, path.item, sealed, coil.box)
+                return SealedPath(job.wire, start, path.end, path.legs, path.item, coil.box, sealed)
         return None
 
     def find_connecting_path(self, wire: str, start: Ball, goal: Ball) -> Path | None:
@@ -328,8 +327,8 @@ class JoinWiring:
         for _ in range(CONNECT_TRIES):
             back, on = Trail(self.world, goal, is_backward=True), Trail(self.world, start)
             legs = self.wander_and_join(back, on, start, goal)
-            back.clear_legs()
             on.clear_legs()
+            back.clear_legs()
             path = self.finder.path_of_legs(wire, start, goal, legs) if legs else None
             if path is not None:
                 return path

@@ -12,7 +12,7 @@ from typing import Callable, Iterator, NamedTuple, Sequence
 from .balls import BOUNCE_STEPS, Ball, Leg, Mirror, Turn, bounce, bounce_before, follow_legs
 from .bit_rows import Bend, BitJoiner
 from .settings import Settings
-from .world import MARGIN_CELLS, Footprint, World, path_item
+from .world import MARGIN_CELLS, Footprint, LaidItem, World, path_item
 
 # A leg leads on for at least this many steps, if the path goes on so long.
 LEAST_LEG = 12
@@ -81,15 +81,15 @@ Direction = tuple[int, int]
 class Trail:
     """A path that is being made, forward from its first ball or backward from its last one.
 
-    Its parts are in the world, so that the parts to come keep off them. A trail that goes backward moves the reversed
-    ball.
+    Its parts are laid in the world, so that the parts to come keep off them. Of two trails at a time the one that was
+    begun last is cleared first. A trail that goes backward moves the reversed ball.
     """
 
     def __init__(self, world: World, ball: Ball, is_backward: bool = False) -> None:
         self.world, self.is_backward = world, is_backward
         self.ball = ball.time_reversed() if is_backward else ball
         self.begun = BOUNCE_STEPS if is_backward else 0
-        self.steps: list[tuple[int, Turn | None, Ball, int, Footprint]] = []
+        self.steps: list[tuple[int, Turn | None, Ball, int, LaidItem]] = []
 
     def after_bounce(self, ball: Ball, turn: Turn) -> tuple[Ball, Mirror]:
         """Returns the ball after a bounce, and its mirror."""
@@ -116,15 +116,14 @@ class Trail:
             item = path_item(self.ball, [Leg(steps, turn)], min(self.begun, steps))
         if item is None or not self.world.can_add(item):
             return False
-        self.world.add(item)
-        self.steps.append((steps, turn, self.ball, self.begun, item))
+        self.steps.append((steps, turn, self.ball, self.begun, self.world.lay(item)))
         self.ball, self.begun = after, BOUNCE_STEPS
         return True
 
     def pop_leg(self) -> None:
         """Takes the last leg away."""
-        _, _, self.ball, self.begun, item = self.steps.pop()
-        self.world.remove(item)
+        _, _, self.ball, self.begun, laid = self.steps.pop()
+        self.world.lift(laid)
 
     def clear_legs(self) -> None:
         """Takes all legs away."""
@@ -157,13 +156,15 @@ class PathFinder:
     def lead_on_from(self, wire: str, ball: Ball, end: int, stays: bool = False) -> Path | None:
         """Returns a path from a ball to any place at the time `end`.
 
-        If it stays, it is in the world: what its legs took there is its item.
+        If it stays, its item is in the world.
         """
         trail = Trail(self.world, ball)
         found = self.wander(trail, end)
         legs, last = trail.legs(), trail.ball
+        trail.clear_legs()
         item = path_item(ball, legs) if found and stays else None
         if item is not None:
+            self.world.add(item)
             most = self.settings.open_end_steps
             way = self.open_way_footprint(last, 1, most)
             # A ball that begins anywhere has an open start too.
@@ -173,7 +174,7 @@ class PathFinder:
                 self.world.add(way)
                 self.world.add(start)
                 return Path(wire, ball, last, tuple(legs), item)
-        trail.clear_legs()
+            self.world.remove(item)
         return self.path_of_legs(wire, ball, last, legs) if found and not stays else None
 
     def path_from_anywhere(self, wire: str, goal: Ball) -> Path | None:

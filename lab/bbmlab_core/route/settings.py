@@ -31,7 +31,7 @@ class Settings:
     # no other path. A wander ends at a time before the goal between the last two numbers.
     most_direct_spare: int = 900
     least_wander_spare: int = 50
-    wanders: int = 4
+    wanders: int = 2
     wander_stop: tuple[int, int] = (50, 190)
     # The tries of a wander, the steps of its way for each of which it has one try more, and the ways on that it weighs
     # at each bounce.
@@ -54,7 +54,9 @@ class Settings:
     least_spare: int = 14
     most_spare: tuple[int, ...] = (30, 45, 60)
     # A gate is given up if one of its inputs could not be led more often than this.
-    most_blame: int = 20
+    most_blame: int = 10
+    # If a gate found no place and an input could not be led at least so often, it is led to open ground.
+    least_blame: int = 5
     # No gate comes within so many cells of the next steps of a ball that waits for another gate: such a ball would be
     # enclosed.
     lane_cells: int = 25

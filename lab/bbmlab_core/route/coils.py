@@ -9,8 +9,8 @@ import math
 from dataclasses import dataclass
 from typing import Iterator
 
-from ..route.balls import BOUNCE_STEPS, Ball, Leg, Turn, bounce
 from ..texts.layouts import Box
+from .balls import BOUNCE_STEPS, Ball, Leg, Turn, bounce
 
 # Where the lead of a ball is in its coil: so many cells from the edges behind it.
 ENTRY = (8, 5)

@@ -1,4 +1,4 @@
-"""Ways of balls to coils: the free ground between the parts, and a best-first search from a ball to a place there.
+"""Ways of balls to coils: the free ground of a plane, and a best-first search from a ball to a place there.
 
 A ball may come to its coil at any time and from any side, so the search needs no exact time. A ball that comes from a
 coil is led in reversed time.
@@ -9,12 +9,12 @@ import heapq
 from dataclasses import dataclass
 from typing import Callable, Iterable, Iterator, NamedTuple
 
-from ..route.balls import BOUNCE_STEPS, Ball, Leg, Turn, bounce, reversed_legs
-from ..route.bit_rows import BitJoiner
-from ..route.paths import PathFinder, is_in_reach
-from ..route.world import MARGIN_CELLS, ROW_STRIDE, TILE, Footprint, World, path_item
 from ..texts.layouts import Box
+from .balls import BOUNCE_STEPS, Ball, Leg, Turn, bounce, reversed_legs
+from .bit_rows import BitJoiner
 from .coils import Coil, coils_of, least_width
+from .paths import Path, PathFinder, is_in_reach
+from .world import MARGIN_CELLS, ROW_STRIDE, TILE, Footprint, World, path_item
 
 # The cells between two coils, and between a coil and other paths: balls pass between coils.
 STREET_CELLS = 24
@@ -52,13 +52,20 @@ BALLS_BEHIND = {(dx, dy): [(turn, bounce(Ball(0, 0, dx, dy, 0), turn)[0]) for tu
                 for dx in (1, -1) for dy in (1, -1)}
 
 
+@dataclass(frozen=True, eq=False)
+class CoiledPath(Path):
+    """A path that waits in a coil, whose box is `box`."""
+
+    box: Box
+
+
 class CoilGround:
     """The cells of a world where coils may be: off its border, off some boxes and off other coils."""
 
     def __init__(self, world: World, boxes: Iterable[Box]) -> None:
         self.world = world
         whole = (1 << world.size - MARGIN_CELLS) - (1 << MARGIN_CELLS)
-        self.rows = [whole if MARGIN_CELLS <= y < world.size - MARGIN_CELLS else 0 for y in range(world.size)]
+        self.rows = [whole if MARGIN_CELLS <= y < world.height - MARGIN_CELLS else 0 for y in range(world.height)]
         for box in boxes:
             self.take_box(box)
         self.without_coils = list(self.rows)
@@ -268,6 +275,24 @@ class CoilSearch:
                 inner = list(coil.legs(self.end - coil.entry.time))
                 yield coil, [*bend.legs(), Leg(ahead + inner[0].steps, inner[0].turn), *inner[1:]]
 
+    def ways(self) -> Iterator[list[Leg]]:
+        """Yields the legs of ways to the middles of free squares, in their order of time. They end or begin with a
+        straight flight."""
+        half = self.width // 2
+        for bend, room in self.reached_bounces():
+            for ahead in range(max(LEAST_STEPS_TO_COIL, bend.steps_to_new_track), room + 1, LEG_STRIDE):
+                ball = bend.ball.flown(ahead)
+                if self.squares.has(ball.x - half, ball.y - half) and self.can_go_on(ball):
+                    item = self.leg_item(bend, Leg(ahead, None))
+                    if item is not None and self.has_room(item):
+                        legs = [*bend.legs(), Leg(ahead, None)]
+                        yield reversed_legs(legs) if self.is_backward else legs
+                    break
+
+    def can_go_on(self, ball: Ball) -> bool:
+        """Whether a ball on open ground can go on to where it is to come."""
+        return True
+
     def reached_bounces(self) -> Iterator[tuple[CoilBounce, int]]:
         """Yields the bounces that the search comes to, and how far the ball can fly on straight."""
         bend: CoilBounce | None = self.first if any(self.squares.rows) else None
@@ -379,18 +404,9 @@ class OpenSearch(CoilSearch):
         super().__init__(finder, ground, ball, self.goal.time, is_backward, has_room, OPEN_SQUARE_SIDE)
         self.most_bounces = MAX_TRIED_OPEN_BOUNCES
 
-    def ways(self) -> Iterator[list[Leg]]:
-        """Yields the legs of ways, in their order of time. They end or begin with a straight flight."""
-        half = OPEN_SQUARE_SIDE // 2
-        for bend, room in self.reached_bounces():
-            for ahead in range(max(LEAST_STEPS_TO_COIL, bend.steps_to_new_track), room + 1, LEG_STRIDE):
-                ball = bend.ball.flown(ahead)
-                if self.squares.has(ball.x - half, ball.y - half) and is_in_reach(ball, self.goal, OPEN_SPARE_STEPS):
-                    item = self.leg_item(bend, Leg(ahead, None))
-                    if item is not None and self.has_room(item):
-                        legs = [*bend.legs(), Leg(ahead, None)]
-                        yield reversed_legs(legs) if self.is_backward else legs
-                    break
+    def can_go_on(self, ball: Ball) -> bool:
+        """Whether a ball on open ground can come to the goal in time."""
+        return is_in_reach(ball, self.goal, OPEN_SPARE_STEPS)
 
     def options_behind(self, bend: CoilBounce, room: int) -> Iterator[CoilOption]:
         """Yields the bounces that a ball can come to without another one, if the goal can be reached."""
