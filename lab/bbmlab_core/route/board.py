@@ -172,7 +172,8 @@ class Board:
             if names and tile not in self.owners and len(names) + len(wires) > MAX_CUTS:
                 if len(few_cuts_and_uses(self.netlist.circuit, {*names, *wires}, ())[0]) > MAX_CUTS:
                     return False
-        return all(self.has_box_room(box, [gate.number], wires) for box, gate in boxes.items())
+        # A gate's box also knows the wires that pass within one cell of it.
+        return all(self.has_box_room(box, [gate.number], wires, 1) for box, gate in boxes.items())
 
     def has_box_room(self, box: TileBox, used: list[int], wires: Iterable[str], spare: int = 0) -> bool:
         """Whether a box that uses gates has room for more wires, and then for `spare` others."""
