@@ -129,7 +129,7 @@ class Connecting(unittest.TestCase):
 
     def test_too_many_moves(self) -> None:
         """A run that takes too long is refused in words."""
-        with mock.patch.object(machines, "MAX_MOVES", 100), self.assertRaises(LabError) as caught:
+        with mock.patch.object(machines, "MAX_RUN_MOVES", 100), self.assertRaises(LabError) as caught:
             machines.MachineRun(read_document(two_nots(200, 160, (20, 60), (120, 70)), "design"))
         self.assertIn("more than 100 moves", str(caught.exception))
 

@@ -74,7 +74,7 @@ class Ways(unittest.TestCase):
         balls = read_document("\n".join([*lines[:1], *sorted(lines[1:], key=lambda line: line.startswith("ball")),
                                          "end"]) + "\n")
         self.assertIsNone(balls.refusal)
-        with mock.patch.object(page_ways, "MAX_MOVES", 50_000):
+        with mock.patch.object(page_ways, "MAX_RUN_MOVES", 50_000):
             self.assertIsNone(page_ways.page_ways(balls))
             self.assertIn('"ways":null', viewing.page_data(balls, None))
 

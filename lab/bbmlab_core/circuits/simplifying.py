@@ -64,9 +64,10 @@ class SimplifyingPass:
         """Adds a gate."""
         self.place.update((name, len(self.gates)) for name in outs)
         self.gates.append(Gate(word, tuple(ins), outs, parameter))
-        self.literals.update(zip(outs, self.output_literals(word, parameter, [self.literals[name] for name in ins])))
+        found = self.gate_output_literals(word, parameter, [self.literals[name] for name in ins])
+        self.literals.update(zip(outs, found))
 
-    def output_literals(self, word: str, parameter: int | None, ins: list[Literal]) -> list[Literal]:
+    def gate_output_literals(self, word: str, parameter: int | None, ins: list[Literal]) -> list[Literal]:
         """Returns the literals of a gate's outputs."""
         graph = self.graph
         if word == "source":
@@ -251,7 +252,7 @@ def with_shared_garbage(lines: Circuit) -> Circuit:
     literals = folder.literals
     for gate in lines.gates:
         ins = [literals[name] for name in gate.ins]
-        literals.update(zip(gate.outs, folder.output_literals(gate.kind, gate.parameter, ins)))
+        literals.update(zip(gate.outs, folder.gate_output_literals(gate.kind, gate.parameter, ins)))
     born = {name: at for at, gate in enumerate(lines.gates) for name in gate.outs}
     taker = {name: at for at, gate in enumerate(lines.gates) for name in gate.ins}
     pool: dict[Literal, list[str]] = {}

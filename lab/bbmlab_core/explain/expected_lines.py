@@ -78,7 +78,7 @@ class LiveTimes:
             else:
                 self.moving.discard(key)
 
-    def tables_by_cell(self) -> dict[int, dict[int, Table]]:
+    def tables_by_cell_and_time(self) -> dict[int, dict[int, Table]]:
         """Returns the tables by cell and odd time, after the last step."""
         shared = {table: dict.fromkeys(range(1, self.steps, 2), table) for table in set(self.still.values())}
         return {**self.seen, **{key: shared[table] for key, table in self.still.items()}}
@@ -116,7 +116,7 @@ class BorderCheck:
                 self.diagnosis.is_slow = run.left is None
                 return None
             watch.note_changes(run.field.changed, run.time)
-        return {cell_of(key): times for key, times in watch.tables_by_cell().items() if times}
+        return {cell_of(key): times for key, times in watch.tables_by_cell_and_time().items() if times}
 
     def signal_table(self, signal: str) -> Table:
         """Returns the table of a signal."""

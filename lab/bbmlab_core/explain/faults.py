@@ -174,7 +174,7 @@ def add_occurring_cause(diagnosis: Diagnosis, module: Module, finding: ReportLin
     cell = finding.number("x"), finding.number("y")
     difference = diagnosis.first_difference(module, assignment, occurrence.inputs, time)
     if difference:
-        add_difference(diagnosis, module, entry, difference)
+        explain_run_difference(diagnosis, module, entry, difference)
     elif diagnosis.layout.is_rim(cell) and finding.values["kind"] == "edge":
         entry.cause = "rim"
         entry.what.append("The run of the whole layout has the cell live then too. No certificate allows that: balls "
@@ -192,7 +192,8 @@ def add_occurring_cause(diagnosis: Diagnosis, module: Module, finding: ReportLin
         entry.what += signal_words(diagnosis, diagnosis.signal_of(cell, time), "the cell")
 
 
-def add_difference(diagnosis: Diagnosis, module: Module, entry: ExplainedLine, difference: RunDifference) -> None:
+def explain_run_difference(diagnosis: Diagnosis, module: Module, entry: ExplainedLine,
+                           difference: RunDifference) -> None:
     """Adds where a module's run leaves the whole one, and the cells of its halo that it does not hear so."""
     entry.cause = "not_heard"
     entry.facts["differs"] = {"time": difference.time, "cell": list(difference.cell)}

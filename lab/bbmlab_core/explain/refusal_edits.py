@@ -108,7 +108,7 @@ def nonlocal_input_edits(document: Document, number: int, facts: dict[str, Any])
     yield from nonlocal_wire_edits(document, number, facts)
 
 
-def nonlocal_port_edits(document: Document, _number: int, facts: dict[str, Any]) -> Iterator[Edits]:
+def nonlocal_port_wire_edits(document: Document, _number: int, facts: dict[str, Any]) -> Iterator[Edits]:
     """Yields lines by which a module comes to know the wires of its ports."""
     assert document.certificate and document.circuit
     lines, module = document.text.split("\n"), document.certificate.modules[facts["module"]]
@@ -222,7 +222,7 @@ EDIT_FINDERS: dict[str, EditFinder] = {cause: finder for finder, causes in (
                     "keep_not_used wire_defined cut_twice use_output_local cut_count"),
     (header_edits, "first_not_header"),
     (unconsumed_wire_edits, "wire_not_consumed"),
-    (nonlocal_port_edits, "port_not_local"),
+    (nonlocal_port_wire_edits, "port_not_local"),
     (heard_wire_edits, "heard_not_local"),
     (gap_edits, "gap"),
     (no_module_edits, "no_module"),

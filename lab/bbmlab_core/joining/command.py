@@ -29,7 +29,7 @@ from .wiring import JoinWiring, TightError, ball_words
 
 PART_NAME_PATTERN = re.compile(r"[a-z][a-z0-9_]{0,15}")
 CONNECTION_PATTERN = re.compile(r"(\w+)\.(\w+)=(\w+)\.(\w+)")
-SETTINGS = Settings(wander_spare_per_cell=0.07, wander_options=16)
+SETTINGS = Settings(wander_spare_per_cell=0.07, wander_option_count=16)
 # By how much the plane grows after an attempt that failed.
 PLANE_GROWTH = 1.12
 

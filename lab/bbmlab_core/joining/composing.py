@@ -119,8 +119,8 @@ def connected_ways(part: NamedPart, connections: list[Connection]) -> Iterator[t
     given = {own.output for own in connections if own.source == part.name}
     for ports, wires in ((part.bundle.starts, taken), (part.bundle.ends, given)):
         for port in ports:
-            if port.wire in wires and port.run is not None:
-                yield port.wire, part.bundle.lone_way(port.wire, port.run, port.run.cut_balls[0])
+            if port.wire in wires and port.lone_run is not None:
+                yield port.wire, part.bundle.lone_way(port.wire, port.lone_run, port.lone_run.cut_balls[0])
 
 
 def joined_name(part: str, wire: str) -> str:

@@ -30,12 +30,12 @@ ALWAYS_SIGNAL = "1"
 class PartPort:
     """A ball at the start or at the end of a part, at its time there, with the wire that it carries.
 
-    If the port is connected, `run` is its lone run.
+    If the port is connected, `lone_run` is its run alone.
     """
 
     wire: str
     ball: Ball
-    run: LoneRun | None = None
+    lone_run: LoneRun | None = None
 
 
 class BlockCounts:
@@ -111,8 +111,8 @@ def read_part(name: str, text: str, connected: Collection[str] = ()) -> PartBund
     item = part_footprint(frozenset(map(cell_number, run.mirrors)), list(pop_flight_ranges(run.claims)))
     starts, start_fault = start_ports(layout)
     ends, end_fault = end_ports(circuit, layout, run.waste_wires_at_end(last))
-    starts = [replace(port, run=lone.get(("in", port.wire))) for port in starts]
-    ends = [replace(port, run=lone.get(("out", port.wire))) for port in ends]
+    starts = [replace(port, lone_run=lone.get(("in", port.wire))) for port in starts]
+    ends = [replace(port, lone_run=lone.get(("out", port.wire))) for port in ends]
     return PartBundle(circuit, layout, certificate, starts, ends, item, start_fault, end_fault, counts)
 
 

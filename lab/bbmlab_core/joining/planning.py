@@ -27,12 +27,12 @@ class Spare:
     Balls fly round what is in the way.
     """
 
-    detour: float
+    steps_per_cell: float
     steps: int
 
     def steps_between(self, first: Ball, last: Ball) -> int:
         """Returns the steps from a ball to another one."""
-        return int((1 + self.detour) * max(offsets_between(first, last))) + self.steps
+        return int((1 + self.steps_per_cell) * max(offsets_between(first, last))) + self.steps
 
 
 def offsets_between(first: Ball, last: Ball) -> tuple[int, int]:

@@ -36,7 +36,7 @@ def is_near_closed(cut: WayCut, closed: Iterable[WayCut]) -> bool:
 
 def lone_run_of(part: NamedPart, ports: list[PartPort], wire: str) -> LoneRun | None:
     """Returns the lone run of a port whose lone way is left out."""
-    return next((port.run for port in ports if port.wire == wire and wire in part.ways), None)
+    return next((port.lone_run for port in ports if port.wire == wire and wire in part.ways), None)
 
 
 class LoneWayCuts:

@@ -162,13 +162,13 @@ def lowest_bit(table: Table) -> int:
 class BorderTables:
     """What is said of cells at odd times: tables for all times, and tables by time."""
 
-    always: dict[int, Table] = field(default_factory=dict)
+    at_all_times: dict[int, Table] = field(default_factory=dict)
     timed: dict[int, dict[int, Table]] = field(default_factory=dict)
 
     def tables_at(self, time: int) -> dict[int, Table]:
         """Returns the tables of the cells that are named at an odd time."""
         timed = self.timed.get(time)
-        return {**self.always, **timed} if timed else self.always
+        return {**self.at_all_times, **timed} if timed else self.at_all_times
 
 
 class ModuleRun:
@@ -184,8 +184,8 @@ class ModuleRun:
         self.tables = {name: table & self.full for name, table in self.values.tables.items()} | {"1": self.full}
         self.field = LiveCells(start_tables(self.layout, self.tables, self.full))
         self.inside = set(keys_of(module.box))
-        self.edges = self.border_tables(module.edges)
-        self.halos = self.border_tables(certificate.heard_lines(module))
+        self.edges = self.tables_of_lines(module.edges)
+        self.halos = self.tables_of_lines(certificate.heard_lines(module))
         self.ring = {key_of(cell) for cell in module.box.ring()}
         self.stops: dict[int, list[tuple[Cell, str]]] = {}
         for stop in module.stops:
@@ -197,14 +197,14 @@ class ModuleRun:
         self.full &= assignments
         self.tables = {name: table & self.full for name, table in self.tables.items()}
         self.field = LiveCells(start_tables(self.layout, self.tables, self.full))
-        self.edges = self.border_tables(self.module.edges)
-        self.halos = self.border_tables(self.certificate.heard_lines(self.module))
+        self.edges = self.tables_of_lines(self.module.edges)
+        self.halos = self.tables_of_lines(self.certificate.heard_lines(self.module))
 
-    def border_tables(self, lines: Iterable[Border]) -> BorderTables:
+    def tables_of_lines(self, lines: Iterable[Border]) -> BorderTables:
         """Returns what edge or halo lines say, by the tables of the wires that are local here."""
         said = BorderTables()
         for line in lines:
-            where = said.always if line.time is None else said.timed.setdefault(line.time, {})
+            where = said.at_all_times if line.time is None else said.timed.setdefault(line.time, {})
             where[key_of(line.cell)] = self.tables.get(line.signal, 0)
         return said
 

@@ -7,7 +7,7 @@ from typing import Callable
 
 from ..texts.circuits import Gate
 from .board import Board, FailureKind, NoRouteError, Placement
-from .design import Design, forward_design
+from .design import Design, as_forward_design
 from .ends import EndWiring
 from .escapes import Escapes
 from .netlist import RouterNetlist
@@ -211,5 +211,5 @@ class Attempt:
         board = self.board
         end = max([path.end.time for path in board.ends], default=self.ends.earliest_end_time())
         paths = [path for step in board.steps for path in [*step.paths, *step.parking_paths]] + board.ends
-        return forward_design(Design(self.netlist.circuit, self.netlist, board.width, board.height, end,
+        return as_forward_design(Design(self.netlist.circuit, self.netlist, board.width, board.height, end,
                                      [step.gate for step in board.steps], paths))

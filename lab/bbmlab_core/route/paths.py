@@ -283,7 +283,7 @@ class PathFinder:
         found: list[WanderOption] = []
         if room < least:
             return found
-        for index in range(settings.wander_options):
+        for index in range(settings.wander_option_count):
             steps = room - index if index < 3 and room - index >= least else chance.randint(least, room)
             at = trail.ball.flown(steps)
             for turn in Turn:

@@ -37,7 +37,7 @@ class Settings:
     # at each bounce.
     wander_tries: int = 160
     steps_per_wander_try: int = 20
-    wander_options: int = 6
+    wander_option_count: int = 6
     # The further steps to spare of a wandering ball for each cell to its goal. A join has crowded parts on the way.
     wander_spare_per_cell: float = 0.0
     # The places that are tried for a gate: the first with all paths is taken. After the second number they are as far

@@ -234,7 +234,7 @@ class LaidItem:
     bits as they were before."""
 
     mirrors: frozenset[int]
-    cells: list[int]
+    newly_set_cells: list[int]
     saved: list[tuple[list[int], slice, list[int]]]
 
 
@@ -323,7 +323,7 @@ class World:
             if not rows[y] & bit:
                 rows[y] |= bit
                 self._flip_diagonals(number, self.blocked_falling, self.blocked_rising)
-                laid.cells.append(number)
+                laid.newly_set_cells.append(number)
 
     def _lay_flight(self, flight: range, laid: LaidItem) -> None:
         """Sets the bits of the cells of a straight flight, and notes the parts of lists that have them as they were."""
@@ -347,7 +347,7 @@ class World:
         """Takes the bits of the item that was laid last away again."""
         for lines, place, before in reversed(laid.saved):
             lines[place] = before
-        for number in laid.cells:
+        for number in laid.newly_set_cells:
             self.blocked[number >> ROW_BITS] ^= BITS[number & ROW_STRIDE - 1]
             self._flip_diagonals(number, self.blocked_falling, self.blocked_rising)
         for number in laid.mirrors:

@@ -18,7 +18,7 @@ from ..texts.documents import Document
 from ..texts.layouts import Cell
 
 # A longer run takes minutes.
-MAX_MOVES = 2_000_000
+MAX_RUN_MOVES = 2_000_000
 
 
 @dataclass(frozen=True)
@@ -69,8 +69,8 @@ class MachineRun:
             moves += len(live)
             if following is None or not all(map(self.layout.has, following)):
                 raise LabError(f"At time {time} a mirror breaks or a ball leaves the layout: fix this first.")
-            if moves > MAX_MOVES:
-                raise LabError(f"The layout makes more than {MAX_MOVES} moves, which takes too long here.")
+            if moves > MAX_RUN_MOVES:
+                raise LabError(f"The layout makes more than {MAX_RUN_MOVES} moves, which takes too long here.")
             for (x, y), number in blocks.items():
                 self.claims[number].append(time * STEP_STRIDE + y * ROW_STRIDE + x)
             self.machine = {cell: blocks[block_corner(cell, time)] for cell in following}

@@ -368,7 +368,7 @@ function setRate() {
 function listenToChanges() {
   player.listen("time", () => {
     showTime();
-    panels.showLines(player, stage.module);
+    panels.showCertificateLinesNow(player, stage.module);
     stage.moveWaveCursor();
     stage.requestPaint();
     speakSoon();

@@ -11,7 +11,7 @@ from ..texts.circuits import Circuit
 from ..texts.documents import Document
 
 # A run with more moves has no ways on the page, which would be too large.
-MAX_MOVES = 3_000_000
+MAX_RUN_MOVES = 3_000_000
 # After so many steps the moves are counted.
 STEPS_BETWEEN_COUNTS = 256
 # In place of the table of assignments that are no wire's.
@@ -33,7 +33,7 @@ def run_within_limit(document: Document, tables: dict[str, Table], full: Table) 
     assert layout
     run = WayRun(layout, tables, full)
     while run.time < layout.steps and run.run_steps(min(STEPS_BETWEEN_COUNTS, layout.steps - run.time)):
-        if run.move_count > MAX_MOVES:
+        if run.move_count > MAX_RUN_MOVES:
             return None
     return run
 

@@ -96,7 +96,7 @@ function showResults(player, cell) {
 }
 
 /** Lists the lines of the present time with the values that their wires have in the circuit. */
-function showLines(player, module) {
+function showCertificateLinesNow(player, module) {
   element("lines-box").hidden = player.modules.length === 0;
   const found = player.linesNow(module);
   const shown = found.slice(0, MAX_LINES_SHOWN).map(({ kind, number, time, x, y, signal }) => {
@@ -167,4 +167,4 @@ function showSigns(hasModules) {
   element("signs").replaceChildren(...signs.map((text) => newElement("li", text)));
 }
 
-export { element, makeInputs, outputSummary, showResults, showLines, showVerdict, showReport, showSigns };
+export { element, makeInputs, outputSummary, showResults, showCertificateLinesNow, showVerdict, showReport, showSigns };
