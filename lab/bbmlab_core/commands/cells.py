@@ -13,12 +13,12 @@ def run(options: argparse.Namespace) -> int:
     if options.cell is None:
         if options.svg or options.bundle:
             raise LabError("--svg and --bundle need the name of a cell", 2)
-        text = "\n\n".join(standard_cells.read_cell(name).text() for name in standard_cells.cell_names()) + "\n"
+        text = "\n\n".join(standard_cells.read_cell(name).listing() for name in standard_cells.cell_names()) + "\n"
     elif options.svg:
         text = picture_of(read_layout_file(str(standard_cells.cell_path(options.cell))), None, None)
     elif options.bundle:
         text = read_text(str(standard_cells.cell_path(options.cell)))
     else:
-        text = standard_cells.read_cell(options.cell).text() + "\n"
+        text = standard_cells.read_cell(options.cell).listing() + "\n"
     write_text(options.output, text)
     return 0

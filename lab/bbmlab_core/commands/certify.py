@@ -17,7 +17,7 @@ def run(options: argparse.Namespace) -> int:
     An old certificate is left out, apart from stops that hold.
     """
     text = read_text(options.file)
-    document = design_of(text, options.file)
+    document = read_without_certificate(text, options.file)
     # A plain certificate has no cuts to choose: the program's no to it is about the layout, and shows where it is
     # wrong.
     plan = CertificateOptions(options.version_of_text, "safe" if options.plain else options.cuts,
@@ -37,7 +37,7 @@ def run(options: argparse.Namespace) -> int:
     return status
 
 
-def design_of(text: str, file: str) -> Document:
+def read_without_certificate(text: str, file: str) -> Document:
     """Returns the circuit and the layout of a text, without its certificate."""
     lines = text.split("\n")
     old = next((index for index, line in enumerate(lines) if line.startswith("certificate")), None)

@@ -23,7 +23,7 @@ from .trials import TrialRunner, fault_times, has_removed_fault, is_yes
 
 # The most rounds of a search, and the most texts that are tried for one refusal or one line of a report.
 MAX_ROUNDS = 12
-MAX_TRIES_PER_LINE = 80
+MAX_TRIES_PER_REPORT_LINE = 80
 # The most changed layouts that are kept for the program's verdict, and the most edits that a fix names one by one.
 MAX_KEPT_CHANGES = 6
 MAX_NAMED_EDITS = 12
@@ -162,7 +162,7 @@ class Fixer:
         """Yields texts with edits for a refusal."""
         self.kinds["edits of the refused line and of lines that it needs"] = None
         for count, edits in enumerate(refusal_edits(document)):
-            if count == MAX_TRIES_PER_LINE:
+            if count == MAX_TRIES_PER_REPORT_LINE:
                 self.is_cut_short = True
                 return
             try:
@@ -320,7 +320,7 @@ class Fixer:
             return None
         self.own = diagnosis
         best: Fix | None = None
-        for _, proposal in zip(range(MAX_TRIES_PER_LINE), self.editor_of(diagnosis).proposals_for_line(finding)):
+        for _, proposal in zip(range(MAX_TRIES_PER_REPORT_LINE), self.editor_of(diagnosis).proposals_for_line(finding)):
             text = self.text_after_or_none(self.text, proposal.edits)
             report = self.trial.try_text(text) if text else None
             if text and report and has_removed_fault(self.report, report, finding) and (best is None or is_yes(report)):

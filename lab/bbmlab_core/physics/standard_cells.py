@@ -57,7 +57,7 @@ class CellPort:
     dy: int
     time: int
 
-    def text(self) -> str:
+    def line(self) -> str:
         """Returns the line of the port."""
         x, y = self.lead
         way = f"{'right' if self.dx > 0 else 'left'} and {'down' if self.dy > 0 else 'up'}"
@@ -76,7 +76,7 @@ class StandardCell:
     garbage: int
     mirror_box_size: tuple[int, int]
 
-    def text(self) -> str:
+    def listing(self) -> str:
         """Returns what `bbmlab cells` lists of the cell."""
         layout, circuit = layout_and_circuit(self.document)
         gates = ", ".join(gate.kind for gate in circuit.gates) or "none"
@@ -86,7 +86,7 @@ class StandardCell:
                  f"  layout of {layout.width} by {layout.height} cells, {layout.steps} steps, {mirrors}",
                  f"  gates: {gates}; constants: {self.constants}; garbage: {self.garbage}",
                  f"  {longer_runs_text(circuit, layout)}"]
-        return "\n".join([*lines, *(port.text() for port in self.ports)])
+        return "\n".join([*lines, *(port.line() for port in self.ports)])
 
 
 def longer_runs_text(circuit: Circuit, layout: Layout) -> str:

@@ -29,9 +29,10 @@ class EndWiring:
         # What follows belongs to one pass over all balls. How the led balls waited.
         self.before: dict[str, WaitingBall] = {}
         # The balls that were led first since others would enclose them, those that were led alone, and how often paths
-        # to gates made way for each.
+        # to gates made way for each, and each found no way.
         self.led_first, self.led_alone, self.ways_made = set[str](), set[str](), Counter[str]()
-        # How many paths may still be taken back, and whether a ball has no way even alone.
+        self.failures: Counter[str] = Counter()
+        # How many paths may still be taken back, and whether a larger plane gives a ball no way either.
         self.left, self.has_no_way = 0, False
 
     def earliest_end_time(self) -> int:
@@ -79,19 +80,20 @@ class EndWiring:
         self.led_first.clear()
         self.led_alone.clear()
         self.ways_made.clear()
+        self.failures.clear()
         self.left, self.has_no_way = self.settings.end_rips, False
         self.placer.stuck.clear()
         while queue:
             self.check_time()
             root = queue.pop(0)
-            if not self.lead(root, end) and not self.lead_before_others(queue, root, end):
+            if not self.lead_to_end(root, end) and not self.lead_before_others(queue, root, end):
                 self.placer.blame.clear()
                 self.placer.blame[root] += 1
                 self.take_all_ends_back()
                 return f"the ball of wire {root} could not be led to the last time, {end}"
         return None
 
-    def lead(self, root: str, end: int) -> bool:
+    def lead_to_end(self, root: str, end: int) -> bool:
         """Leads a ball to the last time, while paths to gates make way if need be; returns whether a path was found.
         Else it waits again."""
         waiting = self.before[root] = self.board.stop_waiting(root)
@@ -109,8 +111,13 @@ class EndWiring:
         """Changes the queue so that a ball that could not be led comes before others; returns whether this may help.
 
         Before the ball that its paths would enclose comes this one. Then paths to the last time that cross its way are
-        taken back and led after it, or else all that are in the way of a path that it has without them.
+        taken back and led after it, or else all that are in the way of a path that it has without them. Two balls of
+        one gate may take each other's way again and again: then the gate has to move.
         """
+        self.failures[root] += 1
+        if self.failures[root] > self.settings.most_end_failures:
+            self.has_no_way = True
+            return False
         if self.left > 0 and self.put_enclosed_first(queue, root):
             self.left -= 1
             return True
@@ -131,7 +138,7 @@ class EndWiring:
         for path in paths:
             board.remove_path(path)
         board.ends.clear()
-        self.has_no_way = not self.lead(root, end)
+        self.has_no_way = not self.lead_to_end(root, end)
         for path in paths:
             if board.world.can_add(path.item) and board.has_room_for(path.wire, path.item.tiles):
                 board.add_path(path)

@@ -22,7 +22,7 @@ WANDER_SPARE_STEPS = 30
 # free when it is found. The straight way is kept free for the third number of steps behind the bounce.
 STEPS_PAST_OPEN_BOUNCE = 24
 OPEN_FREE_STEPS = 40
-OPEN_STRAIGHT_STEPS = 4
+STRAIGHT_STEPS_PAST_BOUNCE = 4
 NO_ITEM = Footprint(frozenset())
 # A path without a return has at most this many steps to spare.
 MAX_STAIR_SPARE = 24
@@ -198,7 +198,7 @@ class PathFinder:
         for legs in self.legs_past_bounce(ball, sign, most):
             way = path_item(ball if sign > 0 else self.start_of_legs(ball, legs), legs)
             # A few steps of the straight way keep mirrors so far away that a search sees the bounce.
-            steps = OPEN_STRAIGHT_STEPS + (legs[0] if sign > 0 else legs[-1]).steps
+            steps = STRAIGHT_STEPS_PAST_BOUNCE + (legs[0] if sign > 0 else legs[-1]).steps
             straight = path_item(ball if sign > 0 else ball.flown(-steps), [Leg(steps, None)])
             if way is None or straight is None or not self.world.can_add(way) or not self.world.can_add(straight):
                 continue
@@ -216,8 +216,9 @@ class PathFinder:
         first = 1 if sign > 0 else 3
         rooms = [place - first for place, step in ((ball.x, sign * ball.dx), (ball.y, sign * ball.dy)) if step < 0]
         room = min(rooms, default=most + 1)
-        if OPEN_STRAIGHT_STEPS <= room <= most and max(ball.x, ball.y) + most < self.world.size - MARGIN_CELLS - 1:
-            yield [Leg(room - OPEN_STRAIGHT_STEPS, None)]
+        far = max(ball.x, ball.y) + most
+        if STRAIGHT_STEPS_PAST_BOUNCE <= room <= most and far < self.world.size - MARGIN_CELLS - 1:
+            yield [Leg(room - STRAIGHT_STEPS_PAST_BOUNCE, None)]
         most = self.world.free_steps(ball if sign > 0 else ball.time_reversed(), most)
         for steps in range(0 if sign > 0 else BOUNCE_STEPS, most + 1):
             at = ball.flown(sign * steps)
@@ -251,7 +252,7 @@ class PathFinder:
             left = end - trail.ball.time
             if left == 0 and not trail.steps or self.can_end(trail, left, goal) and trail.push_leg(left, None):
                 return True
-            ways.append(iter(self.ways_on(trail, left, goal)))
+            ways.append(iter(self.next_bounce_options(trail, left, goal)))
             while ways:
                 option = next(ways[-1], None)
                 if option and trail.push_leg(option.steps, option.turn):
@@ -276,7 +277,7 @@ class PathFinder:
                                                                                    abs(ball.y - goal.y)))
         return is_in_reach(ball, goal, spare)
 
-    def ways_on(self, trail: Trail, left: int, goal: Ball | None) -> list[WanderOption]:
+    def next_bounce_options(self, trail: Trail, left: int, goal: Ball | None) -> list[WanderOption]:
         """Returns the ways on of a trail, the cheapest first."""
         chance, world, settings = self.chance, self.world, self.settings
         room, least = trail.free_steps(min(settings.longest_leg, left)), trail.begun

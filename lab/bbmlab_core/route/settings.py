@@ -89,6 +89,8 @@ class Settings:
     # How often paths to the last time are taken back for others, and the tries for each of them.
     end_rips: int = 150
     end_tries: int = 6
+    # How often a ball may find no way to the last time before the plane or its gate has to change.
+    most_end_failures: int = 6
     # How often paths to gates make way for the same ball on its way to the last time.
     ways_made_per_end: int = 2
     # The most gates that are taken back out of the others' order.

@@ -132,7 +132,7 @@ class VerdictPanel {
   showBadge() {
     const badge = element("badge"), { verdict, isCurrent } = this;
     const isWaiting = !verdict || isCurrent && verdict.verdict === "none" && !verdict.is_last;
-    const isBlank = isCurrent && this.isBlank;
+    const isBlank = isCurrent && this.isDeskEmpty;
     badge.className = isWaiting || isBlank ? "waiting" : isCurrent ? verdict.verdict : "old";
     badge.textContent = isBlank ? "nothing yet" : isWaiting ? "checking…"
       : isCurrent ? TITLES[verdict.verdict] : `${TITLES[verdict.verdict]}, outdated`;
@@ -145,7 +145,7 @@ class VerdictPanel {
   }
 
   /** Whether there is nothing that a verdict could be about: no wire and no part. */
-  get isBlank() {
+  get isDeskEmpty() {
     const { circuit, model } = this.desk;
     return circuit !== null && circuit.names.size === 0 && model.parts.length === 0;
   }
@@ -165,7 +165,7 @@ class VerdictPanel {
     const { verdict, explanation } = this, box = element("report");
     box.classList.toggle("old", !this.isCurrent);
     box.replaceChildren();
-    if (this.isCurrent && this.isBlank) {
+    if (this.isCurrent && this.isDeskEmpty) {
       box.append(newElement("p", "The circuit is empty, and nothing is drawn.", "soft"));
       return;
     }

@@ -282,9 +282,9 @@ class LayoutReader(SectionReader):
         if box.x + box.width > self.width or box.y + box.height > self.height:
             self.lines.refuse(7, "cell_outside", kind=kind, box=box, size=(self.width, self.height))
         if kind not in END_ONLY_KINDS:
-            self.take_cells(kind, box, self.starts, START_ONLY_KINDS)
+            self.mark_cells_taken(kind, box, self.starts, START_ONLY_KINDS)
         if kind not in START_ONLY_KINDS:
-            self.take_cells(kind, box, self.ends, END_ONLY_KINDS)
+            self.mark_cells_taken(kind, box, self.ends, END_ONLY_KINDS)
 
     def require_port(self, kind: str, name: str | None) -> None:
         """Refuses an `in` that is no input and an `out` that is no output of the circuit."""
@@ -294,7 +294,7 @@ class LayoutReader(SectionReader):
         self.lines.refuse(3, "port_unknown", kind=kind, name=name, known=list(known),
                           is_wire=name in self.circuit.wires)
 
-    def take_cells(self, kind: str, box: Box, rows: list[int], kinds: tuple[str, ...]) -> None:
+    def mark_cells_taken(self, kind: str, box: Box, rows: list[int], kinds: tuple[str, ...]) -> None:
         """Takes the cells of a part, none of which a part of these kinds or a mirror takes yet."""
         mask = (1 << box.width) - 1 << box.x
         for y in range(box.y, box.y + box.height):

@@ -273,7 +273,7 @@ const ACTIONS = {
 };
 
 /** Whether the element that has the focus uses a key itself. */
-function isKeyUsed(target, key) {
+function isKeyUsedByElement(target, key) {
   if (target.type === "text") return true;
   if (target.type === "range") return !" bnptw".includes(key);
   return ["INPUT", "BUTTON", "SUMMARY"].includes(target.tagName) && key === " ";
@@ -281,7 +281,7 @@ function isKeyUsed(target, key) {
 
 /** Does what a key asks. */
 function onKey(event) {
-  if (event.ctrlKey || event.metaKey || event.altKey || isKeyUsed(event.target, event.key)) return;
+  if (event.ctrlKey || event.metaKey || event.altKey || isKeyUsedByElement(event.target, event.key)) return;
   if (event.shiftKey && PAN_KEYS[event.key]) stage.pan(...PAN_KEYS[event.key]);
   else if (Object.hasOwn(ACTIONS, event.key)) ACTIONS[event.key]();
   else return;

@@ -205,7 +205,7 @@ class Player {
    * Returns the edge and halo lines that speak of the present time: at odd times only. They are filed at the first such
    * time, since a large layout has hundreds of thousands, for which the first picture would wait.
    */
-  bordersNow() {
+  borderLinesNow() {
     const { time } = this.run;
     if (time % 2 === 0) return [];
     this.borders ??= bordersByTime(this.modules);
@@ -215,7 +215,7 @@ class Player {
 
   /** Returns the lines that speak of the present time, those of a module first. */
   linesNow(module) {
-    const time = this.run.time, found = [...(this.stops.get(time) || []), ...this.bordersNow()];
+    const time = this.run.time, found = [...(this.stops.get(time) || []), ...this.borderLinesNow()];
     if (module === null) return found;
     return [...found.filter((line) => line.number === module), ...found.filter((line) => line.number !== module)];
   }

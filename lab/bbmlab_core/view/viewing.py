@@ -19,7 +19,7 @@ TEMPLATE_FOLDER = Path(__file__).resolve().parent
 ENTRY_MODULE = "controls"
 IMPORT_PATTERN = re.compile(r'^import (?:\* as (\w+)|(\{[^}]*\})) from "\./(\w+)\.js";\n', re.MULTILINE)
 EXPORT_PATTERN = re.compile(r"^export (\{[^}]*\});$", re.MULTILINE)
-RENAMED_EXPORT_PATTERN = re.compile(r"(\w+) as (\w+)")
+RENAMED_ITEM_PATTERN = re.compile(r"(\w+) as (\w+)")
 
 
 def page_data(document: Document, explanation: ExplainedAnswer | None) -> str:
@@ -47,13 +47,13 @@ def add_with_imports(name: str, found: dict[str, str]) -> dict[str, str]:
 
 def import_declaration(line: re.Match[str]) -> str:
     """Returns an import as a declaration that reads `bbmlab`."""
-    names = line[1] or RENAMED_EXPORT_PATTERN.sub(r"\1: \2", line[2])
+    names = line[1] or RENAMED_ITEM_PATTERN.sub(r"\1: \2", line[2])
     return f"const {names} = bbmlab.{line[3]};\n"
 
 
 def module_expression(text: str) -> str:
     """Returns a module's text as an expression whose value is what the module exports."""
-    body = EXPORT_PATTERN.sub(lambda names: "return " + RENAMED_EXPORT_PATTERN.sub(r"\2: \1", names[1]) + ";",
+    body = EXPORT_PATTERN.sub(lambda names: "return " + RENAMED_ITEM_PATTERN.sub(r"\2: \1", names[1]) + ";",
                               IMPORT_PATTERN.sub(import_declaration, text))
     return f"(() => {{\n{body}}})()"
 

@@ -117,7 +117,7 @@ class Wires {
   }
 
   /** Says where a wire comes from and where it goes: "output of switch 3, input of fredkin 7". */
-  gateWords({ name, equal }) {
+  sourceAndTargetWords({ name, equal }) {
     if (!this.circuit) return "";
     const names = new Set([name, ...equal]), { inputs, gates, outputs } = this.circuit, words = [];
     if (inputs.some((input) => names.has(input))) words.push("an input");
@@ -132,7 +132,8 @@ class Wires {
   /** Says what is known of a wire: its names, its gates, its level and its times. */
   wordsOf(wire) {
     const [first, last] = this.firstAndLastTime(wire);
-    const makers = wire.name === "" || wire.name === "1" ? "" : `: ${this.gateWords(wire)}, level ${wire.level}`;
+    const hasGates = wire.name !== "" && wire.name !== "1";
+    const makers = hasGates ? `: ${this.sourceAndTargetWords(wire)}, level ${wire.level}` : "";
     return `${wireTitle(wire)}${makers.replace(": , ", ": ")}; flies from time ${first} to ${last}`;
   }
 
