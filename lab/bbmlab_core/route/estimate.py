@@ -22,7 +22,7 @@ class MeasuredCircuits:
 
 
 MEASURED_CIRCUITS = (MeasuredCircuits(12, 30, 30, 2), MeasuredCircuits(42, 17, 17, 9), MeasuredCircuits(56, 20, 20, 13),
-                     MeasuredCircuits(106, 3, 4, 70))
+                     MeasuredCircuits(106, 20, 21, 68))
 
 
 @dataclass(frozen=True)
