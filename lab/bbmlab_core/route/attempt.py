@@ -113,13 +113,18 @@ class Attempt:
         ball = required_ball(waiting)
         path = self.escapes.add_path_to_open_ground(root, ball) or self.way_maker.lead_through(
             ball, lambda: self.escapes.add_path_to_open_ground(root, ball))
-        on = board.new_waiting_ball(path.end) if path else None
-        if path is None or on is None:
+        if path is None:
             board.add_waiting(root, waiting)
             return False
+        on = board.new_waiting_ball(path.end)
         board.remove_path(path)
-        board.park_output(maker, path, on)
-        return True
+        if on is not None:
+            board.park_output(maker, path, on)
+            return True
+        # A path to a gate that made way and was led again took the place.
+        if not board.wait_again(root, waiting):
+            raise NoRouteError(f"the ball of wire {root} has no room to wait", FailureKind.ROOM)
+        return False
 
     def adopt_placements(self, steps: list[Placement]) -> str:
         """Adds gates that another attempt placed, maybe with others; returns the wire of a ball that has no room to
