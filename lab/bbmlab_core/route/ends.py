@@ -26,12 +26,12 @@ class EndWiring:
         self.board, self.settings = placer.board, placer.settings
         self.netlist, self.chance = self.board.netlist, placer.chance
         self.most_size, self.check_time = most_size, check_time
-        # What follows belongs to one pass over all balls. How the led balls waited.
+        # These fields belong to one pass over all balls. For each ball that was led, how it waited before.
         self.before: dict[str, WaitingBall] = {}
-        # The balls that were led first since others would enclose them, those that were led alone, and how often paths
-        # to gates made way for each, and each found no way.
-        self.led_first, self.led_alone, self.ways_made = set[str](), set[str](), Counter[str]()
-        self.failures: Counter[str] = Counter()
+        # The balls that were led first, since others would enclose them, and those that were led alone.
+        self.led_first, self.led_alone = set[str](), set[str]()
+        # For each ball, how often paths to gates made way for it, and how often it found no way.
+        self.ways_made, self.failures = Counter[str](), Counter[str]()
         # How many paths may still be taken back, and whether a larger plane gives a ball no way either.
         self.left, self.has_no_way = 0, False
 
@@ -86,7 +86,7 @@ class EndWiring:
         while queue:
             self.check_time()
             root = queue.pop(0)
-            if not self.lead_to_end(root, end) and not self.lead_before_others(queue, root, end):
+            if not self.lead_to_end(root, end) and not self.requeue_before_others(queue, root, end):
                 self.placer.blame.clear()
                 self.placer.blame[root] += 1
                 self.take_all_ends_back()
@@ -107,7 +107,7 @@ class EndWiring:
         self.board.ends.append(path)
         return True
 
-    def lead_before_others(self, queue: list[str], root: str, end: int) -> bool:
+    def requeue_before_others(self, queue: list[str], root: str, end: int) -> bool:
         """Changes the queue so that a ball that could not be led comes before others; returns whether this may help.
 
         Before the ball that its paths would enclose comes this one. Then paths to the last time that cross its way are

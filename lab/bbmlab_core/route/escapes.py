@@ -14,7 +14,7 @@ from .placement import Placer
 
 # A ball with fewer steps up to the last time goes to no coil.
 LEAST_COIL_STEPS = 400
-# The bounces that a search tries at most: 95 of 104 balls came to a coil with so many, and a search in vain takes six
+# The bounces that a search tries at most: 96 of 104 balls came to a coil with so many, and a search in vain takes six
 # times as long with 2,000.
 MAX_TRIED_BOUNCES = 300
 # The ways of one search that are tried. More of them enclose the same ball.

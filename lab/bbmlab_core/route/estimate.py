@@ -9,8 +9,8 @@ from .netlist import RouterNetlist
 
 @dataclass(frozen=True)
 class MeasuredCircuits:
-    """Circuits that `bench/route` tried (bench/README.md), those of up to 42 gates on 2026-11-30 and others on
-    2026-12-01: how many got a yes, within the goal or not, and the median of their processor seconds.
+    """Circuits that `bench/route` tried on 2026-12-01 (bench/README.md): how many got a yes, within the goal or not, and
+    the median of their processor seconds.
 
     `most_gates` is the most gates that one of them has.
     """
@@ -21,8 +21,8 @@ class MeasuredCircuits:
     seconds: int
 
 
-MEASURED_CIRCUITS = (MeasuredCircuits(12, 30, 30, 2), MeasuredCircuits(42, 17, 17, 9), MeasuredCircuits(56, 20, 20, 13),
-                     MeasuredCircuits(106, 20, 21, 68))
+MEASURED_CIRCUITS = (MeasuredCircuits(12, 40, 40, 1), MeasuredCircuits(42, 40, 40, 4), MeasuredCircuits(56, 40, 40, 7),
+                     MeasuredCircuits(106, 40, 40, 19))
 
 
 @dataclass(frozen=True)

@@ -55,7 +55,8 @@ class Settings:
     most_spare: tuple[int, ...] = (30, 45, 60)
     # A gate is given up if one of its inputs could not be led more often than this.
     most_blame: int = 10
-    # If a gate found no place and an input could not be led at least so often, it is led to open ground.
+    # If a gate found no place, and one of its inputs could not be led at least so often, the ball of this input is led
+    # to open ground.
     least_blame: int = 5
     # No gate comes within so many cells of the next steps of a ball that waits for another gate: such a ball would be
     # enclosed.
@@ -89,7 +90,7 @@ class Settings:
     # How often paths to the last time are taken back for others, and the tries for each of them.
     end_rips: int = 150
     end_tries: int = 6
-    # How often a ball may find no way to the last time before the plane or its gate has to change.
+    # After how many failures of a ball on its way to the last time its gate moves.
     most_end_failures: int = 6
     # How often paths to gates make way for the same ball on its way to the last time.
     ways_made_per_end: int = 2
@@ -105,7 +106,7 @@ class Settings:
 
 
 def open_end_settings() -> Settings:
-    """Returns the settings for parts of a join: their balls go to no coils, so they try longer before others move.
+    """Returns the settings for parts of a join. Their balls go to no coils, and more is tried before a gate moves.
 
     With the settings for whole machines, a join of four slices of an adder took 8,043 steps, and not 5,860.
     """

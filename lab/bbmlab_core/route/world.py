@@ -301,7 +301,7 @@ class World:
         """Puts the bits of an item on the plane until `lift`: it is not counted and claims nothing.
 
         Nothing else is added or removed meanwhile, and what was laid last is lifted first. A search lays and lifts
-        100,000 legs, which takes less than half as long as to add and remove them.
+        100,000 legs, which costs less than to add and remove them.
         """
         laid = LaidItem(item.mirrors, [], [])
         self.mirrors |= item.mirrors
