@@ -1,9 +1,10 @@
 -- The tables of ports, and the ports in a box.
-use Rattle.certificate_lines.proofs.Imports.{ArePortsInLayout, AreRowsWithPortsNumbered, Bool, Box2, Cell, Circuit}
-use Rattle.certificate_lines.proofs.Imports.{HaveDistinctCells, LayoutHeader, List, None, Option, Port, Some, []}
-use Rattle.certificate_lines.proofs.Imports.{and_parts, ap, arith, cell, cell_itself, cell_same, common_steps, drop}
-use Rattle.certificate_lines.proofs.Imports.{entry_place, eqb-true, false, flat_map, get_or, get_or-set_same}
-use Rattle.certificate_lines.proofs.Imports.{get_or_default, get_or_from_slice_get, if◌then◌else◌, in_box, is_cell_at}
+use Rattle.certificate_lines.proofs.Imports.{ArePortTableFields, ArePortsInLayout, AreRowsWithPortsNumbered, Bool, Box2}
+use Rattle.certificate_lines.proofs.Imports.{Cell, Circuit, HaveDistinctCells, Inside, LayoutHeader, List, None, Option}
+use Rattle.certificate_lines.proofs.Imports.{Port, Some, [], and_parts, ap, ap₂, arith, cell, cell_itself, cell_same}
+use Rattle.certificate_lines.proofs.Imports.{common_steps, drop, entry_place, entry_place_by_row_number, eqb-true}
+use Rattle.certificate_lines.proofs.Imports.{false, flat_map, get_or, get_or-set_same, get_or_default}
+use Rattle.certificate_lines.proofs.Imports.{get_or_from_slice_get, if◌then◌else◌, in_box, inl, inr, is_cell_at}
 use Rattle.certificate_lines.proofs.Imports.{is_local, is_nonlocal_signal, length, length-replicate, length-set}
 use Rattle.certificate_lines.proofs.Imports.{list_all, list_any, list_any-append, map, nat_eq, nat_tests, not}
 use Rattle.certificate_lines.proofs.Imports.{option_map, or-false, port_at, port_number_at, pos, range_with_len}
@@ -13,7 +14,7 @@ use Rattle.certificate_lines.proofs.Imports.{take-suc, to_z, true, w32, whole, w
 use Rattle.certificate_lines.proofs.Imports.{◌+◌, ◌-◌, ◌<◌, ◌||◌, ◌∙◌, ◌∷◌, ◌≡◌, ◌≤◌}
 use Rattle.lemmas.proofs.Common.{and_or_self, and_zero_l, bit_and, bit_or, cases_Bool, get_or-drop, get_or-set_other}
 use Rattle.lemmas.proofs.Common.{length-take-le, list_all-append, mul-le-mul_right, or_comm, or_zero_l, same_truth}
-use Rattle.bbm_rule.proofs.CellLists.{cast_cell, row_more, rows_found}
+use Rattle.bbm_rule.proofs.CellLists.{cast_cell, none_in_row, row_more, rows_found}
 use Rattle.certificate_lines.specs.PortTables.{ArePortsInBox, entry_or_zero, number_with_port_in_front}
 use Rattle.certificate_lines.proofs.RowLemmas.{entry_few, entry_own, filled, filled_less, filled_more, filled_none}
 use Rattle.certificate_lines.proofs.Lists.{passed, any_at, some_is}
@@ -88,6 +89,19 @@ pub rows_named : (test : Cell → Bool) (x w y k : ℕ) → y ≤ k →
     (list_any test (flat_map (row_cells x w) (range_with_len y (k - y))) || list_any test (row_cells x w k))
     ≡ list_any test (flat_map (row_cells x w) (range_with_len y (k + 1 - y)))
 rows_named test x w y k from = grind (arith, common_steps, rows_found)
+
+-- and at the cells of rows of which none passes
+pub none_in_rows : (test : Cell → Bool) (x w y n : ℕ) →
+    ((m k : ℕ) → m < n → k < w → test (cell (x + k) (y + m)) ≡ false) →
+    list_any test (flat_map (row_cells x w) (range_with_len y n)) ≡ false
+none_in_rows test x w y zero none = refl
+none_in_rows test x w y (suc n) none =
+    let here : y + 0 ≡ y = omega arith in
+    list_any-append test (row_cells x w y) (flat_map (row_cells x w) (range_with_len (y + 1) n))
+    ∙ ap₂ (λ a b. a || b) (none_in_row test x w y (λ k l.
+    subst (λ (r : ℕ). test (cell (x + k) r) ≡ false) here (none 0 k (omega arith) l)))
+    (none_in_rows test x w (y + 1) n (λ m k lm lk.
+    let e : y + suc m ≡ y + 1 + m = omega arith in rw e at (none (suc m) k (omega (arith, lm)) lk)))
 
 -- the ports of both kinds
 pub both_ports : (p q : List Port) → HaveDistinctCells p → HaveDistinctCells q →
@@ -343,3 +357,14 @@ pub none_outside : (b : Box2) (ports : List Port) → ArePortsInBox b ports → 
 none_outside b ports inside x y out =
     no_name ports x y (λ name e. let r = port_stands ports x y name e in
     not_inside b r.port.cell x y out (inside r.number r.port r.numbered) r.stands) _ refl
+
+-- ---- rows without a port
+
+-- no port is in a row of the number 0
+pub row_empty : (a : Inside) → ArePortTableFields a → (x : ℤ) (y : ℕ) → get_or a.rows.items (y - a.area.y) 0 ≡ 0 →
+    port_at a.ports.now x (pos y) ≡ None
+unfolding entry_place_by_row_number
+row_empty a is x y none = elim (cases_Bool (in_box a.area x (pos y))) [
+  | inl inside ↦ grind (arith, common_steps, unnumbered, unplaced)
+  | inr outside ↦ is.elsewhere x (pos y) outside
+]

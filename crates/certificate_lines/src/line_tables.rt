@@ -97,7 +97,7 @@ fn has_row_nonlocal_port(ports: &PortTable, known: &WireList, x: u32, y: u32, wi
     lacks
 }
 
-// Whether a port in a box has a wire that is not local.
+// Whether a port in a box has a wire that is not local. Most boxes have no row with a port.
 #[tactic(auto, unfolding(bbm_rule::specs::CellLists::rectangle_cells))]
 fn has_box_nonlocal_port(ports: &PortTable, known: &WireList, area: Box2) -> bool
     requires { (area.x + area.w ≤ max_side) × (area.y + area.h ≤ max_side) }
@@ -105,6 +105,9 @@ fn has_box_nonlocal_port(ports: &PortTable, known: &WireList, area: Box2) -> boo
         ≡ list_any (λ c. is_nonlocal_signal ports.now.circuit known.now.wires
         (port_at ports.now.ports c.x c.y)) (rectangle_cells area) }
 {
+    if ports.are_rows_without_port(area.y, area.h) {
+        return false;
+    }
     let mut lacks = false;
     for y in area.y..area.y + area.h {
         lacks |= has_row_nonlocal_port(ports, known, area.x, y, area.w);

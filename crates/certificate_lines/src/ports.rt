@@ -226,6 +226,21 @@ impl<'a> PortTable<'a> {
         }
     }
 
+    // Whether no port is in the `height` rows from `y` on, by the numbers of the rows alone.
+    pub(crate) fn are_rows_without_port(&self, y: u32, height: u32) -> bool
+        ensures { result ≡ true → (k : ℕ) → k < height → (x : ℤ) →
+            port_at self.now.ports x (pos (y + k)) ≡ None }
+    {
+        let Some(first) = y.checked_sub(self.area.y) else {
+            return false;
+        };
+        let end = first as usize + height as usize;
+        if self.rows.len() < end {
+            return false;
+        }
+        are_all_zero(&self.rows[first as usize..end])
+    }
+
     // Whether no port is at `width` cells of row `y`, from column `x` on. It looks at the row once.
     pub(crate) fn is_row_part_without_port(&self, x: u32, y: u32, width: u32) -> bool
         requires { (x + width ≤ max_side) × (y < max_side) }

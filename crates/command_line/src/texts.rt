@@ -56,7 +56,7 @@ macro_rules! help {
 /// It has the program's number, the sections that it reads by their headers, the line of larger limits, and the kit
 /// that proved it, as `rt version` prints it.
 pub const VERSION: &str = concat!(
-    "1.1.9\n",
+    "1.1.10\n",
     "reads circuit, layout, assign, certificate 1, certificate 2, limits 2\n",
     "proved by rattle-kit-13b logic dac8208d650f15bf",
 );

@@ -6,7 +6,7 @@ use Rattle.lanes.proofs.Imports.{IsBlockHeldAndEmpty, IsBlockWordSame, IsBlockWo
 use Rattle.lanes.proofs.Imports.{KeepsCellsOutsideBlocks, List, LiveMarks, Odd, Partition, Planes, TurnsBlock}
 use Rattle.lanes.proofs.Imports.{TurnsNumberedBlocksBetween, ap, arith, bit, block_at, block_number_count, by_eq_or_not}
 use Rattle.lanes.proofs.Imports.{by_lt_or_le, cell_at, cell_word_bit, common_steps, false, false≢true, get_or, inl, inr}
-use Rattle.lanes.proofs.Imports.{marks_of, subst, true, ℕ, ◌*◌, ◌+◌, ◌-◌, ◌<◌, ◌^◌, ◌≡◌, ◌≢◌, ◌⊎◌}
+use Rattle.lanes.proofs.Imports.{marks_of, subst, true, ℕ, ◌*◌, ◌+◌, ◌-◌, ◌<◌, ◌^◌, ◌≡◌, ◌⊎◌}
 use Rattle.lemmas.proofs.Common.{props, ∥∥₁_elim, ∥∥₁_map}
 use Rattle.lanes.specs.Blocks.{IsNumberOfBlock}
 use Rattle.lanes.specs.Calm.{AreBlocksMarkedUnlessIn, AreFirstBlocksMarked}

@@ -22,8 +22,8 @@
 //!
 //! - [`Planes::word`] returns a word of a cell. [`Planes::differs_from_words`] and [`Planes::differs_from_word`]
 //!   compare all words of a cell with others: if they return `false`, all are equal.
-//! - [`MarkedPlanes::may_be_live`] and [`MarkedPlanes::skip_dead_in_row`] find cells that may be live: the others are
-//!   dead under each assignment.
+//! - [`MarkedPlanes::may_be_live`] and [`MarkedPlanes::word_of_live_numbers`] find cells that may be live: the others
+//!   are dead under each assignment.
 //! - [`MarkedPlanes::border_marks_to_check`] finds the cells of ring and halo that may be live or that the caller
 //!   marked: each other cell is dead and unmarked, or neither in the ring nor in the halo. After an odd step it passes
 //!   over those too that have not changed since (`specs/Settled.antt`), unless the caller marked them as new.

@@ -3,14 +3,11 @@
 //! A cell without a mark is dead, so its words need not be read.
 
 ghost use Rattle.bbm_rule.specs.Bits.{bit};
-ghost use Rattle.bbm_rule.specs.Marks.{IsNumberUnmarked};
 ghost use Rattle.lanes.specs.Live.{AreFirstCellsMarked, AreCellsMarkedUnlessInBoth, AreBlockCellsUnmarked, AreNumberCellsUnmarked, HasRoomForBlockCells, HasRoomForCellMarks, HasSameCellMarkRoom, HasAtMostOneDiagonalMark, MarksChangedCells, SetsCellMark, SwapsDiagonalMarks};
-ghost use Rattle.std.specs.Prelude.{ℕ, ◌≡◌, ◌/◌, ◌<◌, ◌≤◌, ◌%◌, ◌+◌, ◌*◌, ◌^◌, length, IfOk, true, false};
+ghost use Rattle.std.specs.Prelude.{ℕ, ◌≡◌, ◌/◌, ◌<◌, ◌≤◌, ◌%◌, ◌+◌, ◌*◌, length, IfOk, true, false};
 
 use crate::blocks::{BlockPlaces, Diagonal};
-use crate::marks::{
-    is_marked, mark_if, next_marked_in_either, set_mark, set_marks_to_not_both, swap_two_marks,
-};
+use crate::marks::{is_marked, mark_if, set_mark, set_marks_to_not_both, swap_two_marks};
 use crate::words::ChangedDiagonals;
 use bbm_rule::marks::mark_all;
 use std::alloc::{AllocError, Global};
@@ -75,24 +72,6 @@ impl LiveMarks {
             AreNumberCellsUnmarked self.now u }
     {
         (self.odd[k] | self.right[k]) | (self.down[k] | self.even[k])
-    }
-
-    /// Returns the first number from `from` on of which a cell has a mark, or `end` if there is none below it.
-    ///
-    /// Only cells in rows with the parity of row y count.
-    pub fn next_marked_in_row(&self, y: usize, from: usize, end: usize) -> usize
-        requires range_ordered { (from ≤ end) × (end < 2 ^ 32) }
-        requires room { HasRoomForCellMarks end self.now }
-        ensures range { (from ≤ result) × (result ≤ end) }
-        ensures upper { y % 2 ≡ 0 → (u : ℕ) → from ≤ u → u < result →
-            IsNumberUnmarked self.now.odd.items u × IsNumberUnmarked self.now.right.items u }
-        ensures lower { y % 2 ≡ 1 → (u : ℕ) → from ≤ u → u < result →
-            IsNumberUnmarked self.now.down.items u × IsNumberUnmarked self.now.even.items u }
-    {
-        if y % 2 == 0 {
-            return next_marked_in_either(&self.odd, &self.right, from, end);
-        }
-        next_marked_in_either(&self.down, &self.even, from, end)
     }
 
     /// Returns whether no cell of a block has a mark.

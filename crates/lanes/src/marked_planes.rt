@@ -67,7 +67,7 @@ const MAX_FROZEN_SEARCHES: u32 = 4;
 impl MarkedPlanes {
     ghost use Rattle.bbm_rule.specs.Bits.{bit};
     ghost use Rattle.lanes.specs.Settled.{AreSettledBlocksUnchanged, IsBlockSettled};
-    ghost use Rattle.lanes.specs.Calm.{AreAllCellsDead};
+    ghost use Rattle.lanes.specs.Calm.{AreAllCellsDead, AreNumberedCellsDead};
     ghost use Rattle.lanes.specs.Lanes.{HasWordsStrideRows, lane};
 
     /// Creates planes of dead cells for a box of `width` by `height` cells, with `words` words for each cell. No block
@@ -175,19 +175,15 @@ impl MarkedPlanes {
         }
     }
 
-    /// Returns a column from `x` on: the cells of row `y` from `x` to before it are dead under each assignment.
-    ///
-    /// Columns and rows are counted from the halo. The cell there or the next one may be live, or the row ends there.
-    pub fn skip_dead_in_row(&self, x: usize, y: usize) -> usize
-        requires { (x / 2 < self.now.planes.stride) × (y / 2 < self.now.planes.rows) }
-        ensures range { x ≤ result }
-        ensures passed_dead { (a k : ℕ) → a < 64 * self.now.planes.words → x ≤ k → k < result →
-            lane self.now.planes a k y ≡ false }
+    /// Returns a word of marks on the numbers of which a cell may be live under some assignment.
+    #[inline(always)]
+    pub fn word_of_live_numbers(&self, k: usize) -> u64
+        requires { 64 * k < self.now.planes.stride * self.now.planes.rows }
+        ensures { (u : ℕ) → u / 64 ≡ k → bit result (u % 64) ≡ false →
+            u < self.now.planes.stride * self.now.planes.rows →
+            AreNumberedCellsDead u self.now.planes }
     {
-        let first = self.planes.cell_number(0, y);
-        let end = first + self.planes.stride();
-        let next = self.live_marks.next_marked_in_row(y, first + x / 2, end);
-        x.max(2 * (next - first))
+        self.live_marks.word(k)
     }
 
     /// Takes the marks off the cells of block u of a partition that are dead.

@@ -13,7 +13,7 @@ ghost use Rattle.std.specs.Prelude.{ℕ, ◌≡◌, ◌≢◌, ◌+◌, ◌*◌,
 use crate::blocks::Partition;
 use crate::live::LiveMarks;
 use crate::words::ChangedDiagonals;
-use bbm_rule::marks::{mark, mark_number_before, next_marked, unmark};
+use bbm_rule::marks::{mark, mark_number_before, unmark};
 
 /// Returns whether a number has a mark.
 #[tactic(auto, using(bbm_rule::proofs::CellLemmas::cell_is))]
@@ -222,15 +222,4 @@ pub fn take_first_mark(word: u64) -> (usize, u64)
 {
     let place = word.trailing_zeros();
     (place as usize, word ^ (1u64 << place))
-}
-
-/// Returns the first number from `from` on that has a mark in one of the lists, or `end` if there is none below it.
-pub fn next_marked_in_either(first: &[u64], second: &[u64], from: usize, end: usize) -> usize
-    requires range_ordered { (from ≤ end) × (end < 2 ^ 32) }
-    requires room { (end ≤ 64 * length first.now) × (end ≤ 64 * length second.now) }
-    ensures range { (from ≤ result) × (result ≤ end) }
-    ensures passed_unmarked { (u : ℕ) → from ≤ u → u < result →
-        IsNumberUnmarked first.now u × IsNumberUnmarked second.now u }
-{
-    next_marked(second, from, next_marked(first, from, end))
 }

@@ -8,6 +8,7 @@ use Rattle.local_run.proofs.Imports.{in_ring, in_span, in_span-negsuc, ints, is_
 use Rattle.local_run.proofs.Imports.{local_run, negsuc, not, pos, refl, span_from, span_parts, subst, sym, true}
 use Rattle.local_run.proofs.Imports.{valuation, ℕ, ℤ, ◌&&◌, ◌+ℤ◌, ◌+◌, ◌-ℤ◌, ◌-◌, ◌<ℤ◌, ◌<◌, ◌∙◌, ◌≡◌, ◌≢◌, ◌≤◌, ◌⊎◌}
 use Rattle.bbm_rule.proofs.RingTests.{ring_read}
+use Rattle.std.specs.Option.{is_some}
 
 -- ---- numbers of columns and rows
 pub inner_in_span : (c n k : ℕ) → k < n → in_span c n (box_coord c k) ≡ true
@@ -38,6 +39,12 @@ inner_less c k m h = omega (arith, ints, h)
 pub least_map : (n : ℕ) (P Q : ℕ → Type 0) → ((a : ℕ) → a < n → P a → Q a) → ((a : ℕ) → a < n → Q a → P a) →
     (r : Option ℕ) → IsLeastBelow n P r → IsLeastBelow n Q r
 least_map n P Q h1 h2 r h3 = grind (arith, common_steps)
+
+-- where none is found none has the fact
+pub none_least : (n : ℕ) (P : ℕ → Type 0) (r : Option ℕ) → is_some r ≡ false → IsLeastBelow n P r → (a : ℕ) → a < n →
+    ¬ P a
+none_least n P None e h = h
+none_least n P (Some a) e h = absurd (false≢true (sym e))
 
 -- no cell but those of the ring has a fault of its edge
 pub edge_none : (j : JobView) (n : ℕ) (u : ℕ → Valuation) (t : ℕ) (k : Kind) (x y : ℤ) → Edge ≡ k →

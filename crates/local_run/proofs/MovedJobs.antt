@@ -5,7 +5,7 @@ use Rattle.local_run.proofs.Imports.{Signals, Some, State, Stop, Valuation, [], 
 use Rattle.local_run.proofs.Imports.{common_steps, fault_cmp, if◌then◌else◌, in_box, in_ring, ints, is_live, job_demand}
 use Rattle.local_run.proofs.Imports.{job_start, local_run, moved_signals, place_in, pos, props, refl, shape_of}
 use Rattle.local_run.proofs.Imports.{shift_to_origin, signal_at, signals_moved, slice_get, subst, suc, sym, true}
-use Rattle.local_run.proofs.Imports.{unwrap_or, with_halo, zero, ℕ, ℤ, ∥∥₁_elim, ∥∥₁_map, ◌%◌, ◌&&◌, ◌+ℤ◌, ◌+◌, ◌-ℤ◌}
+use Rattle.local_run.proofs.Imports.{unwrap_or, with_halo, zero, ℕ, ℤ, ∥∥₁_elim, ∥∥₁_map, ◌%◌, ◌&&◌, ◌+ℤ◌, ◌-ℤ◌}
 use Rattle.local_run.proofs.Imports.{◌-◌, ◌<◌, ◌^◌, ◌||◌, ◌∙◌, ◌∷◌, ◌≡◌, ◌≤◌}
 use Rattle.lemmas.proofs.Common.{map}
 use Rattle.bbm_rule.specs.Moves.{IsStateMovedBy}

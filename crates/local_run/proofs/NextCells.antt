@@ -1,10 +1,10 @@
--- Cells of a row that are known to be dead
-use Rattle.local_run.proofs.Imports.{Bool, Box2, End, IsKindScannedAt, IsRunReady, IsScanStride, JobView, Kind, Planes}
-use Rattle.local_run.proofs.Imports.{ShowsRunAt, Valuation, Values, Zero, ap, arith, assignments, box_coord}
-use Rattle.local_run.proofs.Imports.{by_eq_or_not, by_lt_or_le, common_steps, false, if◌then◌else◌, is_live, job_demand}
-use Rattle.local_run.proofs.Imports.{job_start, lane, local_run, place_in, slice_get, sym, unwrap_or, ℕ, ℤ, ◌*◌, ◌+◌}
-use Rattle.local_run.proofs.Imports.{◌<◌, ◌∙◌, ◌≡◌, ◌≤◌}
-use Rattle.local_run.proofs.Firsts.{FreeAt, IsAtEitherEnd, end_least, inner_in_box}
+-- Cells by their places in the box, row by row, and cells that are known to be dead
+use Rattle.local_run.proofs.Imports.{Bool, Box2, End, IsRunReady, JobView, Planes, ShowsRunAt, Valuation, Values, Zero}
+use Rattle.local_run.proofs.Imports.{ap, arith, assignments, box_coord, by_eq_or_not, by_lt_or_le, common_steps}
+use Rattle.local_run.proofs.Imports.{cond-true, false, if◌then◌else◌, is_live, job_demand, job_start, lane, local_run}
+use Rattle.local_run.proofs.Imports.{mul-le-mul_left, place_in, slice_get, sym, unwrap_or, ℕ, ℤ, ◌*◌, ◌+◌, ◌<◌, ◌∙◌}
+use Rattle.local_run.proofs.Imports.{◌≡◌, ◌≤◌}
+use Rattle.local_run.proofs.Firsts.{FreeAt, end_least, inner_in_box}
 use Rattle.local_run.proofs.Stepping.{run_start}
 use Rattle.module_job.specs.declared.job.Demand.TheVariants as Demanded
 
@@ -15,6 +15,37 @@ either b s t h1 = grind (arith, common_steps)
 placed : (b : Box2) (x y : ℕ) → place_in b (box_coord b.x x) (box_coord b.y y) ≡ b.w * y + x
 unfolding box_coord
 placed b x y = grind (arith, common_steps)
+
+-- what a cell of the box carries and must be, by its place
+pub start_at : (j : JobView) (x y : ℕ) → x < j.area.w → y < j.area.h →
+    unwrap_or (slice_get j.starts (j.area.w * y + x)) Zero ≡ job_start j (box_coord j.area.x x) (box_coord j.area.y y)
+unfolding job_start
+start_at j x y lx ly =
+    ap (λ p. unwrap_or (slice_get j.starts p) Zero) (sym (placed j.area x y))
+    ∙ sym (cond-true _ _ Zero (inner_in_box j.area x y lx ly))
+
+pub demand_at : (j : JobView) (x y : ℕ) → x < j.area.w → y < j.area.h →
+    unwrap_or (slice_get j.demands (j.area.w * y + x)) Demanded.Dead
+    ≡ job_demand j (box_coord j.area.x x) (box_coord j.area.y y)
+unfolding job_demand
+demand_at j x y lx ly =
+    ap (λ p. unwrap_or (slice_get j.demands p) Demanded.Dead) (sym (placed j.area x y))
+    ∙ sym (cond-true _ _ Demanded.Dead (inner_in_box j.area x y lx ly))
+
+-- a place is that of one cell
+pub cell_of_place : (s column row x y : ℕ) → column < s → x < s → s * row + column ≡ s * y + x →
+    (x ≡ column) × (y ≡ row)
+cell_of_place s column row x y lc lx e = by_lt_or_le y row
+    (λ less. let m : s * (y + 1) ≤ s * row = mul-le-mul_left s (omega (arith, less)) in
+    absurd (omega (arith, m, e, lx)))
+    (λ more. by_eq_or_not y row
+    (λ same. let m : s * y ≡ s * row = ap (λ n. s * n) same in (omega (arith, m, e), same))
+    (λ other. let m : s * (row + 1) ≤ s * y = mul-le-mul_left s (omega (arith, more, other)) in
+    absurd (omega (arith, m, e, lc))))
+
+-- and each cell of the box has a place among its cells
+pub place_within : (w h x y : ℕ) → x < w → y < h → w * y + x < w * h
+place_within w h x y lx ly = let m : w * (y + 1) ≤ w * h = mul-le-mul_left w (omega arith) in omega (arith, m, lx)
 
 pub start_dead : (j : JobView) (x y : ℕ) → unwrap_or (slice_get j.starts (j.area.w * y + x)) Zero ≡ Zero →
     job_start j (box_coord j.area.x x) (box_coord j.area.y y) ≡ Zero
@@ -31,27 +62,11 @@ demand_dead j x y none = grind (arith, common_steps, either, placed)
 pub dead_start : (j : JobView) (u : Valuation) (x y : ℤ) → job_start j x y ≡ Zero → false ≡ local_run j u 0 x y
 dead_start j u x y none = sym (ap (is_live u) none) ∙ run_start j u x y
 
--- ---- rows at the last time
+-- ---- cells at the last time
 
 -- a dead cell that must be dead has no fault
-end_free : (j : JobView) (vs : Values) (t : ℕ) (kind : Kind) (x y : ℕ) (p : Planes) → IsRunReady j vs →
-    IsKindScannedAt j t kind → ShowsRunAt j vs t p → x < j.area.w → y < j.area.h → kind ≡ End →
-    job_demand j (box_coord j.area.x x) (box_coord j.area.y y) ≡ Demanded.Dead →
+pub end_free : (j : JobView) (vs : Values) (x y : ℕ) (p : Planes) → IsRunReady j vs → ShowsRunAt j vs j.steps p →
+    x < j.area.w → y < j.area.h → job_demand j (box_coord j.area.x x) (box_coord j.area.y y) ≡ Demanded.Dead →
     ((a : ℕ) → a < 64 * p.words → lane p a (1 + x) (1 + y) ≡ false) →
-    (a : ℕ) → a < assignments j → FreeAt j vs t kind x y a
-end_free j vs t kind x y p ready sought shows lx ly end must dead = grind (arith, common_steps, end_least, inner_in_box)
-
--- nor do cells that are passed over
-pub free_to : (j : JobView) (vs : Values) (t : ℕ) (kind : Kind) (x next y : ℕ) (p : Planes) → IsRunReady j vs →
-    IsKindScannedAt j t kind → ShowsRunAt j vs t p → y < j.area.h →
-    ((k a : ℕ) → k < x → k < j.area.w → a < assignments j → FreeAt j vs t kind k y a) → (x < next → kind ≡ End) →
-    ((k : ℕ) → x ≤ k → k < next → job_demand j (box_coord j.area.x k) (box_coord j.area.y y) ≡ Demanded.Dead) →
-    ((a k : ℕ) → a < 64 * p.words → x ≤ k → k < next → lane p a (1 + k) (1 + y) ≡ false) →
-    (k a : ℕ) → k < next → k < j.area.w → a < assignments j → FreeAt j vs t kind k y a
-free_to j vs t kind x next y p ready sought shows ly before end must dead k a lk lw la =
-    grind (arith, common_steps, common_steps, by_lt_or_le, end_free)
-
--- only at the last time are cells passed over, and there the next one is looked at after each
-pub next_at_end : (kind : Kind) (w h y x next stride : ℕ) → IsScanStride kind w h y stride → x ≤ next →
-    (x < next → kind ≡ End) → IsAtEitherEnd w x stride → IsAtEitherEnd w next stride
-next_at_end kind w h y x next stride s le end at = grind (arith, common_steps, by_eq_or_not)
+    (a : ℕ) → a < assignments j → FreeAt j vs j.steps End x y a
+end_free j vs x y p ready shows lx ly must dead = grind (arith, common_steps, end_least, inner_in_box)

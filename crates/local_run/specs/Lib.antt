@@ -5,6 +5,7 @@ pub mod Shown
 pub mod Laws
 pub mod Places
 pub mod Scans
+pub mod Ends
 pub mod Moves
 pub mod Quiet
 pub mod Steady

@@ -12,10 +12,13 @@
 //! A run skips:
 //!
 //! - a cell of ring or halo that is dead and has no line;
-//! - the times up to the next line or stop, if two steps changed nothing.
+//! - the times up to the next line or stop, if two steps changed nothing;
+//! - the search at the last time, if a look in no order finds no fault: at the cells that may be live, and at those
+//!   that need not be dead.
 #![tactic(auto)]
 
 mod border;
+mod ends;
 mod fault;
 mod finding;
 mod keep;

@@ -1,5 +1,5 @@
 //! Cells of a job by their places in its box, and in the box together with its halo.
-ghost use Rattle.std.specs.Prelude.{ℕ, pos, ◌≡◌, ◌+◌, ◌-ℤ◌, ◌<◌, ◌≤◌, IsTrue};
+ghost use Rattle.std.specs.Prelude.{ℕ, pos, true, ◌≡◌, ◌↔◌, ◌*◌, ◌+◌, ◌-ℤ◌, ◌<◌, ◌≤◌, IsTrue};
 ghost use Rattle.circuit.specs.Meaning.{wires};
 ghost use Rattle.bbm_rule.specs.Boxes.{in_box, in_ring};
 ghost use Rattle.module_box.specs.Schedules.{signal_at};
@@ -52,58 +52,100 @@ fn halo_cell(x: usize, y: usize) -> Cell
 }
 
 /// Returns what the cell at a column and row of the box carries at time 0.
-#[tactic(auto, using(crate::proofs::OwnWires::start_below))]
-pub fn start_signal_at(job: &Job, x: usize, y: usize) -> Signal
+///
+/// It is not sought if exactly `near` cells before it, row by row, carry something else than `Zero`.
+#[inline(always)]
+#[tactic(auto, using(crate::proofs::NextCells::start_at, crate::proofs::OwnWires::start_below))]
+pub fn start_signal_at(job: &Job, x: usize, y: usize, near: usize) -> Signal
     requires { (x < job.now.area.w) × (y < job.now.area.h) }
     ensures start_is_exact { result
         ≡ job_start job.now (box_coord job.now.area.x x) (box_coord job.now.area.y y) }
     ensures wire_exists { IsSignalWireBelow (wires job.now.locals.netlist) result }
 {
-    job.start(box_cell_at(job.area(), x, y))
+    let width = job.area().w as usize;
+    let shape: &Shape = job.shape();
+    shape.start_near(width * y + x, near)
 }
 
-/// Returns a column from `x` on, at most the box width. All cells of row `y` from `x` to before it are dead at time 0.
+/// Returns a place from `place` on, at most the number of cells of the box. All cells from `place` to before it, row by
+/// row, are dead at time 0.
 ///
 /// Contracts do not exclude that the cell at the result is dead too.
 #[tactic(auto, using(crate::proofs::NextCells::start_dead))]
-pub fn skip_dead_starts(job: &Job, x: usize, y: usize) -> usize
-    requires { (x ≤ job.now.area.w) × (y < job.now.area.h) }
-    ensures range { (x ≤ result) × (result ≤ job.now.area.w) }
-    ensures passed_dead { (k : ℕ) → x ≤ k → k < result →
-        job_start job.now (box_coord job.now.area.x k) (box_coord job.now.area.y y) ≡ Signal.Zero }
+pub fn skip_dead_starts(job: &Job, place: usize) -> usize
+    requires { place ≤ job.now.area.w * job.now.area.h }
+    ensures range { (place ≤ result) × (result ≤ job.now.area.w * job.now.area.h) }
+    ensures passed_dead { (x y : ℕ) → x < job.now.area.w → place ≤ job.now.area.w * y + x →
+        job.now.area.w * y + x < result →
+        job_start job.now (box_coord job.now.area.x x) (box_coord job.now.area.y y) ≡ Signal.Zero }
 {
-    let width = job.area().w as usize;
-    let first = width * y;
     let shape: &Shape = job.shape();
-    shape.skip_dead_starts(first + x, first + width) - first
+    shape.skip_dead_starts(place, cell_count(job))
+}
+
+/// Returns how many cells the box has.
+pub fn cell_count(job: &Job) -> usize
+    ensures { (result ≡ job.now.area.w * job.now.area.h) × (result ≤ 4096) }
+{
+    let area = job.area();
+    area.w as usize * area.h as usize
 }
 
 /// Returns what the cell at a column and row of the box must be at the last time.
-#[tactic(auto, using(crate::proofs::OwnWires::demand_below))]
-pub fn demand_at(job: &Job, x: usize, y: usize) -> Demand
+///
+/// It is not sought if exactly `near` cells before it, row by row, must be something else than `Dead`.
+#[inline(always)]
+#[tactic(auto, using(crate::proofs::NextCells::demand_at, crate::proofs::OwnWires::demand_below))]
+pub fn demand_at(job: &Job, x: usize, y: usize, near: usize) -> Demand
     requires { (x < job.now.area.w) × (y < job.now.area.h) }
     ensures demand_is_exact { result
         ≡ job_demand job.now (box_coord job.now.area.x x) (box_coord job.now.area.y y) }
     ensures wire_exists { IsDemandWireBelow (wires job.now.locals.netlist) result }
 {
-    job.demand(box_cell_at(job.area(), x, y))
+    let width = job.area().w as usize;
+    let shape: &Shape = job.shape();
+    shape.demand_near(width * y + x, near)
 }
 
-/// Returns a column from `x` on, at most the box's width. All cells of row `y` from `x` to before it must be dead at
-/// the last time.
+/// Returns whether the cell at a column and row of the box must be dead at the last time.
+#[inline(always)]
+#[tactic(auto, using(crate::proofs::NextCells::demand_at))]
+pub fn must_be_dead(job: &Job, x: usize, y: usize) -> bool
+    requires { (x < job.now.area.w) × (y < job.now.area.h) }
+    ensures { (result ≡ true) ↔ (job_demand job.now (box_coord job.now.area.x x)
+        (box_coord job.now.area.y y) ≡ Demand.Dead) }
+{
+    let width = job.area().w as usize;
+    let shape: &Shape = job.shape();
+    shape.must_be_dead(width * y + x)
+}
+
+/// Returns a place from `place` on, at most the number of cells of the box. All cells from `place` to before it, row by
+/// row, must be dead at the last time.
 ///
 /// Contracts do not exclude that the cell at the result must be dead too.
 #[tactic(auto, using(crate::proofs::NextCells::demand_dead))]
-pub fn skip_dead_demands(job: &Job, x: usize, y: usize) -> usize
-    requires { (x ≤ job.now.area.w) × (y < job.now.area.h) }
-    ensures range { (x ≤ result) × (result ≤ job.now.area.w) }
-    ensures passed_dead { (k : ℕ) → x ≤ k → k < result →
-        job_demand job.now (box_coord job.now.area.x k) (box_coord job.now.area.y y) ≡ Demand.Dead }
+pub fn skip_dead_demands(job: &Job, place: usize) -> usize
+    requires { place ≤ job.now.area.w * job.now.area.h }
+    ensures range { (place ≤ result) × (result ≤ job.now.area.w * job.now.area.h) }
+    ensures passed_dead { (x y : ℕ) → x < job.now.area.w → place ≤ job.now.area.w * y + x →
+        job.now.area.w * y + x < result →
+        job_demand job.now (box_coord job.now.area.x x) (box_coord job.now.area.y y) ≡ Demand.Dead }
+{
+    let shape: &Shape = job.shape();
+    shape.skip_dead_demands(place, cell_count(job))
+}
+
+/// Returns the column and row of the cell at a place of the box, whose cells are counted row by row.
+#[inline(always)]
+pub fn column_and_row_of_place(job: &Job, place: usize) -> (usize, usize)
+    requires { place < job.now.area.w * job.now.area.h }
+    ensures column { result.0 < job.now.area.w }
+    ensures row { result.1 < job.now.area.h }
+    ensures place_is_exact { job.now.area.w * result.1 + result.0 ≡ place }
 {
     let width = job.area().w as usize;
-    let first = width * y;
-    let shape: &Shape = job.shape();
-    shape.skip_dead_demands(first + x, first + width) - first
+    (place % width, place / width)
 }
 
 /// Returns what the cell at a column and row of the box carries at an odd time, if it is in the ring. Its event is

@@ -10,6 +10,7 @@ ghost use Rattle.local_run.specs.Scans.{IsHaloAsSignals, IsFirstFaultOfKind, IsF
 ghost use Rattle.local_run.specs.Shown.{digest_of, number_of, job_of, fault_of, keep_fault_of};
 
 use crate::border::set_halo_and_check_ring;
+use crate::ends::is_end_correct;
 use crate::fault::{Fault, KeepFault, Kind};
 use crate::finding::Finding;
 use crate::keep::find_least_keep_fault;
@@ -153,6 +154,9 @@ fn least_fault(alloc: Global, values: &Values, job: &Job) -> Result<Option<Fault
     }
     if let Some(fault) = first_stop_fault(&marked_planes, values, job, steps, &mut next) {
         return Ok(Some(fault));
+    }
+    if is_end_correct(&marked_planes, values, job) {
+        return Ok(None);
     }
     let search = SoughtFaults {
         kind: Kind::End,

@@ -1,46 +1,20 @@
 //! The first fault of a kind at a time.
-ghost use Rattle.std.specs.Prelude.{ℕ, ◌≡◌, ◌≢◌, ◌+◌, ◌*◌, ◌/◌, ◌<◌, ◌≤◌, length, true, false, IsTrue, MatchOption};
+ghost use Rattle.std.specs.Prelude.{◌≡◌, ◌+◌, ◌*◌, ◌<◌, ◌≤◌, IsTrue, MatchOption};
 ghost use Rattle.circuit.specs.Meaning.{wires};
 ghost use Rattle.bbm_rule.specs.Boxes.{in_box};
 ghost use Rattle.local_run.specs.Faults.{assignments};
 ghost use Rattle.local_run.specs.Places.{box_coord};
-ghost use Rattle.lanes.specs.Lanes.{lane};
 ghost use Rattle.module_job.specs.Jobs.{job_demand};
-ghost use Rattle.module_job.specs.Signals.{is_live};
-ghost use Rattle.local_run.specs.Scans.{IsFirstFaultOfKind, IsDefinedAndHasFault, HasNoFaultOfKind, IsLeastBelow, IsStopMissed, IsNextStop, IsRunReady, IsKindScannedAt, IsScanStride, ShowsRunAt, is_defined_under, valuation};
+ghost use Rattle.module_job.specs.Signals.{IsDemandWireBelow};
+ghost use Rattle.local_run.specs.Scans.{IsFirstFaultOfKind, IsDefinedAndHasFault, HasNoFaultOfKind, IsLeastBelow, IsStopMissed, IsNextStop, IsRunReady, IsKindScannedAt, IsScanStride, ShowsRunAt};
 
 use crate::fault::{Fault, Kind};
 use crate::lines::EventPlaces;
-use crate::places::{
-    box_cell_at, column_and_row_of, demand_at, edge_signal_at, is_in_ring, skip_dead_demands,
-};
+use crate::places::{box_cell_at, column_and_row_of, demand_at, edge_signal_at, is_in_ring};
 use crate::values::Values;
-use lanes::MarkedPlanes;
+use lanes::{MarkedPlanes, Planes};
 use module_box::Signal;
 use module_job::{Demand, Job, Stop};
-
-// The least assignment at which each used gate has a row and a cell, counted from the halo, is live.
-fn first_defined_live_assignment(
-    marked_planes: &MarkedPlanes,
-    values: &Values,
-    x: usize,
-    y: usize,
-) -> Option<u32>
-    requires place { (x / 2 < marked_planes.now.planes.stride)
-        × (y / 2 < marked_planes.now.planes.rows) }
-    requires words { (values.now.words ≡ marked_planes.now.planes.words) × (values.now.words ≤ 64) }
-    requires room_for_assignments { values.now.count ≤ 64 * values.now.words }
-    requires defined_covers_words { values.now.words ≤ length values.now.rows.defined.items }
-    ensures { IsLeastBelow values.now.count
-        (λ a. (is_defined_under values.now a ≡ true)
-        × (lane marked_planes.now.planes a x y ≢ is_live (valuation values.now a) Signal.Zero))
-        result }
-{
-    if !marked_planes.may_be_live(x, y) {
-        return None;
-    }
-    values.first_difference_where_defined(marked_planes.planes(), x, y, Signal::Zero)
-}
 
 /// The kind and the time of the faults that are sought.
 #[derive(Clone, Copy)]
@@ -49,6 +23,36 @@ pub struct SoughtFaults {
     pub time: u32,
     /// The places at which edge lines of the time are looked for first.
     pub near: EventPlaces,
+}
+
+/// Returns the least assignment under which the cell at a column and row of the box is not, at the last time, what it
+/// must be.
+#[tactic(auto, using(crate::proofs::Firsts::end_least, crate::proofs::Firsts::inner_in_box, crate::proofs::Scans::row_from))]
+pub fn first_end_fault_assignment(
+    planes: &Planes,
+    values: &Values,
+    job: &Job,
+    demand: Demand,
+    x: usize,
+    y: usize,
+) -> Option<u32>
+    requires job_ready { IsRunReady job.now values.now }
+    requires shows { ShowsRunAt job.now values.now job.now.steps planes.now }
+    requires place { (x < job.now.area.w) × (y < job.now.area.h) }
+    requires demand { demand
+        ≡ job_demand job.now (box_coord job.now.area.x x) (box_coord job.now.area.y y) }
+    requires wire_exists { IsDemandWireBelow (wires job.now.locals.netlist) demand }
+    ensures { IsLeastBelow (assignments job.now)
+        (λ a. IsDefinedAndHasFault job.now values.now a job.now.steps Kind.End
+        (box_coord job.now.area.x x) (box_coord job.now.area.y y)) result }
+{
+    let signal = match demand {
+        Demand::Dead => Signal::Zero,
+        Demand::Live => Signal::One,
+        Demand::Wire(wire) => Signal::Wire(wire),
+        Demand::Any => return None,
+    };
+    values.first_difference_where_defined(planes, 1 + x, 1 + y, signal)
 }
 
 /// Returns the least assignment under which the cell at a column and row of the box has a fault of the kind.
@@ -79,19 +83,10 @@ pub fn first_cell_fault_assignment(
             values.first_difference_where_defined(planes, 1 + x, 1 + y, signal)
         }
         Kind::Stop => None,
-        Kind::End => match demand_at(job, x, y) {
-            Demand::Dead => first_defined_live_assignment(marked_planes, values, 1 + x, 1 + y),
-            Demand::Live => values.first_difference_where_defined(
-                planes,
-                1 + x,
-                1 + y,
-                Signal::One,
-            ),
-            Demand::Wire(wire) => {
-                values.first_difference_where_defined(planes, 1 + x, 1 + y, Signal::Wire(wire))
-            }
-            Demand::Any => None,
-        },
+        Kind::End => {
+            let demand = demand_at(job, x, y, 0);
+            first_end_fault_assignment(planes, values, job, demand, x, y)
+        }
     }
 }
 
@@ -104,34 +99,6 @@ fn scan_stride(kind: Kind, width: usize, height: usize, y: usize) -> usize
     match kind {
         Kind::Edge if 0 < y && y + 1 < height => width - 1,
         _ => 1,
-    }
-}
-
-// A column from x on: no cell of row y from x to before it has a fault of the kind. At the last time most cells are
-// dead and must be dead.
-fn skip_faultless_columns(
-    marked_planes: &MarkedPlanes,
-    job: &Job,
-    kind: Kind,
-    x: usize,
-    y: usize,
-) -> usize
-    requires place { (x < job.now.area.w) × (y < job.now.area.h) }
-    requires columns { marked_planes.now.planes.stride ≡ job.now.area.w / 2 + 1 }
-    requires rows { marked_planes.now.planes.rows ≡ job.now.area.h / 2 + 1 }
-    ensures range { x ≤ result }
-    ensures skips_only_at_end { x < result → kind ≡ Kind.End }
-    ensures demands { (k : ℕ) → x ≤ k → k < result →
-        job_demand job.now (box_coord job.now.area.x k) (box_coord job.now.area.y y) ≡ Demand.Dead }
-    ensures passed_dead { (a k : ℕ) → a < 64 * marked_planes.now.planes.words → x ≤ k → k < result →
-        lane marked_planes.now.planes a (1 + k) (1 + y) ≡ false }
-{
-    match kind {
-        Kind::End if !marked_planes.may_be_live(1 + x, 1 + y) => {
-            let live = marked_planes.skip_dead_in_row(1 + x, 1 + y) - 1;
-            skip_dead_demands(job, x, y).min(live)
-        }
-        _ => x,
     }
 }
 
@@ -157,10 +124,6 @@ pub fn first_fault_of_kind(
         let stride = scan_stride(kind, width, height, y);
         let mut x = 0;
         'cells: while x < width {
-            x = skip_faultless_columns(marked_planes, job, kind, x, y);
-            if x >= width {
-                break;
-            }
             if let Some(assignment) = first_cell_fault_assignment(
                 marked_planes,
                 values,

@@ -7,15 +7,23 @@ ghost use Rattle.lanes.specs.Settled.{AreCellsSameAtNumber, AreSettledBlocksUnch
 ghost use Rattle.local_run.specs.Places.{box_coord};
 ghost use Rattle.local_run.specs.Scans.{IsHaloAsSignals, IsRunReady, PutsSignalInCell, ShowsRunAt};
 
-use crate::places::{skip_dead_starts, start_signal_at};
+use crate::places::{cell_count, column_and_row_of_place, skip_dead_starts, start_signal_at};
 use crate::values::Values;
 use lanes::MarkedPlanes;
 use module_box::Signal;
 use module_job::Job;
 
-// Sets a cell of the box, that is dead, to what it is at time 0.
+// Sets a cell of the box, that is dead, to what it is at time 0. It is not sought if exactly `near` cells before it,
+// row by row, carry something else than `Zero`.
 #[tactic(auto, using(crate::proofs::Scans::row_from))]
-fn put_start_cell(marked_planes: &mut MarkedPlanes, values: &Values, job: &Job, x: usize, y: usize)
+fn put_start_cell(
+    marked_planes: &mut MarkedPlanes,
+    values: &Values,
+    job: &Job,
+    x: usize,
+    y: usize,
+    near: usize,
+)
     requires job_ready { IsRunReady job.now values.now }
     requires size { HasWordsStrideRows values.now.words (job.now.area.w / 2 + 1)
         (job.now.area.h / 2 + 1) marked_planes.old.planes }
@@ -27,7 +35,7 @@ fn put_start_cell(marked_planes: &mut MarkedPlanes, values: &Values, job: &Job, 
         marked_planes.old.planes marked_planes.new.planes }
     ensures settled { AreSettledBlocksUnchanged marked_planes.old marked_planes.new }
 {
-    let signal = start_signal_at(job, x, y);
+    let signal = start_signal_at(job, x, y, near);
     if let Signal::Zero = signal {
         return;
     }
@@ -44,13 +52,14 @@ pub fn put_start(marked_planes: &mut MarkedPlanes, values: &Values, job: &Job)
     ensures shows { ShowsRunAt job.now values.now 0 marked_planes.new.planes }
     ensures settled { AreSettledBlocksUnchanged marked_planes.old marked_planes.new }
 {
-    let area = job.area();
-    for y in 0..area.h as usize {
-        let mut x = skip_dead_starts(job, 0, y);
-        while x < area.w as usize {
-            put_start_cell(marked_planes, values, job, x, y);
-            x = skip_dead_starts(job, x + 1, y);
-        }
+    let cells = cell_count(job);
+    let mut put = 0;
+    let mut place = skip_dead_starts(job, 0);
+    while place < cells {
+        let (x, y) = column_and_row_of_place(job, place);
+        put_start_cell(marked_planes, values, job, x, y, put);
+        put += 1;
+        place = skip_dead_starts(job, place + 1);
     }
 }
 

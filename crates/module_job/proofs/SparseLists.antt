@@ -1,12 +1,16 @@
 -- A list of numbers from the entries of those that are not 0, and the search for an entry.
-use Rattle.module_job.proofs.Imports.{List, [], ap, append_assoc, ap₂, arith, both, cases_Bool, cases_lt, common_steps}
-use Rattle.module_job.proofs.Imports.{cond-false, cond-true, get_or, inl, inr, length, length-append, length-replicate}
-use Rattle.module_job.proofs.Imports.{lists, nat_eq, nat_tests, pointwise, refl, replicate, same_from_decides}
-use Rattle.module_job.proofs.Imports.{slice_get, sparse_entries_from, sparse_entry, subst, suc, sym, take, unwrap_or}
-use Rattle.module_job.proofs.Imports.{unwrap_or-slice_get, zero, ℕ, ◌&&◌, ◌*◌, ◌++◌, ◌+◌, ◌-◌, ◌<◌, ◌∙◌, ◌∷◌, ◌≡◌, ◌≢◌}
-use Rattle.module_job.proofs.Imports.{◌≤◌, ◌⊎◌}
+use Rattle.module_job.proofs.Imports.{Bool, List, [], ap, append_assoc, ap₂, arith, both, cases_Bool, cases_lt}
+use Rattle.module_job.proofs.Imports.{common_steps, cond-false, cond-true, get_or, inl, inr, length, length-append}
+use Rattle.module_job.proofs.Imports.{length-replicate, lists, nat_eq, nat_tests, pointwise, refl, replicate}
+use Rattle.module_job.proofs.Imports.{same_from_decides, slice_get, sparse_entries_from, sparse_entry, subst, suc, sym}
+use Rattle.module_job.proofs.Imports.{take, unwrap_or, unwrap_or-slice_get, zero, ℕ, ◌&&◌, ◌*◌, ◌++◌, ◌+◌, ◌-◌, ◌<◌}
+use Rattle.module_job.proofs.Imports.{◌∙◌, ◌∷◌, ◌≡◌, ◌≢◌, ◌≤◌, ◌⊎◌}
 use Rattle.lemmas.proofs.Common.{◌/◌, append-nil, drop, get_or-append-add, length-take-le, take-append-drop, drop_more}
+use Rattle.lemmas.proofs.Common.{◌%◌, false, not, take_more}
 use Rattle.lemmas.proofs.Common.{get_or-append_right, get_or_append_left, get_or_past, length-drop, length-take}
+use Rattle.bbm_rule.proofs.BitLemmas.{bit-zero}
+use Rattle.bbm_rule.specs.Bits.{bit}
+use Rattle.bbm_rule.specs.Rows.{cell_at}
 use Rattle.module_job.specs.SparseNumbers.{numbers_from_entries}
 use Rattle.module_job.proofs.CellEntries.{entries_append, forms}
 
@@ -146,6 +150,11 @@ zeros_only zero i = refl
 zeros_only (suc n) zero = refl
 zeros_only (suc n) (suc i) = zeros_only n i
 
+-- zeros as words of marks mark nothing
+pub no_marks : (n u : ℕ) → cell_at (replicate n 0) u ≡ false
+unfolding cell_at
+no_marks n u = ap (λ w. bit w (u % 64)) (zeros_only n (u / 64)) ∙ bit-zero (u % 64)
+
 zero_stays : (ns : List ℕ) (n u : ℕ) → get_or ns u 0 ≡ 0 → get_or (ns ++ replicate n 0) u 0 ≡ 0
 zero_stays ns n u none = grind (arith, common_steps, cases_lt, get_or_append_left, get_or-append_right, zeros_only)
 
@@ -155,6 +164,17 @@ zero_elsewhere ns n u other none = grind (arith, common_steps, cases_lt, get_or_
 pub zeros_unmarked : (count n u : ℕ) (es : List ℕ) → AreEntries count es →
     get_or (numbers_from_entries count 0 es) u 0 ≡ 0 → get_or (numbers_from_entries (count + n) 0 es) u 0 ≡ 0
 zeros_unmarked count n u es are none = grind (arith, common_steps, zeros_grow, zero_stays)
+
+-- and more zeros have no mark where the others have none
+pub zeros_marked : (count n u : ℕ) (es : List ℕ) → AreEntries count es →
+    get_or (numbers_from_entries (count + n) 0 es) u 0 ≡ 0 → get_or (numbers_from_entries count 0 es) u 0 ≡ 0
+zeros_marked count n u es are none =
+    let v = numbers_from_entries count 0 es in
+    elim (cases_lt u (length v)) [
+      | inl below ↦ sym (get_or_append_left v (replicate n 0) 0 u below)
+          ∙ sym (ap (λ l. get_or l u 0) (zeros_grow count n es are).0) ∙ none
+      | inr above ↦ get_or_past v u 0 above
+    ]
 
 pub number_unmarked : (count n u : ℕ) (es : List ℕ) → 0 < n → AreEntries count es → u ≢ count →
     get_or (numbers_from_entries count 0 es) u 0 ≡ 0 →
@@ -315,3 +335,62 @@ module _ (place at : ℕ) (ns es : List ℕ) (lt : place < length ns) (are : es 
 
   pub none_there : get_or es at 0 ≢ place + 1 → 0 ≡ unwrap_or (slice_get ns place) 0
   none_there other = grind (arith, common_steps, found_there, unwrap_or-slice_get)
+
+-- ---- an entry at another place of the list
+
+-- one more number has at most one more entry
+rank_more : (place : ℕ) (ns : List ℕ) → place < length ns → rank (place + 1) ns ≤ rank place ns + 2
+rank_more place ns lt =
+    let one = get_or ns place 0 ∷ [] in
+    let more : sparse_entries_from 0 (take (place + 1) ns)
+    ≡ sparse_entries_from 0 (take place ns) ++ sparse_entries_from (length (take place ns)) one =
+    ap (sparse_entries_from 0) (take_more ns place 0 lt) ∙ entries_append 0 (take place ns) one
+    ∙ ap (λ (p : ℕ). sparse_entries_from 0 (take place ns) ++ sparse_entries_from p one) (omega arith) in
+    let sum = length-append (sparse_entries_from 0 (take place ns))
+    (sparse_entries_from (length (take place ns)) one) in
+    let most = few (length (take place ns)) one in
+    let long = ap length more in
+    omega (arith, sum, most, long)
+
+-- an entry of a place is the one that the search finds
+pub number_near : (place near : ℕ) (ns es : List ℕ) → es ≡ sparse_entries_from 0 ns → 2 * near + 1 < length es →
+    get_or es (2 * near) 0 ≡ place + 1 → get_or es (2 * near + 1) 0 ≡ unwrap_or (slice_get ns place) 0
+number_near place near ns es are room here =
+    let own : get_or (sparse_entries_from 0 ns) (2 * near) 0 ≡ place + 1 =
+    sym (ap (λ l. get_or l (2 * near) 0) are) ∙ here in
+    let long : 2 * near + 1 < length (sparse_entries_from 0 ns) = let size = ap length are in
+    omega (arith, room, size) in
+    let bounds = within 0 ns near (omega (arith, long)) in
+    let lt : place < length ns = omega (arith, bounds, own) in
+    let above = high_moves place near ns (omega (arith, own)) in
+    let below = low_moves (place + 1) near ns (omega (arith, long)) (omega (arith, own)) in
+    let more = rank_more place ns lt in
+    let start : 2 * near ≡ rank place ns = omega (arith, above, below, more) in
+    number_found place (2 * near) ns es lt are start here
+
+-- ---- places with another number than 0
+
+-- the place of one more number that is not 0 is the only one that no longer has the number 0
+pub number_marked : (count n u : ℕ) (es : List ℕ) → 0 < n → AreEntries count es →
+    get_or (numbers_from_entries (count + 1) 0 (es ++ (count + 1) ∷ n ∷ [])) u 0 ≡ 0 →
+    (u ≢ count) × (get_or (numbers_from_entries count 0 es) u 0 ≡ 0)
+number_marked count n u es more are none =
+    let v = numbers_from_entries count 0 es in
+    let start : length v ≡ count = count_numbers count 0 es in
+    let value : get_or (v ++ n ∷ []) u 0 ≡ 0 =
+    sym (ap (λ l. get_or l u 0) (number_grows count n es more are).0) ∙ none in
+    elim (cases_lt u (length v)) [
+      | inl below ↦ (omega (arith, below, start), sym (get_or_append_left v (n ∷ []) 0 u below) ∙ value)
+      | inr above ↦ (
+        λ same.
+            let here : get_or (v ++ n ∷ []) u 0 ≡ n =
+            ap (λ i. get_or (v ++ n ∷ []) i 0) (omega (arith, same, start)) ∙ get_or-append-add v (n ∷ []) 0 0 in
+            omega (arith, more, here, value),
+        get_or_past v u 0 above,
+      )
+    ]
+
+-- a place with room for a mark has one exactly if its number is not 0
+pub unmarked_is_zero : (marked : Bool) (ns : List ℕ) (place : ℕ) → (marked ≡ false → get_or ns place 0 ≡ 0) →
+    (get_or ns place 0 ≡ 0 → marked ≡ false) → not marked ≡ nat_eq (unwrap_or (slice_get ns place) 0) 0
+unmarked_is_zero marked ns place to from = grind (arith, common_steps, cases_Bool, nat_tests, unwrap_or-slice_get)

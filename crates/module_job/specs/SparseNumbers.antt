@@ -17,8 +17,9 @@ numbers_from_entries (suc count) place (p ∷ n ∷ es) =
 abbrev pub sparse_view : Inside → List ℕ
 sparse_view a = numbers_from_entries a.count 0 a.entries.items
 
--- the entries are those of the list, and a place that could have a mark and has none has the number 0
+-- the entries are those of the list, and a place that could have a mark has none exactly if its number is 0
 pub record AreSparseEntries (a : Inside) : Type 0 where
   pub entries : a.entries.items ≡ sparse_entries_from 0 (sparse_view a)
   pub unmarked : (u : ℕ) → u / 64 < length a.marks.items → IsNumberUnmarked a.marks.items u →
       get_or (sparse_view a) u 0 ≡ 0
+  pub marked : (u : ℕ) → get_or (sparse_view a) u 0 ≡ 0 → IsNumberUnmarked a.marks.items u

@@ -1,5 +1,5 @@
 //! The cells of a box: their signals at time 0, and the demands on them at the last time.
-ghost use Rattle.std.specs.Prelude.{ℕ, ◌≡◌, ◌^◌, ◌<◌, ◌≤◌, ◌++◌, [], ◌∷◌, IfOk, OnOk, replicate, slice_get, unwrap_or};
+ghost use Rattle.std.specs.Prelude.{ℕ, ◌≡◌, ◌↔◌, true, ◌^◌, ◌<◌, ◌≤◌, ◌++◌, [], ◌∷◌, IfOk, OnOk, replicate, slice_get, unwrap_or};
 ghost use Rattle.std.specs.Cmp.{partial_equiv_from_equiv};
 ghost use Rattle.std.specs.Cmp.Lexicographic.{lists_equiv, pointwise};
 ghost use Rattle.module_box.specs.Equality.{same_signal, signal_equivalence};
@@ -103,6 +103,15 @@ impl StartSignals {
         StartSignals::decode_number(self.numbers.at(place))
     }
 
+    /// Returns what `at` does. The cell is not sought if exactly `near` cells before it carry something else than
+    /// `Zero`.
+    #[inline(always)]
+    pub(crate) fn at_near(&self, place: usize, near: usize) -> Signal
+        ensures { result ≡ unwrap_or (slice_get self.now place) Signal.Zero }
+    {
+        StartSignals::decode_number(self.numbers.at_near(place, near))
+    }
+
     /// Returns a place from `place` to `end`, such that all cells from `place` to before it carry `Zero`.
     pub(crate) fn skip_dead(&self, place: usize, end: usize) -> usize
         requires { (place ≤ end) × (end < 2 ^ 32) }
@@ -181,6 +190,24 @@ impl EndDemands {
         ensures { result ≡ unwrap_or (slice_get self.now place) Demand.Dead }
     {
         EndDemands::decode_number(self.numbers.at(place))
+    }
+
+    /// Returns what `at` does. The cell is not sought if exactly `near` cells before it must be something else than
+    /// `Dead`.
+    #[inline(always)]
+    pub(crate) fn at_near(&self, place: usize, near: usize) -> Demand
+        ensures { result ≡ unwrap_or (slice_get self.now place) Demand.Dead }
+    {
+        EndDemands::decode_number(self.numbers.at_near(place, near))
+    }
+
+    /// Returns whether the cell at a place must be dead, or the place is behind the last one.
+    #[inline(always)]
+    pub(crate) fn is_dead(&self, place: usize) -> bool
+        ensures { (result ≡ true) ↔
+            (unwrap_or (slice_get self.now place) Demand.Dead ≡ Demand.Dead) }
+    {
+        self.numbers.is_zero(place)
     }
 
     /// Returns a place from `place` to `end`, such that all cells from `place` to before it must be dead.

@@ -1,5 +1,5 @@
 //! The shape of a job: the job without its place.
-ghost use Rattle.std.specs.Prelude.{ℕ, ◌≡◌, ◌^◌, ◌<◌, ◌≤◌, slice_get, unwrap_or};
+ghost use Rattle.std.specs.Prelude.{ℕ, ◌≡◌, ◌↔◌, true, ◌^◌, ◌<◌, ◌≤◌, slice_get, unwrap_or};
 ghost use Rattle.module_box.specs.Locals.{is_among};
 
 use crate::cell_lists::{EndDemands, StartSignals};
@@ -86,6 +86,35 @@ impl Shape {
         ensures { result ≡ unwrap_or (slice_get self.now.demands place) Demand.Dead }
     {
         self.demands.at(place)
+    }
+
+    /// Returns what the cell at a place of the box carries at time 0.
+    ///
+    /// The cell is not sought if exactly `near` cells before it carry something else than `Zero`.
+    #[inline(always)]
+    pub fn start_near(&self, place: usize, near: usize) -> Signal
+        ensures { result ≡ unwrap_or (slice_get self.now.starts place) Signal.Zero }
+    {
+        self.starts.at_near(place, near)
+    }
+
+    /// Returns what the cell at a place of the box must be at the last time.
+    ///
+    /// The cell is not sought if exactly `near` cells before it must be something else than `Dead`.
+    #[inline(always)]
+    pub fn demand_near(&self, place: usize, near: usize) -> Demand
+        ensures { result ≡ unwrap_or (slice_get self.now.demands place) Demand.Dead }
+    {
+        self.demands.at_near(place, near)
+    }
+
+    /// Returns whether the cell at a place of the box must be dead at the last time.
+    #[inline(always)]
+    pub fn must_be_dead(&self, place: usize) -> bool
+        ensures { (result ≡ true) ↔
+            (unwrap_or (slice_get self.now.demands place) Demand.Dead ≡ Demand.Dead) }
+    {
+        self.demands.is_dead(place)
     }
 
     /// Returns a place from `place` to `end`, such that all cells of the box from `place` to before it are dead at time

@@ -1,12 +1,11 @@
 //! Lists of numbers of which most are 0.
-ghost use Rattle.std.specs.Prelude.{◌≡◌, ◌≢◌, ◌*◌, ◌/◌, ◌^◌, ◌<◌, ◌≤◌, ◌++◌, [], ◌∷◌, ℕ, List, IfOk, OnErr, OnOk, length, replicate, slice_get, take, unwrap_or};
+ghost use Rattle.std.specs.Prelude.{◌≡◌, nat_eq, true, ◌*◌, ◌/◌, ◌^◌, ◌<◌, ◌≤◌, ◌++◌, [], ◌∷◌, ℕ, List, IfOk, OnErr, OnOk, length, replicate, slice_get, take, unwrap_or};
 ghost use Rattle.std.specs.Cmp.{nat_eq_equiv, partial_equiv_from_equiv};
 ghost use Rattle.std.specs.Cmp.Lexicographic.{lists_equiv, pointwise};
-ghost use Rattle.bbm_rule.specs.Marks.{IsNumberUnmarked};
-ghost use Rattle.bbm_rule.specs.Rows.{cell_at};
+ghost use Rattle.bbm_rule.specs.Rows.{cell_at, SetsCellAtPlace};
 ghost use Rattle.module_job.specs.Keys.{sparse_entries_from};
 
-use bbm_rule::marks::{mark, next_marked};
+use bbm_rule::marks::next_marked;
 use std::alloc::{AllocError, Global};
 use std::marker::Model;
 
@@ -59,11 +58,11 @@ fn is_marked(marks: &[u64], at: usize) -> bool
 
 // Marks a place, if the marks have room for it.
 fn mark_if_room(marks: &mut [u64], at: usize)
-    ensures { (u : ℕ) → u / 64 < length marks.new → IsNumberUnmarked marks.new u →
-        IsNumberUnmarked marks.old u × (u ≢ at) }
+    ensures marked { at / 64 < length marks.old → SetsCellAtPlace at true marks.old marks.new }
+    ensures unchanged_without_room { length marks.old ≤ at / 64 → marks.new ≡ marks.old }
 {
     if at / 64 < marks.len() {
-        mark(marks, at);
+        marks[at / 64] |= 1u64 << (at % 64);
     }
 }
 
@@ -89,7 +88,7 @@ fn count_entries_before(entries: &[u64], place: usize) -> usize
 
 impl SparseNumbers {
     /// Creates an empty list, with room for marks on the first places.
-    #[tactic(auto, using(crate::proofs::SparseLists::no_entries, crate::proofs::SparseLists::no_number, crate::proofs::SparseLists::no_numbers))]
+    #[tactic(auto, using(crate::proofs::SparseLists::no_entries, crate::proofs::SparseLists::no_marks, crate::proofs::SparseLists::no_number, crate::proofs::SparseLists::no_numbers))]
     pub(crate) fn new(alloc: Global, room: usize) -> Result<SparseNumbers, AllocError>
         ensures { IfOk result (λ numbers. numbers ≡ []) }
     {
@@ -101,7 +100,7 @@ impl SparseNumbers {
     }
 
     /// Adds zeros.
-    #[tactic(auto, using(crate::proofs::SparseLists::zeros_grow, crate::proofs::SparseLists::zeros_unmarked))]
+    #[tactic(auto, using(crate::proofs::SparseLists::zeros_grow, crate::proofs::SparseLists::zeros_marked, crate::proofs::SparseLists::zeros_unmarked))]
     pub(crate) fn push_zeros(&mut self, count: usize) -> Result<(), AllocError>
         ensures added { OnOk result (self.new ≡ self.old ++ replicate count 0) }
         ensures unchanged_on_error { OnErr result (self.new ≡ self.old) }
@@ -117,7 +116,7 @@ impl SparseNumbers {
 
     /// Adds a number.
     #[inline(always)]
-    #[tactic(auto, using(lemmas::proofs::Common::with_items_is, crate::proofs::SparseLists::number_grows, crate::proofs::SparseLists::number_unmarked))]
+    #[tactic(auto, using(lemmas::proofs::Common::with_items_is, crate::proofs::SparseLists::number_grows, crate::proofs::SparseLists::number_marked, crate::proofs::SparseLists::number_unmarked))]
     pub(crate) fn push(&mut self, number: u64) -> Result<(), AllocError>
         ensures added { OnOk result (self.new ≡ self.old ++ number ∷ []) }
         ensures unchanged_on_error { OnErr result (self.new ≡ self.old) }
@@ -150,6 +149,33 @@ impl SparseNumbers {
             return self.entries[at + 1];
         }
         0
+    }
+
+    /// Returns the number at a place, or 0 behind the last one, as `at` does. If the place is that of entry `near`, it
+    /// is not sought.
+    #[inline(always)]
+    #[tactic(auto, using(crate::proofs::SparseLists::number_near))]
+    pub(crate) fn at_near(&self, place: usize, near: usize) -> u64
+        ensures { result ≡ unwrap_or (slice_get self.now place) 0 }
+    {
+        if place < self.count
+            && near < self.entries.len() / 2
+            && self.entries[2 * near] == place as u64 + 1
+        {
+            return self.entries[2 * near + 1];
+        }
+        self.at(place)
+    }
+
+    /// Returns whether the number at a place is 0, or the place is behind the last one.
+    #[inline(always)]
+    pub(crate) fn is_zero(&self, place: usize) -> bool
+        ensures { result ≡ nat_eq (unwrap_or (slice_get self.now place) 0) 0 }
+    {
+        if place / 64 < self.marks.len() {
+            return !is_marked(&self.marks, place);
+        }
+        self.at(place) == 0
     }
 
     /// Returns a place from `place` to `end`, such that all numbers from `place` to before it are 0.

@@ -1,4 +1,5 @@
-use Rattle.local_run.proofs.Imports.{HasNoFaultOfKind, IsFirstFaultOfKind, Stop, ap, arith, common_steps, subst, ℕ, ◌≡◌}
+use Rattle.local_run.proofs.Imports.{HasNoFaultOfKind, IsFirstFaultOfKind, None, Stop, ap, arith, common_steps, refl}
+use Rattle.local_run.proofs.Imports.{subst, ℕ, ◌≡◌}
 use Rattle.local_run.proofs.Leasts.{AreFreeBefore, early_least, end_least_fault, last_stop_least}
 use Rattle.local_run.proofs.LeapRuns.{next_run}
 use Rattle.local_run.proofs.Steady.{steady_next}
@@ -60,6 +61,24 @@ returns-in-Some-first_stop_fault c =
     (subst (AreFreeBefore j vs) time c.loop-time.invariant.run.free)
     (subst (λ (n : ℕ). IsFirstFaultOfKind j vs n Stop c.in-Some-first_stop_fault.fault) c.steps-steps.ensures
     c.in-Some-first_stop_fault.ensures)
+
+pub is_end_correct-requires-clause-shows : goal.is_end_correct-requires-clause-shows
+is_end_correct-requires-clause-shows c =
+    let m = c.loop-time.invariant.run.shows in
+    let early = c.loop-time.invariant.run.early in
+    let e : c.loop-time.time ≡ c.args.job.now.steps =
+    omega (arith, c.loop-time-test.false, c.steps-steps.ensures, early) in
+    rw e at m
+
+pub returns-then-is_end_correct : goal.returns-then-is_end_correct
+returns-then-is_end_correct c =
+    let j = c.args.job.now in
+    let vs = c.args.values.now in
+    let early = c.loop-time.invariant.run.early in
+    let time : c.loop-time.time ≡ j.steps = omega (arith, c.loop-time-test.false, c.steps-steps.ensures, early) in
+    end_least_fault j vs None c.requires (subst (AreFreeBefore j vs) time c.loop-time.invariant.run.free)
+    (subst (λ (n : ℕ). HasNoFaultOfKind j vs n Stop) c.steps-steps.ensures c.in_default-first_stop_fault.ensures.0)
+    (c.if-is_end_correct.ensures refl)
 
 pub returns : goal.returns
 returns c =

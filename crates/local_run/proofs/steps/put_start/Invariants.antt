@@ -3,34 +3,18 @@ use Rattle.local_run.proofs.Imports.{◌*◌, ◌+◌, ◌-◌, ◌/◌, ◌<◌
 use Rattle.lanes.specs.Settled.{AreSettledBlocksUnchanged}
 use Rattle.local_run.proofs.steps.put_start.Given as goal
 
--- the cells of the rows so far are as the run begins, and all others are dead
-abbrev pub invariant-loop-y : goal.invariant-loop-y
-invariant-loop-y l = record {
+-- the cells before the place are as the run begins, and all others are dead
+abbrev pub invariant-loop-place : goal.invariant-loop-place
+invariant-loop-place l = record {
   settled : AreSettledBlocksUnchanged l.fn.marked_planes l.marked_planes;
   size : HasWordsStrideRows l.values.words (l.job.area.w / 2 + 1) (l.job.area.h / 2 + 1) l.marked_planes.planes;
-  above : (a x y : ℕ) → a < assignments l.job → x < l.job.area.w → y < l.y →
+  count : (l.put ≤ l.place) × (l.place ≤ l.job.area.w * l.job.area.h);
+  before : (a x y : ℕ) → a < assignments l.job → x < l.job.area.w → y < l.job.area.h → l.job.area.w * y + x < l.place →
       lane l.marked_planes.planes a (1 + x) (1 + y)
       ≡ local_run l.job (valuation l.values a) 0 (box_coord l.job.area.x x) (box_coord l.job.area.y y);
-  below : (a x y : ℕ) → a < 64 * l.values.words → x < l.job.area.w → l.y ≤ y →
+  from : (a x y : ℕ) → a < 64 * l.values.words → x < l.job.area.w → y < l.job.area.h → l.place ≤ l.job.area.w * y + x →
       lane l.marked_planes.planes a (1 + x) (1 + y) ≡ false;
 }
 
--- so are those of the row up to a column
-abbrev pub invariant-loop-x : goal.invariant-loop-x
-invariant-loop-x l = record {
-  settled : AreSettledBlocksUnchanged l.fn.marked_planes l.marked_planes;
-  size : HasWordsStrideRows l.values.words (l.job.area.w / 2 + 1) (l.job.area.h / 2 + 1) l.marked_planes.planes;
-  above : (a x y : ℕ) → a < assignments l.job → x < l.job.area.w → y < l.y →
-      lane l.marked_planes.planes a (1 + x) (1 + y)
-      ≡ local_run l.job (valuation l.values a) 0 (box_coord l.job.area.x x) (box_coord l.job.area.y y);
-  here : (a x : ℕ) → a < assignments l.job → x < l.x →
-      lane l.marked_planes.planes a (1 + x) (1 + l.y)
-      ≡ local_run l.job (valuation l.values a) 0 (box_coord l.job.area.x x) (box_coord l.job.area.y l.y);
-  beside : (a x : ℕ) → a < 64 * l.values.words → x < l.job.area.w → l.x ≤ x →
-      lane l.marked_planes.planes a (1 + x) (1 + l.y) ≡ false;
-  below : (a x y : ℕ) → a < 64 * l.values.words → x < l.job.area.w → l.y + 1 ≤ y →
-      lane l.marked_planes.planes a (1 + x) (1 + y) ≡ false;
-}
-
-abbrev pub decreases-loop-x : goal.decreases-loop-x
-decreases-loop-x l = l.job.area.w - l.x
+abbrev pub decreases-loop-place : goal.decreases-loop-place
+decreases-loop-place l = l.job.area.w * l.job.area.h - l.place
