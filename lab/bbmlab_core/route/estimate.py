@@ -9,8 +9,8 @@ from .netlist import RouterNetlist
 
 @dataclass(frozen=True)
 class MeasuredCircuits:
-    """Circuits that `bench/route` tried on 2026-12-01 (bench/README.md): how many got a yes, within the goal or not, and
-    the median of their processor seconds.
+    """Circuits that `bench/route` tried on 2026-12-01 (bench/README.md): how many got a yes, within the goal or not,
+    and the median of their processor seconds.
 
     `most_gates` is the most gates that one of them has.
     """
