@@ -26,10 +26,10 @@ FUNCTIONS = {
 def states_of(layout: Layout, on: set[str]) -> list[set[Cell]]:
     """Returns the live cells at each time."""
     run = layout_run(layout, on)
-    states = [run.field.state()]
+    states = [run.field.live_cells_under()]
     while run.time < layout.steps:
         assert run.step(), "a ball left"
-        states.append(run.field.state())
+        states.append(run.field.live_cells_under())
     return states
 
 

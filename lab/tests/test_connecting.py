@@ -61,7 +61,7 @@ class Connecting(unittest.TestCase):
             run = layout_run(document.layout, on)
             self.assertTrue(run.run_to(document.layout.steps))
             outs = {part.cell for part in document.layout.of_kind("out")}
-            self.assertEqual(outs <= run.field.state(), bool(on))
+            self.assertEqual(outs <= run.field.live_cells_under(), bool(on))
         return document
 
     def test_two_gates_in_a_row(self) -> None:

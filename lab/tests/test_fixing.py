@@ -17,7 +17,7 @@ from bbmlab_core.explain.refusal_edits import refusal_edits
 from bbmlab_core.explain.trials import Budget, TrialRunner, is_yes
 from bbmlab_core.host.program import ask
 from bbmlab_core.physics.mirrors import is_stable
-from bbmlab_core.physics.own_report import own_report
+from bbmlab_core.physics.own_report import lab_report
 from bbmlab_core.texts.skimming import certificate_digest
 from bbmlab_core.physics.simulation import LiveCells, key_of
 from bbmlab_core.texts.certificates import Border, Module
@@ -252,7 +252,7 @@ class Reports(support.InRoom):
             if case.words[0] == "check" and case.output and len(case.input) < 6000 and not case.output.startswith(
                 b"refused"):
                 document = support.document_of(case)
-                report, own = parse_report(case.output.decode()), own_report(document)
+                report, own = parse_report(case.output.decode()), lab_report(document)
                 count += 1
                 self.assertEqual((own.verdict, [finding.text for finding in own.findings]),
                                  (report.verdict, [finding.text for finding in report.findings]), case.name)

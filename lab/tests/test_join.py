@@ -96,7 +96,7 @@ class Joining(unittest.TestCase):
             on = {name for name in circuit.inputs if chance.random() < 0.6}
             run = layout_run(layout, on)
             self.assertTrue(run.run_to(layout.steps))
-            live, values = run.field.state(), values_and_undefined_gate(circuit, on)[0]
+            live, values = run.field.live_cells_under(), values_and_undefined_gate(circuit, on)[0]
             for part in layout.of_kind("out"):
                 self.assertEqual(part.cell in live, values[part.name or ""], (part, on))
 

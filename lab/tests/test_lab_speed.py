@@ -23,7 +23,7 @@ from bbmlab_core.explain.trials import Budget, TrialRunner
 from bbmlab_core.host.program import ask
 from bbmlab_core.host.terminal import LabError
 from bbmlab_core.physics import tracing
-from bbmlab_core.physics.simulation import Fault, ModuleRun, WholeRun, key_of, lowest_bit, layout_run
+from bbmlab_core.physics.simulation import Fault, ModuleRun, WholeRun, key_of, least_assignment, layout_run
 from bbmlab_core.pictures.golly import golly_text
 from bbmlab_core.texts import designs
 from bbmlab_core.texts.assigns import AssignReader
@@ -56,7 +56,8 @@ def bundles() -> dict[str, Document]:
 def plain_least_fault(run: ModuleRun) -> Fault | None:
     """Returns the least fault of a module by a run that makes each step."""
     while True:
-        found = [Fault(run.time, rank, cell[1], cell[0], lowest_bit(table)) for rank, cell, table in run.faults_now()]
+        found = [Fault(run.time, rank, cell[1], cell[0], least_assignment(table))
+                 for rank, cell, table in run.faults_now()]
         if found or run.time == run.layout.steps:
             return min(found, default=None)
         run.step()
@@ -110,9 +111,9 @@ class Runs(unittest.TestCase):
             layout = random_layout(chooser, 0, 30)
             on = [name for name in "pq" if chooser.randrange(2)]
             trace, run = tracing.trace_layout(layout, on, 0, layout.steps), layout_run(layout, on)
-            states = [run.field.state()]
+            states = [run.field.live_cells_under()]
             while run.time < layout.steps and run.step():
-                states.append(run.field.state())
+                states.append(run.field.live_cells_under())
             self.assertEqual(trace.states, states)
             self.assertEqual(trace.leaving_step, run.left and run.left[0])
             broken += any(moment.dead_mirror_cells for moment in trace.moments)

@@ -228,7 +228,7 @@ class Forms(unittest.TestCase):
         self.assertEqual(golly.layout_text_from_golly(pattern), text)
         bare = "\n".join(line for line in pattern.split("\n") if not line.startswith("#C"))
         self.assertRegex(golly.layout_text_from_golly(bare), r"\Alimits 2\nlayout \d+ \d+ 0\n")
-        self.assertTrue(tracing.run_input(lines, []).startswith(b"limits 2\nlayout 4096 "))
+        self.assertTrue(tracing.bytes_for_run_command(lines, []).startswith(b"limits 2\nlayout 4096 "))
 
     def test_certify_writes_the_line_only_if_asked(self) -> None:
         """A certificate of a layout within the first limits comes without the line, and any other with it."""

@@ -211,7 +211,7 @@ class Json(unittest.TestCase):
         for name in ("head_on", "off_a_mirror", "full_adder"):
             document = support.read_document(support.text_of(name))
             lines = document.text[document.text.index("layout "):].split("\nend\n")[0].split("\n") + ["end"]
-            live = layout_run(document.layout, ["p"]).field.state()
+            live = layout_run(document.layout, ["p"]).field.live_cells_under()
             text = golly.golly_text(document.layout, live, ["p"], lines)
             with self.subTest(name):
                 self.assertEqual(golly.layout_text_from_golly(text), "\n".join(lines) + "\n")
@@ -228,7 +228,7 @@ class Json(unittest.TestCase):
                 run = layout_run(document.layout, on)
                 run.run_to(time)
                 with self.subTest(f"{name} at {time}"):
-                    self.assertEqual(golly_run(document, on, time), run.field.state())
+                    self.assertEqual(golly_run(document, on, time), run.field.live_cells_under())
 
     def test_free_patterns_keep_their_phase(self) -> None:
         """Live cells without comments become balls whose blocks are even ones."""
@@ -238,7 +238,7 @@ class Json(unittest.TestCase):
 
 def golly_run(document: support.Document, on: list[str], time: int) -> set:
     """Returns the live cells that Golly has at a time."""
-    start = layout_run(document.layout, on).field.state()
+    start = layout_run(document.layout, on).field.live_cells_under()
     with tempfile.TemporaryDirectory() as room:
         before, after = Path(room) / "before.rle", Path(room) / "after.rle"
         before.write_text(golly.golly_text(document.layout, start, on, []))

@@ -9,7 +9,7 @@ from pathlib import Path
 from typing import Any
 
 import support
-from bbmlab_core.physics.mirrors import falling_mirrors, is_stable
+from bbmlab_core.physics.mirrors import is_stable, unstable_mirrors
 from bbmlab_core.physics.simulation import layout_run
 from bbmlab_core.studio import answers, server
 from bbmlab_core.texts import json_form
@@ -278,7 +278,8 @@ class Runs(unittest.TestCase):
             for state in told["states"]:
                 run = layout_run(document.layout, state["on"])
                 run.run_to(document.layout.steps)
-                self.assertEqual({tuple(cell) for cell in state["live"]}, set(run.field.state()), (name, state["on"]))
+                self.assertEqual({tuple(cell) for cell in state["live"]}, set(run.field.live_cells_under()),
+                                 (name, state["on"]))
 
     def test_random_layouts(self) -> None:
         """So it is for random layouts of many balls, with mirrors that fall apart and balls that lie still, as long as
@@ -290,7 +291,8 @@ class Runs(unittest.TestCase):
             for state in told["states"] if told["leftAt"] is None else []:
                 run = layout_run(layout, state["on"])
                 run.run_to(layout.steps)
-                self.assertEqual({tuple(cell) for cell in state["live"]}, set(run.field.state()), text_of(layout))
+                self.assertEqual({tuple(cell) for cell in state["live"]}, set(run.field.live_cells_under()),
+                                 text_of(layout))
                 count += 1
         self.assertGreater(count, 200)
 
@@ -318,7 +320,7 @@ class Runs(unittest.TestCase):
                 run, values = layout_run(document.layout, on), values_and_undefined_gate(document.circuit, on)[0]
                 run.run_to(document.layout.steps)
                 for output in row["outputs"]:
-                    states = {port.cell in run.field.state() for port in document.layout.of_kind("out")
+                    states = {port.cell in run.field.live_cells_under() for port in document.layout.of_kind("out")
                               if port.name == output["name"]}
                     found = states.pop() if len(states) == 1 else None
                     self.assertEqual((output["wanted"], output["found"]), (values[output["name"]], found),
@@ -351,7 +353,7 @@ class Runs(unittest.TestCase):
                     for _ in range(count)]
                    for count in (1, 2, 3, 5) for _ in range(150)]
         wanted = [[[mirror.mirror.x, mirror.mirror.y, mirror.mirror.width, mirror.mirror.height] for mirror in
-                   falling_mirrors(Layout(20, 20, 3, tuple(Box(*box) for box in boxes)))]
+                   unstable_mirrors(Layout(20, 20, 3, tuple(Box(*box) for box in boxes)))]
                   for boxes in layouts]
         self.assertEqual(node(*[["fallen", boxes] for boxes in layouts]), wanted)
         self.assertGreater(sum(map(len, wanted)), 100)

@@ -9,7 +9,7 @@ from pathlib import Path
 
 import support
 from bbmlab_core.commands.draw import boxes_with_gates, picture_of
-from bbmlab_core.physics.simulation import DIAGONAL_STRIDE, ROW_STRIDE, Table, WholeRun, block_of, cell_of
+from bbmlab_core.physics.simulation import DIAGONAL_STRIDE, ROW_STRIDE, TruthTable, WholeRun, block_of, cell_of
 from bbmlab_core.pictures import drawing
 from bbmlab_core.pictures.picture_parts import (OTHER_WIRES_LABEL, PictureOptions, chevrons, cone_of, piece_within,
                                                 with_others_grouped)
@@ -30,11 +30,11 @@ def steps_of(pieces: list[Piece]) -> set[Step]:
     return found
 
 
-def moves_by_rule(document: Document, tables: dict[str, Table], full: Table) -> dict[Table, set[Step]]:
+def moves_by_rule(document: Document, tables: dict[str, TruthTable], full: TruthTable) -> dict[TruthTable, set[Step]]:
     """Returns the steps of the balls from the lab's run, one block after another, by the assignments under which they
     are made."""
     layout = document.layout
-    run, found = WholeRun(layout, tables, full), dict[Table, set[Step]]()
+    run, found = WholeRun(layout, tables, full), dict[TruthTable, set[Step]]()
     for _ in range(layout.steps):
         live, is_odd = run.field.live, run.time % 2
         looked = {block_of(key, is_odd) for key in run.field.changed | run.field.changed_before}

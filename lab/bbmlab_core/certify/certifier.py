@@ -12,7 +12,7 @@ from typing import Iterable
 from ..circuits.cones import few_cuts_and_uses, cone_for_inverse_gate
 from ..host.processor import processor_seconds
 from ..host.terminal import LabError
-from ..physics.simulation import Fault, ModuleRun, Table, cell_of, key_of, keys_of
+from ..physics.simulation import Fault, ModuleRun, TruthTable, cell_of, key_of, keys_of_box
 from ..texts.certificates import (MAX_BOX_SIDE, MAX_BORDER_LINES, MAX_CUTS, MAX_USES, Border, Certificate, Module,
                                   ModuleDraft, Stop, certificate_line_text)
 from ..texts.circuits import Circuit, Gate
@@ -147,7 +147,7 @@ class CertificateMaker:
         lines = Box(box.x + place - 1, box.y, 2, box.height) if is_upright else Box(box.x, box.y + place - 1, box.width,
                                                                                     2)
         return all(self.observer.wires_carried_by(key) is not None for key in self.observer.observed.timed_tables.keys()
-                   & keys_of(lines))
+                   & keys_of_box(lines))
 
     def why_not_split(self, box: Box) -> str:
         """Says why a rectangle can't be cut."""
@@ -172,7 +172,7 @@ class CertificateMaker:
         if len(module.edges) + max(len(module.halos), len(module.stops)) > MAX_BORDER_LINES:
             raise ImpossibleModuleError(f"the box {box.numbers_text} takes more than {MAX_BORDER_LINES} lines")
         needed = {line.signal for line in (*module.edges, *module.halos)} - {"1"}
-        inside = keys_of(box)
+        inside = keys_of_box(box)
         needed |= {self.ports[key] for key in self.ports.keys() & inside} | {stop.name for stop in module.stops}
         fault = None
         for wiring in self.possible_cuts_and_uses(box, needed, inside, halo):
@@ -314,7 +314,7 @@ class CertificateMaker:
                 stops.setdefault(wire, Stop(time, wire, *cell))
         return sorted(stops.values(), key=lambda stop: stop.order_key)
 
-    def cell_carrying(self, wire: str, live: dict[int, Table]) -> Cell | None:
+    def cell_carrying(self, wire: str, live: dict[int, TruthTable]) -> Cell | None:
         """Returns a cell that carries a wire, an `out` cell of it first."""
         outs = {port.cell for port in self.layout.outs if port.name == wire}
         table = self.observer.values.tables[wire]

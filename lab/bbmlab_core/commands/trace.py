@@ -21,10 +21,10 @@ def run(options: argparse.Namespace) -> int:
     else:
         on = tracing.chosen_inputs(document, options.on)
         trace = tracing.trace_layout(layout, on, options.start, last)
-        compare_with_program(options, trace, tracing.run_input(tracing.layout_section_lines(document), on))
+        compare_with_program(options, trace, tracing.bytes_for_run_command(tracing.layout_section_lines(document), on))
     mirrors = layout.mirror_cells()
-    write_text(options.output, tracing.as_json(trace, mirrors) if options.json
-               else tracing.as_text(trace, mirrors, options.pictures))
+    write_text(options.output, tracing.trace_json_text(trace, mirrors) if options.json
+               else tracing.trace_text(trace, mirrors, options.pictures))
     return 1 if trace.leaving_step is not None else 0
 
 
@@ -39,7 +39,7 @@ def compare_with_program(options: argparse.Namespace, trace: tracing.Trace, text
     if answer.status >= 3:
         tell(f"the last state was not compared: {answer.errors or answer.output.strip()}")
         return
-    differs = tracing.difference_from_run(trace, answer.output)
+    differs = tracing.describe_difference_from_run(trace, answer.output)
     if differs:
         raise LabError(f"the lab's run is wrong: {differs}")
     tell("the last state is what the program's run says")

@@ -3,7 +3,7 @@
 from dataclasses import dataclass
 from typing import Iterator, Sequence
 
-from ..physics.simulation import Table, key_of
+from ..physics.simulation import TruthTable, key_of
 from ..texts.certificates import MAX_CUTS, MAX_USES, Module, Stop, certificate_line_text
 from ..texts.layouts import Cell
 from ..texts.reports import ReportLine
@@ -136,7 +136,7 @@ class CertificateEditor:
         """Returns the edit that adds a line to a module."""
         return addition(insertion_line_in_module(self.lines, module.line, text), text)
 
-    def wire_table(self, name: str) -> Table | None:
+    def wire_table(self, name: str) -> TruthTable | None:
         """Returns the table of a wire over the tried inputs."""
         return self.diagnosis.wire_tables.tables.get(name)
 
@@ -157,7 +157,7 @@ class CertificateEditor:
         """Returns the edit that gives a stop another wire."""
         return replacement(module.line_number("stop", stop), certificate_line_text("stop", stop._replace(name=name)))
 
-    def table_at(self, time: int, cell: Cell) -> Table | None:
+    def table_at(self, time: int, cell: Cell) -> TruthTable | None:
         """Returns the table of a cell in the whole run at a time."""
         field = self.diagnosis.whole_run_cells(time)
         return None if field is None else field.live.get(key_of(cell), 0)

@@ -11,7 +11,8 @@ from functools import cached_property
 from typing import Callable
 
 from ..host.processor import processor_seconds
-from ..physics.simulation import Fault, LiveCells, ModuleRun, Table, WholeRun, cell_of, end_tables, key_of, lowest_bit
+from ..physics.simulation import (Fault, LiveCells, ModuleRun, TruthTable, WholeRun, cell_of, key_of, least_assignment,
+                                  required_end_tables)
 from ..texts.certificates import Module, local_wires
 from ..texts.circuits import Circuit, WireTables, evaluate_gates, evaluate_all_or_samples
 from ..texts.documents import Document
@@ -103,12 +104,12 @@ class RimWatch:
     """Looks at each step of a whole run whether a cell of the rim is live at an odd time before the end, under
     assignments that count."""
 
-    def __init__(self, layout: Layout, defined: Table) -> None:
+    def __init__(self, layout: Layout, defined: TruthTable) -> None:
         self.defined, self.steps = defined, layout.steps
         self.keys = {key_of((x, y)) for x in range(layout.width) for y in (0, layout.height - 1)}
         self.keys |= {key_of((x, y)) for y in range(layout.height) for x in (0, layout.width - 1)}
         # The first time, the cell, and under which assignments.
-        self.found: tuple[int, Cell, Table] | None = None
+        self.found: tuple[int, Cell, TruthTable] | None = None
 
     def note_live_rim(self, run: WholeRun) -> None:
         """Looks at the present state. A cell that did not change in two steps was live at the odd time before."""
@@ -166,11 +167,11 @@ class Diagnosis:
         total = 1 << len(inputs) if is_all else 0
         if not table:
             return AssignmentOccurrence(Tristate.NO if is_all else Tristate.UNKNOWN, total=total)
-        chosen = lowest_bit(table)
+        chosen = least_assignment(table)
         given = {name: values.tables[name] >> chosen & 1 for name in inputs}
         return AssignmentOccurrence(Tristate.YES, given, table.bit_count() if is_all else 0, total)
 
-    def occurring_assignment_table(self, module: Module) -> Table:
+    def occurring_assignment_table(self, module: Module) -> TruthTable:
         """Returns a table of assignments of the module's cuts that occur: all of them, or those that occur in the
         samples."""
         inputs, gates = self.circuit.cone_inputs_and_gates(module.cuts)
@@ -201,7 +202,8 @@ class Diagnosis:
         run = ModuleRun(self.circuit, self.layout, self.certificate, module)
         run.run_to(time)
         heard = run.halos.tables_at(time) if time % 2 and time < self.layout.steps else {}
-        return run.field.state(assignment), {cell_of(key) for key, table in heard.items() if table >> assignment & 1}
+        return run.field.live_cells_under(assignment), {cell_of(key) for key, table in heard.items()
+                                                        if table >> assignment & 1}
 
     def first_difference(self, module: Module, assignment: int, inputs: dict[str, int],
                          until: int) -> RunDifference | None:
@@ -252,7 +254,7 @@ class Diagnosis:
                 return None
         return run
 
-    def signal_with_table(self, table: Table) -> Signal:
+    def signal_with_table(self, table: TruthTable) -> Signal:
         """Returns the signal that is true in just these choices of the inputs:
 
         `1`, a wire, or `0` where it is never true.
@@ -281,24 +283,25 @@ class Diagnosis:
         if run is None:
             return WholeOutcome(Tristate.UNKNOWN)
         if run.left is not None:
-            inputs = self.inputs_words(lowest_bit(run.left[1]))
+            inputs = self.inputs_words(least_assignment(run.left[1]))
             return WholeOutcome(Tristate.NO,
                                 f"with {inputs} step {run.left[0]} makes the cell ({run.left[2][0]}, {run.left[2][1]}) "
                                 "outside the rectangle live")
-        wanted = {key_of(cell): table for cell, table in end_tables(self.layout, values.tables, values.full).items()}
+        wanted = {key_of(cell): table
+                  for cell, table in required_end_tables(self.layout, values.tables, values.full).items()}
         for key in sorted(wanted.keys() | run.field.live.keys()):
             table = wanted.get(key, 0)
             differs = 0 if table is None else (table ^ run.field.live.get(key, 0)) & values.defined_columns
             if differs:
-                inputs, (x, y) = self.inputs_words(lowest_bit(differs)), cell_of(key)
-                is_live = run.field.live.get(key, 0) >> lowest_bit(differs) & 1
+                inputs, (x, y) = self.inputs_words(least_assignment(differs)), cell_of(key)
+                is_live = run.field.live.get(key, 0) >> least_assignment(differs) & 1
                 found, asked = ("live", "dead") if is_live else ("dead", "live")
                 return WholeOutcome(Tristate.NO,
                                     f"with {inputs} the cell ({x}, {y}) is {found} at the end and should be {asked}")
         if rim.found:
             time, (x, y), table = rim.found
             return WholeOutcome(Tristate.NO,
-                                f"with {self.inputs_words(lowest_bit(table))} the cell ({x}, {y}) of the rim is "
+                                f"with {self.inputs_words(least_assignment(table))} the cell ({x}, {y}) of the rim is "
                                 f"live at time {time}", True)
         return WholeOutcome(Tristate.YES if values.is_all else Tristate.UNKNOWN)
 

@@ -7,7 +7,7 @@ from functools import cached_property
 from typing import Callable, Iterable
 
 from ..host.processor import processor_seconds
-from ..physics.simulation import Table, WholeRun, cell_of
+from ..physics.simulation import TruthTable, WholeRun, cell_of
 from ..texts.certificates import Border, Module, certificate_line_text
 from ..texts.layouts import Cell
 from .diagnosis import MAX_SECONDS, Diagnosis
@@ -46,14 +46,14 @@ class LiveTimes:
     noted of them.
     """
 
-    def __init__(self, live: dict[int, Table], is_noted: Callable[[Cell], bool], steps: int) -> None:
+    def __init__(self, live: dict[int, TruthTable], is_noted: Callable[[Cell], bool], steps: int) -> None:
         self.live, self.is_noted, self.steps = live, is_noted, steps
         # The cells that were live or changed up to now: those that are noted, and all of them.
         self.own: set[int] = set()
         self.known: set[int] = set()
         self.still = {key: live[key] for key in self.noted_among(set(live))}
         self.moving: set[int] = set()
-        self.seen: dict[int, dict[int, Table]] = {}
+        self.seen: dict[int, dict[int, TruthTable]] = {}
 
     def noted_among(self, keys: set[int]) -> set[int]:
         """Returns the cells that are noted among some."""
@@ -78,7 +78,7 @@ class LiveTimes:
             else:
                 self.moving.discard(key)
 
-    def tables_by_cell_and_time(self) -> dict[int, dict[int, Table]]:
+    def tables_by_cell_and_time(self) -> dict[int, dict[int, TruthTable]]:
         """Returns the tables by cell and odd time, after the last step."""
         shared = {table: dict.fromkeys(range(1, self.steps, 2), table) for table in set(self.still.values())}
         return {**self.seen, **{key: shared[table] for key, table in self.still.items()}}
@@ -101,7 +101,7 @@ class BorderCheck:
         return owner if owner and owner.box.has_in_ring(cell) else None
 
     @cached_property
-    def ring_tables(self) -> dict[Cell, dict[int, Table]] | None:
+    def ring_tables(self) -> dict[Cell, dict[int, TruthTable]] | None:
         """The tables of the cells of all rings at the odd times at which they are live, or None if the run is too long
         or leaves."""
         if not self.diagnosis.can_run_whole():
@@ -118,7 +118,7 @@ class BorderCheck:
             watch.note_changes(run.field.changed, run.time)
         return {cell_of(key): times for key, times in watch.tables_by_cell_and_time().items() if times}
 
-    def signal_table(self, signal: str) -> Table:
+    def signal_table(self, signal: str) -> TruthTable:
         """Returns the table of a signal."""
         return self.diagnosis.wire_tables.full if signal == "1" else self.diagnosis.wire_tables.tables[signal]
 
@@ -167,7 +167,7 @@ class BorderCheck:
             edits += self.edits_to_local_wires(hearer, signals)
         return list(dict.fromkeys(edits + self.edits_to_local_wires(owner, signals)))
 
-    def possible_signals(self, cell: Cell, actual: dict[int, Table], modules: list[Module],
+    def possible_signals(self, cell: Cell, actual: dict[int, TruthTable], modules: list[Module],
                          lines: list[tuple[Module, Border]]) -> list[dict[int | None, str]]:
         """Returns the signals that a cell may have, the likeliest first; none if no wire has its values, or if it needs
         too many lines."""
@@ -179,7 +179,7 @@ class BorderCheck:
             found.append(signals)
         return found
 
-    def first_wrong_time_if_any(self, module: Module, actual: dict[int, Table],
+    def first_wrong_time_if_any(self, module: Module, actual: dict[int, TruthTable],
                                 lines: list[tuple[Module, Border]]) -> list[int]:
         """Returns the first odd time at which the lines of a module about a cell differ from the run, in a list that
         may be empty."""
@@ -189,7 +189,7 @@ class BorderCheck:
         times = sorted(time for time in actual.keys() | own.keys() if time is not None)
         return next(([time] for time in times if actual.get(time, 0) != own.get(time, 0)), [])
 
-    def expected_signals(self, cell: Cell, actual: dict[int, Table], modules: list[Module],
+    def expected_signals(self, cell: Cell, actual: dict[int, TruthTable], modules: list[Module],
                          lines: list[tuple[Module, Border]], rank: int) -> dict[int | None, str] | None:
         """Returns the signals that a cell should have by time, or None if no wire has its values.
 
@@ -210,7 +210,7 @@ class BorderCheck:
             signals[time] = names[min(rank, len(names) - 1)]
         return signals
 
-    def likely_wires(self, table: Table, modules: list[Module], cell: Cell, time: int) -> list[str]:
+    def likely_wires(self, table: TruthTable, modules: list[Module], cell: Cell, time: int) -> list[str]:
         """Returns the wires with a table. First comes that of the line about the cell at the nearest time, then those
         that most modules know.
 

@@ -5,7 +5,7 @@ import re
 from dataclasses import asdict, dataclass, field, replace
 
 from ..host.terminal import escape_controls
-from ..physics.mirrors import falling_mirrors
+from ..physics.mirrors import unstable_mirrors
 from ..texts.certificates import Certificate, certificate_line_text
 from ..texts.circuits import Circuit
 from ..texts.code_names import CODE_NAMES
@@ -172,13 +172,13 @@ def yes_words(count: int) -> str:
 
 def falling_mirror_words(diagnosis: Diagnosis) -> list[str]:
     """Returns which mirrors fall apart by themselves."""
-    fallen = falling_mirrors(diagnosis.layout)
+    unstable = unstable_mirrors(diagnosis.layout)
     words = [f"The mirror of line {own.mirror.line} (`{diagnosis.document.line(own.mirror.line)}`) falls apart by "
              f"itself: step {own.step} "
-             f"moves its cell {cell_words(own.cell)}." for own in fallen[:MAX_NAMED_MIRRORS]]
-    if len(fallen) > MAX_NAMED_MIRRORS:
-        words.append(f"{len(fallen) - MAX_NAMED_MIRRORS} more mirrors do.")
-    if fallen:
+             f"moves its cell {cell_words(own.cell)}." for own in unstable[:MAX_NAMED_MIRRORS]]
+    if len(unstable) > MAX_NAMED_MIRRORS:
+        words.append(f"{len(unstable) - MAX_NAMED_MIRRORS} more mirrors do.")
+    if unstable:
         words.append("A mirror stays if its width and height are even and its upper left cell has exactly one odd "
                      "coordinate.")
     return words

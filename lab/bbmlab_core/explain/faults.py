@@ -163,7 +163,7 @@ def add_never_occurring_cause(diagnosis: Diagnosis, module: Module, entry: Expla
                       f"{cell_words((fault.x, fault.y))}.")
     entry.facts["fault_that_occurs"] = {"kind": fault.kind, "time": fault.time, "cell": [fault.x, fault.y],
                                         "assignment": module.cut_values(fault.assignment)}
-    finding = parse_finding(f"local {module.number} {fault.report_words()}")
+    finding = parse_finding(f"local {module.number} {fault.text_in_report()}")
     add_occurring_cause(diagnosis, module, finding, entry, diagnosis.occurrence(module, fault.assignment))
 
 

@@ -11,7 +11,7 @@ from itertools import combinations
 from typing import Iterable, Iterator
 
 from ..host.processor import processor_seconds
-from ..physics.simulation import Table, WholeRun, cell_of, end_tables, key_of
+from ..physics.simulation import TruthTable, WholeRun, cell_of, key_of, required_end_tables
 from ..texts.circuits import Circuit, Gate, WireTables, evaluate_all, evaluate_all_or_samples
 from ..texts.layouts import Cell, Layout, Part, cells_of
 from ..texts.limits import limits_of
@@ -43,10 +43,10 @@ def values_in_few_choices(circuit: Circuit) -> WireTables:
     return evaluate_all_or_samples(circuit, FEW_EXHAUSTIVE_INPUTS, SAMPLE_COUNT)
 
 
-def wrong_cells(circuit_values: WireTables, layout: Layout, live: dict[int, Table]) -> dict[int, Table]:
+def wrong_cells(circuit_values: WireTables, layout: Layout, live: dict[int, TruthTable]) -> dict[int, TruthTable]:
     """Returns the cells that do not end as the layout asks, with the columns in which they do not."""
     wanted = {key_of(cell): table for cell,
-              table in end_tables(layout, circuit_values.tables, circuit_values.full).items()}
+              table in required_end_tables(layout, circuit_values.tables, circuit_values.full).items()}
     wrong = {}
     for key in wanted.keys() | live.keys():
         table = wanted.get(key, 0)
@@ -76,7 +76,7 @@ class Testbench:
         """Whether the seconds are used up, or a run would be too long."""
         return processor_seconds() > self.end or self.layout.steps > MAX_STEPS
 
-    def last_state(self, layout: Layout, values: WireTables, notes: bool = False) -> dict[int, Table] | None:
+    def last_state(self, layout: Layout, values: WireTables, notes: bool = False) -> dict[int, TruthTable] | None:
         """Returns the live cells after the last step, or None if a step leaves the rectangle or the seconds are used
         up."""
         run = WholeRun(layout, values.tables, values.full)
@@ -218,7 +218,7 @@ def output_place_changes(bench: Testbench, reach: int | None, is_exchange: bool 
         yield from bench.change_if_possible(swaps, wastes, freed)
 
 
-def part_for_stray_ball(bench: Testbench, cell: Cell, table: Table) -> Part:
+def part_for_stray_ball(bench: Testbench, cell: Cell, table: TruthTable) -> Part:
     """Returns the part for a ball that no line asks for: the second cell of an `out`, or else `waste`."""
     name = next((part.name for part in bench.layout.of_kind("out")
                  if abs(part.x - cell[0]) == abs(part.y - cell[1]) == 2

@@ -7,7 +7,7 @@ from dataclasses import dataclass
 from ..farm.answering import PROGRAM_STATUS_OF
 from ..host.processor import processor_seconds
 from ..host.program import Executable, BadProgramError, ProgramTimeout, ask, open_program
-from ..physics.own_report import own_report
+from ..physics.own_report import lab_report
 from ..texts.documents import read_document
 from ..texts.reports import ReportLine, ReportOrRefusal, ReportError, parse_report
 
@@ -88,7 +88,7 @@ class TrialRunner:
         layout, certificate = document.layout, document.certificate
         if layout and certificate and not document.refusal and len(certificate.modules) * layout.steps > MAX_OWN_STEPS:
             return None
-        return own_report(document)
+        return lab_report(document)
 
 
 def is_yes(report: ReportOrRefusal | None) -> bool:

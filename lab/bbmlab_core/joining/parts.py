@@ -8,7 +8,7 @@ from typing import Collection, Iterable, Sequence
 from weakref import WeakValueDictionary
 
 from ..host.terminal import LabError
-from ..physics.simulation import local_values
+from ..physics.simulation import local_wire_tables
 from ..route.balls import Ball, block_corner, state_after_step
 from ..route.netlist import RouterNetlist
 from ..route.world import ROW_STRIDE, ROW_BITS, STEP_STRIDE, Footprint, cell_number, cell_of_number
@@ -239,7 +239,7 @@ class PartRun:
         times, starts = sorted(heard, reverse=True), self.starts[module.number]
         if not times and not starts:
             return {}
-        values = local_values(self.circuit, module)
+        values = local_wire_tables(self.circuit, module)
         full = values.full
         for table in values.defined_columns_by_gate.values():
             full &= table
@@ -274,7 +274,7 @@ class PartRun:
             if part.cell not in last:
                 continue
             module, table = last[part.cell]
-            values = local_values(self.circuit, module)
+            values = local_wire_tables(self.circuit, module)
             full = values.full
             for rows in values.defined_columns_by_gate.values():
                 full &= rows

@@ -8,7 +8,7 @@ from ..texts.layouts import Cell, Layout, Part
 
 
 @dataclass(frozen=True)
-class FallingMirror:
+class UnstableMirror:
     """A mirror that does not stay by itself: the first step, 1 or 2, that moves one of its cells, and a cell that it
     moves."""
 
@@ -17,7 +17,7 @@ class FallingMirror:
     cell: Cell
 
 
-def moving_cell(part: Part, is_odd: int) -> Cell | None:
+def unstable_cell_if_alone(part: Part, is_odd: int) -> Cell | None:
     """Returns a cell of a rectangle that a step moves, if nothing else is live; `is_odd` is the parity of the step's
     time.
 
@@ -37,10 +37,10 @@ def moving_cell(part: Part, is_odd: int) -> Cell | None:
 
 def is_stable(part: Part) -> bool:
     """Whether a mirror by itself stays as it is under both partitions."""
-    return moving_cell(part, 0) is None and moving_cell(part, 1) is None
+    return unstable_cell_if_alone(part, 0) is None and unstable_cell_if_alone(part, 1) is None
 
 
-def falling_mirrors(layout: Layout) -> list[FallingMirror]:
+def unstable_mirrors(layout: Layout) -> list[UnstableMirror]:
     """Returns the mirrors that do not stay, in the order of their lines.
 
     Mirrors that touch others are looked at with them.
@@ -50,7 +50,7 @@ def falling_mirrors(layout: Layout) -> list[FallingMirror]:
         for step in (1, 2):
             cell = None if is_stable(part) else unstable_cell(part, step - 1, cells)
             if cell is not None:
-                found.append(FallingMirror(part, step, cell))
+                found.append(UnstableMirror(part, step, cell))
                 break
     return found
 

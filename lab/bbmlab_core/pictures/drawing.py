@@ -4,7 +4,7 @@ from dataclasses import dataclass, field
 from html import escape
 from typing import Sequence
 
-from ..physics.simulation import Table
+from ..physics.simulation import TruthTable
 from ..texts.certificates import Module
 from ..texts.circuits import Circuit, evaluate_all, evaluate_samples, sampled_tables
 from ..texts.documents import Document
@@ -401,7 +401,7 @@ def svg(layout: Layout, drawing: Drawing, wires: list[str]) -> str:
             + f"\n</g>\n{title}\n{below}\n</svg>\n")
 
 
-def wire_tables_and_column(document: Document, on: list[str]) -> tuple[dict[str, Table], Table, int]:
+def wire_tables_and_column(document: Document, on: list[str]) -> tuple[dict[str, TruthTable], TruthTable, int]:
     """Returns the tables of the wires, that of all columns, and the column in which just the names of `on` are true.
 
     The columns are all assignments of the inputs, or samples if there are more inputs than `MAX_EXHAUSTIVE_INPUTS`.
@@ -439,7 +439,7 @@ def ball_ways_and_labels(document: Document, on: list[str] | None, until: int,
     layout = document.layout
     assert layout is not None
     tables, full, chosen = wire_tables_and_column(document, on or [])
-    names: dict[Table, str] = {}
+    names: dict[TruthTable, str] = {}
     equal: dict[str, list[str]] = {}
     for name, table in tables.items():
         equal.setdefault(names.setdefault(table, name), []).append(name)

@@ -6,7 +6,7 @@ nothing until it can meet something (`flights`). All other blocks follow the blo
 
 from typing import Iterable, Iterator
 
-from ..physics.simulation import DIAGONAL_STRIDE, ROW_STRIDE, Table, cell_of, key_of
+from ..physics.simulation import DIAGONAL_STRIDE, ROW_STRIDE, TruthTable, cell_of, key_of
 from ..texts.layouts import Box, Cell, Layout
 from .flights import (BACK_FALLING, BACK_RISING, DIRECTION_OFFSETS, FALLING, FLIGHT_DIRECTIONS, RISING, ROW_SHIFT,
                       SIDE_OFFSETS, Flights, Walls, is_firm, mirror_cell_numbers)
@@ -14,11 +14,11 @@ from .flights import (BACK_FALLING, BACK_RISING, DIRECTION_OFFSETS, FALLING, FLI
 # A straight piece of a way: its first and its last cell.
 Piece = tuple[Cell, Cell]
 # A piece that is not complete: its first cell, its table, and when it begins.
-OpenPiece = tuple[int, Table, int]
+OpenPiece = tuple[int, TruthTable, int]
 DIRECTION_OF = {step: number for number, step in enumerate(DIRECTION_OFFSETS)}
 
 
-def block_moves(before: dict[int, Table], corner: int) -> list[tuple[int, int, Table]]:
+def block_moves(before: dict[int, TruthTable], corner: int) -> list[tuple[int, int, TruthTable]]:
     """Returns the moves in a block: from where, to where, and under which assignments. A collision goes by the sides.
     """
     a, b, c, d = corner, corner + 1, corner + ROW_STRIDE, corner + DIAGONAL_STRIDE
@@ -34,7 +34,7 @@ def block_moves(before: dict[int, Table], corner: int) -> list[tuple[int, int, T
 class WayRun:
     """A run of a layout that notes each move of a ball, joined to the move before it in its direction."""
 
-    def __init__(self, layout: Layout, tables: dict[str, Table], full: Table) -> None:
+    def __init__(self, layout: Layout, tables: dict[str, TruthTable], full: TruthTable) -> None:
         # Cells of mirrors that never changed.
         self.steady = mirror_cell_numbers(layout)
         # Whether no mirror ever changes.
@@ -55,7 +55,7 @@ class WayRun:
         self.time = self.move_count = 0
         # By the number of its last cell and its direction, a piece that may go on; and pieces that ended.
         self.open: dict[int, OpenPiece] = {}
-        self.ended: list[tuple[int, int, Table, int]] = []
+        self.ended: list[tuple[int, int, TruthTable, int]] = []
 
     def run_steps(self, count: int) -> bool:
         """Makes steps up to a number of them, and returns whether everything stays in the rectangle."""
@@ -134,8 +134,8 @@ class WayRun:
             self.steady.discard(start)
         self.note_move(start, end, direction, table, self.time)
 
-    def apply_block_rule(self, corner: int, before: tuple[Table, Table, Table, Table], moving: list[int],
-                         left: list[int]) -> None:
+    def apply_block_rule(self, corner: int, before: tuple[TruthTable, TruthTable, TruthTable, TruthTable],
+                         moving: list[int], left: list[int]) -> None:
         """Applies the block rule to a block with more than one live cell."""
         keys, live, steady = (corner, corner + 1, corner + ROW_STRIDE, corner + DIAGONAL_STRIDE), self.live, self.steady
         a, b, c, d = before
@@ -155,13 +155,13 @@ class WayRun:
                         del live[key]
         moving += [key for key in keys if key in live and key not in steady]
 
-    def note_move(self, start: int, end: int, direction: int, table: Table, time: int) -> None:
+    def note_move(self, start: int, end: int, direction: int, table: TruthTable, time: int) -> None:
         """Notes moves in a direction that begin at a time."""
         begun = self.take_open_piece(start, direction, table, time)
         self.move_count += 1
         self.keep_open(end * 8 + direction, begun)
 
-    def take_open_piece(self, start: int, direction: int, table: Table, time: int) -> OpenPiece:
+    def take_open_piece(self, start: int, direction: int, table: TruthTable, time: int) -> OpenPiece:
         """Returns the piece that a move from a cell goes on with: the one that comes there just then, or a new one."""
         piece = self.open.pop(start * 8 + direction, None)
         if piece is None:
@@ -178,7 +178,7 @@ class WayRun:
             self.ended.append((old[0], number >> 3, old[1], old[2]))
         self.open[number] = begun
 
-    def pieces(self) -> Iterator[tuple[int, int, Table, int]]:
+    def pieces(self) -> Iterator[tuple[int, int, TruthTable, int]]:
         """Returns all pieces: the first and the last cell, under which assignments a ball takes them, and when.
 
         They end in the rectangle.
@@ -211,18 +211,20 @@ def joined_pieces(pieces: Iterable[Piece]) -> list[Piece]:
     return sorted(joined)
 
 
-def all_pieces(layout: Layout, tables: dict[str, Table], full: Table, until: int) -> dict[Table, list[Piece]]:
+def all_pieces(layout: Layout, tables: dict[str, TruthTable], full: TruthTable,
+               until: int) -> dict[TruthTable, list[Piece]]:
     """Returns the pieces of the ways of balls up to a time, as they fly, by the assignments under which a ball takes
     them."""
     run = WayRun(layout, tables, full)
     run.run_steps(until)
-    found: dict[Table, list[Piece]] = {}
+    found: dict[TruthTable, list[Piece]] = {}
     for start, end, table, _ in run.pieces():
         found.setdefault(table, []).append((cell_of(start), cell_of(end)))
     return dict(sorted(found.items()))
 
 
-def ways_of(layout: Layout, tables: dict[str, Table], full: Table, until: int) -> dict[Table, list[Piece]]:
+def ways_of(layout: Layout, tables: dict[str, TruthTable], full: TruthTable,
+            until: int) -> dict[TruthTable, list[Piece]]:
     """Returns the pieces of the ways of balls up to a time by the assignments under which a ball takes them.
 
     Each goes from its left end to its right end. Pieces of one line may share cells.
@@ -231,7 +233,8 @@ def ways_of(layout: Layout, tables: dict[str, Table], full: Table, until: int) -
             for table, pieces in all_pieces(layout, tables, full, until).items()}
 
 
-def directed_ways(layout: Layout, tables: dict[str, Table], full: Table, until: int) -> dict[Table, list[Piece]]:
+def directed_ways(layout: Layout, tables: dict[str, TruthTable], full: TruthTable,
+                  until: int) -> dict[TruthTable, list[Piece]]:
     """Returns the same ways with their directions, joined: each piece goes as its ball flies."""
     found = {}
     for table, pieces in all_pieces(layout, tables, full, until).items():

@@ -4,7 +4,7 @@ from the inputs.
 
 from typing import Any
 
-from ..physics.simulation import Table, cell_of
+from ..physics.simulation import TruthTable, cell_of
 from ..pictures.drawing import sampled_words, wire_tables_and_column
 from ..pictures.ways import WayRun
 from ..texts.circuits import Circuit
@@ -27,7 +27,7 @@ def wire_levels(circuit: Circuit) -> dict[str, int]:
     return levels
 
 
-def run_within_limit(document: Document, tables: dict[str, Table], full: Table) -> WayRun | None:
+def run_within_limit(document: Document, tables: dict[str, TruthTable], full: TruthTable) -> WayRun | None:
     """Returns the run of a layout to its end, or None if it has too many moves."""
     layout = document.layout
     assert layout
@@ -49,11 +49,11 @@ def page_ways(document: Document) -> dict[str, Any] | None:
     run = run_within_limit(document, tables, full)
     if run is None:
         return None
-    equal: dict[Table, list[str]] = {}
+    equal: dict[TruthTable, list[str]] = {}
     for name, table in tables.items():
         equal.setdefault(table, []).append(name)
     names = equal | {full: ["1", *equal.get(full, [])]}
-    found: dict[Table, list[int]] = {}
+    found: dict[TruthTable, list[int]] = {}
     for start, end, table, time in run.pieces():
         if start != end:
             found.setdefault(table if table in names else NO_WIRE, []).extend((*cell_of(start), *cell_of(end), time))

@@ -40,7 +40,7 @@ def whole_states(run: WholeRun, last: int) -> Iterator[State]:
     """Yields the states of a whole run, up to the first one that is not inside the rectangle."""
     is_inside = True
     while True:
-        yield State(run.time, frozenset(run.field.state()), is_inside)
+        yield State(run.time, frozenset(run.field.live_cells_under()), is_inside)
         if run.time == last or not is_inside:
             return
         is_inside = run.step()
@@ -71,7 +71,7 @@ def local_run(bundle: Bundle, module: int, assignment: int = 0) -> Iterator[Stat
 def module_states(run: ModuleRun, assignment: int) -> Iterator[State]:
     """Yields the states of a module's run."""
     while True:
-        yield State(run.time, frozenset(run.field.state(assignment)))
+        yield State(run.time, frozenset(run.field.live_cells_under(assignment)))
         if run.time == run.layout.steps:
             return
         run.step()
