@@ -7,7 +7,7 @@ from bbmlab_core.route.balls import Ball, ExactRun, Mirror, block_cells, mirror_
 from bbmlab_core.texts.certificates import MAX_BOX_SIDE, Certificate, Stop, local_wires, whole_module
 from bbmlab_core.texts.circuits import Circuit, evaluate_all
 from bbmlab_core.texts.documents import read_document
-from bbmlab_core.texts.gates import Table
+from bbmlab_core.texts.gates import TruthTable
 from bbmlab_core.texts.layouts import Box, Cell, Layout, Port, row_order_key
 
 # Dead cells between the machine and the rim, so that nothing is live on the rim.
@@ -57,7 +57,7 @@ def read_circuit(text: str) -> Circuit:
     return document.circuit
 
 
-def run_machine(machine: Machine, tables: dict[str, Table], full: Table) -> ExactRun:
+def run_machine(machine: Machine, tables: dict[str, TruthTable], full: TruthTable) -> ExactRun:
     """Returns the run of a machine under all its inputs. Raises ValueError if a mirror breaks or an output is wrong."""
     start = [(ball.at(0), tables[name]) for name, ball in machine.ins.items()] + [(ball.at(0), full)
                                                                                   for ball in machine.constants]

@@ -27,7 +27,7 @@ sys.dont_write_bytecode = True
 import cases  # noqa: E402
 from bbmlab_core.host.program import ask  # noqa: E402
 from bbmlab_core.texts.circuits import Circuit  # noqa: E402
-from bbmlab_core.texts.documents import Document, decode, read_document  # noqa: E402
+from bbmlab_core.texts.documents import Document, decode_latin1, read_document  # noqa: E402
 from bbmlab_core.texts.json_form import document_json_text  # noqa: E402
 
 # Fewer tries than users get, which save time: each try is one that a search can end with.
@@ -81,7 +81,7 @@ def worked_runs() -> list[cases.Case]:
 
 def document_of(case: cases.Case) -> Document:
     """Returns the text of a case as its command reads it."""
-    return read_document(decode(case.input), case.words[0])
+    return read_document(decode_latin1(case.input), case.words[0])
 
 
 def example(name: str) -> str:

@@ -49,7 +49,7 @@ class Explained(unittest.TestCase):
         """Each line of each worked no has sentences; cells and module numbers are those of the line."""
         count = 0
         for case, _ in small_noes():
-            told = explain_answer(support.decode(case.input), "check", case.output.decode(), case.name)
+            told = explain_answer(support.decode_latin1(case.input), "check", case.output.decode(), case.name)
             report = parse_report(case.output.decode())
             self.assertEqual([entry.report_line for entry in told.entries],
                              [finding.text for finding in report.findings])
@@ -71,9 +71,9 @@ class Explained(unittest.TestCase):
             for finding in parse_report(case.output.decode()).findings:
                 if finding.word != "local":
                     continue
-                module = document.certificate.modules[finding.number("module")]
-                wanted = module.cut_values(finding.number("assignment"))
-                occurrence = diagnosis.occurrence(module, finding.number("assignment"))
+                module = document.certificate.modules[finding.number_value("module")]
+                wanted = module.cut_values(finding.number_value("assignment"))
+                occurrence = diagnosis.occurrence(module, finding.number_value("assignment"))
                 all_inputs = itertools.product((0, 1), repeat=len(document.circuit.inputs))
                 found = any(gives(document, dict(zip(document.circuit.inputs, bits)), wanted) for bits in all_inputs)
                 tried += 1

@@ -21,7 +21,7 @@ from bbmlab_core.physics.own_report import lab_report
 from bbmlab_core.texts.skimming import certificate_digest
 from bbmlab_core.physics.simulation import LiveCells, key_of
 from bbmlab_core.texts.certificates import Border, Module
-from bbmlab_core.texts.layouts import Box, Layout, Part
+from bbmlab_core.texts.layouts import Box, Layout, LayoutPart
 from bbmlab_core.texts.reports import ReportError, parse_report
 from measure_fixes import right_texts, rounds_to_yes
 from mutations import FAMILIES, mutants
@@ -131,7 +131,7 @@ class Edits(unittest.TestCase):
             for y in (4, 5):
                 for width in range(1, 6):
                     for height in range(1, 6):
-                        part = Part("mirror", None, x, y, width, height)
+                        part = LayoutPart("mirror", None, x, y, width, height)
                         start = {key_of(cell): 1 for cell in part.cells()}
                         field = LiveCells(start)
                         kept = []

@@ -31,8 +31,8 @@ from bbmlab_core.texts.certificates import Certificate, CertificateReader
 from bbmlab_core.texts.circuits import Circuit, CircuitReader, Gate, evaluate_samples, sampled_tables
 from bbmlab_core.texts.documents import HEADER_LINE_PATTERN, HEADER_WORDS, Document
 from bbmlab_core.texts.json_form import indented_json
-from bbmlab_core.texts.layouts import Box, Layout, LayoutReader, Part
-from bbmlab_core.texts.lines import LineForm, Values, match_line, word_value
+from bbmlab_core.texts.layouts import Box, Layout, LayoutPart, LayoutReader
+from bbmlab_core.texts.lines import LineForm, LineValues, match_line, word_value
 from test_studio_model import random_layout
 
 # Memory in which the trace of a large layout fits.
@@ -143,8 +143,8 @@ class Runs(unittest.TestCase):
         """The parts in a box are those that a look at all parts finds, clipped, and the look is at few of many parts.
         """
         chooser = random.Random(82)
-        parts = [Part("mirror", None, chooser.randrange(990), chooser.randrange(990), chooser.choice((1, 2, 9, 90)),
-                      chooser.choice((1, 2, 9, 90))) for _ in range(90)]
+        parts = [LayoutPart("mirror", None, chooser.randrange(990), chooser.randrange(990),
+                            chooser.choice((1, 2, 9, 90)), chooser.choice((1, 2, 9, 90))) for _ in range(90)]
         layout = Layout(1000, 1000, 9).with_parts(parts)
         every = [set(part.cells()) for part in parts]
         for _ in range(60):
@@ -243,7 +243,7 @@ class Forms(unittest.TestCase):
             self.assertEqual(read_sections, [], words)
 
 
-def plain_values(words: list[str], form: LineForm) -> Values | None:
+def plain_values(words: list[str], form: LineForm) -> LineValues | None:
     """Returns the values of the placeholders of a form for the words of a line, or None if one does not fit."""
     try:
         values = [(place, word_value(word, place)) for word, place in zip(words, form, strict=True)]

@@ -21,7 +21,7 @@ from bbmlab_core.texts.documents import Document, read_document
 from bbmlab_core.texts.layouts import Box
 from bbmlab_core.texts.limits import FIRST_LIMITS, SECOND_LIMITS
 from bbmlab_core.texts.refusals import explain_refusal, refusal_words
-from bbmlab_core.texts.spelling import spelling_of
+from bbmlab_core.texts.spelling import spell_text
 from bbmlab_core.view import viewing
 
 sys.path.insert(0, str(support.LAB / "public"))
@@ -181,10 +181,10 @@ class Forms(unittest.TestCase):
     def test_fmt_keeps_the_line(self) -> None:
         """A text in its one spelling keeps the line, which may be written freely before all sections."""
         text = LINE + EMPTY + layout(514)
-        self.assertEqual(spelling_of(text).text, text)
-        self.assertEqual(spelling_of(f"\ufeff# large\n\n  limits   02 # as below\r\n{EMPTY}{layout(514)}").text, text)
-        self.assertEqual(spelling_of(LINE + LINE + EMPTY).text, LINE + LINE + EMPTY)
-        self.assertEqual(spelling_of(LINE + "circuit\noutput a\ninput a\nend\n").text,
+        self.assertEqual(spell_text(text).text, text)
+        self.assertEqual(spell_text(f"\ufeff# large\n\n  limits   02 # as below\r\n{EMPTY}{layout(514)}").text, text)
+        self.assertEqual(spell_text(LINE + LINE + EMPTY).text, LINE + LINE + EMPTY)
+        self.assertEqual(spell_text(LINE + "circuit\noutput a\ninput a\nend\n").text,
                          LINE + "circuit\ninput a\noutput a\nend\n")
 
     def test_json(self) -> None:

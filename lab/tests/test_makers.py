@@ -23,7 +23,7 @@ from bbmlab_core.texts import json_form
 from bbmlab_core.texts.certificates import Module
 from bbmlab_core.texts.layouts import Box
 from bbmlab_core.texts.reports import parse_report
-from bbmlab_core.texts.spelling import spelling_of
+from bbmlab_core.texts.spelling import spell_text
 
 # Examples, and grids by which they have a certificate.
 GRIDS = [("fredkin_gate", (14, 14)), ("full_adder", (26, 34)), ("timed_modules", (4, 4)), ("gate_and_mirror", (8, 12)),
@@ -155,7 +155,8 @@ class Spelling(unittest.TestCase):
         for case in support.worked_cases():
             if case.status in (0, 1) and len(case.input) < 20000:
                 with self.subTest(case.name):
-                    self.assertEqual(spelling_of(support.decode(case.input)).text, support.decode(case.input))
+                    self.assertEqual(spell_text(support.decode_latin1(case.input)).text,
+                                     support.decode_latin1(case.input))
 
     def test_free_texts_come_back(self) -> None:
         """A text with comments, odd spaces, other line ends and shuffled lists of modules comes back."""
@@ -163,7 +164,7 @@ class Spelling(unittest.TestCase):
         for name in ("gate_and_mirror", "four_modules", "timed_modules", "full_adder"):
             text = support.text_of(name)
             with self.subTest(name):
-                self.assertEqual(spelling_of(roughened(text, chooser)).text, text)
+                self.assertEqual(spell_text(roughened(text, chooser)).text, text)
 
     def test_a_refused_text_is_mended(self) -> None:
         """`fmt` on a Windows text is what the program takes."""

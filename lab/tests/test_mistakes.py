@@ -16,7 +16,7 @@ from bbmlab_core.host.terminal import LabError, replace_file
 from bbmlab_core.texts.skimming import certificate_digest
 from bbmlab_core.pictures.golly import layout_text_from_golly
 from bbmlab_core.texts.certificates import Module
-from bbmlab_core.texts.designs import require_report_of
+from bbmlab_core.texts.designs import require_report_of_document
 from bbmlab_core.texts.reports import ReportError, parse_report
 from bbmlab_core.texts.shape_hints import character_hints
 
@@ -183,9 +183,9 @@ class Edits(support.InRoom):
                      "no\nkeep 0 0 0\n", "no\nunkept 0\n", "no\nmeet 0 differ\n", "no\nlocal 7 end 2 1 1 0\n", "no\n",
                      "yes\nlocal 0 end 2 1 1 0\n"):
             with self.subTest(rest), self.assertRaises(ReportError):
-                require_report_of(document, parse_report(head + rest))
-        require_report_of(document, parse_report(head + "yes\n"))
-        require_report_of(document, parse_report(head + "no\nlocal 0 end 2 1 1 0\n"))
+                require_report_of_document(document, parse_report(head + rest))
+        require_report_of_document(document, parse_report(head + "yes\n"))
+        require_report_of_document(document, parse_report(head + "no\nlocal 0 end 2 1 1 0\n"))
 
     def test_faults_have_a_line(self) -> None:
         """For editors, a fault at a cell without a line is at its module's line."""

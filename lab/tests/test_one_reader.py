@@ -8,7 +8,7 @@ import support
 from bbmlab_core.texts.skimming import design_text
 from bbmlab_core.studio.folder import bytes_of, text_of
 from bbmlab_core.texts.documents import read_document
-from bbmlab_core.texts.spelling import byte_order_mark_length, spelling_of, words_without_comment
+from bbmlab_core.texts.spelling import byte_order_mark_length, spell_text, words_without_comment
 from test_studio_model import node
 
 # Bytes, and characters that JavaScript or Python take for spaces, ends of lines or digits.
@@ -31,9 +31,9 @@ class OneReader(unittest.TestCase):
             own = [[bytes_of(word).decode("latin-1") for word in line] for line in words]
             lines = text.decode("latin-1")[byte_order_mark_length(text.decode("latin-1")):].split("\n")
             self.assertEqual(own, [words for words in map(words_without_comment, lines) if words], text)
-            once = spelling_of(text.decode("latin-1")).text
+            once = spell_text(text.decode("latin-1")).text
             self.assertEqual("".join(" ".join(line) + "\n" for line in own), once, text)
-            self.assertEqual(spelling_of(once).text, once, text)
+            self.assertEqual(spell_text(once).text, once, text)
 
     def test_pictures(self) -> None:
         """What is drawn is the circuit and the layout that the program reads, whatever byte is where: as a space, in a
@@ -47,7 +47,7 @@ class OneReader(unittest.TestCase):
         found, = node(["drawn", [text_of(text) for text in texts]])
         yes = 0
         for text, drawn in zip(texts, found):
-            own = spelling_of(text.decode("latin-1")).text
+            own = spell_text(text.decode("latin-1")).text
             if read_document(own, "check").refusal is None:
                 yes += 1
                 self.assertEqual(drawn, design_text(own), text)
@@ -59,4 +59,4 @@ class OneReader(unittest.TestCase):
         for text in (good.replace("\n", "\r"), good.replace("\nin ", "\rin "),
                      good.replace("\nmirror ", "\x1emirror ").replace(" ", "\x1f")):
             self.assertNotEqual(text, good)
-            self.assertIsNotNone(read_document(spelling_of(text).text, "check").refusal)
+            self.assertIsNotNone(read_document(spell_text(text).text, "check").refusal)

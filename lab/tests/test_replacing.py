@@ -15,7 +15,7 @@ from bbmlab_core.farm.receipts import ReceiptFolder
 from bbmlab_core.host.releases import ProgramIdentity
 from bbmlab_core.host.terminal import LabError, write_bytes
 from bbmlab_core.studio.folder import ChangedError, Folder, digest_of
-from bbmlab_core.texts.spelling import spelling_of
+from bbmlab_core.texts.spelling import spell_text
 
 OTHER = b"# of another editor\n"
 FOR_ROOT = unittest.skipIf(os.getuid(), "only root can give files to another user")
@@ -54,7 +54,7 @@ class Meanwhile(support.InRoom):
         file = self.room / "free.txt"
         before = b"circuit\n\nend\n"
         file.write_bytes(before + OTHER)
-        spelling = spelling_of(before.decode())
+        spelling = spell_text(before.decode())
         with self.assertRaisesRegex(LabError, "another program changed it meanwhile"):
             fmt.write_in_place(str(file), spelling, before, spelling.text.encode(), False)
         self.assertEqual((file.read_bytes(), (self.room / "free.txt.new").read_bytes()),

@@ -14,8 +14,8 @@ from bbmlab_core.physics.simulation import layout_run
 from bbmlab_core.studio import answers, server
 from bbmlab_core.texts import json_form
 from bbmlab_core.texts.circuits import values_and_undefined_gate
-from bbmlab_core.texts.layouts import Box, Layout, Part
-from bbmlab_core.texts.spelling import spelling_of
+from bbmlab_core.texts.layouts import Box, Layout, LayoutPart
+from bbmlab_core.texts.spelling import spell_text
 from support import text_of as example
 
 STUDIO = Path(server.__file__).resolve().parent
@@ -63,14 +63,14 @@ def random_layout(chooser: random.Random, margin: int = 6, most: int = 16) -> La
     free, parts = {(x, y) for x in range(20) for y in range(20)}, []
     for _ in range(chooser.randrange(6)):
         box = (chooser.randrange(2, 14), chooser.randrange(2, 14), chooser.randrange(1, 5), chooser.randrange(1, 5))
-        cells = set(Part("mirror", None, *box).cells())
+        cells = set(LayoutPart("mirror", None, *box).cells())
         if cells <= free:
             free -= cells
-            parts.append(Part("mirror", None, *box))
+            parts.append(LayoutPart("mirror", None, *box))
     middle = range(margin, 20 - margin)
     chosen = chooser.sample(sorted((x, y) for x, y in free if x in middle and y in middle), chooser.randrange(1, 12))
-    parts += [Part("ball", None, *cell) for cell in chosen[::2]]
-    parts += [Part("in", "pq"[x % 2], x, y) for x, y in chosen[1::2]]
+    parts += [LayoutPart("ball", None, *cell) for cell in chosen[::2]]
+    parts += [LayoutPart("in", "pq"[x % 2], x, y) for x, y in chosen[1::2]]
     return Layout(20, 20, chooser.randrange(1, most)).with_parts(parts)
 
 
@@ -222,7 +222,7 @@ class Commands(unittest.TestCase):
     def test_freely_written_words(self) -> None:
         """Arrows without spaces and leading zeros are read as the lab reads them."""
         free = "circuit\nsource 1->k\noutput k\nend\nlayout 08 08 00\nmirror 3 04 2 2\nball 02 02\nout k 02 5\nend\n"
-        layout = support.read_document(spelling_of(free).text, "design").layout
+        layout = support.read_document(spell_text(free).text, "design").layout
         self.assertEqual(node(["parts", free])[0],
                          {"size": [layout.width, layout.height, layout.steps], "isWhole": True,
                           "parts": sorted([part.kind, part.x, part.y] for part in layout.parts)})
@@ -338,7 +338,7 @@ class Runs(unittest.TestCase):
         for path in sorted(support.EXAMPLES.glob("*.txt")):
             document = support.read_document(path.read_text(encoding="latin-1"))
             if document.circuit and not document.refusal:
-                wanted = json.loads(json.dumps(json_form.circuit_json(document.circuit)))
+                wanted = json.loads(json.dumps(json_form.circuit_members(document.circuit)))
                 told = node(["circuit",
                              path.read_text(encoding="latin-1").split("\nlayout ")[0].split("\nassign")[0]])[0]
                 self.assertEqual((told.pop("isWhole"), told), (True, wanted), path.name)
@@ -362,7 +362,7 @@ class Runs(unittest.TestCase):
         """Each snapped mirror stays, lies in the layout, holds the cells that were dragged or is one cell away."""
         boxes = [[x, y, w, h] for x in range(0, 9) for y in range(0, 9) for w in range(1, 5) for h in range(1, 5)]
         for (x, y, w, h), box in zip(boxes, node(["snapped", boxes, 12, 12])[0]):
-            self.assertTrue(is_stable(Part("mirror", None, *box)), box)
+            self.assertTrue(is_stable(LayoutPart("mirror", None, *box)), box)
             self.assertTrue(box[0] >= 0 and box[1] >= 0 and box[0] + box[2] <= 12 and box[1] + box[3] <= 12)
             self.assertLessEqual(abs(box[0] - x) + abs(box[1] - y), 1)
             self.assertEqual((box[2], box[3]), (w + w % 2, h + h % 2))
@@ -383,7 +383,7 @@ class Sources(unittest.TestCase):
         for told in node(*[["random", example("machine_fredkin"), cells("not", "turn_left"), seed + 31, 100, False]
                            for seed in range(3)]):
             for text in [*told["texts"], told["last"]]:
-                self.assertEqual(spelling_of(text).text, text)
+                self.assertEqual(spell_text(text).text, text)
 
     def test_the_page_has_no_script_of_its_own(self) -> None:
         """The page has no script of its own."""

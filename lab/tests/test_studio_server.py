@@ -22,7 +22,7 @@ from bbmlab_core.studio.folder import Folder
 from bbmlab_core.studio.guard import MAX_REQUEST_BYTES
 from bbmlab_core.studio.jobs import Jobs, JobWorker
 from bbmlab_core.studio.server import POLICY, Studio, studio_server
-from bbmlab_core.texts.skimming import cuts_of
+from bbmlab_core.texts.skimming import cuts_by_module
 from bbmlab_core.texts.spelling import source_line_number
 from support import processes, text_of, wait_for
 
@@ -345,7 +345,7 @@ class Verdicts(Served):
             text = text_of(name)
             document = support.read_document(text, "check")
             wanted = [list(module.cuts) for module in document.certificate.modules] if document.certificate else []
-            self.assertEqual(cuts_of(text), wanted, name)
+            self.assertEqual(cuts_by_module(text), wanted, name)
 
     def test_fixes(self) -> None:
         """A no comes with words and a fix, and the program says yes to the text after it."""

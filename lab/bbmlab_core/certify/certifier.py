@@ -14,11 +14,11 @@ from ..host.processor import processor_seconds
 from ..host.terminal import LabError
 from ..physics.simulation import Fault, ModuleRun, TruthTable, cell_of, key_of, keys_of_box
 from ..texts.certificates import (MAX_BOX_SIDE, MAX_BORDER_LINES, MAX_CUTS, MAX_USES, Border, Certificate, Module,
-                                  ModuleDraft, Stop, certificate_line_text)
+                                  ModuleDraft, Stop, border_or_stop_text)
 from ..texts.circuits import Circuit, Gate
 from ..texts.documents import Document, pause_garbage_collection
 from ..texts.layouts import Box, Cell, Layout, row_order_key
-from ..texts.limits import SECOND_LIMITS, limits_for, text_without_limits_line, with_limits_line
+from ..texts.limits import SECOND_LIMITS, smallest_fitting_limits, text_with_limits_line, text_without_limits_line
 from .observing import Observer, ring_and_halo_keys
 
 # How many steps back from the wires of a box to the gates that make them are tried, before all gates back to the
@@ -87,7 +87,7 @@ class CertificateMaker:
         if self.plan.version == 2:
             for module in modules:
                 module.halos = []
-        return Certificate(self.plan.version, tuple(module.module() for module in modules))
+        return Certificate(self.plan.version, tuple(module.finished_module() for module in modules))
 
     def modules_covering(self, box: Box) -> list[ModuleDraft]:
         """Returns the modules of a rectangle: itself, or those of its parts.
@@ -178,7 +178,7 @@ class CertificateMaker:
         for wiring in self.possible_cuts_and_uses(box, needed, inside, halo):
             if wiring.is_within_limits():
                 module.cuts, module.uses = wiring.cuts, wiring.uses
-                fault = self.fault_of(module.module()) if self.plan.runs_modules else None
+                fault = self.fault_of(module.finished_module()) if self.plan.runs_modules else None
                 if fault is None:
                     return module
         if fault is None:
@@ -273,7 +273,7 @@ class CertificateMaker:
                   for stop in self.user_stops_with_wrong_delay(gate)]
         if not wrong:
             return self.plan.stops
-        line = certificate_line_text("stop", wrong[0])
+        line = border_or_stop_text("stop", wrong[0])
         self.notes.append(f"the old stops are left out: `{line}` does not hold in the layout")
         return self.delay_stops()
 
@@ -354,9 +354,9 @@ def make_certified_text(document: Document, boxes: list[Box] | None, plan: Certi
     if notes is not None:
         notes += maker.notes
     head = text_without_limits_line(document.text).split("\nend\n", 2)
-    limits = limits_for(max(layout.width, layout.height), layout.steps, len(certificate.modules), len(circuit.gates),
-                        len(circuit.wires))
-    return with_limits_line(f"{head[0]}\nend\n{head[1]}\nend\n{certificate}", limits)
+    limits = smallest_fitting_limits(max(layout.width, layout.height), layout.steps, len(certificate.modules),
+                                     len(circuit.gates), len(circuit.wires))
+    return text_with_limits_line(f"{head[0]}\nend\n{head[1]}\nend\n{certificate}", limits)
 
 
 def legal_grid_boxes(layout: Layout, width: int, height: int) -> list[Box]:

@@ -61,7 +61,7 @@ class Observer:
             return ""
         first = self.signals[self.values.tables[hidden[0]]]
         return (f". {len(hidden)} of {len(self.values.tables)} wires have the values of an earlier one "
-                f"{self.values.choices_words}, as `{hidden[0]}` has those of "
+                f"{self.values.tried_choices_words}, as `{hidden[0]}` has those of "
                 f"`{first}`, and the lab gives cells the earlier name, so a box may lack the wires that its gate takes")
 
     def require_rows(self) -> None:

@@ -6,7 +6,8 @@ from collections import Counter
 from typing import Iterator
 
 from ..host.terminal import LabError
-from ..texts.circuits import Circuit, WireTables, evaluate_all_or_samples, evaluate_under, values_and_undefined_gate
+from ..texts.circuits import (Circuit, WireTables, evaluate_all_or_samples, evaluate_under_tables,
+                              values_and_undefined_gate)
 from ..texts.documents import Document
 
 # Up to so many inputs a table has all rows, and two circuits are compared in all.
@@ -99,7 +100,7 @@ def values_of_both(one: Circuit, other: Circuit) -> tuple[WireTables, WireTables
     """
     values = evaluate_all_or_samples(one, MAX_EXHAUSTIVE_INPUTS, SAMPLE_COUNT)
     free = {name: values.tables[name] for name in one.inputs}
-    return values, evaluate_under(other, free, values.full, range(len(other.gates)))
+    return values, evaluate_under_tables(other, free, values.full, range(len(other.gates)))
 
 
 def difference_and_scope_words(one: Circuit, other: Circuit, is_of_common: bool = False) -> tuple[str, str]:
@@ -122,7 +123,7 @@ def difference_and_scope_words(one: Circuit, other: Circuit, is_of_common: bool 
         if unequal:
             column = (unequal & -unequal).bit_length() - 1
             on = " ".join(mine.true_free_wires(column)) or "no input"
-            return f"with {on} on, {name} differs", mine.choices_words
+            return f"with {on} on, {name} differs", mine.tried_choices_words
     if len(one.inputs) <= MAX_EXHAUSTIVE_INPUTS:
-        return "", mine.choices_words
+        return "", mine.tried_choices_words
     return "", f"in {SAMPLE_COUNT} sampled choices of the inputs"

@@ -16,10 +16,10 @@ from ..circuits.netlists import ReadingOptions
 from ..circuits.simplifying import simplify
 from ..host.terminal import LabError, read_text, tell, write_bytes, write_text
 from ..route.command import read_circuit
-from ..texts.circuits import Circuit, evaluate_under
+from ..texts.circuits import Circuit, evaluate_under_tables
 from ..texts.documents import read_document
-from ..texts.limits import limits_for, with_limits_line
-from ..texts.sections import text_of_section
+from ..texts.limits import smallest_fitting_limits, text_with_limits_line
+from ..texts.sections import section_text_with_limits
 
 TEXT_WRITERS = {"aiger": aiger_text, "blif": blif_text, "dot": dot_text, "qasm": qasm_text, "real": real_text,
                 "verilog": verilog_text}
@@ -28,11 +28,11 @@ TEXT_WRITERS = {"aiger": aiger_text, "blif": blif_text, "dot": dot_text, "qasm":
 def run_circuit(options: argparse.Namespace) -> int:
     """Writes the circuit of a file: in the one spelling, or in the form of another tool."""
     text, circuit = read_circuit(options.file, ReadingOptions.from_options(options))
-    text = with_limits_line(text, limits_for(gates=len(circuit.gates), wires=len(circuit.wires)))
+    text = text_with_limits_line(text, smallest_fitting_limits(gates=len(circuit.gates), wires=len(circuit.wires)))
     try:
         for change in chosen_changes(options):
             lines, before = change(circuit), circuit
-            text, circuit = text_of_section(lines), reread_circuit(lines)
+            text, circuit = section_text_with_limits(lines), reread_circuit(lines)
             if before.outputs:
                 tell(f"the new circuit was compared with the one before {require_agreement(change, before, circuit)}")
     except LabError as error:
@@ -59,10 +59,10 @@ def inverse_difference(before: Circuit, after: Circuit) -> tuple[str, str]:
     """Returns how the inverse of a circuit fails to give its inputs back, or nothing, and in which inputs they were
     compared."""
     values = values_of(before)
-    back = evaluate_under(after, {name: values.tables[name] for name in after.inputs}, values.full,
-                          range(len(after.gates)))
+    back = evaluate_under_tables(after, {name: values.tables[name] for name in after.inputs}, values.full,
+                                 range(len(after.gates)))
     wrong = next((name for name in before.inputs if back.tables[name] != values.tables[name]), None)
-    return ("" if wrong is None else f"it does not give `{wrong}` back"), values.choices_words
+    return ("" if wrong is None else f"it does not give `{wrong}` back"), values.tried_choices_words
 
 
 def chosen_changes(options: argparse.Namespace) -> list[Callable[[Circuit], Circuit]]:

@@ -37,7 +37,7 @@ def picture_of(design: tuple[Document, Layout], names: str | None, time: int | N
         picture.ways = with_others_grouped(picture.ways, picture.wire_labels, wanted)
     for finding in report.faults if report else []:
         if "x" in finding.values:
-            picture.faults.append(((finding.number("x"), finding.number("y")), finding.text))
+            picture.faults.append(((finding.number_value("x"), finding.number_value("y")), finding.text))
     # In a large layout dashes cannot be told apart.
     most = len(drawing.COLOURS) if is_large else drawing.MAX_LEGEND
     wires = drawing.group_ways_by_level(picture, document.circuit,

@@ -11,7 +11,7 @@ from ..farm.answering import why_bad_answer
 from ..host.program import Executable, BadProgramError, ask, find_and_open_program
 from ..host.terminal import LabError, coloured, read_text, tell, wrapped_paragraph, write_bytes
 from ..texts.cell_pictures import LEGEND
-from ..texts.documents import command_for, read_document
+from ..texts.documents import command_for_text, read_document
 
 
 def run(options: argparse.Namespace) -> int:
@@ -21,12 +21,12 @@ def run(options: argparse.Namespace) -> int:
     text = read_text(options.file)
     form = netlist_format(text)
     # The program refuses plain gates behind the line `circuit`, and the explanation names what makes a circuit of them.
-    if form is not None and not (form is NetlistFormat.GATES and command_for(text) == "circuit"):
+    if form is not None and not (form is NetlistFormat.GATES and command_for_text(text) == "circuit"):
         what = {NetlistFormat.YOSYS_JSON: "JSON", NetlistFormat.GATES: "a text of plain gates"}.get(form, "a netlist")
         more = ", and `bbmlab json --back` its own documents" if form is NetlistFormat.YOSYS_JSON else ""
         raise LabError(f"{options.file}: this is {what}: `bbmlab circuit` and `route` read it{more}", 1)
     command = options.command_of_program or {"design": "check", "layout": "run",
-                                             "circuit": "value"}.get(command_for(text), command_for(text))
+                                             "circuit": "value"}.get(command_for_text(text), command_for_text(text))
     program = program_of(options)
     if options.fix:
         return find_and_write_fix(text, command, program, options)

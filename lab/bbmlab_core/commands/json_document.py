@@ -4,7 +4,7 @@ import argparse
 
 from ..host.terminal import LabError, read_text, write_text
 from ..texts import json_form
-from ..texts.designs import read_freely_written, report_from_option
+from ..texts.designs import read_freely_written_text, report_from_option
 
 
 def run(options: argparse.Namespace) -> int:
@@ -15,6 +15,6 @@ def run(options: argparse.Namespace) -> int:
     text = read_text(options.file)
     if text.lstrip().startswith("{"):
         raise LabError(f"{options.file}: this is JSON, which --back reads", 1)
-    document = read_freely_written(options.file, text)
+    document = read_freely_written_text(options.file, text)
     write_text(options.output, json_form.document_json_text(document, report_from_option(options, document)))
     return 0

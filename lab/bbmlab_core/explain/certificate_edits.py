@@ -4,7 +4,7 @@ from dataclasses import dataclass
 from typing import Iterator, Sequence
 
 from ..physics.simulation import TruthTable, key_of
-from ..texts.certificates import MAX_CUTS, MAX_USES, Module, Stop, certificate_line_text
+from ..texts.certificates import MAX_CUTS, MAX_USES, Module, Stop, border_or_stop_text
 from ..texts.layouts import Cell
 from ..texts.reports import ReportLine
 from .diagnosis import MAX_SECONDS, Diagnosis
@@ -50,11 +50,11 @@ class CertificateEditor:
         if finding.word == "local":
             yield from self.proposals_for_local(finding)
         elif finding.word == "keep":
-            yield from self.proposals_replacing_cuts(self.certificate.modules[finding.number("module")])
+            yield from self.proposals_replacing_cuts(self.certificate.modules[finding.number_value("module")])
         elif finding.word == "border":
             yield from self.proposals_for_border(finding)
         elif finding.word == "unkept":
-            number = finding.number("gate")
+            number = finding.number_value("gate")
             for module in (module for module in self.certificate.modules if number in module.uses):
                 yield Proposal("`keep` lines", (self.line_addition(module, f"keep {number}"),))
         elif finding.word == "delay":
@@ -65,8 +65,8 @@ class CertificateEditor:
     def proposals_for_local(self, finding: ReportLine) -> Iterator[Proposal]:
         """Yields edits for a `local` line: the borders of its module up to its time, its stop, and gates in place of
         cuts."""
-        module, time = self.diagnosis.module_of_finding(finding), finding.number("time")
-        cell = finding.number("x"), finding.number("y")
+        module, time = self.diagnosis.module_of_finding(finding), finding.number_value("time")
+        cell = finding.number_value("x"), finding.number_value("y")
         if finding.values["kind"] == "stop":
             stop = next((stop for stop in module.stops if (stop.time, stop.cell) == (time, cell)), None)
             if stop:
@@ -115,8 +115,8 @@ class CertificateEditor:
 
     def proposals_for_border(self, finding: ReportLine) -> Iterator[Proposal]:
         """Yields edits of the `halo` line or the `edge` line of a border that do not agree."""
-        module, time = self.diagnosis.module_of_finding(finding), finding.number("time")
-        cell = finding.number("x"), finding.number("y")
+        module, time = self.diagnosis.module_of_finding(finding), finding.number_value("time")
+        cell = finding.number_value("x"), finding.number_value("y")
         owner = self.certificate.owner(cell)
         halo, edge = module.line_at("halo", time, cell), owner.line_at("edge", time, cell) if owner else None
         for group in (group for group in self.groups if group.cell == cell):
@@ -127,7 +127,7 @@ class CertificateEditor:
                 continue
             at = place.line_number(kind, other) if other else None
             if line:
-                text = certificate_line_text(kind, line)
+                text = border_or_stop_text(kind, line)
                 yield Proposal("lines that agree", (replacement(at, text) if at else self.line_addition(place, text),))
             elif at:
                 yield Proposal("lines that agree", (deletion(at),))
@@ -155,7 +155,7 @@ class CertificateEditor:
 
     def stop_renaming(self, module: Module, stop: Stop, name: str) -> Edit:
         """Returns the edit that gives a stop another wire."""
-        return replacement(module.line_number("stop", stop), certificate_line_text("stop", stop._replace(name=name)))
+        return replacement(module.line_number("stop", stop), border_or_stop_text("stop", stop._replace(name=name)))
 
     def table_at(self, time: int, cell: Cell) -> TruthTable | None:
         """Returns the table of a cell in the whole run at a time."""
@@ -164,7 +164,7 @@ class CertificateEditor:
 
     def stop_move_edits(self, module: Module, old: Stop, new: Stop) -> Edits:
         """Returns the edits that move a stop to its place in the list."""
-        at, text = module.line_number("stop", old), certificate_line_text("stop", new)
+        at, text = module.line_number("stop", old), border_or_stop_text("stop", new)
         rest = [stop for stop in module.stops if stop is not old]
         before = [stop for stop in module.stops if stop.order_key < old.order_key]
         if all((stop.order_key < new.order_key) == (stop in before) for stop in rest):
@@ -174,7 +174,7 @@ class CertificateEditor:
     def proposals_for_delay(self, finding: ReportLine) -> Iterator[Proposal]:
         """Yields stops at other times for a delay, stops that are missing, and another number of steps in the circuit.
         """
-        gate, wanted, found = self.circuit.gates[finding.number("gate")], finding.number(
+        gate, wanted, found = self.circuit.gates[finding.number_value("gate")], finding.number_value(
             "wanted"), finding.values["found"]
         used, made = self.certificate.stops_of(gate.ins[0]), self.certificate.stops_of(gate.outs[0])
         if used and made:
@@ -215,12 +215,12 @@ class CertificateEditor:
         for module in (module for module in self.certificate.modules if name in self.diagnosis.local_wires_of(module)):
             for cell in self.cells_carrying(name, time, module, (module.box.x, module.box.y))[:1]:
                 yield Proposal("stops",
-                               (self.line_addition(module, certificate_line_text("stop", Stop(time, name, *cell))),))
+                               (self.line_addition(module, border_or_stop_text("stop", Stop(time, name, *cell))),))
 
     def proposals_for_meet(self, finding: ReportLine) -> Iterator[Proposal]:
         """Yields stops after which the inputs of a gate have their last stops at one time, or only one of them has
         stops."""
-        gate = self.circuit.gates[finding.number("gate")]
+        gate = self.circuit.gates[finding.number_value("gate")]
         last = {name: self.certificate.stops_of(name)[-1] for name in gate.ins if self.certificate.stops_of(name)}
         for name, seen in last.items():
             for time in dict.fromkeys(stop.time for _, stop in last.values()):

@@ -152,7 +152,7 @@ class Diagnosis:
     @property
     def choices_words(self) -> str:
         """In how many choices of the inputs the whole run was tried, in words."""
-        return self.wire_tables.choices_words
+        return self.wire_tables.tried_choices_words
 
     def occurrence(self, module: Module, assignment: int) -> AssignmentOccurrence:
         """Returns whether the circuit gives the module's cuts these values, and for which inputs."""
@@ -319,4 +319,4 @@ class Diagnosis:
 
     def module_of_finding(self, finding: ReportLine) -> Module:
         """Returns the module of a line of a report."""
-        return self.certificate.modules[finding.number("module")]
+        return self.certificate.modules[finding.number_value("module")]

@@ -5,7 +5,7 @@ from collections import Counter
 from dataclasses import dataclass
 from typing import Iterable
 
-from ..texts.spelling import module_line_key, rank_of, SECTION_ORDERS
+from ..texts.spelling import line_kind_rank, module_line_key, SECTION_ORDERS
 
 ACTIONS = ("add", "replace", "delete")
 # The most lines between the first and the last difference of two texts for which the fewest edits are looked for.
@@ -127,7 +127,7 @@ def insertion_line_in_section(lines: list[str], header: str, text: str) -> int:
     """Returns the line behind which a line of the circuit or the layout belongs, as the last of its kind."""
     order = SECTION_ORDERS[header]
     start = next((number for number, line in enumerate(lines, 1) if line.partition(" ")[0] == header), 0)
-    place, rank = start, rank_of(text, order)
-    while place < len(lines) and lines[place] not in ("end", "") and rank_of(lines[place], order) <= rank:
+    place, rank = start, line_kind_rank(text, order)
+    while place < len(lines) and lines[place] not in ("end", "") and line_kind_rank(lines[place], order) <= rank:
         place += 1
     return place

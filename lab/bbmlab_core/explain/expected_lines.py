@@ -8,7 +8,7 @@ from typing import Callable, Iterable
 
 from ..host.processor import processor_seconds
 from ..physics.simulation import TruthTable, WholeRun, cell_of
-from ..texts.certificates import Border, Module, certificate_line_text
+from ..texts.certificates import Border, Module, border_or_stop_text
 from ..texts.layouts import Cell
 from .diagnosis import MAX_SECONDS, Diagnosis
 from .edits import Edit, addition, deletion, insertion_line_in_module, replacement
@@ -238,7 +238,7 @@ class BorderCheck:
         old = {line.time: (at, line.signal) for at, line in module.numbered_lines(kind) if line.cell == cell}
         edits = [deletion(at) for time, (at, _) in old.items() if time not in signals]
         for time, signal in signals.items():
-            text = certificate_line_text(kind, Border(time, *cell, signal))
+            text = border_or_stop_text(kind, Border(time, *cell, signal))
             if time not in old:
                 edits.append(addition(insertion_line_in_module(self.lines, module.line, text), text))
             elif old[time][1] != signal:

@@ -6,10 +6,10 @@ from dataclasses import asdict, dataclass, field, replace
 
 from ..host.terminal import escape_controls
 from ..physics.mirrors import unstable_mirrors
-from ..texts.certificates import Certificate, certificate_line_text
+from ..texts.certificates import Certificate, border_or_stop_text
 from ..texts.circuits import Circuit
 from ..texts.code_names import CODE_NAMES
-from ..texts.designs import require_report_of
+from ..texts.designs import require_report_of_document
 from ..texts.documents import Document, read_document
 from ..texts.refusals import ExplainedRefusal, explain_code, explain_refusal, names_words
 from ..texts.reports import RUN_ANSWER_PATTERN, ReportLine, ReportOrRefusal, ReportError, parse_report
@@ -71,20 +71,20 @@ def stop_words(diagnosis: Diagnosis, wire: str, which: int) -> str:
         return f"`{wire}` has no stop"
     name = "first" if which == 0 else "last"
     module, stop = stops[which]
-    text = certificate_line_text("stop", stop)
+    text = border_or_stop_text("stop", stop)
     return f"the {name} stop of `{wire}` is line {module.line_number('stop', stop)} (`{text}`)"
 
 
 def explain_delay(diagnosis: Diagnosis, finding: ReportLine) -> ExplainedLine:
     """Returns a `delay` line in words."""
-    gate, found, wanted = diagnosis.circuit.gates[finding.number("gate")], finding.values["found"], finding.values[
-        "wanted"]
+    gate = diagnosis.circuit.gates[finding.number_value("gate")]
+    found, wanted = finding.values["found"], finding.values["wanted"]
     used, made = gate.ins[0], gate.outs[0]
     seen = f"{stop_words(diagnosis, used, -1)}, and {stop_words(diagnosis, made, 0)}"
-    entry = ExplainedLine(finding.text, finding.is_against,
+    entry = ExplainedLine(finding.text, finding.is_reason_for_no,
                           [f"Gate {gate.number} is `delay {wanted} {used} -> {made}` (line {gate.line}): {seen}."],
                           line=gate.line, facts={"gate": gate.number, "wanted": wanted, "found": found})
-    if not finding.is_against:
+    if not finding.is_reason_for_no:
         entry.what.append(f"So the delay takes {found} steps, as it says.")
     elif found == "missing":
         missing = [wire for wire in (used, made) if not diagnosis.certificate.stops_of(wire)]
@@ -98,16 +98,16 @@ def explain_delay(diagnosis: Diagnosis, finding: ReportLine) -> ExplainedLine:
 
 def explain_meet(diagnosis: Diagnosis, finding: ReportLine) -> ExplainedLine:
     """Returns a `meet` line in words."""
-    gate = diagnosis.circuit.gates[finding.number("gate")]
+    gate = diagnosis.circuit.gates[finding.number_value("gate")]
     last = [stops[-1] for stops in map(diagnosis.certificate.stops_of, gate.ins) if stops]
     seen = [(stop, module.line_number("stop", stop)) for module, stop in last]
     told = ", ".join(f"`{stop.name}` at time {stop.time} (line {line})" for stop, line in seen)
-    entry = ExplainedLine(finding.text, finding.is_against,
+    entry = ExplainedLine(finding.text, finding.is_reason_for_no,
                           [f"Inputs of gate {gate.number} (`{gate.kind}`, line {gate.line}) "
                            f"have their last stops: {told}."],
                           line=seen[0][1] if seen else None,
                           facts={"gate": gate.number, "last_stops": {stop.name: stop.time for stop, _ in seen}})
-    if not finding.is_against:
+    if not finding.is_reason_for_no:
         entry.what.append(f"So they meet at time {finding.values['found']}.")
         return entry
     entry.what.append("So they do not meet at one time.")
@@ -116,7 +116,7 @@ def explain_meet(diagnosis: Diagnosis, finding: ReportLine) -> ExplainedLine:
 
 def explain_unkept(diagnosis: Diagnosis, finding: ReportLine) -> ExplainedLine:
     """Returns an `unkept` line in words."""
-    gate = diagnosis.circuit.gates[finding.number("gate")]
+    gate = diagnosis.circuit.gates[finding.number_value("gate")]
     users = [module.number for module in diagnosis.certificate.modules if gate.number in module.uses]
     entry = ExplainedLine(finding.text, True,
                           [f"No module has a line `keep {gate.number}` for the inverse gate {gate.number} "
@@ -138,10 +138,10 @@ def explain_report(document: Document, report: ReportOrRefusal, file: str,
         return explain_refused_text(document, report, file, trial)
     if document.certificate is None or document.refusal:
         raise ReportError("the report is not of this text: the lab's reader refuses the text")
-    require_report_of(document, report)
+    require_report_of_document(document, report)
     diagnosis = Diagnosis(document)
     faults = sorted((finding for finding in report.faults if finding.word == "local"),
-                    key=lambda finding: finding.number("time"))
+                    key=lambda finding: finding.number_value("time"))
     diagnosis.detailed = {finding.text for finding in faults[:MAX_DETAILED_LINES]}
     entries = [EXPLAINERS[finding.word](diagnosis, finding) for finding in report.findings]
     count = len(report.faults)

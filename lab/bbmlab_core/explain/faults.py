@@ -5,7 +5,7 @@ from typing import Any
 
 from ..physics.mirrors import is_stable
 from ..texts.cell_pictures import text_picture
-from ..texts.certificates import Border, Module, Stop, certificate_line_text
+from ..texts.certificates import Border, Module, Stop, border_or_stop_text
 from ..texts.circuits import evaluate_gates
 from ..texts.layouts import Cell
 from ..texts.reports import ReportLine, parse_finding
@@ -59,8 +59,8 @@ def wire_value(diagnosis: Diagnosis, module: Module, name: str, assignment: int)
 
 def wanted_state(diagnosis: Diagnosis, module: Module, finding: ReportLine) -> WantedState:
     """Returns what the cell of a `local` line is to be."""
-    cell, time = (finding.number("x"), finding.number("y")), finding.number("time")
-    assignment, kind = finding.number("assignment"), finding.values["kind"]
+    cell, time = (finding.number_value("x"), finding.number_value("y")), finding.number_value("time")
+    assignment, kind = finding.number_value("assignment"), finding.values["kind"]
     if kind == "end":
         return wanted_end_state(diagnosis, module, cell, assignment)
     line: Border | Stop | None
@@ -75,7 +75,7 @@ def wanted_state(diagnosis: Diagnosis, module: Module, finding: ReportLine) -> W
         return WantedState(False, why, None)
     name = line.name if isinstance(line, Stop) else line.signal
     value = wire_value(diagnosis, module, name, assignment)
-    at, text = module.line_number(str(kind), line), certificate_line_text(str(kind), line)
+    at, text = module.line_number(str(kind), line), border_or_stop_text(str(kind), line)
     why = f"line {at} (`{text}`) says: live if and only if `{name}` is true, and `{name}` is {value} here"
     if name == "1":
         why = f"line {at} (`{text}`) says: always live"
@@ -113,8 +113,8 @@ def occurrence_words(diagnosis: Diagnosis, occurrence: AssignmentOccurrence, nam
 
 def explain_local(diagnosis: Diagnosis, finding: ReportLine) -> ExplainedLine:
     """Returns a `local` line in words."""
-    module, time = diagnosis.module_of_finding(finding), finding.number("time")
-    cell, assignment = (finding.number("x"), finding.number("y")), finding.number("assignment")
+    module, time = diagnosis.module_of_finding(finding), finding.number_value("time")
+    cell, assignment = (finding.number_value("x"), finding.number_value("y")), finding.number_value("assignment")
     wanted = wanted_state(diagnosis, module, finding)
     values = module.cut_values(assignment)
     names = assignment_words(values)
@@ -170,8 +170,8 @@ def add_never_occurring_cause(diagnosis: Diagnosis, module: Module, entry: Expla
 def add_occurring_cause(diagnosis: Diagnosis, module: Module, finding: ReportLine, entry: ExplainedLine,
                         occurrence: AssignmentOccurrence) -> None:
     """Adds the cause of a fault under an assignment that occurs: what the module hears, its line, or the layout."""
-    assignment, time = finding.number("assignment"), finding.number("time")
-    cell = finding.number("x"), finding.number("y")
+    assignment, time = finding.number_value("assignment"), finding.number_value("time")
+    cell = finding.number_value("x"), finding.number_value("y")
     difference = diagnosis.first_difference(module, assignment, occurrence.inputs, time)
     if difference:
         explain_run_difference(diagnosis, module, entry, difference)
@@ -212,7 +212,7 @@ def misheard_words(diagnosis: Diagnosis, module: Module, cell: Cell, time: int, 
     kind, teller = ("halo", module) if certificate.version == 1 else ("edge", owner)
     line = teller.line_at(kind, time, cell)
     state = "live" if is_live else "dead"
-    against = (f"against line {teller.line_number(kind, line)} (`{certificate_line_text(kind, line)}`)" if line
+    against = (f"against line {teller.line_number(kind, line)} (`{border_or_stop_text(kind, line)}`)" if line
                else f"and module {teller.number} has no `{kind}` line for it")
     return [f"At time {time} the cell {cell_words(cell)} of module {owner.number} is {state} in the whole run, "
             f"{against}.",
@@ -234,8 +234,8 @@ def signal_words(diagnosis: Diagnosis, signal: Signal, cell: str) -> list[str]:
 
 def explain_keep(diagnosis: Diagnosis, finding: ReportLine) -> ExplainedLine:
     """Returns a `keep` line in words."""
-    module, gate = diagnosis.module_of_finding(finding), diagnosis.circuit.gates[finding.number("gate")]
-    assignment = finding.number("assignment")
+    module, gate = diagnosis.module_of_finding(finding), diagnosis.circuit.gates[finding.number_value("gate")]
+    assignment = finding.number_value("assignment")
     values = module.cut_values(assignment)
     occurrence = diagnosis.occurrence(module, assignment)
     ins = {name: wire_value(diagnosis, module, name, assignment) for name in gate.ins}
@@ -263,14 +263,14 @@ def border_line_words(line: Border | None, kind: str, module: Module) -> str:
     """Returns what a line about a border says."""
     if line is None:
         return f"module {module.number} has no `{kind}` line for it"
-    text = certificate_line_text(kind, line)
+    text = border_or_stop_text(kind, line)
     return f"line {module.line_number(kind, line)} of module {module.number} says `{text}`"
 
 
 def explain_border(diagnosis: Diagnosis, finding: ReportLine) -> ExplainedLine:
     """Returns a `border` line in words."""
-    module, time = diagnosis.module_of_finding(finding), finding.number("time")
-    cell = finding.number("x"), finding.number("y")
+    module, time = diagnosis.module_of_finding(finding), finding.number_value("time")
+    cell = finding.number_value("x"), finding.number_value("y")
     owner = diagnosis.certificate.owner(cell)
     assert owner is not None
     halo, edge = module.line_at("halo", time, cell), owner.line_at("edge", time, cell)
@@ -281,7 +281,7 @@ def explain_border(diagnosis: Diagnosis, finding: ReportLine) -> ExplainedLine:
         line=module.line_number("halo", halo) if halo else owner.line_number("edge", edge) if edge else None,
         cause="border")
     entry.facts = {"module": module.number, "owner": owner.number, "time": time, "cell": list(cell),
-                   "halo": certificate_line_text("halo", halo) if halo else None,
-                   "edge": certificate_line_text("edge", edge) if edge else None}
+                   "halo": border_or_stop_text("halo", halo) if halo else None,
+                   "edge": border_or_stop_text("edge", edge) if edge else None}
     entry.what += signal_words(diagnosis, diagnosis.signal_of(cell, time), "the cell")
     return entry

@@ -265,8 +265,8 @@ class Fixer:
     def first_fault_cell(self, report: ReportOrRefusal) -> Cell | None:
         """Returns the cell of the first fault of a report."""
         faults = [finding for finding in report.findings if finding.word == "local"]
-        first = min(faults, key=lambda finding: finding.number("time"), default=None)
-        return (first.number("x"), first.number("y")) if first else None
+        first = min(faults, key=lambda finding: finding.number_value("time"), default=None)
+        return (first.number_value("x"), first.number_value("y")) if first else None
 
     def testbench_of(self, step: TriedText, document: Document) -> Testbench:
         """Returns what changes of a design are tried on."""

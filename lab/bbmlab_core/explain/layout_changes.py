@@ -13,8 +13,8 @@ from typing import Iterable, Iterator
 from ..host.processor import processor_seconds
 from ..physics.simulation import TruthTable, WholeRun, cell_of, key_of, required_end_tables
 from ..texts.circuits import Circuit, Gate, WireTables, evaluate_all, evaluate_all_or_samples
-from ..texts.layouts import Cell, Layout, Part, cells_of
-from ..texts.limits import limits_of
+from ..texts.layouts import Cell, Layout, LayoutPart, cells_of_rectangle
+from ..texts.limits import limits_of_text
 from .diagnosis import MAX_EXHAUSTIVE_INPUTS, MAX_STEPS
 from .edits import Edit, addition, deletion, insertion_line_in_section, replacement
 from .meeting_places import cells_where_runs_differ_least, start_of_wanted_end
@@ -61,7 +61,7 @@ class Testbench:
 
     def __init__(self, text: str, circuit: Circuit, layout: Layout, seconds: float = 20.0,
                  near: Cell | None = None) -> None:
-        self.circuit, self.layout, self.lines, self.limits = circuit, layout, text.split("\n"), limits_of(text)
+        self.circuit, self.layout, self.lines, self.limits = circuit, layout, text.split("\n"), limits_of_text(text)
         self.end = processor_seconds() + seconds
         # The cell at which the first fault was found; what lies near it is tried first.
         self.near = near
@@ -107,13 +107,13 @@ class Testbench:
         return True
 
     @cached_property
-    def parts_by_taken_cell(self) -> tuple[dict[Cell, Part], dict[Cell, Part]]:
+    def parts_by_taken_cell(self) -> tuple[dict[Cell, LayoutPart], dict[Cell, LayoutPart]]:
         """The parts that take cells at the start, and those that take cells at the end."""
         starts = {cell: part for part in self.layout.parts if part.kind in START_PART_KINDS for cell in part.cells()}
         ends = {cell: part for part in self.layout.parts if part.kind in END_PART_KINDS for cell in part.cells()}
         return starts, ends
 
-    def is_possible(self, new: list[Part], removed: set[Part]) -> bool:
+    def is_possible(self, new: list[LayoutPart], removed: set[LayoutPart]) -> bool:
         """Whether new parts lie in the rectangle and share no cell that only one part may take."""
         for kinds, taken in zip((START_PART_KINDS, END_PART_KINDS), self.parts_by_taken_cell):
             cells = [cell for part in new if part.kind in kinds for cell in part.cells()]
@@ -123,8 +123,8 @@ class Testbench:
                    and part.y + part.height <= self.layout.height
                    for part in new)
 
-    def change_if_possible(self, swaps: dict[Part, Part], more: Iterable[Part] = (),
-                           gone: Iterable[Part] = ()) -> list[DesignChange]:
+    def change_if_possible(self, swaps: dict[LayoutPart, LayoutPart], more: Iterable[LayoutPart] = (),
+                           gone: Iterable[LayoutPart] = ()) -> list[DesignChange]:
         """Returns the change that moves parts, adds some and drops some, or none if cells would be taken twice or lie
         outside."""
         dropped, added = set(gone), list(more)
@@ -142,7 +142,7 @@ class Testbench:
         nearest to each other."""
         return [] if self.is_over() else cells_where_runs_differ_least(self.layout, self.values)
 
-    def distance_to_fault(self, part: Part) -> int:
+    def distance_to_fault(self, part: LayoutPart) -> int:
         """Returns how far a part lies from the places at which something is likely wrong, or from the first fault."""
         cells = self.suspect_cells or ([self.near] if self.near else [])
         return min((max(part.x - cell[0], cell[0] - part.x - part.width + 1, part.y - cell[1],
@@ -150,7 +150,7 @@ class Testbench:
                     for cell in cells), default=0)
 
 
-def shifted_part(part: Part, dx: int, dy: int) -> Part:
+def shifted_part(part: LayoutPart, dx: int, dy: int) -> LayoutPart:
     """Returns a part at another place."""
     return part._replace(x=part.x + dx, y=part.y + dy)
 
@@ -199,7 +199,7 @@ def output_place_changes(bench: Testbench, reach: int | None, is_exchange: bool 
     taken = {part.cell for part in bench.layout.of_kind("out") if part not in outs} | bench.layout.mirror_cells()
     places = [(cell_of(key), table) for key, table in sorted(bench.last.items()) if bench.layout.has(cell_of(key))]
     own = {part.cell for part in outs}
-    swaps: dict[Part, Part] = {}
+    swaps: dict[LayoutPart, LayoutPart] = {}
     for part in outs:
         table = bench.values.tables[part.name or ""]
         cells = [cell for cell, other in places if other == table and cell not in taken
@@ -218,12 +218,12 @@ def output_place_changes(bench: Testbench, reach: int | None, is_exchange: bool 
         yield from bench.change_if_possible(swaps, wastes, freed)
 
 
-def part_for_stray_ball(bench: Testbench, cell: Cell, table: TruthTable) -> Part:
+def part_for_stray_ball(bench: Testbench, cell: Cell, table: TruthTable) -> LayoutPart:
     """Returns the part for a ball that no line asks for: the second cell of an `out`, or else `waste`."""
     name = next((part.name for part in bench.layout.of_kind("out")
                  if abs(part.x - cell[0]) == abs(part.y - cell[1]) == 2
                  and bench.values.tables[part.name or ""] == table), None)
-    return Part("waste" if name is None else "out", name, *cell)
+    return LayoutPart("waste" if name is None else "out", name, *cell)
 
 
 def added_output_changes(bench: Testbench) -> Iterator[DesignChange]:
@@ -233,11 +233,11 @@ def added_output_changes(bench: Testbench) -> Iterator[DesignChange]:
         return
     wrong = wrong_cells(bench.values, bench.layout, bench.last)
     named = {part.name for part in bench.layout.of_kind("out")}
-    new: list[Part] = []
+    new: list[LayoutPart] = []
     for name in (name for name in bench.circuit.outputs if name not in named):
         cells = [cell_of(key) for key in sorted(wrong) if bench.last.get(key) == bench.values.tables[name]
                  and bench.layout.has(cell_of(key))]
-        new += [Part("out", name, *cell) for cell in cells if cell not in {part.cell for part in new}]
+        new += [LayoutPart("out", name, *cell) for cell in cells if cell not in {part.cell for part in new}]
     if new and len(new) <= MAX_CHANGE_LINES:
         yield from bench.change_if_possible({}, new)
 
@@ -310,18 +310,18 @@ def start_changes(bench: Testbench) -> Iterator[DesignChange]:
     if len(differing) > MAX_CHANGE_LINES:
         return
     names = {bench.values.tables[name]: name for name in reversed(bench.circuit.inputs)}
-    new: list[Part] = []
+    new: list[LayoutPart] = []
     for key in (key for key in differing if start.get(key)):
         kind = "ball" if start[key] == full else "in"
         if kind == "in" and start[key] not in names:
             return
-        new.append(Part(kind, None if kind == "ball" else names[start[key]], *cell_of(key)))
+        new.append(LayoutPart(kind, None if kind == "ball" else names[start[key]], *cell_of(key)))
     yield from replaced_part_changes(bench, [parts[key] for key in differing if key in parts], new)
 
 
-def replaced_part_changes(bench: Testbench, gone: list[Part], new: list[Part]) -> Iterator[DesignChange]:
+def replaced_part_changes(bench: Testbench, gone: list[LayoutPart], new: list[LayoutPart]) -> Iterator[DesignChange]:
     """Yields the change that drops parts and adds others; parts of one kind and name are moved."""
-    swaps: dict[Part, Part] = {}
+    swaps: dict[LayoutPart, LayoutPart] = {}
     for part in list(gone):
         other = next((other for other in new if (other.kind, other.name) == (part.kind, part.name)), None)
         if other:
@@ -348,7 +348,7 @@ def moved_part_changes(bench: Testbench, kinds: tuple[str, ...], reach: int = 2)
                 yield from bench.change_if_possible({member: shifted_part(member, dx, dy) for member in group})
 
 
-def has_mirror_parity(part: Part) -> bool:
+def has_mirror_parity(part: LayoutPart) -> bool:
     """Whether a mirror has the form that is sure to stay: even sides, and exactly one odd coordinate."""
     return part.width % 2 == 0 and part.height % 2 == 0 and part.x % 2 != part.y % 2
 
@@ -371,7 +371,7 @@ def added_ball_changes(bench: Testbench) -> Iterator[DesignChange]:
     if bench.layout.width * bench.layout.height <= 1600:
         cells += [(x, y) for y in range(bench.layout.height) for x in range(bench.layout.width)]
     for cell in dict.fromkeys(cells):
-        yield from bench.change_if_possible({}, [Part("ball", None, *cell)])
+        yield from bench.change_if_possible({}, [LayoutPart("ball", None, *cell)])
 
 
 def added_mirror_changes(bench: Testbench, is_near: bool) -> Iterator[DesignChange]:
@@ -389,8 +389,8 @@ def added_mirror_changes(bench: Testbench, is_near: bool) -> Iterator[DesignChan
     seen = set()
     for x, y in map(cell_of, keys):
         for width, height in sizes:
-            for u, v in cells_of(x - width + 1, y - height + 1, width, height):
-                part = Part("mirror", None, u, v, width, height)
+            for u, v in cells_of_rectangle(x - width + 1, y - height + 1, width, height):
+                part = LayoutPart("mirror", None, u, v, width, height)
                 if part not in seen and has_mirror_parity(part):
                     seen.add(part)
                     yield from bench.change_if_possible({}, [part])

@@ -6,9 +6,9 @@ from typing import Any, Callable, Iterable, Iterator
 from ..texts.certificates import Module, local_wires
 from ..texts.circuits import Circuit
 from ..texts.documents import Document
-from ..texts.limits import FIRST_LIMITS, LIMITS_LINE
+from ..texts.limits import FIRST_LIMITS, LIMITS_2_LINE
 from ..texts.lines import match_line
-from ..texts.spelling import spelling_of
+from ..texts.spelling import spell_text
 from .edits import Edit, addition, deletion, edits_between, insertion_line_in_module, replacement
 
 Edits = tuple[Edit, ...]
@@ -26,7 +26,7 @@ def cleaned_line(line: str) -> str:
     """Returns a line with the signs of the formats in place of those that editors write, and with single spaces."""
     for sign, plain in SIGN_REPLACEMENTS.items():
         line = line.replace(sign, plain)
-    return spelling_of(line + "\n").text.rstrip("\n")
+    return spell_text(line + "\n").text.rstrip("\n")
 
 
 def shape_edits(document: Document, number: int, facts: dict[str, Any]) -> Iterator[Edits]:
@@ -211,7 +211,7 @@ def no_module_edits(document: Document, number: int, facts: dict[str, Any]) -> I
 def limit_edits(document: Document, number: int, facts: dict[str, Any]) -> Iterator[Edits]:
     """Yields the text with the line that raises its limits, and then the line with another number."""
     if facts["limits"] is FIRST_LIMITS:
-        yield (addition(0, LIMITS_LINE),)
+        yield (addition(0, LIMITS_2_LINE),)
     if "number" in facts:
         yield from near_number_edits(document, number, facts)
 
@@ -244,7 +244,7 @@ def refusal_edits(document: Document) -> Iterator[Edits]:
     refusal = document.refusal
     if refusal is None:
         return
-    in_order = edits_between(document.text, spelling_of(document.text).text)
+    in_order = edits_between(document.text, spell_text(document.text).text)
     if in_order:
         yield tuple(in_order)
     if refusal.cause == "use_output_local":

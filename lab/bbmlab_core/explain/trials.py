@@ -98,7 +98,8 @@ def is_yes(report: ReportOrRefusal | None) -> bool:
 
 def fault_times(report: ReportOrRefusal) -> dict[int, int]:
     """Returns the time of the local fault of each module that has one."""
-    return {finding.number("module"): finding.number("time") for finding in report.findings if finding.word == "local"}
+    return {finding.number_value("module"): finding.number_value("time") for finding in report.findings
+            if finding.word == "local"}
 
 
 def faults_besides_local(report: ReportOrRefusal) -> set[str]:
@@ -125,6 +126,6 @@ def has_removed_fault(before: ReportOrRefusal, after: ReportOrRefusal | None, fi
     if finding is None:
         return left != {other.text for other in before.faults}
     if finding.word == "local":
-        module = finding.number("module")
+        module = finding.number_value("module")
         return module not in now or now[module] > was[module]
     return finding.text not in left

@@ -10,7 +10,7 @@ from ..route.paths import Path
 from ..route.search import RoutedBundle
 from ..route.world import BITS, RIM_CELLS, ROW_STRIDE, ROW_BITS, TILE
 from ..texts.layouts import Box, Cell, row_order_key
-from ..texts.limits import limits_for, with_limits_line
+from ..texts.limits import smallest_fitting_limits, text_with_limits_line
 from .composing import Composition
 from .modules import JoinedModules
 from .parts import ALWAYS_SIGNAL
@@ -139,7 +139,7 @@ def make_joined_bundle(composed: Composition, plan: JoinPlan, modules: JoinedMod
         texts.append(str(module))
         count, most_cuts = count + 1, max(most_cuts, len(module.cuts))
     circuit, side = composed.circuit, max(plan.width, plan.height)
-    limits = limits_for(side, plan.end, count, len(circuit.gates), len(circuit.wires))
-    text = with_limits_line("".join([composed.section, "\n".join(layout.lines()), "\n", *texts, "end\n"]), limits)
+    limits = smallest_fitting_limits(side, plan.end, count, len(circuit.gates), len(circuit.wires))
+    text = text_with_limits_line("".join([composed.section, "\n".join(layout.lines()), "\n", *texts, "end\n"]), limits)
     gates = sum(gate.kind not in ("source", "delay") for gate in circuit.gates)
     return RoutedBundle(text, "", plan.width, plan.height, plan.end, layout.mirror_cell_count, count, most_cuts, gates)

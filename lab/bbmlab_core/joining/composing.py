@@ -12,7 +12,7 @@ from ..route.netlist import RouterNetlist
 from ..route.world import STEP_STRIDE, Footprint, cell_number
 from ..texts.circuits import Circuit, Gate
 from ..texts.limits import text_without_limits_line
-from ..texts.sections import text_of_section
+from ..texts.sections import section_text_with_limits
 from .flight_claims import ranges_without
 from .lone_ways import LoneWay
 from .parts import ALWAYS_SIGNAL, PartBundle, PartPort, part_footprint
@@ -110,7 +110,8 @@ def compose(parts: dict[str, PartBundle], connections: list[Connection],
             own = fed.get((part.name, wire))
             part.wires[wire] = by_name[own.source].wires[own.output] if own else joined_name(part.name, wire)
     lines = joined_circuit(named, connections)
-    return Composition(named, connections, text_without_limits_line(text_of_section(lines)), reread_circuit(lines))
+    return Composition(named, connections, text_without_limits_line(section_text_with_limits(lines)),
+                       reread_circuit(lines))
 
 
 def connected_ways(part: NamedPart, connections: list[Connection]) -> Iterator[tuple[str, LoneWay]]:

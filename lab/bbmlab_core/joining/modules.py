@@ -18,7 +18,7 @@ from ..route.world import ROW_STRIDE, STEP_STRIDE, TILE, Footprint, cell_of_numb
 from ..texts.certificates import MAX_CUTS, MAX_USES, Border, Module, ModuleDraft, Stop, local_wires
 from ..texts.layouts import Box, Cell
 from ..texts.limits import SECOND_LIMITS
-from ..texts.owners import NOBODY, Owners
+from ..texts.owners import NOBODY, BlockOwners
 from .composing import Composition
 from .parts import ALWAYS_SIGNAL
 from .planning import JoinPlan, PlacedPart
@@ -47,7 +47,7 @@ class JoinedModules:
 
     def __init__(self, composed: Composition, plan: JoinPlan) -> None:
         self.circuit, self.netlist, self.plan = composed.circuit, RouterNetlist(composed.circuit), plan
-        self.owners = Owners(plan.side, plan.side)
+        self.owners = BlockOwners(plan.side, plan.side)
         self.boxes: list[Box] = []
         self.origins: list[tuple[PlacedPart, Module]] = []
         for placed in plan.placed:
@@ -64,7 +64,7 @@ class JoinedModules:
 
     def add_box(self, box: Box) -> None:
         """Adds the box of a module."""
-        self.owners.give_blocks(box, len(self.boxes))
+        self.owners.give_blocks_if_free(box, len(self.boxes))
         self.boxes.append(box)
 
     def tiles_between(self) -> Iterator[Box]:
@@ -233,7 +233,7 @@ class JoinedModules:
                 if len(module.cuts) > MAX_CUTS or len(module.uses) > MAX_USES:
                     raise NoRouteError(f"the box at ({box.x}, {box.y}) needs {len(module.cuts)} wires; "
                                        f"{MAX_CUTS} is the most", FailureKind.WIRES)
-            yield module.module()
+            yield module.finished_module()
 
     def require_equal_stop_times(self) -> None:
         """Raises LabError if a gate gets wires with stops at different times: the program would say no."""

@@ -15,9 +15,9 @@ from ..route.world import ROW_STRIDE, ROW_BITS, STEP_STRIDE, Footprint, cell_num
 from ..texts.certificates import Border, Certificate, Module
 from ..texts.circuits import Circuit
 from ..texts.documents import read_document
-from ..texts.gates import Table
+from ..texts.gates import TruthTable
 from ..texts.layouts import Cell, Layout
-from ..texts.owners import Owners
+from ..texts.owners import BlockOwners
 from ..texts.refusals import refusal_words
 from .flight_claims import pop_flight_ranges
 from .lone_ways import LoneRun, LoneRuns, LoneWay, left_out_way, whole_balls_of
@@ -197,7 +197,7 @@ class PartRun:
 
     def __init__(self, circuit: Circuit, layout: Layout, certificate: Certificate, lone: LoneRuns) -> None:
         self.circuit, self.layout, self.certificate, self.lone = circuit, layout, certificate, lone
-        self.owners: Owners = certificate.owners
+        self.owners: BlockOwners = certificate.owners
         self.mirrors = layout.mirror_cells()
         self.claims: set[int] = set()
         self.starts: dict[int, dict[Cell, str]] = defaultdict(dict)
@@ -226,14 +226,14 @@ class PartRun:
                 heard[time][line.cell] = line.signal
         return heard
 
-    def run(self) -> dict[Cell, tuple[Module, Table]]:
+    def run(self) -> dict[Cell, tuple[Module, TruthTable]]:
         """Runs all modules; returns the cells that move at the end, with their tables."""
-        last: dict[Cell, tuple[Module, Table]] = {}
+        last: dict[Cell, tuple[Module, TruthTable]] = {}
         for module in self.certificate.modules:
             last.update((cell, (module, table)) for cell, table in self.run_module(module).items())
         return last
 
-    def run_module(self, module: Module) -> dict[Cell, Table]:
+    def run_module(self, module: Module) -> dict[Cell, TruthTable]:
         """Runs a module, notes the blocks in which something moves, and returns the cells that move at the end."""
         heard, box, steps = self.pop_heard_wires(module.number), module.box, self.layout.steps
         times, starts = sorted(heard, reverse=True), self.starts[module.number]
@@ -266,7 +266,7 @@ class PartRun:
             live, time = {cell: table for cell, table in following.items() if box.has(cell)}, time + 1
         return live
 
-    def waste_wires_at_end(self, last: dict[Cell, tuple[Module, Table]]) -> dict[Cell, str | None]:
+    def waste_wires_at_end(self, last: dict[Cell, tuple[Module, TruthTable]]) -> dict[Cell, str | None]:
         """Returns the wire of each `waste` cell that may be live at the last time, or None if it carries none."""
         netlist, wires = RouterNetlist(self.circuit), dict[Cell, str | None]()
         spills = set(self.circuit.spills)

@@ -81,5 +81,5 @@ def lab_report(document: Document) -> ReportOrRefusal:
     assert circuit and layout and certificate
     lines = [*module_fault_lines(circuit, layout, certificate), *gate_report_lines(circuit, certificate)]
     findings: list[ReportLine] = [parse_finding(line) for line in lines]
-    verdict = "no" if any(finding.is_against for finding in findings) else "yes"
+    verdict = "no" if any(finding.is_reason_for_no for finding in findings) else "yes"
     return ReportOrRefusal(verdict, certificate_digest(document.text), len(certificate.modules), findings)

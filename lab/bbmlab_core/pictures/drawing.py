@@ -9,7 +9,7 @@ from ..texts.certificates import Module
 from ..texts.circuits import Circuit, evaluate_all, evaluate_samples, sampled_tables
 from ..texts.documents import Document
 from ..texts.gates import input_tables
-from ..texts.layouts import Box, Cell, Layout, Part
+from ..texts.layouts import Box, Cell, Layout, LayoutPart
 from .label_places import NameToPlace, Rect, leader_line, place_names
 from .picture_parts import OTHER_WIRES_LABEL, chevrons, pieces_within
 from .ways import Piece, directed_ways, joined_pieces, ways_of
@@ -189,7 +189,7 @@ def port_name_elements(layout: Layout, view: Box, scale: float) -> list[str]:
     return lines + parts
 
 
-def mirror_elements(mirrors: list[Part]) -> list[str]:
+def mirror_elements(mirrors: list[LayoutPart]) -> list[str]:
     """Returns mirrors: each by itself, or one path for very many."""
     if len(mirrors) <= MAX_SINGLE_MIRRORS:
         return [rectangle_element("mirror", part.x, part.y, part.width, part.height) for part in mirrors]
@@ -210,7 +210,7 @@ def layout_elements(layout: Layout) -> list[str]:
     return parts
 
 
-def waste_element(part: Part) -> str:
+def waste_element(part: LayoutPart) -> str:
     """Returns a cross in a waste cell."""
     x, y = MARGIN + part.x * CELL_PX + 2, MARGIN + part.y * CELL_PX + 2
     side = CELL_PX - 4

@@ -10,7 +10,7 @@ import re
 from ..host.terminal import LabError
 from ..texts.documents import read_document
 from ..texts.layouts import Cell, Layout, row_order_key
-from ..texts.limits import SECOND_LIMITS, limits_for
+from ..texts.limits import SECOND_LIMITS, smallest_fitting_limits
 
 RULE = "BBM-Margolus-emulated"
 STATE_SIGNS = ".ABCD"
@@ -128,4 +128,5 @@ def layout_text_from_golly(text: str) -> str:
         raise LabError(f"the pattern takes {width} by {height} cells with its margin; {SECOND_LIMITS.max_side} is the "
                        "most")
     balls = [f"ball {x - left} {y - top}" for x, y in sorted(live, key=row_order_key)]
-    return limits_for(max(width, height)).line_text + "\n".join([f"layout {width} {height} 0", *balls, "end"]) + "\n"
+    return smallest_fitting_limits(max(width, height)).line_text + "\n".join([f"layout {width} {height} 0", *balls,
+                                                                              "end"]) + "\n"

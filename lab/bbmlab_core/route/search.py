@@ -17,7 +17,7 @@ from typing import Callable, Iterator
 
 from ..host.signals import Stopped
 from ..texts.circuits import Circuit
-from ..texts.limits import SECOND_LIMITS, limits_for, with_limits_line
+from ..texts.limits import SECOND_LIMITS, smallest_fitting_limits, text_with_limits_line
 from .attempt import Attempt, OutOfTimeError
 from .board import FailureKind, NoRouteError, Placement
 from .certificate import BundleMaker, bundle_text, circuit_section
@@ -231,10 +231,12 @@ def uncropped_bundle(circuit_text: str, design: Design) -> RoutedBundle:
     text, gates, wires = bundle_text(circuit_text, certifier), len(circuit.gates), len(circuit.wires)
     layout = circuit_section(circuit_text) + "\n".join(certifier.layout) + "\n"
     side = max(design.width, design.height)
-    return RoutedBundle(with_limits_line(text, limits_for(side, design.end, len(certifier.modules), gates, wires)),
-                        with_limits_line(layout, limits_for(side, design.end, 0, gates, wires)), design.width,
-                        design.height, design.end, len(certifier.mirrors), len(certifier.modules), certifier.most_cuts,
-                        len(design.gates))
+    return RoutedBundle(text_with_limits_line(text,
+                                              smallest_fitting_limits(side, design.end, len(certifier.modules), gates,
+                                                                      wires)),
+                        text_with_limits_line(layout, smallest_fitting_limits(side, design.end, 0, gates, wires)),
+                        design.width, design.height, design.end, len(certifier.mirrors), len(certifier.modules),
+                        certifier.most_cuts, len(design.gates))
 
 
 class Search:

@@ -13,7 +13,7 @@ from ..texts import json_form
 from ..texts.documents import read_document
 from ..texts.refusals import explain_refusal
 from ..texts.skimming import design_text
-from ..texts.spelling import source_line_number, spelling_of
+from ..texts.spelling import source_line_number, spell_text
 from .folder import ChangedError, Folder, FolderError, bytes_of, digest_of, text_of
 from .guard import Denied
 from .jobs import Jobs
@@ -45,7 +45,7 @@ def cell_catalogue() -> list[JsonObject]:
         ports = [{"role": port.role, "name": port.name, "cell": list(port.lead), "direction": [port.dx, port.dy],
                   "time": port.time} for port in cell.ports]
         found.append({"name": name, "about": standard_cells.CELL_DESCRIPTIONS[name],
-                      "layout": json_form.layout_json(layout),
+                      "layout": json_form.layout_members(layout),
                       "circuit": cell.document.text.split("\nlayout ")[0].split("\n"), "ports": ports})
     return found
 
@@ -121,7 +121,7 @@ class Answers:
     def refusal(self, body: JsonObject) -> JsonObject:
         """Returns where the lab's reader refuses the circuit and the layout, or null."""
         source = bytes_of(text_member(body, "text")).decode("latin-1")
-        text = spelling_of(source).text
+        text = spell_text(source).text
         document = read_document(design_text(text) or text, "design")
         if document.refusal is None:
             return {"refusal": None}
@@ -131,7 +131,7 @@ class Answers:
 
     def spelled_text(self, body: JsonObject) -> JsonObject:
         """Returns a text in the one spelling that the program reads, and how many comments that leaves out."""
-        made = spelling_of(bytes_of(text_member(body, "text")).decode("latin-1"))
+        made = spell_text(bytes_of(text_member(body, "text")).decode("latin-1"))
         return {"text": text_of(made.text.encode("latin-1")), "comments": made.comment_count}
 
     def cells(self, _body: JsonObject) -> JsonObject:

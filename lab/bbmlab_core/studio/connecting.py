@@ -29,9 +29,9 @@ from ..texts.certificates import Certificate
 from ..texts.circuits import Circuit, Gate
 from ..texts.documents import Document, read_document
 from ..texts.layouts import Cell, Layout
-from ..texts.limits import SECOND_LIMITS, limits_for, with_limits_line
+from ..texts.limits import SECOND_LIMITS, smallest_fitting_limits, text_with_limits_line
 from ..texts.skimming import design_text
-from ..texts.spelling import spelling_of
+from ..texts.spelling import spell_text
 from .machines import FinalBall, MachineRun
 from .verdicts import Judge
 
@@ -203,8 +203,9 @@ class ConnectedText:
     def text(self) -> str:
         """Returns the circuit and the layout."""
         circuit = self.connection.circuit
-        limits = limits_for(max(self.width, self.height), self.plan.end, 1, len(circuit.gates), len(circuit.wires))
-        return with_limits_line(self.connection.circuit_section() + "\n".join(self.layout_lines()) + "\n", limits)
+        limits = smallest_fitting_limits(max(self.width, self.height), self.plan.end, 1, len(circuit.gates),
+                                         len(circuit.wires))
+        return text_with_limits_line(self.connection.circuit_section() + "\n".join(self.layout_lines()) + "\n", limits)
 
     def layout_lines(self) -> Iterator[str]:
         """Yields the lines of the layout: mirrors, those of the paths last, and then the ports."""
@@ -263,7 +264,7 @@ def lead_all_balls(connection: PortConnection, deadline: float, seed: int) -> Co
 
 def connect_ports(text: str, ports: tuple[str, str], deadline: float, seed: int) -> ConnectedText:
     """Returns the connection of an output and an input of a text."""
-    head = design_text(spelling_of(text).text)
+    head = design_text(spell_text(text).text)
     document = read_document(head, "design")
     if document.refusal or not document.circuit or not document.layout:
         raise LabError("The circuit and the layout cannot be read: fix this first.")

@@ -20,8 +20,8 @@ from ..texts.documents import Document, read_document
 from ..texts.layouts import Cell, Layout
 from ..texts.refusals import explain_code, explain_refusal
 from ..texts.reports import ReportLine, ReportOrRefusal, ReportError, parse_report
-from ..texts.skimming import cuts_of, design_text
-from ..texts.spelling import source_line_number, spelling_of
+from ..texts.skimming import cuts_by_module, design_text
+from ..texts.spelling import source_line_number, spell_text
 
 # The most lines of a report for which fixes are looked for one by one, and the most lines that are sent to the page.
 MAX_FIXED_LINES, MAX_SENT_LINES = 6, 200
@@ -62,7 +62,7 @@ class Judge:
 
     def __init__(self, text: str, program: Executable, seconds: float, earlier: str = "") -> None:
         self.source, self.program, self.seconds, self.earlier = text, program, seconds, earlier
-        self.text = spelling_of(text).text
+        self.text = spell_text(text).text
         self.head = design_text(self.text)
         self.until = processor_seconds() + seconds
         self.inputs: Sequence[str] = ()
@@ -175,7 +175,7 @@ class Judge:
             return self.refusal_verdict(bundle, report.refused, answer.output)
         if (answer.status, report.verdict) not in ((0, "yes"), (1, "no")):
             raise ReportError(f"the program ended with status {answer.status} and wrote `verdict {report.verdict}`")
-        found, cuts = report.faults[:MAX_SENT_LINES], cuts_of(bundle) if report.faults else []
+        found, cuts = report.faults[:MAX_SENT_LINES], cuts_by_module(bundle) if report.faults else []
         faults = [fault_json(cuts, self.inputs, finding) for finding in found]
         count = len(report.faults)
         words = [] if report.verdict == "yes" else [
@@ -223,11 +223,11 @@ def fault_json(cuts: list[list[str]], inputs: Sequence[str], finding: ReportLine
     cuts inputs alone."""
     form: dict[str, Any] = {"text": finding.text}
     if "x" in finding.values:
-        form |= {"cell": [finding.number("x"), finding.number("y")], "time": finding.number("time")}
+        form |= {"cell": [finding.number_value("x"), finding.number_value("y")], "time": finding.number_value("time")}
     if "assignment" in finding.values:
-        names = cuts[finding.number("module")]
+        names = cuts[finding.number_value("module")]
         if set(names) <= set(inputs):
-            form["on"] = [name for index, name in enumerate(names) if finding.number("assignment") >> index & 1]
+            form["on"] = [name for index, name in enumerate(names) if finding.number_value("assignment") >> index & 1]
     return form
 
 
@@ -240,7 +240,7 @@ def explanation_json(text: str, bundle: str, output: str, program: Executable, s
     `text` is the page's, `bundle` is what the program read.
     """
     trial = TrialRunner(program, Budget(200, seconds))
-    has_own = design_text(spelling_of(text).text) != spelling_of(text).text
+    has_own = design_text(spell_text(text).text) != spell_text(text).text
     report = parse_report(output)
     document = read_document(bundle, "check")
     made = explain_report(document, report, "", None)
@@ -273,7 +273,7 @@ def fix_json(fix: Fix | None, report: ReportOrRefusal, has_own: bool) -> dict[st
 
 def design_explanation_json(text: str, program: Executable, seconds: float) -> dict[str, Any]:
     """Returns fixes of a text for which no certificate was found."""
-    trial, head = TrialRunner(program, Budget(200, seconds)), design_text(spelling_of(text).text)
+    trial, head = TrialRunner(program, Budget(200, seconds)), design_text(spell_text(text).text)
     report = trial.try_text(head)
     fixer = Fixer(head, report, trial) if report else None
     whole = fixer.find_fix() if fixer else None

@@ -27,7 +27,7 @@ from ..pictures import drawing, golly
 from ..texts.documents import Document, read_document
 from ..texts.layouts import Layout
 from ..texts.reports import ReportError
-from ..texts.spelling import spelling_of
+from ..texts.spelling import spell_text
 from ..view import viewing
 from .folder import FolderError, bytes_of
 from .verdicts import Judge, explanation_json, design_explanation_json
@@ -60,7 +60,7 @@ def explain(job: dict[str, Any], asked: Executable, seconds: float) -> dict[str,
 
 def export(job: dict[str, Any], asked: Executable, seconds: float) -> dict[str, Any]:
     """Returns a text in another form: `svg`, `golly` or `page`."""
-    document = read_document(spelling_of(byte_characters(job["bundle"] or job["text"])).text)
+    document = read_document(spell_text(byte_characters(job["bundle"] or job["text"])).text)
     if document.refusal or document.layout is None:
         raise LabError("The text is refused, so it cannot be exported.")
     form, name = job["form"], str(job["name"])

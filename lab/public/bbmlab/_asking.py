@@ -12,7 +12,7 @@ from bbmlab_core.explain.explaining import as_json, explain_answer
 from bbmlab_core.explain.trials import Budget, TrialRunner
 from bbmlab_core.farm.answering import why_bad_answer
 from bbmlab_core.host import program as programs
-from bbmlab_core.texts.documents import command_for, read_document
+from bbmlab_core.texts.documents import command_for_text, read_document
 from bbmlab_core.texts.refusals import explain_code, explain_refusal
 from bbmlab_core.texts.reports import ReportError, parse_report
 from bbmlab_core.texts.sections import Bundle
@@ -130,8 +130,9 @@ def check(text: str | Bundle, *, program: str | None = None, timeout: float | No
         raise refused_error(data, *report.refused)
     if report.refused or VERDICT_OF_STATUS.get(answer.status) != report.verdict:
         raise ProgramError(f"the program ended with status {answer.status}, which its report does not fit")
-    findings = tuple(Finding(finding.word, finding.text, finding.is_against, **finding.values)  # type: ignore[arg-type]
-                     for finding in report.findings)
+    findings = tuple(
+        Finding(finding.word, finding.text, finding.is_reason_for_no, **finding.values)  # type: ignore[arg-type]
+        for finding in report.findings)
     return Report(report.verdict, answer.status, report.digest, report.module_count, findings, answer.output)
 
 
@@ -142,7 +143,7 @@ def explain(text: str | Bundle, *, effort: float = 30.0, program: str | None = N
     Raises ProgramError if the program gives no answer.
     """
     data = byte_characters(text)
-    command, asked = command_for(data), opened_program(program)
+    command, asked = command_for_text(data), opened_program(program)
     command = PROGRAM_COMMAND_OF.get(command, command)
     answer = answer_of(asked, command, data, None)
     why = why_bad_answer(answer) if command == "check" else None

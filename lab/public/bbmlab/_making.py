@@ -21,8 +21,8 @@ from bbmlab_core.texts.circuits import Circuit
 from bbmlab_core.texts.documents import read_document
 from bbmlab_core.texts.layouts import Box
 from bbmlab_core.texts.limits import text_without_limits_line
-from bbmlab_core.texts.sections import Bundle, text_of_section
-from bbmlab_core.texts.spelling import spelling_of
+from bbmlab_core.texts.sections import Bundle, section_text_with_limits
+from bbmlab_core.texts.spelling import spell_text
 
 from ._errors import NotFoundError, RefusedError
 from ._reading import document_of, read
@@ -80,7 +80,7 @@ def circuit_text(circuit: Circuit | str) -> str:
     if isinstance(circuit, Circuit):
         return str(circuit)
     if netlist_format(circuit) is None:
-        return circuit_section(spelling_of(circuit).text)
+        return circuit_section(spell_text(circuit).text)
     try:
         return map_netlist(circuit).text
     except NetlistError as error:
@@ -103,7 +103,7 @@ def route(circuit: Circuit | str, *, seed: int = 1, size: int | None = None, eff
     if min(seed, jobs) < 1 or effort <= 0:
         raise ValueError("seed and jobs are from 1, and effort is more than 0 seconds")
     given = circuit_text(circuit)
-    model = document_of(text_of_section(circuit) if isinstance(circuit, Circuit) else given, "circuit").circuit
+    model = document_of(section_text_with_limits(circuit) if isinstance(circuit, Circuit) else given, "circuit").circuit
     text = text_without_limits_line(given)
     assert model is not None
     try:

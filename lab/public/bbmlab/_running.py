@@ -6,7 +6,7 @@ from typing import Iterable, Iterator, NamedTuple
 
 from bbmlab_core.physics.simulation import ModuleRun, WholeRun, layout_run
 from bbmlab_core.texts.layouts import Cell, Layout
-from bbmlab_core.texts.sections import Bundle, text_of_section
+from bbmlab_core.texts.sections import Bundle, section_text_with_limits
 
 from ._reading import document_of
 
@@ -25,7 +25,7 @@ def simulate(layout: Layout, inputs: Iterable[str] = (), steps: int | None = Non
     Raises RefusedError for a layout that is refused, and ValueError for another name than that of an `in` cell or
     negative steps.
     """
-    model = document_of(text_of_section(layout), "layout").layout
+    model = document_of(section_text_with_limits(layout), "layout").layout
     assert model is not None
     on, last = set(inputs), layout.steps if steps is None else steps
     unknown = sorted(on - {port.name for port in layout.ins})

@@ -12,7 +12,7 @@ from typing import Any, Callable
 from ...texts.circuits import Circuit
 from ...texts.documents import read_document
 from ...texts.gates import input_tables
-from ...texts.sections import text_of_section
+from ...texts.sections import section_text_with_limits
 from .aiger import read_aiger
 from .blif import read_blif
 from .circuit_text import NamedCircuit
@@ -136,7 +136,7 @@ def map_parsed_netlist(netlist: LogicNetlist, reading: ReadingOptions = ReadingO
         found = map_exchanges(netlist)
     else:
         found = cheapest_circuit(netlist)
-    text = text_of_section(found.circuit)
+    text = section_text_with_limits(found.circuit)
     document = read_document(text, "circuit")
     if document.circuit is None or document.refusal is not None:
         raise NetlistError(f"The mapped circuit is wrong: {document.refusal}.")

@@ -1,6 +1,6 @@
 """Compares a netlist with the circuit to which it was mapped, by values of both under the same inputs."""
 
-from ...texts.circuits import Circuit, evaluate_under, sampled_tables
+from ...texts.circuits import Circuit, evaluate_under_tables, sampled_tables
 from ...texts.gates import input_tables
 from .model import CellType, CellNode, LogicNetlist, NetlistError, TableNode
 
@@ -61,7 +61,7 @@ def require_agreement(netlist: LogicNetlist, circuit: Circuit) -> str:
         columns = sampled_tables(netlist.inputs, SAMPLE_COUNT)
     theirs = net_tables(netlist, columns, full)
     mine = {name: columns[net] for name, net in zip(circuit.inputs, netlist.inputs)}
-    own = evaluate_under(circuit, mine, full, range(len(circuit.gates)))
+    own = evaluate_under_tables(circuit, mine, full, range(len(circuit.gates)))
     for name, (port, net) in zip(circuit.outputs, netlist.outputs_with_nets):
         if own.defined_columns != full or own.tables[name] != theirs[net]:
             raise NetlistError(f"The mapped circuit is wrong: its output `{name}` is not always `{port}` of the "
