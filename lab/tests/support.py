@@ -31,7 +31,7 @@ from bbmlab_core.texts.documents import Document, decode_latin1, read_document  
 from bbmlab_core.texts.json_form import document_json_text  # noqa: E402
 
 # Fewer tries than users get, which save time: each try is one that a search can end with.
-FEW_TRIES = mock.patch("bbmlab_core.circuits.netlists.search.MAX_TRIES", 8)
+FEW_TRIES = mock.patch("bbmlab_core.circuits.netlists.search.MAX_MAPPING_TRIES", 8)
 
 
 class Case(unittest.TestCase):

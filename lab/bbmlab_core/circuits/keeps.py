@@ -156,7 +156,7 @@ class KeepSearch:
         unit for each wire)."""
         flow: set[str] = set()
         while True:
-            reached, wire = self.gates_with_spare_flow(core, flow)
+            reached, wire = self.reachable_gates_and_input(core, flow)
             if wire is None:
                 return self.with_constant_gates(frozenset(reached))
             number = self.consumer[wire]
@@ -165,7 +165,7 @@ class KeepSearch:
                 number, own = reached[number]
                 flow ^= {own}
 
-    def gates_with_spare_flow(self, core: GateSet, flow: set[str]) -> tuple[dict[int, tuple[int, str]], str | None]:
+    def reachable_gates_and_input(self, core: GateSet, flow: set[str]) -> tuple[dict[int, tuple[int, str]], str | None]:
         """Returns the gates from which more can flow to a core, each with the next gate and the wire to it, and an
         input from which it can."""
         reached, todo = {number: (number, "") for number in core}, sorted(core)

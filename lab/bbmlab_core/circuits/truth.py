@@ -52,7 +52,7 @@ def inputs_on_by_row(circuit: Circuit, on: list[str] | None) -> list[set[str]]:
     return [{name for at, name in enumerate(inputs) if number >> (last - at) & 1} for number in range(1 << len(inputs))]
 
 
-def depth(circuit: Circuit) -> int:
+def circuit_depth(circuit: Circuit) -> int:
     """Returns the most gates on a way from an input or a constant to an output. A source and a delay count as none."""
     depths: dict[str, int] = {}
     for gate in circuit.gates:
@@ -77,7 +77,7 @@ def circuit_figures(circuit: Circuit) -> list[tuple[str, str]]:
             ("constants", str(kinds["source"])),
             ("garbage", str(len(circuit.spills))), ("gates", str(len(circuit.gates) - kinds["source"])),
             *((f"  {word}", str(kinds[word])) for word in sorted(kinds) if word != "source"),
-            ("depth", str(depth(circuit))), ("width", str(peak_wire_count(circuit)))]
+            ("depth", str(circuit_depth(circuit))), ("width", str(peak_wire_count(circuit)))]
 
 
 def document_figures(document: Document) -> list[tuple[str, str]]:
@@ -95,7 +95,7 @@ def document_figures(document: Document) -> list[tuple[str, str]]:
     return found
 
 
-def values_of_both(one: Circuit, other: Circuit) -> tuple[WireTables, WireTables]:
+def wire_values_of_both(one: Circuit, other: Circuit) -> tuple[WireTables, WireTables]:
     """Returns the values of two circuits with the same inputs, in all choices of up to 16 inputs, or else in samples.
     """
     values = evaluate_all_or_samples(one, MAX_EXHAUSTIVE_INPUTS, SAMPLE_COUNT)
@@ -117,7 +117,7 @@ def difference_and_scope_words(one: Circuit, other: Circuit, is_of_common: bool 
         alone = sorted(set(names) ^ set(others))
         if alone:
             return f"only one of them has the {kind} {alone[0]}", "the names of inputs and outputs"
-    mine, theirs = values_of_both(one, other)
+    mine, theirs = wire_values_of_both(one, other)
     for name in common:
         unequal = (mine.tables[name] ^ theirs.tables[name]) | (mine.defined_columns ^ theirs.defined_columns)
         if unequal:

@@ -10,7 +10,7 @@ from ..circuits.aiger_form import aiger_text
 from ..circuits.circuit_forms import blif_text, dot_text, verilog_text
 from ..circuits.cleaning import clean
 from ..circuits.gate_lines import reread_circuit
-from ..circuits.inverting import inverse, values_of
+from ..circuits.inverting import inverse, wire_values_of
 from ..circuits.line_forms import qasm_text, real_text
 from ..circuits.netlists import ReadingOptions
 from ..circuits.simplifying import simplify
@@ -58,7 +58,7 @@ def require_agreement(change: Callable[[Circuit], Circuit], before: Circuit, aft
 def inverse_difference(before: Circuit, after: Circuit) -> tuple[str, str]:
     """Returns how the inverse of a circuit fails to give its inputs back, or nothing, and in which inputs they were
     compared."""
-    values = values_of(before)
+    values = wire_values_of(before)
     back = evaluate_under_tables(after, {name: values.tables[name] for name in after.inputs}, values.full,
                                  range(len(after.gates)))
     wrong = next((name for name in before.inputs if back.tables[name] != values.tables[name]), None)

@@ -2,7 +2,7 @@
 
 import argparse
 
-from ..circuits.netlists import NetlistFormat, netlist_format
+from ..circuits.netlists import NetlistFormat, guessed_netlist_format
 from ..explain import explaining
 from ..explain.explaining import ExplainedAnswer
 from ..explain.fixing import Fixer, outcome_words
@@ -19,7 +19,7 @@ def run(options: argparse.Namespace) -> int:
     if not options.fix and (options.output or options.in_place):
         raise LabError("-o and -i need --fix", 2)
     text = read_text(options.file)
-    form = netlist_format(text)
+    form = guessed_netlist_format(text)
     # The program refuses plain gates behind the line `circuit`, and the explanation names what makes a circuit of them.
     if form is not None and not (form is NetlistFormat.GATES and command_for_text(text) == "circuit"):
         what = {NetlistFormat.YOSYS_JSON: "JSON", NetlistFormat.GATES: "a text of plain gates"}.get(form, "a netlist")

@@ -174,8 +174,8 @@ class CertificateEditor:
     def proposals_for_delay(self, finding: ReportLine) -> Iterator[Proposal]:
         """Yields stops at other times for a delay, stops that are missing, and another number of steps in the circuit.
         """
-        gate, wanted, found = self.circuit.gates[finding.number_value("gate")], finding.number_value(
-            "wanted"), finding.values["found"]
+        gate = self.circuit.gates[finding.number_value("gate")]
+        wanted, found = finding.number_value("wanted"), finding.values["found"]
         used, made = self.certificate.stops_of(gate.ins[0]), self.certificate.stops_of(gate.outs[0])
         if used and made:
             if found == "before":

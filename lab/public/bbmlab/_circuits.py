@@ -54,7 +54,7 @@ def read_netlist(text: str, *, form: str | None = None) -> Netlist:
     """Reads a netlist, whose form its content says if none is given. Raises ValueError if it is none."""
     given = byte_characters(text)
     try:
-        known = core.NetlistFormat(form) if form is not None else core.netlist_format(given)
+        known = core.NetlistFormat(form) if form is not None else core.guessed_netlist_format(given)
         netlist = core.read_netlist(given, known)
     except LabError as error:
         raise ValueError(str(error)) from error

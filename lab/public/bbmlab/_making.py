@@ -9,7 +9,7 @@ from dataclasses import replace
 from typing import Callable, Iterable
 
 from bbmlab_core.certify.certifier import CertificateOptions, certified_text, legal_grid_boxes
-from bbmlab_core.circuits.netlists import NetlistError, map_netlist, netlist_format
+from bbmlab_core.circuits.netlists import NetlistError, guessed_netlist_format, map_netlist
 from bbmlab_core.circuits.row_check import first_missing_row_words
 from bbmlab_core.host.terminal import LabError
 from bbmlab_core.route.certificate import circuit_section
@@ -79,7 +79,7 @@ def circuit_text(circuit: Circuit | str) -> str:
     """Returns the text of a circuit: also of a netlist, which is mapped, and of a text that begins with a circuit."""
     if isinstance(circuit, Circuit):
         return str(circuit)
-    if netlist_format(circuit) is None:
+    if guessed_netlist_format(circuit) is None:
         return circuit_section(spell_text(circuit).text)
     try:
         return map_netlist(circuit).text
