@@ -15,11 +15,11 @@ from unittest import mock
 import support
 from bbmlab_core.certify.certifier import CertificateOptions, certified_text
 from bbmlab_core.cli import main
-from bbmlab_core.explain.diagnosis import Diagnosis
+from bbmlab_core.explain.diagnosis import DiagnosticRuns
 from bbmlab_core.explain.expected_lines import BorderCheck
 from bbmlab_core.explain.explaining import explain_answer
 from bbmlab_core.explain.fixing import Fixer
-from bbmlab_core.explain.trials import Budget, TrialRunner
+from bbmlab_core.explain.trials import TrialBudget, TrialRunner
 from bbmlab_core.host.program import ask
 from bbmlab_core.host.terminal import LabError
 from bbmlab_core.physics import tracing
@@ -124,7 +124,7 @@ class Runs(unittest.TestCase):
     def test_borders(self) -> None:
         """The tables of ring cells by time are those of a run that looks at all cells at each odd time."""
         for name, document in bundles().items():
-            diagnosis = Diagnosis(document)
+            diagnosis = DiagnosticRuns(document)
             check, run = BorderCheck(diagnosis), WholeRun(diagnosis.layout, diagnosis.wire_tables.tables,
                                                           diagnosis.wire_tables.full)
             borders = {cell for module in diagnosis.certificate.modules for cell in module.box.ring()
@@ -276,11 +276,11 @@ class Once(support.InRoom):
     def test_effort_is_the_end(self) -> None:
         """When the effort is used up nothing more is tried, for no line of the report."""
         text = support.text_of("wrong_edge")
-        trial = TrialRunner(support.program(), Budget(seconds=30))
+        trial = TrialRunner(support.program(), TrialBudget(seconds=30))
         report = trial.try_text(text)
-        fixer, diagnosis = Fixer(text, report, trial), Diagnosis(read(text))
-        trial.budget = Budget(seconds=0)
-        with mock.patch.object(fixer, "text_after_or_none") as applied:
+        fixer, diagnosis = Fixer(text, report, trial), DiagnosticRuns(read(text))
+        trial.budget = TrialBudget(seconds=0)
+        with mock.patch.object(fixer, "text_after_edits_or_none") as applied:
             self.assertEqual([fixer.find_fix_of_line(diagnosis, finding) for finding in report.faults],
                              [None] * len(report.faults))
         self.assertEqual(applied.call_count, 0)
@@ -291,7 +291,7 @@ class Once(support.InRoom):
         text = support.text_of("wrong_edge")
         output = ask(support.program(), "check", text.encode()).output
         for is_of_search in (True, False):
-            trial = TrialRunner(support.program(), Budget(is_counted_from_search=is_of_search))
+            trial = TrialRunner(support.program(), TrialBudget(is_counted_from_search=is_of_search))
             trial.started -= 1000.0
             self.assertEqual(explain_answer(text, "check", output, "text", trial).fix is not None, is_of_search)
 
@@ -300,7 +300,7 @@ class Once(support.InRoom):
         certificate, end at their first step."""
         text = support.text_of("wrong_edge")
         document = read(text)
-        diagnosis = Diagnosis(document)
+        diagnosis = DiagnosticRuns(document)
         self.assertTrue(diagnosis.can_run_whole())
         with mock.patch("bbmlab_core.explain.expected_lines.WholeRun.step", autospec=True,
                         side_effect=WholeRun.step) as step:
@@ -309,7 +309,7 @@ class Once(support.InRoom):
             with self.assertRaises(LabError):
                 certified_text(document, None, CertificateOptions(processor_deadline=0.0))
             self.assertLessEqual(step.call_count, 2)
-            self.assertIsNotNone(BorderCheck(Diagnosis(document), 30.0).ring_tables)
+            self.assertIsNotNone(BorderCheck(DiagnosticRuns(document), 30.0).ring_tables)
             self.assertGreater(step.call_count, 5)
 
     def test_trace_of_many_mirrors(self) -> None:

@@ -13,7 +13,7 @@ from pathlib import Path
 from unittest import mock
 
 import support
-from bbmlab_core.explain.diagnosis import Diagnosis, Tristate
+from bbmlab_core.explain.diagnosis import DiagnosticRuns, Tristate
 from bbmlab_core.host.program import BadProgramError, Executable, RunningPrograms, open_program
 from bbmlab_core.studio.jobs import Jobs
 from support import processes, wait_for
@@ -307,12 +307,12 @@ class Words(Room):
         self.assertNotIn("fault is in the certificate", ended.stdout)
         self.assertRegex(" ".join(ended.stdout.split()), r"the cell \(\d+, 0\) of the rim is live at time 1\. .* no "
                          r"certificate gets a yes before the layout is changed")
-        outcome = Diagnosis(support.read_document(text, "check")).whole_outcome
+        outcome = DiagnosticRuns(support.read_document(text, "check")).whole_run_outcome
         self.assertEqual((outcome.correctness, outcome.is_rim_fault), (Tristate.NO, True))
         for name, wanted in (("gate_and_mirror", Tristate.YES), ("not_gate", None)):
             document = support.read_document(support.text_of(name), "check")
             if document.certificate and not document.refusal:
-                self.assertEqual(Diagnosis(document).whole_outcome.correctness, wanted, name)
+                self.assertEqual(DiagnosticRuns(document).whole_run_outcome.correctness, wanted, name)
 
     def test_table_of_a_netlist(self) -> None:
         """A `$lut` whose table has another number of bits than its inputs make is refused by its name."""

@@ -6,7 +6,7 @@ from ..circuits.netlists import NetlistFormat, guessed_netlist_format
 from ..explain import explaining
 from ..explain.explaining import ExplainedAnswer
 from ..explain.fixing import Fixer, outcome_words
-from ..explain.trials import Budget, TrialRunner
+from ..explain.trials import TrialBudget, TrialRunner
 from ..farm.answering import why_bad_answer
 from ..host.program import Executable, BadProgramError, ask, find_and_open_program
 from ..host.terminal import LabError, coloured, read_text, tell, wrapped_paragraph, write_bytes
@@ -41,7 +41,7 @@ def run(options: argparse.Namespace) -> int:
             find_and_open_program(options.program)
             raise LabError("The lab's reader takes the text, but only the program gives a verdict.")
         output, by_lab = f"refused {refusal.line} {refusal.code}\n", True
-    trial = TrialRunner(program, Budget(seconds=options.effort, is_counted_from_search=True))
+    trial = TrialRunner(program, TrialBudget(seconds=options.effort, is_counted_from_search=True))
     explanation = explaining.explain_answer(text, command, output, options.file, trial)
     if by_lab:
         explanation.headline.append("The program was not found: this is the lab's reading, and no verdict.")
@@ -74,7 +74,7 @@ def find_and_write_fix(text: str, command: str, program: Executable | None, opti
         raise LabError("--fix takes a text with a circuit and a layout", 2)
     if options.in_place and (options.output or options.file == "-"):
         raise LabError("-i writes the file itself: it goes with a file, and without -o", 2)
-    report, trial = TrialRunner(program).try_text(text), TrialRunner(program, Budget(seconds=options.effort))
+    report, trial = TrialRunner(program).try_text(text), TrialRunner(program, TrialBudget(seconds=options.effort))
     if report is None:
         raise LabError(f"{trial.judge_words} gave no answer")
     fixer = Fixer(text, report, trial)
@@ -99,9 +99,9 @@ def find_and_write_fix(text: str, command: str, program: Executable | None, opti
 def write_explanation(explanation: ExplainedAnswer, options: argparse.Namespace) -> int:
     """Writes an explanation in the form that is asked for."""
     if options.json:
-        print(explaining.as_json(explanation))
+        print(explaining.explanation_json_text(explanation))
     elif options.gcc:
-        for line in explaining.as_gcc(explanation):
+        for line in explaining.gcc_error_lines(explanation):
             print(line)
     else:
         print(explanation_text(explanation))

@@ -4,7 +4,7 @@ import argparse
 import os
 
 from ..explain import explaining
-from ..explain.trials import Budget, TrialRunner
+from ..explain.trials import TrialBudget, TrialRunner
 from ..farm.answering import why_bad_answer
 from ..host.program import BadProgramError, ProgramTimeout, ask, find_and_open_program
 from ..host.terminal import read_text, tell, write_text
@@ -39,6 +39,6 @@ def program_report(text: str, options: argparse.Namespace) -> str:
 def trial_runner(options: argparse.Namespace) -> TrialRunner | None:
     """Returns who tries fixes: the program, if it is found."""
     try:
-        return TrialRunner(find_and_open_program(options.program), Budget(200, 10.0))
+        return TrialRunner(find_and_open_program(options.program), TrialBudget(200, 10.0))
     except BadProgramError:
         return None

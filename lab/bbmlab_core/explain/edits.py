@@ -31,7 +31,7 @@ class Edit:
     action: str
     text: str = ""
 
-    def words(self, lines: list[str]) -> str:
+    def as_sentence(self, lines: list[str]) -> str:
         """Returns the edit as a sentence; `lines` are those of the text before all edits."""
         old = lines[self.line - 1] if 0 < self.line <= len(lines) else ""
         if self.action == "add":
@@ -59,7 +59,7 @@ def deletion(line: int) -> Edit:
     return Edit(line, "delete")
 
 
-def text_after(text: str, edits: Iterable[Edit]) -> str:
+def text_after_edits(text: str, edits: Iterable[Edit]) -> str:
     """Returns the text after all edits. Lines that are added at one place keep the order of the edits."""
     lines = text.split("\n")
     added: dict[int, list[str]] = {}

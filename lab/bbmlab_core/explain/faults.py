@@ -9,7 +9,7 @@ from ..texts.certificates import Border, Module, Stop, border_or_stop_text
 from ..texts.circuits import evaluate_gates
 from ..texts.layouts import Cell
 from ..texts.reports import ReportLine, parse_finding
-from .diagnosis import Diagnosis, RunDifference, AssignmentOccurrence, Signal, Tristate
+from .diagnosis import DiagnosticRuns, RunDifference, AssignmentOccurrence, FoundSignal, Tristate
 
 
 @dataclass
@@ -49,7 +49,7 @@ def cell_words(cell: Cell) -> str:
     return f"({cell[0]}, {cell[1]})"
 
 
-def wire_value(diagnosis: Diagnosis, module: Module, name: str, assignment: int) -> int:
+def wire_value(diagnosis: DiagnosticRuns, module: Module, name: str, assignment: int) -> int:
     """Returns the value of a local wire under an assignment of the cuts."""
     if name == "1":
         return 1
@@ -57,7 +57,7 @@ def wire_value(diagnosis: Diagnosis, module: Module, name: str, assignment: int)
     return values.tables[name] >> assignment & 1
 
 
-def wanted_state(diagnosis: Diagnosis, module: Module, finding: ReportLine) -> WantedState:
+def wanted_state(diagnosis: DiagnosticRuns, module: Module, finding: ReportLine) -> WantedState:
     """Returns what the cell of a `local` line is to be."""
     cell, time = (finding.number_value("x"), finding.number_value("y")), finding.number_value("time")
     assignment, kind = finding.number_value("assignment"), finding.values["kind"]
@@ -82,7 +82,7 @@ def wanted_state(diagnosis: Diagnosis, module: Module, finding: ReportLine) -> W
     return WantedState(bool(value), why, at, text)
 
 
-def wanted_end_state(diagnosis: Diagnosis, module: Module, cell: Cell, assignment: int) -> WantedState:
+def wanted_end_state(diagnosis: DiagnosticRuns, module: Module, cell: Cell, assignment: int) -> WantedState:
     """Returns what the layout asks of a cell at the last time."""
     part = diagnosis.layout.part_at(cell, ("mirror", "out"))
     if part is None:
@@ -98,10 +98,11 @@ def wanted_end_state(diagnosis: Diagnosis, module: Module, cell: Cell, assignmen
                        part.line, text)
 
 
-def occurrence_words(diagnosis: Diagnosis, occurrence: AssignmentOccurrence, names: str) -> str:
+def occurrence_words(diagnosis: DiagnosticRuns, occurrence: AssignmentOccurrence, names: str) -> str:
     """Returns whether an assignment occurs, in words."""
     if occurrence.occurs is Tristate.UNKNOWN:
-        return f"No choice that gives these values was found {diagnosis.choices_words}; the others were not tried."
+        return (f"No choice that gives these values was found {diagnosis.tried_choices_words}; the others were not "
+                "tried.")
     if occurrence.occurs is Tristate.NO:
         return f"The circuit never gives {names}: no choice of its inputs does."
     if not occurrence.inputs:
@@ -111,14 +112,14 @@ def occurrence_words(diagnosis: Diagnosis, occurrence: AssignmentOccurrence, nam
             else f"{example}.")
 
 
-def explain_local(diagnosis: Diagnosis, finding: ReportLine) -> ExplainedLine:
+def explain_local(diagnosis: DiagnosticRuns, finding: ReportLine) -> ExplainedLine:
     """Returns a `local` line in words."""
     module, time = diagnosis.module_of_finding(finding), finding.number_value("time")
     cell, assignment = (finding.number_value("x"), finding.number_value("y")), finding.number_value("assignment")
     wanted = wanted_state(diagnosis, module, finding)
     values = module.cut_values(assignment)
     names = assignment_words(values)
-    occurrence = diagnosis.occurrence(module, assignment)
+    occurrence = diagnosis.assignment_occurrence(module, assignment)
     found, want = ("dead", "live") if wanted.is_live else ("live", "dead")
     last = ", the last time," if finding.values["kind"] == "end" else ""
     entry = ExplainedLine(finding.text, True, [
@@ -148,10 +149,10 @@ def explain_local(diagnosis: Diagnosis, finding: ReportLine) -> ExplainedLine:
     return entry
 
 
-def add_never_occurring_cause(diagnosis: Diagnosis, module: Module, entry: ExplainedLine) -> None:
+def add_never_occurring_cause(diagnosis: DiagnosticRuns, module: Module, entry: ExplainedLine) -> None:
     """Adds the cause of a fault under an assignment that never occurs: the cuts, or a fault under assignments that do
     occur."""
-    fault = diagnosis.occurring_fault(module)
+    fault = diagnosis.fault_under_occurring_assignments(module)
     if fault is None:
         entry.cause = "never_occurs"
         entry.what.append("Under the values that do occur the module has no fault.")
@@ -164,17 +165,17 @@ def add_never_occurring_cause(diagnosis: Diagnosis, module: Module, entry: Expla
     entry.facts["fault_that_occurs"] = {"kind": fault.kind, "time": fault.time, "cell": [fault.x, fault.y],
                                         "assignment": module.cut_values(fault.assignment)}
     finding = parse_finding(f"local {module.number} {fault.text_in_report()}")
-    add_occurring_cause(diagnosis, module, finding, entry, diagnosis.occurrence(module, fault.assignment))
+    add_occurring_cause(diagnosis, module, finding, entry, diagnosis.assignment_occurrence(module, fault.assignment))
 
 
-def add_occurring_cause(diagnosis: Diagnosis, module: Module, finding: ReportLine, entry: ExplainedLine,
+def add_occurring_cause(diagnosis: DiagnosticRuns, module: Module, finding: ReportLine, entry: ExplainedLine,
                         occurrence: AssignmentOccurrence) -> None:
     """Adds the cause of a fault under an assignment that occurs: what the module hears, its line, or the layout."""
     assignment, time = finding.number_value("assignment"), finding.number_value("time")
     cell = finding.number_value("x"), finding.number_value("y")
     difference = diagnosis.first_difference(module, assignment, occurrence.inputs, time)
     if difference:
-        explain_run_difference(diagnosis, module, entry, difference)
+        add_run_difference(diagnosis, module, entry, difference)
     elif diagnosis.layout.is_rim(cell) and finding.values["kind"] == "edge":
         entry.cause = "rim"
         entry.what.append("The run of the whole layout has the cell live then too. No certificate allows that: balls "
@@ -192,8 +193,8 @@ def add_occurring_cause(diagnosis: Diagnosis, module: Module, finding: ReportLin
         entry.what += signal_words(diagnosis, diagnosis.signal_of(cell, time), "the cell")
 
 
-def explain_run_difference(diagnosis: Diagnosis, module: Module, entry: ExplainedLine,
-                           difference: RunDifference) -> None:
+def add_run_difference(diagnosis: DiagnosticRuns, module: Module, entry: ExplainedLine,
+                       difference: RunDifference) -> None:
     """Adds where a module's run leaves the whole one, and the cells of its halo that it does not hear so."""
     entry.cause = "not_heard"
     entry.facts["differs"] = {"time": difference.time, "cell": list(difference.cell)}
@@ -204,7 +205,7 @@ def explain_run_difference(diagnosis: Diagnosis, module: Module, entry: Explaine
         entry.what += misheard_words(diagnosis, module, cell, difference.heard_time, is_live)
 
 
-def misheard_words(diagnosis: Diagnosis, module: Module, cell: Cell, time: int, is_live: bool) -> list[str]:
+def misheard_words(diagnosis: DiagnosticRuns, module: Module, cell: Cell, time: int, is_live: bool) -> list[str]:
     """Returns how the whole run has a cell next to a module, and which line says otherwise."""
     certificate, owner = diagnosis.certificate, diagnosis.certificate.owner(cell)
     if owner is None:
@@ -219,12 +220,12 @@ def misheard_words(diagnosis: Diagnosis, module: Module, cell: Cell, time: int, 
             *signal_words(diagnosis, diagnosis.signal_of(cell, time), "it")]
 
 
-def signal_words(diagnosis: Diagnosis, signal: Signal, cell: str) -> list[str]:
+def signal_words(diagnosis: DiagnosticRuns, signal: FoundSignal, cell: str) -> list[str]:
     """Returns which wire a cell has the values of, in words: a wire, none, or not found out."""
     if signal.known is Tristate.UNKNOWN:
         return [
             f"Which wire {cell} carries then was not found out: the whole run is too long, or leaves the rectangle."]
-    scope = "" if diagnosis.wire_tables.is_all else f" {diagnosis.choices_words}"
+    scope = "" if diagnosis.wire_tables.is_all else f" {diagnosis.tried_choices_words}"
     if signal.known is Tristate.NO:
         return [f"No wire of the circuit is true in just the choices of the inputs in which {cell} is live then."]
     if signal.name in ("0", "1"):
@@ -232,12 +233,12 @@ def signal_words(diagnosis: Diagnosis, signal: Signal, cell: str) -> list[str]:
     return [f"In the whole run {cell} is live then if and only if `{signal.name}` is true{scope}."]
 
 
-def explain_keep(diagnosis: Diagnosis, finding: ReportLine) -> ExplainedLine:
+def explain_keep(diagnosis: DiagnosticRuns, finding: ReportLine) -> ExplainedLine:
     """Returns a `keep` line in words."""
     module, gate = diagnosis.module_of_finding(finding), diagnosis.circuit.gates[finding.number_value("gate")]
     assignment = finding.number_value("assignment")
     values = module.cut_values(assignment)
-    occurrence = diagnosis.occurrence(module, assignment)
+    occurrence = diagnosis.assignment_occurrence(module, assignment)
     ins = {name: wire_value(diagnosis, module, name, assignment) for name in gate.ins}
     keeps = module.line_number("keep", gate.number)
     entry = ExplainedLine(finding.text, True, [
@@ -267,7 +268,7 @@ def border_line_words(line: Border | None, kind: str, module: Module) -> str:
     return f"line {module.line_number(kind, line)} of module {module.number} says `{text}`"
 
 
-def explain_border(diagnosis: Diagnosis, finding: ReportLine) -> ExplainedLine:
+def explain_border(diagnosis: DiagnosticRuns, finding: ReportLine) -> ExplainedLine:
     """Returns a `border` line in words."""
     module, time = diagnosis.module_of_finding(finding), finding.number_value("time")
     cell = finding.number_value("x"), finding.number_value("y")

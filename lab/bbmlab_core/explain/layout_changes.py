@@ -15,7 +15,7 @@ from ..physics.simulation import TruthTable, WholeRun, cell_of, key_of, required
 from ..texts.circuits import Circuit, Gate, WireTables, evaluate_all, evaluate_all_or_samples
 from ..texts.layouts import Cell, Layout, LayoutPart, cells_of_rectangle
 from ..texts.limits import limits_of_text
-from .diagnosis import MAX_EXHAUSTIVE_INPUTS, MAX_STEPS
+from .diagnosis import MAX_EXHAUSTIVE_INPUTS, MAX_WHOLE_RUN_STEPS
 from .edits import Edit, addition, deletion, insertion_line_in_section, replacement
 from .meeting_places import cells_where_runs_differ_least, start_of_wanted_end
 
@@ -70,18 +70,19 @@ class Testbench:
         self.all_values = self.values if self.values.is_all or len(circuit.inputs) > MAX_EXHAUSTIVE_INPUTS else \
             evaluate_all(circuit)
         self.touched: dict[int, int] = {}
-        self.last = self.last_state(layout, self.values, notes=True)
+        self.last = self.live_cells_at_end(layout, self.values, notes=True)
 
-    def is_over(self) -> bool:
+    def is_out_of_time(self) -> bool:
         """Whether the seconds are used up, or a run would be too long."""
-        return processor_seconds() > self.end or self.layout.steps > MAX_STEPS
+        return processor_seconds() > self.end or self.layout.steps > MAX_WHOLE_RUN_STEPS
 
-    def last_state(self, layout: Layout, values: WireTables, notes: bool = False) -> dict[int, TruthTable] | None:
+    def live_cells_at_end(self, layout: Layout, values: WireTables,
+                          notes: bool = False) -> dict[int, TruthTable] | None:
         """Returns the live cells after the last step, or None if a step leaves the rectangle or the seconds are used
         up."""
         run = WholeRun(layout, values.tables, values.full)
         while run.time < layout.steps:
-            if not run.step() or self.is_over():
+            if not run.step() or self.is_out_of_time():
                 return None
             if notes:
                 for key in run.field.changed:
@@ -99,7 +100,7 @@ class Testbench:
                 values = evaluate_all(change.circuit)
             else:
                 values = values_in_few_choices(change.circuit)
-            live = self.last_state(change.layout, values)
+            live = self.live_cells_at_end(change.layout, values)
             if live is None or wrong_cells(values, change.layout, live):
                 return False
             if self.values.is_all:
@@ -107,15 +108,15 @@ class Testbench:
         return True
 
     @cached_property
-    def parts_by_taken_cell(self) -> tuple[dict[Cell, LayoutPart], dict[Cell, LayoutPart]]:
+    def start_and_end_parts_by_cell(self) -> tuple[dict[Cell, LayoutPart], dict[Cell, LayoutPart]]:
         """The parts that take cells at the start, and those that take cells at the end."""
         starts = {cell: part for part in self.layout.parts if part.kind in START_PART_KINDS for cell in part.cells()}
         ends = {cell: part for part in self.layout.parts if part.kind in END_PART_KINDS for cell in part.cells()}
         return starts, ends
 
-    def is_possible(self, new: list[LayoutPart], removed: set[LayoutPart]) -> bool:
+    def can_place_parts(self, new: list[LayoutPart], removed: set[LayoutPart]) -> bool:
         """Whether new parts lie in the rectangle and share no cell that only one part may take."""
-        for kinds, taken in zip((START_PART_KINDS, END_PART_KINDS), self.parts_by_taken_cell):
+        for kinds, taken in zip((START_PART_KINDS, END_PART_KINDS), self.start_and_end_parts_by_cell):
             cells = [cell for part in new if part.kind in kinds for cell in part.cells()]
             if len(set(cells)) < len(cells) or any(cell in taken and taken[cell] not in removed for cell in cells):
                 return False
@@ -123,12 +124,12 @@ class Testbench:
                    and part.y + part.height <= self.layout.height
                    for part in new)
 
-    def change_if_possible(self, swaps: dict[LayoutPart, LayoutPart], more: Iterable[LayoutPart] = (),
-                           gone: Iterable[LayoutPart] = ()) -> list[DesignChange]:
+    def possible_change_as_list(self, swaps: dict[LayoutPart, LayoutPart], more: Iterable[LayoutPart] = (),
+                                gone: Iterable[LayoutPart] = ()) -> list[DesignChange]:
         """Returns the change that moves parts, adds some and drops some, or none if cells would be taken twice or lie
         outside."""
         dropped, added = set(gone), list(more)
-        if not self.is_possible([*swaps.values(), *added], dropped | swaps.keys()):
+        if not self.can_place_parts([*swaps.values(), *added], dropped | swaps.keys()):
             return []
         parts = [swaps.get(part, part) for part in self.layout.parts if part not in dropped] + added
         edits = [replacement(part.line, str(new)) for part, new in swaps.items()]
@@ -140,7 +141,7 @@ class Testbench:
     def suspect_cells(self) -> list[Cell]:
         """The cells at which something is likely wrong: where the run and the run backwards from the wanted end are
         nearest to each other."""
-        return [] if self.is_over() else cells_where_runs_differ_least(self.layout, self.values)
+        return [] if self.is_out_of_time() else cells_where_runs_differ_least(self.layout, self.values)
 
     def distance_to_fault(self, part: LayoutPart) -> int:
         """Returns how far a part lies from the places at which something is likely wrong, or from the first fault."""
@@ -215,7 +216,7 @@ def output_place_changes(bench: Testbench, reach: int | None, is_exchange: bool 
     wastes = [part_for_stray_ball(bench, cell, table) for cell, table in places if key_of(cell) in wrong
               and cell not in taken | covered]
     if len(swaps) + len(wastes) + len(freed) <= MAX_CHANGE_LINES and (swaps or wastes):
-        yield from bench.change_if_possible(swaps, wastes, freed)
+        yield from bench.possible_change_as_list(swaps, wastes, freed)
 
 
 def part_for_stray_ball(bench: Testbench, cell: Cell, table: TruthTable) -> LayoutPart:
@@ -239,7 +240,7 @@ def added_output_changes(bench: Testbench) -> Iterator[DesignChange]:
                  and bench.layout.has(cell_of(key))]
         new += [LayoutPart("out", name, *cell) for cell in cells if cell not in {part.cell for part in new}]
     if new and len(new) <= MAX_CHANGE_LINES:
-        yield from bench.change_if_possible({}, new)
+        yield from bench.possible_change_as_list({}, new)
 
 
 def output_exchanges(bench: Testbench) -> Iterator[DesignChange]:
@@ -254,21 +255,21 @@ def output_exchanges(bench: Testbench) -> Iterator[DesignChange]:
             swaps = {part: part._replace(name=two if part.name == one else one) for part in outs
                      if part.name in (one, two)}
             if len(swaps) <= MAX_CHANGE_LINES:
-                yield from bench.change_if_possible(swaps)
+                yield from bench.possible_change_as_list(swaps)
     for one in names:
         for two in bench.circuit.outputs:
             for part in (part for part in outs if part.name == one and two != one):
-                yield from bench.change_if_possible({part: part._replace(name=two)})
+                yield from bench.possible_change_as_list({part: part._replace(name=two)})
 
 
 def step_count_changes(bench: Testbench) -> Iterator[DesignChange]:
     """Yields other numbers of steps at which the run is as the layout asks, the nearest first."""
     steps, good = bench.layout.steps, []
     run = WholeRun(bench.layout, bench.values.tables, bench.values.full)
-    for _ in range(min(2 * steps + 16, MAX_STEPS)):
+    for _ in range(min(2 * steps + 16, MAX_WHOLE_RUN_STEPS)):
         if not wrong_cells(bench.values, bench.layout, run.field.live):
             good.append(run.time)
-        if not run.step() or bench.is_over():
+        if not run.step() or bench.is_out_of_time():
             break
     header = next(number for number, line in enumerate(bench.lines, 1) if line.startswith("layout "))
     for time in sorted(good, key=lambda time: abs(time - steps)):
@@ -282,7 +283,7 @@ def enlarged_layout_changes(bench: Testbench) -> Iterator[DesignChange]:
     between."""
     layout = bench.layout
     if not any(layout.is_rim(cell_of(key)) for key in bench.touched) and not any(
-            layout.is_rim(cell) for cell in bench.parts_by_taken_cell[0]):
+            layout.is_rim(cell) for cell in bench.start_and_end_parts_by_cell[0]):
         return
     if max(layout.width, layout.height) + 4 > bench.limits.max_side:
         return
@@ -296,9 +297,9 @@ def enlarged_layout_changes(bench: Testbench) -> Iterator[DesignChange]:
 
 # ---- the start, by the run backwards
 
-def start_changes(bench: Testbench) -> Iterator[DesignChange]:
+def start_state_changes(bench: Testbench) -> Iterator[DesignChange]:
     """Yields the change of `in` and `ball` lines after which the start is that from which the wanted end comes."""
-    if bench.is_over():
+    if bench.is_out_of_time():
         return
     last = bench.last if bench.last is not None else {}
     start = start_of_wanted_end(bench.layout, bench.values, last)
@@ -328,7 +329,7 @@ def replaced_part_changes(bench: Testbench, gone: list[LayoutPart], new: list[La
             swaps[part] = shifted_part(part, other.x - part.x, other.y - part.y)
             gone.remove(part)
             new.remove(other)
-    yield from (change for change in bench.change_if_possible(swaps, new, gone) if change.edits)
+    yield from (change for change in bench.possible_change_as_list(swaps, new, gone) if change.edits)
 
 
 def moved_part_changes(bench: Testbench, kinds: tuple[str, ...], reach: int = 2) -> Iterator[DesignChange]:
@@ -345,7 +346,7 @@ def moved_part_changes(bench: Testbench, kinds: tuple[str, ...], reach: int = 2)
                 if (part.kind == "mirror" and has_mirror_parity(part)
                         and not has_mirror_parity(shifted_part(part, dx, dy))):
                     continue
-                yield from bench.change_if_possible({member: shifted_part(member, dx, dy) for member in group})
+                yield from bench.possible_change_as_list({member: shifted_part(member, dx, dy) for member in group})
 
 
 def has_mirror_parity(part: LayoutPart) -> bool:
@@ -360,7 +361,7 @@ def removed_part_changes(bench: Testbench) -> Iterator[DesignChange]:
         is_port = part.kind in ("in", "out")
         if part.kind in ("ball", "mirror") or is_port and sum((other.kind, other.name) == (part.kind, part.name)
                                                               for other in ports) > 1:
-            yield from bench.change_if_possible({}, (), [part])
+            yield from bench.possible_change_as_list({}, (), [part])
 
 
 def added_ball_changes(bench: Testbench) -> Iterator[DesignChange]:
@@ -371,7 +372,7 @@ def added_ball_changes(bench: Testbench) -> Iterator[DesignChange]:
     if bench.layout.width * bench.layout.height <= 1600:
         cells += [(x, y) for y in range(bench.layout.height) for x in range(bench.layout.width)]
     for cell in dict.fromkeys(cells):
-        yield from bench.change_if_possible({}, [LayoutPart("ball", None, *cell)])
+        yield from bench.possible_change_as_list({}, [LayoutPart("ball", None, *cell)])
 
 
 def added_mirror_changes(bench: Testbench, is_near: bool) -> Iterator[DesignChange]:
@@ -393,4 +394,4 @@ def added_mirror_changes(bench: Testbench, is_near: bool) -> Iterator[DesignChan
                 part = LayoutPart("mirror", None, u, v, width, height)
                 if part not in seen and has_mirror_parity(part):
                     seen.add(part)
-                    yield from bench.change_if_possible({}, [part])
+                    yield from bench.possible_change_as_list({}, [part])

@@ -19,7 +19,7 @@ SIGN_REPLACEMENTS = {"\xe2\x86\x92": "->", "\xe2\x9f\xb6": "->", "\xe2\x87\x92":
                      "\xe2\x80\x94>": "->", "\xc2\xa0": " ", "\xef\xbb\xbf": "", ",": " ", ";": " ", "\t": " ",
                      "\r": ""}
 # The most names of near spelling, and the most lines that one fix changes in the same way.
-MAX_SIMILAR = 4
+MAX_SIMILAR_NAMES = 4
 
 
 def cleaned_line(line: str) -> str:
@@ -49,7 +49,7 @@ def shape_edits(document: Document, number: int, facts: dict[str, Any]) -> Itera
 
 def similar_lines(words: list[str], forms: dict[str, Any]) -> Iterator[list[str]]:
     """Yields a line with another keyword, in small letters, without a last word, or with the arrow in its place."""
-    for word in difflib.get_close_matches(words[0].lower(), forms, MAX_SIMILAR, 0.5):
+    for word in difflib.get_close_matches(words[0].lower(), forms, MAX_SIMILAR_NAMES, 0.5):
         yield [word, *words[1:]]
         yield [word, *(other.lower() for other in words[1:])]
     if words[0] in forms and "->" in forms[words[0]] and "->" not in words:
@@ -66,7 +66,7 @@ def header_edits(_document: Document, number: int, facts: dict[str, Any]) -> Ite
     yield (deletion(number),)
 
 
-def line_deletion(_document: Document, number: int, _facts: dict[str, Any]) -> Iterator[Edits]:
+def line_deletion_edits(_document: Document, number: int, _facts: dict[str, Any]) -> Iterator[Edits]:
     """Yields the text without the line."""
     yield (deletion(number),)
 
@@ -134,7 +134,7 @@ def heard_wire_edits(document: Document, _number: int, facts: dict[str, Any]) ->
 def other_name_edits(document: Document, number: int, facts: dict[str, Any]) -> Iterator[Edits]:
     """Yields the line with another name: one that is spelt alike, then the others; and the text without the line."""
     known, line = facts["known"], document.line(number)
-    near = difflib.get_close_matches(facts["name"], known, MAX_SIMILAR, 0.3)
+    near = difflib.get_close_matches(facts["name"], known, MAX_SIMILAR_NAMES, 0.3)
     for name in dict.fromkeys([*near, *known[:40]]):
         words = [name if word == facts["name"] else word for word in line.split(" ")]
         yield (replacement(number, " ".join(words)),)
@@ -185,7 +185,7 @@ def missing_end_edits(document: Document, _number: int, _facts: dict[str, Any]) 
         yield (addition(len(lines), "end"), addition(len(lines), ""))
 
 
-def trailing_lines_deletion(document: Document, number: int, _facts: dict[str, Any]) -> Iterator[Edits]:
+def trailing_line_deletion_edits(document: Document, number: int, _facts: dict[str, Any]) -> Iterator[Edits]:
     """Yields the text up to its last section."""
     lines = document.text.split("\n")
     count = len(lines) if lines[-1] else len(lines) - 1
@@ -218,7 +218,7 @@ def limit_edits(document: Document, number: int, facts: dict[str, Any]) -> Itera
 
 EDIT_FINDERS: dict[str, EditFinder] = {cause: finder for finder, causes in (
     (shape_edits, "shape"),
-    (line_deletion, "kind_after_later_kind gate_not_rising border_not_rising before_first_module second_header "
+    (line_deletion_edits, "kind_after_later_kind gate_not_rising border_not_rising before_first_module second_header "
                     "keep_not_used wire_defined cut_twice use_output_local cut_count"),
     (header_edits, "first_not_header"),
     (unconsumed_wire_edits, "wire_not_consumed"),
@@ -235,7 +235,7 @@ EDIT_FINDERS: dict[str, EditFinder] = {cause: finder for finder, causes in (
     (limit_edits, "layout_side mirror_side layout_steps wire_count gate_count module_count"),
     (near_place_edits, "cell_outside cell_taken"),
     (missing_end_edits, "text_ended line_not_ended"),
-    (trailing_lines_deletion, "text_goes_on"),
+    (trailing_line_deletion_edits, "text_goes_on"),
 ) for cause in causes.split()}
 
 

@@ -14,11 +14,11 @@ from ..texts.reports import ReportLine, ReportOrRefusal, ReportError, parse_repo
 # The most seconds for one run of the program.
 MAX_RUN_SECONDS = 60.0
 # The most steps of all modules together that the lab runs in the place of the program.
-MAX_OWN_STEPS = 50_000
+MAX_LAB_RUN_STEPS = 50_000
 
 
 @dataclass(frozen=True)
-class Budget:
+class TrialBudget:
     """How many texts are tried, and for how many seconds of the processor, those of the program included.
 
     If `is_counted_from_search`, what was done before the search for fixes does not count: reading and explaining a
@@ -33,7 +33,7 @@ class Budget:
 class TrialRunner:
     """Asks the program about texts; without a program, the lab's reader and its own runs of the modules."""
 
-    def __init__(self, program: Executable | str | None, budget: Budget = Budget()) -> None:
+    def __init__(self, program: Executable | str | None, budget: TrialBudget = TrialBudget()) -> None:
         self.program = None if program is None else open_program(program)
         self.budget = budget
         self.tries = 0
@@ -54,7 +54,7 @@ class TrialRunner:
         """Returns how many seconds are left for trials."""
         return self.budget.seconds - (processor_seconds() - self.started)
 
-    def is_over(self) -> bool:
+    def is_budget_used_up(self) -> bool:
         """Whether the tries or the seconds are used up."""
         return self.tries >= self.budget.tries or self.seconds_left() <= 0
 
@@ -62,13 +62,13 @@ class TrialRunner:
         """Returns the report of a text, or None if there is none: the budget is used up, or the program did not answer.
         """
         if text not in self._known:
-            if self.is_over():
+            if self.is_budget_used_up():
                 return None
             self.tries += 1
-            self._known[text] = self.ask(text)
+            self._known[text] = self.ask_judge(text)
         return self._known[text]
 
-    def ask(self, text: str) -> ReportOrRefusal | None:
+    def ask_judge(self, text: str) -> ReportOrRefusal | None:
         """Asks about one text."""
         if self.program is None:
             return self.own_report(text)
@@ -86,7 +86,8 @@ class TrialRunner:
         """Returns the lab's own report, or None if the runs of its modules would take too long."""
         document = read_document(text, "check")
         layout, certificate = document.layout, document.certificate
-        if layout and certificate and not document.refusal and len(certificate.modules) * layout.steps > MAX_OWN_STEPS:
+        if (layout and certificate and not document.refusal
+                and len(certificate.modules) * layout.steps > MAX_LAB_RUN_STEPS):
             return None
         return lab_report(document)
 

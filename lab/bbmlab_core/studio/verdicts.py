@@ -7,10 +7,10 @@ from dataclasses import dataclass, field
 from typing import Any, Sequence
 
 from ..certify.certifier import CertificateOptions, certified_text
-from ..explain.diagnosis import Diagnosis, Tristate
+from ..explain.diagnosis import DiagnosticRuns, Tristate
 from ..explain.explaining import explain_report, tried_in_vain_words
 from ..explain.fixing import Fix, Fixer, outcome_words
-from ..explain.trials import Budget, TrialRunner
+from ..explain.trials import TrialBudget, TrialRunner
 from ..host.processor import processor_seconds
 from ..host.program import Answer, Executable, BadProgramError, ProgramTimeout, ask
 from ..host.terminal import LabError
@@ -155,7 +155,7 @@ class Judge:
             quick = self.bundle_verdict(certified_text(design, None, plan), "certify")
             if quick.verdict == "yes":
                 return quick
-            outcome = Diagnosis(read_document(quick.bundle, "check")).whole_outcome
+            outcome = DiagnosticRuns(read_document(quick.bundle, "check")).whole_run_outcome
             if outcome.correctness is Tristate.NO:
                 quick.words.append(outcome.why_no_yes)
                 return quick
@@ -239,7 +239,7 @@ def explanation_json(text: str, bundle: str, output: str, program: Executable, s
 
     `text` is the page's, `bundle` is what the program read.
     """
-    trial = TrialRunner(program, Budget(200, seconds))
+    trial = TrialRunner(program, TrialBudget(200, seconds))
     has_own = design_text(spell_text(text).text) != spell_text(text).text
     report = parse_report(output)
     document = read_document(bundle, "check")
@@ -251,7 +251,7 @@ def explanation_json(text: str, bundle: str, output: str, program: Executable, s
     forms = {entry["line"]: entry for entry in entries}
     # Without a certificate of its own a text has no lines that fixes of single lines could change.
     if has_own and not report.refused and document.certificate:
-        diagnosis = Diagnosis(document)
+        diagnosis = DiagnosticRuns(document)
         for finding in report.faults[:MAX_FIXED_LINES]:
             fix = fixer.find_fix_of_line(diagnosis, finding)
             if fix and finding.text in forms:
@@ -273,7 +273,7 @@ def fix_json(fix: Fix | None, report: ReportOrRefusal, has_own: bool) -> dict[st
 
 def design_explanation_json(text: str, program: Executable, seconds: float) -> dict[str, Any]:
     """Returns fixes of a text for which no certificate was found."""
-    trial, head = TrialRunner(program, Budget(200, seconds)), design_text(spell_text(text).text)
+    trial, head = TrialRunner(program, TrialBudget(200, seconds)), design_text(spell_text(text).text)
     report = trial.try_text(head)
     fixer = Fixer(head, report, trial) if report else None
     whole = fixer.find_fix() if fixer else None

@@ -8,8 +8,8 @@ from dataclasses import dataclass
 from typing import Any
 
 from bbmlab_core.commands.explain import explanation_text
-from bbmlab_core.explain.explaining import as_json, explain_answer
-from bbmlab_core.explain.trials import Budget, TrialRunner
+from bbmlab_core.explain.explaining import explain_answer, explanation_json_text
+from bbmlab_core.explain.trials import TrialBudget, TrialRunner
 from bbmlab_core.farm.answering import why_bad_answer
 from bbmlab_core.host import program as programs
 from bbmlab_core.texts.documents import command_for_text, read_document
@@ -150,9 +150,10 @@ def explain(text: str | Bundle, *, effort: float = 30.0, program: str | None = N
     if why:
         raise ProgramError(f"the program gave no verdict: {why}")
     try:
-        explanation = explain_answer(data, command, answer.output, "text", TrialRunner(asked, Budget(seconds=effort)))
+        explanation = explain_answer(data, command, answer.output, "text",
+                                     TrialRunner(asked, TrialBudget(seconds=effort)))
     except ReportError as error:
         raise ProgramError(str(error)) from error
     fixed = None if explanation.fixed is None else explanation.fixed.encode("latin-1").decode("utf-8", "replace")
     return Explanation(explanation.verdict, COLOUR_PATTERN.sub("", explanation_text(explanation)),
-                       json.loads(as_json(explanation)), fixed)
+                       json.loads(explanation_json_text(explanation)), fixed)
