@@ -99,8 +99,8 @@ def parse_result_names(words: str) -> list[str]:
 
 def parse_shard(word: str) -> Any:
     """Returns a part of a set, written K/N."""
-    from .farm.sharding import read_shard
-    return read_shard(word)
+    from .farm.sharding import shard_from_text
+    return shard_from_text(word)
 
 
 def arg(names: str, about: str, **options: Any) -> tuple[list[str], dict[str, Any]]:
@@ -394,13 +394,13 @@ COMMANDS: dict[str, tuple[str, str, str, list[Any]]] = {
 def run_command(run: Callable[[argparse.Namespace], int], options: argparse.Namespace) -> int:
     """Runs a command and returns its exit status; what goes wrong is a line on standard error."""
     from .host.program import BadProgramError, ProgramTimeout
-    from .host.signals import Stopped, end_by_pipe, install_handlers
-    from .host.terminal import LabError, escape_controls, require_output
+    from .host.signals import StoppedBySignal, end_by_pipe, install_signal_handlers
+    from .host.terminal import LabError, escape_controls, require_writable_output
     from .texts.reports import ReportError
-    install_handlers()
+    install_signal_handlers()
     try:
         read = [getattr(options, word, None) for word in ("file", "report", "boxes")]
-        require_output(getattr(options, "output", None), [name for name in read if name])
+        require_writable_output(getattr(options, "output", None), [name for name in read if name])
         status = run(options)
         if sys.stdout is not None:
             sys.stdout.flush()
@@ -419,7 +419,7 @@ def run_command(run: Callable[[argparse.Namespace], int], options: argparse.Name
     except MemoryError:
         print("bbmlab: out of memory", file=sys.stderr)
         return 4
-    except Stopped as signal:
+    except StoppedBySignal as signal:
         return signal.status
 
 

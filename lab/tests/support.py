@@ -25,7 +25,7 @@ DEBIAN_PYTHON = "/usr/bin/python3"
 sys.path[:0] = [str(path) for path in (LAB, TOP / "conformance") if str(path) not in sys.path]
 sys.dont_write_bytecode = True
 import cases  # noqa: E402
-from bbmlab_core.host.program import ask  # noqa: E402
+from bbmlab_core.host.program import ask_program  # noqa: E402
 from bbmlab_core.texts.circuits import Circuit  # noqa: E402
 from bbmlab_core.texts.documents import Document, decode_latin1, read_document  # noqa: E402
 from bbmlab_core.texts.json_form import document_json_text  # noqa: E402
@@ -153,7 +153,7 @@ def program() -> str:
 
 def checked(text: str) -> str:
     """Returns what the program's `check` prints of a text."""
-    return ask(program(), "check", text.encode("latin-1")).output
+    return ask_program(program(), "check", text.encode("latin-1")).output
 
 
 def program_of_limits_2() -> str:

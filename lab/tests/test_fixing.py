@@ -15,7 +15,7 @@ from bbmlab_core.explain.explaining import ExplainedAnswer, explain_answer
 from bbmlab_core.explain.fixing import Fixer
 from bbmlab_core.explain.refusal_edits import refusal_edits
 from bbmlab_core.explain.trials import TrialBudget, TrialRunner, is_yes
-from bbmlab_core.host.program import ask
+from bbmlab_core.host.program import ask_program
 from bbmlab_core.physics.mirrors import is_stable
 from bbmlab_core.physics.own_report import lab_report
 from bbmlab_core.texts.skimming import certificate_digest
@@ -30,7 +30,7 @@ from support import text_of
 
 def explained(text: str, command: str = "check") -> ExplainedAnswer:
     """Returns the program's answer to a text in words, with fixes that the program tried."""
-    output = ask(support.program(), command, text.encode("latin-1")).output
+    output = ask_program(support.program(), command, text.encode("latin-1")).output
     return explain_answer(text, command, output, "text", TrialRunner(support.program()))
 
 

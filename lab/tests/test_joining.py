@@ -9,7 +9,7 @@ from pathlib import Path
 from typing import Callable, NamedTuple
 
 import support
-from bbmlab_core.host.program import ask
+from bbmlab_core.host.program import ask_program
 from bbmlab_core.physics.simulation import WholeRun, cell_of, key_of, required_end_tables
 from bbmlab_core.texts.circuits import Circuit, evaluate_all
 from bbmlab_core.texts.documents import read_document
@@ -195,7 +195,7 @@ def verdict(text: str) -> str:
         path = Path(folder, "design.txt")
         path.write_text(text)
         bundle = support.lab("certify", "--program", support.program(), str(path)).stdout
-    return ask(support.program(), "check", bundle.encode()).output
+    return ask_program(support.program(), "check", bundle.encode()).output
 
 
 class Joining(unittest.TestCase):

@@ -20,7 +20,7 @@ from bbmlab_core.explain.expected_lines import BorderCheck
 from bbmlab_core.explain.explaining import explain_answer
 from bbmlab_core.explain.fixing import Fixer
 from bbmlab_core.explain.trials import TrialBudget, TrialRunner
-from bbmlab_core.host.program import ask
+from bbmlab_core.host.program import ask_program
 from bbmlab_core.host.terminal import LabError
 from bbmlab_core.physics import tracing
 from bbmlab_core.physics.simulation import Fault, ModuleRun, WholeRun, key_of, least_assignment, layout_run
@@ -268,7 +268,7 @@ class Once(support.InRoom):
             self.assertEqual(reader.call_count, 1)
         with mock.patch("bbmlab_core.explain.expected_lines.BorderCheck.all_cell_edits", autospec=True,
                         side_effect=BorderCheck.all_cell_edits) as groups:
-            explain_answer(text, "check", ask(support.program(), "check", text.encode()).output, "text",
+            explain_answer(text, "check", ask_program(support.program(), "check", text.encode()).output, "text",
                            TrialRunner(support.program()))
         own = [call for call in groups.call_args_list if call.args[0].diagnosis.document.text == text]
         self.assertEqual(len(own), 1)
@@ -289,7 +289,7 @@ class Once(support.InRoom):
         """What `explain` did before the search does not count, so that a large text gets its search too; in the studio
         it counts."""
         text = support.text_of("wrong_edge")
-        output = ask(support.program(), "check", text.encode()).output
+        output = ask_program(support.program(), "check", text.encode()).output
         for is_of_search in (True, False):
             trial = TrialRunner(support.program(), TrialBudget(is_counted_from_search=is_of_search))
             trial.started -= 1000.0

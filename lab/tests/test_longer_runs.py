@@ -6,7 +6,7 @@ import itertools
 import unittest
 
 import support
-from bbmlab_core.host.program import ask
+from bbmlab_core.host.program import ask_program
 from bbmlab_core.physics.longer_runs import free_steps_before_and_after
 from bbmlab_core.texts.circuits import values_and_undefined_gate
 from bbmlab_core.texts.documents import read_document
@@ -58,7 +58,7 @@ def is_good(program: str, cell: StandardCell, before: int, after: int) -> bool:
     for bits in itertools.product((False, True), repeat=len(circuit.inputs)):
         on = {wire for wire, bit in zip(circuit.inputs, bits) if bit}
         assign = "\n".join(["assign", *(f"on {name}" for name in sorted(on)), "end", ""])
-        answer = ask(program, "run", (text + assign).encode())
+        answer = ask_program(program, "run", (text + assign).encode())
         live = {(int(x), int(y)) for x,
                 y in (line.split() for line in answer.output.splitlines()[1:])} if answer.status == 0 else set()
         values, _ = values_and_undefined_gate(circuit, on)

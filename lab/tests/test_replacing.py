@@ -10,7 +10,7 @@ from unittest import mock
 
 import support
 from bbmlab_core.commands import fmt
-from bbmlab_core.farm.answering import Result
+from bbmlab_core.farm.answering import CheckResult
 from bbmlab_core.farm.receipts import ReceiptFolder
 from bbmlab_core.host.releases import ProgramIdentity
 from bbmlab_core.host.terminal import LabError, write_bytes
@@ -165,9 +165,7 @@ class Meanwhile(support.InRoom):
                 mock.patch("os.replace", lambda *names: (done.append("rename"), replace(*names))):
             write_bytes(str(self.room / "receipt.json"), b"{}")
             self.assertEqual(done, ["fsync", "rename"])
-            ReceiptFolder(str(self.room / "receipts"),
-                          ProgramIdentity("0" * 64, None)).keep(b"x\n",
-                                                                Result("x.txt", "refused", "line 1, code 1", 0.0,
-                                                                       output="refused 1 1\n"), 0.0)
+            result = CheckResult("x.txt", "refused", "line 1, code 1", 0.0, output="refused 1 1\n")
+            ReceiptFolder(str(self.room / "receipts"), ProgramIdentity("0" * 64, None)).store_result(b"x\n", result, 0.0)
         self.assertEqual(done, ["fsync", "rename"] * 2)
         self.assertEqual([path.name for path in (self.room / "receipts").iterdir()][0][-10:], "x.txt.json")

@@ -16,7 +16,7 @@ from unittest import mock
 
 import support
 from bbmlab_core.cli import main
-from bbmlab_core.host.signals import Stopped
+from bbmlab_core.host.signals import StoppedBySignal
 from bbmlab_core.physics.simulation import WholeRun, key_of
 from bbmlab_core.route import certificate, search, world
 from bbmlab_core.route.attempt import Attempt
@@ -337,7 +337,7 @@ class Hostile(Routing):
             """Is interrupted after a route was found."""
             assert found
             pool.found[0] = found
-            raise Stopped(signal.SIGTERM)
+            raise StoppedBySignal(signal.SIGTERM)
 
         with mock.patch.object(search.AttemptPool, "start", stopped):
             outcome = search.Search(circuit, text, search.SearchOptions(jobs=2, is_compact=True), Settings(),

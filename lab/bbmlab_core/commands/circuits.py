@@ -14,7 +14,7 @@ from ..circuits.inverting import inverse, wire_values_of
 from ..circuits.line_forms import qasm_text, real_text
 from ..circuits.netlists import ReadingOptions
 from ..circuits.simplifying import simplify
-from ..host.terminal import LabError, read_text, tell, write_bytes, write_text
+from ..host.terminal import LabError, read_latin1_text, tell_user, write_bytes, write_utf8_text
 from ..route.command import read_circuit
 from ..texts.circuits import Circuit, evaluate_under_tables
 from ..texts.documents import read_document
@@ -34,11 +34,13 @@ def run_circuit(options: argparse.Namespace) -> int:
             lines, before = change(circuit), circuit
             text, circuit = section_text_with_limits(lines), reread_circuit(lines)
             if before.outputs:
-                tell(f"the new circuit was compared with the one before {require_agreement(change, before, circuit)}")
+                scope = require_agreement(change, before, circuit)
+                tell_user(f"the new circuit was compared with the one before {scope}")
     except LabError as error:
         raise LabError(f"{options.file}: {error}", error.status) from error
     if options.clean and any(name.endswith("_not") for name in circuit.outputs):
-        tell("each output that a gate makes also leaves as its complement, with `_not` at its end: no gate makes balls")
+        tell_user("each output that a gate makes also leaves as its complement, with `_not` at its end: no gate makes "
+                  "balls")
     write_bytes(options.output, (text if options.to is None else TEXT_WRITERS[options.to](circuit)).encode("latin-1"))
     return 0
 
@@ -82,7 +84,7 @@ def run_table(options: argparse.Namespace) -> int:
     out = io.StringIO()
     if options.csv:
         csv.writer(out, lineterminator="\n").writerows(rows)
-    write_text(options.output, out.getvalue() if options.csv else rows_text(circuit, [*rows]))
+    write_utf8_text(options.output, out.getvalue() if options.csv else rows_text(circuit, [*rows]))
     return 0
 
 
@@ -100,14 +102,14 @@ def rows_text(circuit: Circuit, rows: list[list[str]]) -> str:
 
 def run_stats(options: argparse.Namespace) -> int:
     """Prints the figures of a text, or of the circuit of a netlist."""
-    text = read_text(options.file)
+    text = read_latin1_text(options.file)
     document = read_document(text, "check")
     if document.circuit is None or document.layout is None or not document.layout.width:
         found = truth.circuit_figures(read_circuit(options.file, ReadingOptions.from_options(options), text)[1])
     else:
         found = truth.document_figures(document)
     longest = max(len(name) for name, _ in found)
-    write_text(options.output, "".join(f"{name.ljust(longest)} {value}\n" for name, value in found))
+    write_utf8_text(options.output, "".join(f"{name.ljust(longest)} {value}\n" for name, value in found))
     return 0
 
 

@@ -2,7 +2,7 @@
 
 import argparse
 
-from ..host.terminal import LabError, write_text
+from ..host.terminal import LabError, write_utf8_text
 from ..physics import tracing
 from ..pictures import drawing
 from ..pictures.picture_parts import PictureOptions, wanted_wires, with_others_grouped
@@ -78,5 +78,6 @@ def run(options: argparse.Namespace) -> int:
         raise LabError("--wires, --cone and --arrows need --ways")
     design = read_layout_file(options.file, has_certificate=bool(options.report))
     report = report_from_option(options, design[0])
-    write_text(options.output, picture_of(design, options.on, None if options.ways else options.time, report, look))
+    write_utf8_text(options.output, picture_of(design, options.on, None if options.ways else options.time, report,
+                                               look))
     return 0

@@ -8,8 +8,8 @@ from ..explain.explaining import ExplainedAnswer
 from ..explain.fixing import Fixer, outcome_words
 from ..explain.trials import TrialBudget, TrialRunner
 from ..farm.answering import why_bad_answer
-from ..host.program import Executable, BadProgramError, ask, find_and_open_program
-from ..host.terminal import LabError, coloured, read_text, tell, wrapped_paragraph, write_bytes
+from ..host.program import Executable, BadProgramError, ask_program, find_and_open_program
+from ..host.terminal import LabError, coloured, read_latin1_text, tell_user, wrapped_paragraph, write_bytes
 from ..texts.cell_pictures import LEGEND
 from ..texts.documents import command_for_text, read_document
 
@@ -18,7 +18,7 @@ def run(options: argparse.Namespace) -> int:
     """Explains the answer of the program, or of the lab's reader where there is no program."""
     if not options.fix and (options.output or options.in_place):
         raise LabError("-o and -i need --fix", 2)
-    text = read_text(options.file)
+    text = read_latin1_text(options.file)
     form = guessed_netlist_format(text)
     # The program refuses plain gates behind the line `circuit`, and the explanation names what makes a circuit of them.
     if form is not None and not (form is NetlistFormat.GATES and command_for_text(text) == "circuit"):
@@ -32,7 +32,7 @@ def run(options: argparse.Namespace) -> int:
         return find_and_write_fix(text, command, program, options)
     by_lab = False
     if options.report:
-        output = read_text(options.report)
+        output = read_latin1_text(options.report)
     elif program:
         output = program_output(program, command, text, options)
     else:
@@ -58,7 +58,7 @@ def program_of(options: argparse.Namespace) -> Executable | None:
 
 def program_output(program: Executable, command: str, text: str, options: argparse.Namespace) -> str:
     """Returns what a command of the program writes."""
-    answer = ask(program, command, text.encode("latin-1"), options.timeout)
+    answer = ask_program(program, command, text.encode("latin-1"), options.timeout)
     if answer.status >= 4:
         raise LabError(f"the program answered: {answer.errors}")
     why = why_bad_answer(answer) if command == "check" else None
@@ -81,12 +81,12 @@ def find_and_write_fix(text: str, command: str, program: Executable | None, opti
     fix = None if report.verdict == "yes" else fixer.find_fix()
     if fix is None and report.verdict != "yes":
         for line in explaining.tried_in_vain_words(fixer, trial):
-            tell(line)
+            tell_user(line)
         return 1
     words = [*fix.words,
              outcome_words(report, fix)] if fix else [f"{trial.judge_words} says yes already: there is nothing to fix."]
     for line in words:
-        tell(line)
+        tell_user(line)
     data = (fix.text if fix else text).encode("latin-1")
     if options.in_place:
         if fix:

@@ -3,7 +3,7 @@
 import argparse
 import sys
 
-from ..host.terminal import LabError, escape_controls, read_bytes, tell, write_bytes
+from ..host.terminal import LabError, escape_controls, read_bytes, tell_user, write_bytes
 from ..texts.documents import read_document
 from ..texts.spelling import SpelledText, spell_text
 
@@ -48,11 +48,11 @@ def write_in_place(file: str, spelling: SpelledText, before: bytes, after: bytes
 def tell_changes(file: str, spelling: SpelledText) -> None:
     """Says on standard error what was changed, and whether the text is still refused."""
     for note in spelling.notes[:MAX_SHOWN_NOTES]:
-        tell(f"{file}: {note}")
+        tell_user(f"{file}: {note}")
     if len(spelling.notes) > MAX_SHOWN_NOTES:
-        tell(f"{file}: and {len(spelling.notes) - MAX_SHOWN_NOTES} more changes")
+        tell_user(f"{file}: and {len(spelling.notes) - MAX_SHOWN_NOTES} more changes")
     if len(spelling.text) > 2_000_000:
         return
     refusal = read_document(spelling.text).refusal
     if refusal:
-        tell(f"{file}: line {refusal.line} is still refused, with code {refusal.code}: bbmlab explain says why")
+        tell_user(f"{file}: line {refusal.line} is still refused, with code {refusal.code}: bbmlab explain says why")

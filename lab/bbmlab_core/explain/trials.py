@@ -6,7 +6,7 @@ from dataclasses import dataclass
 
 from ..farm.answering import PROGRAM_STATUS_OF
 from ..host.processor import processor_seconds
-from ..host.program import Executable, BadProgramError, ProgramTimeout, ask, open_program
+from ..host.program import Executable, BadProgramError, ProgramTimeout, ask_program, open_program
 from ..physics.own_report import lab_report
 from ..texts.documents import read_document
 from ..texts.reports import ReportLine, ReportOrRefusal, ReportError, parse_report
@@ -74,8 +74,8 @@ class TrialRunner:
             return self.own_report(text)
         try:
             # A second at least: a text that was made is worth an answer.
-            answer = ask(self.program, "check", text.encode("latin-1"),
-                         min(MAX_RUN_SECONDS, max(1.0, self.seconds_left())))
+            answer = ask_program(self.program, "check", text.encode("latin-1"),
+                                 min(MAX_RUN_SECONDS, max(1.0, self.seconds_left())))
             report = parse_report(answer.output)
             return report if answer.status == PROGRAM_STATUS_OF["refused" if report.refused
                                                                 else report.verdict] else None

@@ -8,8 +8,8 @@ import time
 from dataclasses import dataclass
 from typing import Collection
 
-from ..host.program import Executable, ask, find_and_open_program
-from ..host.terminal import LabError, coloured, escape_controls, read_bytes, require_output, write_text
+from ..host.program import Executable, ask_program, find_and_open_program
+from ..host.terminal import LabError, coloured, escape_controls, read_bytes, require_writable_output, write_utf8_text
 from ..route.balls import Ball
 from ..route.board import NoRouteError
 from ..route.command import ProgressLine, require_legal_side, verdict_line
@@ -84,7 +84,7 @@ def read_parts(files: dict[str, str], connected: Collection[str], program: Execu
         if data not in known:
             if len(data) > SECOND_LIMITS.max_bytes:
                 raise LabError(f"{file}: the text is longer than {SECOND_LIMITS.max_bytes} bytes", 1)
-            answer = ask(program, "check", data, timeout)
+            answer = ask_program(program, "check", data, timeout)
             if answer.status == 1:
                 raise LabError(f"{file}: the program says no to it: `join` takes bundles with a yes", 1)
             if answer.status != 0:
@@ -245,7 +245,7 @@ def join_command(options: argparse.Namespace) -> int:
     """Runs `bbmlab join`."""
     require_legal_side(options.size)
     files = part_files(options.files)
-    require_output(options.output, list(files.values()))
+    require_writable_output(options.output, list(files.values()))
     connections = [parse_connection(word) for word in options.connect]
     program, begun = find_and_open_program(options.program), time.monotonic()
     line = ProgressLine(options.effort, "balls led", "writing the bundle")
@@ -262,8 +262,8 @@ def join_command(options: argparse.Namespace) -> int:
         tried = f"{counted_noun(attempts, 'attempt')} and {options.effort:g} seconds"
         print(f"bbmlab: no join in {tried}: {escape_controls(why)}", file=sys.stderr)
         return 1
-    answer = ask(program, "check", routed.text.encode("latin-1"), options.timeout)
-    write_text(options.output, routed.text)
+    answer = ask_program(program, "check", routed.text.encode("latin-1"), options.timeout)
+    write_utf8_text(options.output, routed.text)
     spent = time.monotonic() - begun
     print(f"parts {len(made.parts)}, connections {len(connections)}, size {routed.width} by {routed.height}, "
           f"steps {routed.steps}, gates placed {routed.gates}, mirror cells {routed.mirror_cell_count}, "

@@ -15,7 +15,7 @@ from multiprocessing.connection import Connection, wait
 from multiprocessing.process import BaseProcess
 from typing import Callable, Iterator
 
-from ..host.signals import Stopped
+from ..host.signals import StoppedBySignal
 from ..texts.circuits import Circuit
 from ..texts.limits import SECOND_LIMITS, smallest_fitting_limits, text_with_limits_line
 from .attempt import Attempt, OutOfTimeError
@@ -264,8 +264,8 @@ class Search:
                 found = self.find_attempt(plans, found + 1)
         except KeyboardInterrupt as interrupt:
             self.outcome.is_interrupted = True
-            self.outcome.interrupt_status = interrupt.status if isinstance(interrupt,
-                                                                           Stopped) else self.outcome.interrupt_status
+            if isinstance(interrupt, StoppedBySignal):
+                self.outcome.interrupt_status = interrupt.status
         return self.outcome
 
     def find_attempt(self, plans: Iterator[AttemptPlan], first: int) -> int | None:

@@ -6,7 +6,7 @@ from pathlib import Path
 from typing import Any, Callable
 
 from ..host.program import PACKAGE_FOLDER, BadProgramError
-from ..host.releases import identity_of
+from ..host.releases import program_identity
 from ..host.terminal import LabError
 from ..physics import standard_cells
 from ..texts import json_form
@@ -86,7 +86,7 @@ class Answers:
         try:
             if self.jobs is None:
                 raise BadProgramError("it was not found")
-            asked = identity_of(self.jobs.program)
+            asked = program_identity(self.jobs.program)
             program = {"path": self.jobs.program.path, "version": asked.version, "sha256": asked.sha256,
                        "is_release": asked.kit is not None}
         except BadProgramError as error:

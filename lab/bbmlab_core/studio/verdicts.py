@@ -12,7 +12,7 @@ from ..explain.explaining import explain_report, tried_in_vain_words
 from ..explain.fixing import Fix, Fixer, outcome_words
 from ..explain.trials import TrialBudget, TrialRunner
 from ..host.processor import processor_seconds
-from ..host.program import Answer, Executable, BadProgramError, ProgramTimeout, ask
+from ..host.program import ProgramAnswer, Executable, BadProgramError, ProgramTimeout, ask_program
 from ..host.terminal import LabError
 from ..texts.certificates import MAX_BOX_SIDE, MAX_CUTS, MAX_USES, Certificate, whole_module
 from ..texts.circuits import Circuit, values_and_undefined_gate
@@ -67,9 +67,9 @@ class Judge:
         self.until = processor_seconds() + seconds
         self.inputs: Sequence[str] = ()
 
-    def ask(self, bundle: str) -> Answer:
+    def ask(self, bundle: str) -> ProgramAnswer:
         """Returns what the program answers to a bundle."""
-        return ask(self.program, "check", bundle.encode("latin-1"), self.seconds)
+        return ask_program(self.program, "check", bundle.encode("latin-1"), self.seconds)
 
     def verdict(self, stage: str = "") -> Verdict:
         """Returns the verdict: of the stage `first` that by the certificates which need no search, of `made` that by
@@ -125,7 +125,7 @@ class Judge:
         for words, on in choices:
             lines = [self.head[self.head.find("\nlayout ") + 1:].rstrip("\n"), "assign", *(f"on {name}" for name in on),
                      "end", ""]
-            answer = ask(self.program, "run", "\n".join(lines).encode("latin-1"), self.seconds)
+            answer = ask_program(self.program, "run", "\n".join(lines).encode("latin-1"), self.seconds)
             if answer.status != 0 or not answer.output.startswith("cells "):
                 return None
             live = {(int(x), int(y)) for x, y in (line.split(" ") for line in answer.output.split("\n")[1:-1])}

@@ -20,7 +20,7 @@ from typing import Any
 from ..explain import explaining
 from ..host import program
 from ..host.program import Executable
-from ..host.signals import keep_interrupting
+from ..host.signals import start_interrupt_timer
 from ..host.terminal import LabError
 from ..physics import tracing
 from ..pictures import drawing, golly
@@ -74,7 +74,7 @@ def export(job: dict[str, Any], asked: Executable, seconds: float) -> dict[str, 
         return {"text": golly.golly_text(document.layout, start, on, tracing.layout_section_lines(document))}
     explanation = None
     if document.certificate:
-        answer = program.ask(asked, "check", document.text.encode("latin-1"), seconds)
+        answer = program.ask_program(asked, "check", document.text.encode("latin-1"), seconds)
         explanation = explaining.explain_answer(document.text, "check", answer.output, name, None, document)
     return {"text": viewing.page_text(document, explanation, name)}
 
@@ -129,7 +129,7 @@ def main() -> int:
     signal.signal(signal.SIGTERM, kill_program_and_exit)
     signal.signal(signal.SIGHUP, kill_program_and_exit)
     signal.signal(signal.SIGINT, signal.SIG_IGN)
-    keep_interrupting()
+    start_interrupt_timer()
     answers, sys.stdout = sys.stdout, sys.stderr
     jobs: "queue.SimpleQueue[str]" = queue.SimpleQueue()
     threading.Thread(target=read_jobs, args=(jobs,), daemon=True).start()

@@ -2,7 +2,7 @@
 
 import argparse
 
-from ..host.terminal import LabError, read_text
+from ..host.terminal import LabError, read_latin1_text
 from .documents import Document, read_document
 from .layouts import Layout
 from .refusals import refusal_words
@@ -39,7 +39,7 @@ def read_layout_file(name: str, has_certificate: bool = True) -> tuple[Document,
 
     The certificate of a long text is not read if it is not needed.
     """
-    text = read_text(name)
+    text = read_latin1_text(name)
     place = certificate_start(text)
     if 0 < place < len(text) and not has_certificate and len(text) > LONG_TEXT_CHARACTERS:
         document = read_freely_written_text(name, text[:place], "design")
@@ -104,7 +104,7 @@ def report_from_option(options: argparse.Namespace, document: Document) -> Repor
     """
     if not options.report:
         return None
-    report = parse_report(read_text(options.report))
+    report = parse_report(read_latin1_text(options.report))
     if not report.refused:
         require_report_of_document(document, report)
     return report

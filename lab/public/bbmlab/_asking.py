@@ -92,10 +92,10 @@ def opened_program(program: str | None) -> programs.Executable:
         raise ProgramError(str(error)) from error
 
 
-def answer_of(program: programs.Executable, command: str, text: str, timeout: float | None) -> programs.Answer:
+def answer_of(program: programs.Executable, command: str, text: str, timeout: float | None) -> programs.ProgramAnswer:
     """Returns what the program answers. Raises ProgramError and TimeoutError if it gives no answer."""
     try:
-        answer = programs.ask(program, command, text.encode("latin-1"), timeout)
+        answer = programs.ask_program(program, command, text.encode("latin-1"), timeout)
     except programs.ProgramTimeout as error:
         raise TimeoutError(str(error)) from error
     except programs.BadProgramError as error:
