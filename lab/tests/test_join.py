@@ -22,9 +22,9 @@ from bbmlab_core.joining import command, lone_ways, modules, planning, wiring
 from bbmlab_core.joining.composing import Composition, Connection, NamedPart, compose, feeding_order
 from bbmlab_core.joining.lone_ways import whole_balls_of
 from bbmlab_core.joining.parts import read_part
-from bbmlab_core.joining.places import LEAST_GAP, Extent, all_places
+from bbmlab_core.joining.places import LEAST_GAP, Extent, place_arrangements
 from bbmlab_core.joining.slack import LoneWayCuts, WayCut
-from bbmlab_core.joining.turning import ORIENTATIONS, UPRIGHT, Placing
+from bbmlab_core.joining.turning import ORIENTATIONS, UNTURNED, PartTransform
 from bbmlab_core.physics.simulation import layout_run
 from bbmlab_core.route import coil_ways, coils
 from bbmlab_core.route.attempt import Attempt
@@ -171,7 +171,7 @@ class Joining(unittest.TestCase):
             self.assertTrue(way.inner_ball.is_legal)
             self.assertFalse(way.mirrors - made.parts[0].bundle.layout.mirror_cells())
         parts = {part.name: part.bundle for part in made.parts}
-        with mock.patch.object(planning, "fitting_orientations", lambda placed: [UPRIGHT]):
+        with mock.patch.object(planning, "fitting_orientations", lambda placed: [UNTURNED]):
             whole = planning.make_plan(compose(parts, made.connections, set(ways)), 512, [0])
             plan = planning.make_plan(made, 512, [0])
         assert plan and whole
@@ -235,22 +235,22 @@ class Joining(unittest.TestCase):
 
     def test_paths_that_ignore_a_part(self) -> None:
         """Paths through the parts get a no if the world has only their mirrors."""
-        def add_mirrors(own: wiring.JoinWorld, placed: planning.PlacedPart) -> None:
+        def add_mirrors(own: wiring.JoinRoutingGrid, placed: planning.PlacedPart) -> None:
             own.add(Footprint(frozenset(map(placed.placing.cell_number_map(), placed.part.footprint.mirrors))))
 
-        change = mock.patch.object(wiring.JoinWorld, "add_part", add_mirrors)
+        change = mock.patch.object(wiring.JoinRoutingGrid, "add_part", add_mirrors)
         # Balls wander through the parts, which cost nothing.
         with mock.patch.multiple(wiring, INSIDE_STEP_COST=0, INWARD_STEP_COST=0, LEAST_COIL_STEPS=10 ** 6):
             self.assertIn("verdict no", self.verdict_with(change))
 
     def test_a_lost_wire(self) -> None:
         """If no module is told of the wires of paths, the text is refused."""
-        change = mock.patch.object(modules.JoinedModules, "count_wire", lambda *words: None)
+        change = mock.patch.object(modules.JoinedModules, "change_wire_count", lambda *words: None)
         self.assertIn("refused", self.verdict_with(change))
 
     def test_lines_of_a_lone_way(self) -> None:
         """A part that keeps the lines of a ball that comes another way gets no yes."""
-        change = mock.patch.object(NamedPart, "left_out_line_numbers", set[object]())
+        change = mock.patch.object(NamedPart, "left_out_cell_times", set[object]())
         self.assertRegex(self.verdict_with(change), "verdict no|^refused")
 
     # --- time and room between parts ----------------------------------------------------------------------------------
@@ -259,7 +259,7 @@ class Joining(unittest.TestCase):
         """Parts have gaps between them and around them, in eight ways for each number of rows, and each is beside the
         next one."""
         areas = [Extent(160 + 16 * (index % 3), 160) for index in range(7)]
-        found = list(all_places(areas, 800))
+        found = list(place_arrangements(areas, 800))
         self.assertEqual(len({tuple(places) for places in found}), 8 * ROW_COUNTS)
         for places in found:
             boxes = [(x, y, x + own.width, y + own.height) for (x, y), own in zip(places, areas)]
@@ -271,7 +271,7 @@ class Joining(unittest.TestCase):
                                     or y >= bottom + LEAST_GAP)
             for (x, y), (across, down) in zip(places, places[1:]):
                 self.assertLess(max(abs(x - across), abs(y - down)), 160 + 32 + 8 * LEAST_GAP)
-        self.assertEqual(list(all_places(areas, 600)), [])
+        self.assertEqual(list(place_arrangements(areas, 600)), [])
 
     def test_order_of_parts(self) -> None:
         """A part comes next to those that feed it: before other parts that nothing feeds."""
@@ -287,15 +287,15 @@ class Joining(unittest.TestCase):
         made = self.made("abcde", words, "sum carry a b")
         ends = []
         for spare, own in enumerate(planning.SPARES):
-            with mock.patch.object(planning, "SHALLOW_CELLS", 30):
+            with mock.patch.object(planning, "SHALLOW_DEPTH_CELLS", 30):
                 plan = planning.make_plan(made, 800, [spare] * len(words))
             assert plan
-            between, world = [job for job in plan.jobs if job.start and job.goal], wiring.JoinWorld(plan)
+            between, world = [job for job in plan.jobs if job.start and job.goal], wiring.JoinRoutingGrid(plan)
             self.assertEqual(len(between), len(words))
             deep = []
             for job in between:
                 assert job.start and job.goal
-                deep.append(max(0, world.depth(job.goal.x, job.goal.y) - 30))
+                deep.append(max(0, world.depth_in_part(job.goal.x, job.goal.y) - 30))
                 self.assertGreaterEqual(job.steps, own.steps_between(job.start, job.goal) + deep[-1], job)
             self.assertTrue(any(deep))
             ends.append(plan.end)
@@ -306,12 +306,12 @@ class Joining(unittest.TestCase):
         search = command.JoinSearch(self.made(), command.JoinOptions(1, None, 60), ProgressLine(60))
         _, _, own = search.prepare_attempt()
         ball = Ball(512, 512, 1, 1, 4000)
-        for depth in (0, planning.SHALLOW_CELLS, planning.SHALLOW_CELLS + 500):
-            with mock.patch.object(own.world, "depth", lambda *words, own=depth: own), mock.patch.object(
+        for depth in (0, planning.SHALLOW_DEPTH_CELLS, planning.SHALLOW_DEPTH_CELLS + 500):
+            with mock.patch.object(own.world, "depth_in_part", lambda *words, own=depth: own), mock.patch.object(
                     own.finder, "wander", return_value=False) as wander:
                 self.assertIsNone(own.find_connecting_path("w", ball.at(0), ball))
             steps, deep = [ball.time + call.args[1]
-                           for call in wander.call_args_list], max(0, depth - planning.SHALLOW_CELLS)
+                           for call in wander.call_args_list], max(0, depth - planning.SHALLOW_DEPTH_CELLS)
             self.assertEqual(len(steps), wiring.CONNECT_TRIES)
             self.assertGreaterEqual(min(steps), wiring.STEPS_BACK_RANGE[0] + deep)
             self.assertLessEqual(max(steps), wiring.STEPS_BACK_RANGE[1] + 2 * deep)
@@ -323,10 +323,10 @@ class Joining(unittest.TestCase):
         _, _, own = search.prepare_attempt()
         ball, least = Ball(400, 400, 1, 1, 1000), 100 + planning.SPARES[-1].steps
         for depth, steps, tried, order in ((0, least, 0, "RO"), (0, least - 1, 0, "R"), (0, least, 1, "R"),
-                                           (planning.SHALLOW_CELLS + 1, least - 1, 0, "OR"),
-                                           (planning.SHALLOW_CELLS + 1, least, 1, "R")):
+                                           (planning.SHALLOW_DEPTH_CELLS + 1, least - 1, 0, "OR"),
+                                           (planning.SHALLOW_DEPTH_CELLS + 1, least, 1, "R")):
             goal, found = Ball(500, 500, 1, 1, 1000 + steps), list[str]()
-            with mock.patch.object(own.world, "depth", lambda *words, own=depth: own), mock.patch.object(
+            with mock.patch.object(own.world, "depth_in_part", lambda *words, own=depth: own), mock.patch.object(
                     own, "find_connecting_path", lambda *words, found=found: found.append("R")), mock.patch.object(
                     own, "find_path_outside", lambda *words, found=found: found.append("O")):
                 self.assertIsNone(own.find_path(planning.BallJob("w", ball, goal, goal.time), tried))
@@ -340,22 +340,22 @@ class Joining(unittest.TestCase):
         assert job.start and job.goal
         counts = dict(zip(wiring.GOAL_STEP_COSTS, (1, 9, 2)))
         with mock.patch.object(coil_ways.OpenSearch, "ways", lambda self: iter(range(counts[self.goal_cells]))):
-            found = list(own.ways_from_open(job.start, job.goal, lambda _: True))
+            found = list(own.ways_from_open_ground(job.start, job.goal, lambda _: True))
         first, second, third = wiring.GOAL_STEP_COSTS
         self.assertEqual(found, [(first, 0), (second, 0), (third, 0), (second, 1), (third, 1),
-                                 *((second, number) for number in range(2, wiring.OPEN_WAYS))])
+                                 *((second, number) for number in range(2, wiring.OPEN_GROUND_WAYS))])
 
     def test_more_time_for_one_ball(self) -> None:
         """A ball between two parts that cannot be led in its time gets more, and no other one does."""
         search = command.JoinSearch(self.made(), command.JoinOptions(1, None, 60), ProgressLine(60))
         _, _, own = search.prepare_attempt()
-        with mock.patch.object(wiring.JoinWiring, "lead", lambda *words: False):
-            with self.assertRaises(wiring.TightError) as caught:
+        with mock.patch.object(wiring.JoinWiring, "lead_ball", lambda *words: False):
+            with self.assertRaises(wiring.TooFewStepsError) as caught:
                 own.run(lambda *words: None, [0])
         self.assertEqual(caught.exception.connections, [0])
         search.spares = [0, 2]
         results = [caught.exception, mock.sentinel.bundle]
-        with mock.patch.object(command.JoinSearch, "attempt", side_effect=results):
+        with mock.patch.object(command.JoinSearch, "make_join_attempt", side_effect=results):
             self.assertEqual(search.run(), (mock.sentinel.bundle, ""))
         self.assertEqual(search.spares, [1, 2])
 
@@ -386,7 +386,7 @@ class Joining(unittest.TestCase):
     def test_balls_wait_in_coils(self) -> None:
         """A ball that waits long goes to a coil, or comes from one, and is there at its time."""
         plan = planning.JoinPlan(1024, 4000, [], [], 1024, 1024)
-        own = wiring.JoinWiring(plan, mock.Mock(), 1, command.SETTINGS, float("inf"))
+        own = wiring.JoinWiring(plan, mock.Mock(), 1, command.JOIN_SETTINGS, float("inf"))
         # The balls are where a part would be.
         own.ground = coil_ways.CoilGround(own.world, [Box(400, 450, 220, 100)])
         for number in range(8):
@@ -411,7 +411,7 @@ class Joining(unittest.TestCase):
         world, chance = World(512), random.Random(1)
         for _ in range(300):
             world.add(Footprint(frozenset([cell_number((chance.randrange(180, 330), chance.randrange(180, 330)))])))
-        finder = PathFinder(world, chance, command.SETTINGS)
+        finder = PathFinder(world, chance, command.JOIN_SETTINGS)
         for dx, dy, is_backward in itertools.product((1, -1), (1, -1), (False, True)):
             ball = Ball(256 + (dx < 0), 256 + (dy < 0), dx, dy, 1000)
             search = coil_ways.CoilSearch(finder, coil_ways.CoilGround(world, []), ball, 3000 * (not is_backward),
@@ -435,7 +435,7 @@ class Joining(unittest.TestCase):
         world, chance, part = World(512), random.Random(1), Box(176, 176, 160, 160)
         for _ in range(60):
             world.add(Footprint(frozenset([cell_number((chance.randrange(180, 330), chance.randrange(180, 330)))])))
-        finder, ground = PathFinder(world, chance, command.SETTINGS), coil_ways.CoilGround(world, [part])
+        finder, ground = PathFinder(world, chance, command.JOIN_SETTINGS), coil_ways.CoilGround(world, [part])
         for dx, dy, is_backward in itertools.product((1, -1), (1, -1), (False, True)):
             inner = Ball(256 + (dx < 0), 256 + (dy < 0), dx, dy, 2000)
             other = Ball(60, 60, 1, 1, 1000 if is_backward else 3000)
@@ -475,7 +475,7 @@ class Joining(unittest.TestCase):
         """The numbers of the cells and of the blocks of a turned part are those of its turned cells."""
         chance = random.Random(1)
         for turning in ORIENTATIONS:
-            placing = Placing(160, 96, 320, 640, 40, turning)
+            placing = PartTransform(160, 96, 320, 640, 40, turning)
             cells, blocks = placing.cell_number_map(), placing.block_number_map()
             for _ in range(20):
                 x, y, time = chance.randrange(0, 158), chance.randrange(0, 94), chance.randrange(100)
@@ -486,7 +486,7 @@ class Joining(unittest.TestCase):
                                  (time + 40, placing.placed_box(Box(x, y, 2, 2))[:2]))
                 flight = range(number, number + 5 * (STEP_STRIDE + ROW_STRIDE + 1), STEP_STRIDE + ROW_STRIDE + 1)
                 for part in (flight, list(flight), flight[:1]):
-                    self.assertEqual(list(blocks.map_item_part(part)), [blocks(each) for each in part])
+                    self.assertEqual(list(blocks.map_footprint_part(part)), [blocks(each) for each in part])
                 dx, dy = chance.choice((-1, 1)), chance.choice((-1, 1))
                 ball = Ball(2 * (x // 2) + (dx < 0), 2 * (y // 2) + (dy < 0), dx, dy, 2 * time)
                 there = placing.placed_ball(ball)
@@ -529,7 +529,7 @@ class Joining(unittest.TestCase):
         made = self.made()
         plan = planning.make_plan(made, planning.estimated_side(made, [3]), [3])
         assert plan
-        own = wiring.JoinWiring(plan, modules.JoinedModules(made, plan), 1, command.SETTINGS, float("inf"))
+        own = wiring.JoinWiring(plan, modules.JoinedModules(made, plan), 1, command.JOIN_SETTINGS, float("inf"))
         for job in plan.jobs:
             self.assertIsNotNone(next((path for path in (own.find_path(job) for _ in range(4)) if path), None), job)
 

@@ -14,7 +14,7 @@ from unittest import mock
 
 import support
 from bbmlab_core.certify.certifier import (CertificateMaker, ImpossibleModuleError, CertificateOptions, certified_text,
-                                           legal_grid_boxes)
+                                           checked_grid_boxes)
 from bbmlab_core.host.terminal import LabError
 from bbmlab_core.physics.simulation import layout_run
 from bbmlab_core.pictures import golly
@@ -144,7 +144,7 @@ def by_grid(name: str, grid: tuple[int, int], plan: CertificateOptions) -> str:
     """Returns an example with a certificate whose boxes are those of a grid."""
     document = design(name)
     assert document.layout is not None
-    return certified_text(document, legal_grid_boxes(document.layout, *grid), plan)
+    return certified_text(document, checked_grid_boxes(document.layout, *grid), plan)
 
 
 class Spelling(unittest.TestCase):

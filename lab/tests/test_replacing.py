@@ -166,6 +166,7 @@ class Meanwhile(support.InRoom):
             write_bytes(str(self.room / "receipt.json"), b"{}")
             self.assertEqual(done, ["fsync", "rename"])
             result = CheckResult("x.txt", "refused", "line 1, code 1", 0.0, output="refused 1 1\n")
-            ReceiptFolder(str(self.room / "receipts"), ProgramIdentity("0" * 64, None)).store_result(b"x\n", result, 0.0)
+            receipts = ReceiptFolder(str(self.room / "receipts"), ProgramIdentity("0" * 64, None))
+            receipts.store_result(b"x\n", result, 0.0)
         self.assertEqual(done, ["fsync", "rename"] * 2)
         self.assertEqual([path.name for path in (self.room / "receipts").iterdir()][0][-10:], "x.txt.json")

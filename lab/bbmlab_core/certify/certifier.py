@@ -23,7 +23,7 @@ from .observing import Observer, ring_and_halo_keys
 
 # How many steps back from the wires of a box to the gates that make them are tried, before all gates back to the
 # inputs.
-MAX_GATES_BACK = 4
+MAX_GATE_LEVELS_BACK = 4
 
 
 class ImpossibleModuleError(Exception):
@@ -210,7 +210,7 @@ class CertificateMaker:
         if self.plan.cut_kind != "safe":
             seen: set[tuple[str, ...]] = set()
             incoming = self.incoming_wires(box, needed, inside, halo)
-            for depth in range(MAX_GATES_BACK + 1):
+            for depth in range(MAX_GATE_LEVELS_BACK + 1):
                 for wiring in self.incoming_cuts_and_uses(needed, incoming):
                     if tuple(wiring.cuts) not in seen:
                         seen.add(tuple(wiring.cuts))
@@ -359,7 +359,7 @@ def make_certified_text(document: Document, boxes: list[Box] | None, plan: Certi
     return text_with_limits_line(f"{head[0]}\nend\n{head[1]}\nend\n{certificate}", limits)
 
 
-def legal_grid_boxes(layout: Layout, width: int, height: int) -> list[Box]:
+def checked_grid_boxes(layout: Layout, width: int, height: int) -> list[Box]:
     """Returns the boxes of a grid whose sides are allowed."""
     if any(side % 2 or not 2 <= side <= MAX_BOX_SIDE for side in (width, height)):
         raise LabError(f"a box of {width} by {height} cells: its sides are even numbers from 2 to {MAX_BOX_SIDE}", 2)

@@ -43,7 +43,7 @@ class Observer:
         # Whether the cells are remembered at each time, for stops.
         self.remembers = remembers or any(gate.kind == "delay" for gate in circuit.gates)
         self.values = evaluate_all_or_samples(circuit, MAX_EXHAUSTIVE_INPUTS, SAMPLE_COUNT)
-        self.require_rows()
+        self.require_row_at_all_inputs()
         self.signals: dict[TruthTable, str] = {}
         for name, table in self.values.tables.items():
             self.signals.setdefault(table, name)
@@ -64,7 +64,7 @@ class Observer:
                 f"{self.values.tried_choices_words}, as `{hidden[0]}` has those of "
                 f"`{first}`, and the lab gives cells the earlier name, so a box may lack the wires that its gate takes")
 
-    def require_rows(self) -> None:
+    def require_row_at_all_inputs(self) -> None:
         """Raises LabError if some gate has no row under a choice of the inputs."""
         for number, table in self.values.defined_columns_by_gate.items():
             if table != self.values.full:
@@ -98,10 +98,10 @@ class Observer:
                 raise LabError(f"step {run.time} leaves the rectangle with {names_words(on) or 'none of the inputs'} on"
                                ": no certificate gets a yes", 1)
             for key in run.field.changed:
-                self.note_change(observed, moving, key, run.field.live.get(key, 0), run.time)
+                self.note_cell_change(observed, moving, key, run.field.live.get(key, 0), run.time)
 
-    def note_change(self, observed: ObservedCells, moving: dict[int, TruthTable], key: int, table: TruthTable,
-                    time: int) -> None:
+    def note_cell_change(self, observed: ObservedCells, moving: dict[int, TruthTable], key: int, table: TruthTable,
+                         time: int) -> None:
         """Notes a cell that changed in the last step. One that was live always gets its times before."""
         if key in observed.always_live:
             observed.always_live.discard(key)
@@ -162,15 +162,15 @@ class Observer:
 
 def ring_and_halo_keys(layout: Layout, box: Box) -> tuple[list[int], list[int]]:
     """Returns the cells of a box's ring, and those of its halo that lie in the rectangle, as numbers."""
-    def around(left: int, top: int, right: int, bottom: int) -> set[Cell]:
+    def outermost_cells(left: int, top: int, right: int, bottom: int) -> set[Cell]:
         """Returns the outermost cells of a rectangle that lie in the layout."""
         cells = {(x, y) for x in range(left, right + 1) for y in (top, bottom)} | {(x, y)
                                                                                    for y in range(top, bottom + 1)
                                                                                    for x in (left, right)}
         return {cell for cell in cells if layout.has(cell)}
 
-    ring = around(box.x, box.y, box.x + box.width - 1, box.y + box.height - 1)
-    halo = around(box.x - 1, box.y - 1, box.x + box.width, box.y + box.height)
+    ring = outermost_cells(box.x, box.y, box.x + box.width - 1, box.y + box.height - 1)
+    halo = outermost_cells(box.x - 1, box.y - 1, box.x + box.width, box.y + box.height)
     return [key_of(cell) for cell in sorted(ring, key=row_order_key)], [key_of(cell)
                                                                         for cell in sorted(halo, key=row_order_key)]
 

@@ -2,7 +2,7 @@
 
 import argparse
 
-from ..certify.certifier import CertificateOptions, certified_text, legal_grid_boxes
+from ..certify.certifier import CertificateOptions, certified_text, checked_grid_boxes
 from ..host.program import BadProgramError, ProgramTimeout, ask_program, find_and_open_program
 from ..host.terminal import LabError, read_latin1_text, tell_user, write_utf8_text
 from ..texts.certificates import MAX_BOX_SIDE
@@ -54,9 +54,9 @@ def chosen_boxes(options: argparse.Namespace, layout: Layout) -> list[Box] | Non
             raise LabError(
                 f"--plain takes a layout of at most {MAX_BOX_SIDE} by {MAX_BOX_SIDE} cells, and this one has "
                            f"{layout.width} by {layout.height}", 2)
-        return legal_grid_boxes(layout, layout.width, layout.height)
+        return checked_grid_boxes(layout, layout.width, layout.height)
     if options.grid:
-        return legal_grid_boxes(layout, *options.grid)
+        return checked_grid_boxes(layout, *options.grid)
     return boxes_of_file(options.boxes, layout) if options.boxes else None
 
 

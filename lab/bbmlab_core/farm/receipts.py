@@ -210,8 +210,8 @@ class ReceiptFolder:
         earlier = self.stored_receipt(result.file)
         if (earlier and (earlier.text_sha256, earlier.program.sha256) == (receipt.text_sha256, receipt.program.sha256)
             and earlier.report != receipt.report):
-            raise ContradictionError(f"two answers to {result.file} by one program: {earlier.report!r} (in its receipt) "
-                                     f"and {receipt.report!r}")
+            raise ContradictionError(f"two answers to {result.file} by one program: {earlier.report!r} (in its "
+                                     f"receipt) and {receipt.report!r}")
         name = self.receipt_path(result.file)
         try:
             os.makedirs(self.folder, exist_ok=True)

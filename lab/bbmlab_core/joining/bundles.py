@@ -62,7 +62,7 @@ class JoinedLayout:
         """Yields the lines of the layout section."""
         plan, circuit = self.plan, self.composed.circuit
         yield f"layout {plan.width} {plan.height} {plan.end}"
-        for x, y, width, height in rectangles(self.mirror_rows):
+        for x, y, width, height in rectangles_of_rows(self.mirror_rows):
             yield f"mirror {x} {y} {width} {height}"
         for x, y in sorted(self.starts.get(ALWAYS_SIGNAL, []), key=row_order_key):
             yield f"ball {x} {y}"
@@ -101,7 +101,7 @@ class JoinedLayout:
                     yield cell, wire
 
 
-def rectangles(rows: list[int]) -> Iterator[Box]:
+def rectangles_of_rows(rows: list[int]) -> Iterator[Box]:
     """Yields rectangles that do not overlap and together have the cells of rows of bits, by y and then x."""
     left = list(rows)
     for y in range(len(left)):
@@ -133,7 +133,7 @@ def make_joined_bundle(composed: Composition, plan: JoinPlan, modules: JoinedMod
     """Returns the bundle of a join whose balls are all led; raises NoRouteError if a module needs too many wires."""
     set_cropped_size(plan, paths)
     layout = JoinedLayout(composed, plan, paths)
-    modules.note_lines(paths, layout.port_cells())
+    modules.note_border_lines(paths, layout.port_cells())
     texts, count, most_cuts = ["certificate 2\n"], 0, 0
     for module in modules.modules(paths):
         texts.append(str(module))

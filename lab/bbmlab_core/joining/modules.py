@@ -54,7 +54,7 @@ class JoinedModules:
             for own in placed.part.bundle.certificate.modules:
                 self.add_box(placed.placing.placed_box(own.box))
                 self.origins.append((placed, own))
-        for box in self.tiles_between():
+        for box in self.tiles_outside_parts():
             self.add_box(box)
         self.known = [frozenset(local_wires(self.circuit, ModuleDraft(box, cuts=self.own_cuts(number),
                                                                       uses=self.own_uses(number))))
@@ -67,7 +67,7 @@ class JoinedModules:
         self.owners.give_blocks_if_free(box, len(self.boxes))
         self.boxes.append(box)
 
-    def tiles_between(self) -> Iterator[Box]:
+    def tiles_outside_parts(self) -> Iterator[Box]:
         """Yields boxes of at most a tile that have all cells outside the parts."""
         for y in range(0, self.plan.side, TILE):
             for x in range(0, self.plan.side, TILE):
@@ -112,7 +112,7 @@ class JoinedModules:
         module.keeps = [part.first_gate + number for number in own.keeps]
         module.edges = [Border(None if line.time is None else line.time + time, *cell(line.cell),
                                part.joined_wire(line.signal))
-                        for line in own.edges if cell_time_number(line) not in part.left_out_line_numbers]
+                        for line in own.edges if cell_time_number(line) not in part.left_out_cell_times]
         module.stops = [Stop(line.time + time, part.wires[line.name], *cell(line.cell)) for line in own.stops]
 
     # --- wires --------------------------------------------------------------------------------------------------------
@@ -122,7 +122,7 @@ class JoinedModules:
         is_always = wire == ALWAYS_SIGNAL or self.netlist.constants.get(self.netlist.root(wire)) == 1
         return ALWAYS_SIGNAL if is_always else wire
 
-    def hearers(self, cell: Cell) -> set[int]:
+    def module_numbers_near(self, cell: Cell) -> set[int]:
         """Returns the modules that have a cell in their box or its halo."""
         x, y = cell
         return {self.owners.owner_at((x + i, y + j)) for i in (-1, 1) for j in (-1, 1)} - {NOBODY}
@@ -135,9 +135,9 @@ class JoinedModules:
                 if self.boxes[number].has_in_ring(cell):
                     yield time, cell, number
 
-    def modules_hearing(self, path: Path) -> set[int]:
+    def module_numbers_near_path(self, path: Path) -> set[int]:
         """Returns the modules that must know the wire of a path."""
-        return {number for _, cell, _ in self.ring_cells_of_path(path) for number in self.hearers(cell)}
+        return {number for _, cell, _ in self.ring_cells_of_path(path) for number in self.module_numbers_near(cell)}
 
     def has_room_for(self, wire: str, numbers: Iterable[int]) -> bool:
         """Whether some modules have room for a wire."""
@@ -153,7 +153,7 @@ class JoinedModules:
                     return False
         return True
 
-    def room_test(self, wire: str) -> Callable[[Footprint], bool]:
+    def make_room_test(self, wire: str) -> Callable[[Footprint], bool]:
         """Returns what tells whether the modules that touch an item have room for a wire, as long as none changes."""
         known: dict[int, bool] = {}
 
@@ -171,7 +171,7 @@ class JoinedModules:
 
         return has_room
 
-    def count_wire(self, wire: str, numbers: Iterable[int], change: int) -> None:
+    def change_wire_count(self, wire: str, numbers: Iterable[int], change: int) -> None:
         """Notes that a path brings a wire to modules, or no longer does."""
         for number in numbers if self.signal_of(wire) != ALWAYS_SIGNAL else ():
             if wire not in self.own_local_wires(number):
@@ -197,7 +197,7 @@ class JoinedModules:
 
     # --- the certificate ----------------------------------------------------------------------------------------------
 
-    def note_lines(self, paths: list[Path], ports: Iterable[tuple[Cell, str]]) -> None:
+    def note_border_lines(self, paths: list[Path], ports: Iterable[tuple[Cell, str]]) -> None:
         """Notes the lines of all paths and of their mirrors, and the wires of ports."""
         for cell, wire in ports:
             self.make_wire_local(wire, self.owners.owner_at(cell))

@@ -14,7 +14,7 @@ from typing import Iterable, Iterator
 
 from ..host.program import open_program
 from ..host.terminal import LabError
-from ..joining.command import SETTINGS
+from ..joining.command import JOIN_SETTINGS
 from ..joining.composing import NamedPart
 from ..joining.modules import JoinedModules
 from ..joining.parts import ALWAYS_SIGNAL, PartBundle
@@ -50,7 +50,7 @@ class UnlimitedModules(JoinedModules):
     def __init__(self) -> None:
         """There is nothing to keep."""
 
-    def modules_hearing(self, path: BallPath) -> set[int]:
+    def module_numbers_near_path(self, path: BallPath) -> set[int]:
         """Returns no modules."""
         return set()
 
@@ -58,7 +58,7 @@ class UnlimitedModules(JoinedModules):
         """Whether there is room for a wire."""
         return True
 
-    def count_wire(self, wire: str, numbers: Iterable[int], change: int) -> None:
+    def change_wire_count(self, wire: str, numbers: Iterable[int], change: int) -> None:
         """Notes nothing."""
 
 
@@ -66,7 +66,7 @@ class ConnectionWiring(JoinWiring):
     """The paths of a connection: between its ports straight or by a few bounces, if that can be."""
 
     def __init__(self, plan: JoinPlan, seed: int, deadline: float) -> None:
-        super().__init__(plan, UnlimitedModules(), seed, SETTINGS, deadline)
+        super().__init__(plan, UnlimitedModules(), seed, JOIN_SETTINGS, deadline)
         # All balls are of one layout, so none has to leave it.
         self.world.boxes, self.world.box_of_tile = [], {}
 

@@ -8,7 +8,7 @@ from __future__ import annotations
 from dataclasses import replace
 from typing import Callable, Iterable
 
-from bbmlab_core.certify.certifier import CertificateOptions, certified_text, legal_grid_boxes
+from bbmlab_core.certify.certifier import CertificateOptions, certified_text, checked_grid_boxes
 from bbmlab_core.circuits.netlists import NetlistError, guessed_netlist_format, map_netlist
 from bbmlab_core.circuits.row_check import first_missing_row_words
 from bbmlab_core.host.terminal import LabError
@@ -60,7 +60,7 @@ def certify(bundle: Bundle, *, grid: tuple[int, int] | None = None,
     chosen = [Box(*box) for box in boxes] if boxes is not None else None
     try:
         if grid is not None:
-            chosen = legal_grid_boxes(document.layout, *grid)
+            chosen = checked_grid_boxes(document.layout, *grid)
         text = certified_text(document, chosen, CertificateOptions(version, cuts, stops_of_bundle(bundle)))
     except LabError as error:
         raise api_error(error) from error
