@@ -59,8 +59,8 @@ def read_circuit(text: str) -> Circuit:
 
 def run_machine(machine: Machine, tables: dict[str, TruthTable], full: TruthTable) -> ExactRun:
     """Returns the run of a machine under all its inputs. Raises ValueError if a mirror breaks or an output is wrong."""
-    start = [(ball.at(0), tables[name]) for name, ball in machine.ins.items()] + [(ball.at(0), full)
-                                                                                  for ball in machine.constants]
+    start = [*((ball.at_time(0), tables[name]) for name, ball in machine.ins.items()),
+             *((ball.at_time(0), full) for ball in machine.constants)]
     run = run_exactly(mirror_cells(machine.mirrors), start_state(start), 0, machine.last_time)
     if not run.is_stable:
         raise ValueError(f"{machine.name}: a mirror breaks in the step from time {len(run.blocks)}")
@@ -110,12 +110,12 @@ def bundle_text(machine: Machine) -> str:
 
     def ports(balls: dict[str, Ball], time: int) -> tuple[Port, ...]:
         """Returns the cells of balls at a time, with their names."""
-        return tuple(Port(name, x, y) for name, ball in balls.items() for x, y in shifted(ball.at(time)))
+        return tuple(Port(name, x, y) for name, ball in balls.items() for x, y in shifted(ball.at_time(time)))
 
     outs = ports(machine.outs, machine.last_time)
     wastes = {(x + dx, y + dy) for x, y in run.states[-1]} - {port.cell for port in outs}
     mirrors = rectangles({(x + dx, y + dy) for x, y in mirror_cells(machine.mirrors)})
-    balls = tuple(cell for ball in machine.constants for cell in shifted(ball.at(0)))
+    balls = tuple(cell for ball in machine.constants for cell in shifted(ball.at_time(0)))
     layout = Layout(width, height, machine.last_time,
                     tuple(Box(mirror.x, mirror.y, mirror.width, mirror.height) for mirror in mirrors), balls,
                     ports(machine.ins, 0), outs, tuple(sorted(wastes, key=row_order_key)))

@@ -91,7 +91,7 @@ class Connecting(unittest.TestCase):
         # `not` takes its input falling, and gives its output rising: it is reflected first.
         self.assertNotEqual((out.dx, out.dy), (goal.dx, goal.dy))
         flipped = connecting.PortConnection(read_document(text, "design"), "z", "b")
-        flipped.goal = out.flown(40).moved(0, 0, -out.time - 40)
+        flipped.goal = out.after_flight(40).shifted_by(0, 0, -out.time - 40)
         self.assertEqual(flipped.possible_delays()[0], out.time + 40)
 
     def test_gates_come_in_order(self) -> None:

@@ -72,7 +72,7 @@ class FlightClaimsTest(unittest.TestCase):
             around = {corner + offset for corner in corners for offset in (0, 1, ROW_STRIDE, ROW_STRIDE + 1)}
             mirrors = frozenset([*chance.sample(sorted(around), 9), ROW_STRIDE * ROW_STRIDE - 1])
             item = part_footprint(mirrors, flights)
-            self.assertEqual((item.touched, item.mirrors), (around - mirrors, mirrors))
+            self.assertEqual((item.touched_cells, item.mirrors), (around - mirrors, mirrors))
             self.assertEqual(item.claims, {number for flight in flights for number in flight})
             counts = BlockClaimCounts(Layout(128, 128, 64), (number for flight in flights for number in flight))
             self.assertTrue(all(counts.claim_count(corner) == corners.count(corner) for corner in (*around, -1, 128)))

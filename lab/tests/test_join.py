@@ -28,13 +28,14 @@ from bbmlab_core.joining.turning import ORIENTATIONS, UNTURNED, PartTransform
 from bbmlab_core.physics.simulation import layout_run
 from bbmlab_core.route import coil_ways, coils
 from bbmlab_core.route.attempt import Attempt
-from bbmlab_core.route.balls import BOUNCE_STEPS, Ball, Turn, bounce, follow_legs, mirror_cells
+from bbmlab_core.route.balls import (BOUNCE_STEPS, Ball, BounceKind, ball_and_mirror_after_bounce, follow_legs,
+                                     mirror_cells)
 from bbmlab_core.route.command import ProgressLine
 from bbmlab_core.route.netlist import RouterNetlist
 from bbmlab_core.route.paths import PathFinder
-from bbmlab_core.route.settings import OPEN_END_STEPS, Settings
-from bbmlab_core.route.world import (MARGIN_CELLS, ROW_STRIDE, STEP_STRIDE, TILE, Footprint, World, cell_number,
-                                     cell_of_number, path_item)
+from bbmlab_core.route.settings import OPEN_END_STEPS, RouterSettings
+from bbmlab_core.route.world import (MARGIN_CELLS, ROW_STRIDE, STEP_STRIDE, TILE_SIDE, Footprint, RoutingGrid,
+                                     cell_number, cell_of_number, path_footprint)
 from bbmlab_core.texts.certificates import Module
 from bbmlab_core.texts.circuits import values_and_undefined_gate
 from bbmlab_core.texts.documents import Document, read_document
@@ -265,7 +266,7 @@ class Joining(unittest.TestCase):
             boxes = [(x, y, x + own.width, y + own.height) for (x, y), own in zip(places, areas)]
             for number, (left, top, right, bottom) in enumerate(boxes):
                 self.assertTrue(min(left, top) >= LEAST_GAP and max(right, bottom) <= 800 - LEAST_GAP)
-                self.assertTrue(left % TILE == top % TILE == 0)
+                self.assertTrue(left % TILE_SIDE == top % TILE_SIDE == 0)
                 for x, y, far, low in boxes[:number]:
                     self.assertTrue(left >= far + LEAST_GAP or x >= right + LEAST_GAP or top >= low + LEAST_GAP
                                     or y >= bottom + LEAST_GAP)
@@ -309,7 +310,7 @@ class Joining(unittest.TestCase):
         for depth in (0, planning.SHALLOW_DEPTH_CELLS, planning.SHALLOW_DEPTH_CELLS + 500):
             with mock.patch.object(own.world, "depth_in_part", lambda *words, own=depth: own), mock.patch.object(
                     own.finder, "wander", return_value=False) as wander:
-                self.assertIsNone(own.find_connecting_path("w", ball.at(0), ball))
+                self.assertIsNone(own.find_connecting_path("w", ball.at_time(0), ball))
             steps, deep = [ball.time + call.args[1]
                            for call in wander.call_args_list], max(0, depth - planning.SHALLOW_DEPTH_CELLS)
             self.assertEqual(len(steps), wiring.CONNECT_TRIES)
@@ -339,7 +340,8 @@ class Joining(unittest.TestCase):
         job = own.plan.jobs[0]
         assert job.start and job.goal
         counts = dict(zip(wiring.GOAL_STEP_COSTS, (1, 9, 2)))
-        with mock.patch.object(coil_ways.OpenSearch, "ways", lambda self: iter(range(counts[self.goal_cells]))):
+        with mock.patch.object(coil_ways.OpenGroundSearch, "ways_to_free_squares",
+                               lambda self: iter(range(counts[self.goal_cells]))):
             found = list(own.ways_from_open_ground(job.start, job.goal, lambda _: True))
         first, second, third = wiring.GOAL_STEP_COSTS
         self.assertEqual(found, [(first, 0), (second, 0), (third, 0), (second, 1), (third, 1),
@@ -375,12 +377,12 @@ class Joining(unittest.TestCase):
         """A coil takes its steps: its path meets itself nowhere, and stays in its box behind the entry."""
         for (dx, dy), steps in itertools.product(itertools.product((1, -1), repeat=2), (90, 327, 328, 2567, 9000)):
             ball = Ball(1000 + (dx < 0), 1000 + (dy < 0), dx, dy, 0)
-            for coil in coils.coils_of(ball, coils.least_width(steps)):
+            for coil in coils.coils_entered_by(ball, coils.least_coil_width(steps)):
                 legs = list(coil.legs(steps))
                 self.assertEqual(sum(leg.steps for leg in legs), steps)
-                item = path_item(ball, legs)
+                item = path_footprint(ball, legs)
                 assert item
-                cells = {cell_of_number(number) for number in item.mirrors | item.touched}
+                cells = {cell_of_number(number) for number in item.mirrors | item.touched_cells}
                 self.assertTrue(all(coil.box.has(cell) for cell in cells), (ball, steps))
 
     def test_balls_wait_in_coils(self) -> None:
@@ -408,7 +410,7 @@ class Joining(unittest.TestCase):
 
     def test_legs_to_coils(self) -> None:
         """What a leg to a coil takes is in its rectangle. A bounce is sought wherever its mirror has room."""
-        world, chance = World(512), random.Random(1)
+        world, chance = RoutingGrid(512), random.Random(1)
         for _ in range(300):
             world.add(Footprint(frozenset([cell_number((chance.randrange(180, 330), chance.randrange(180, 330)))])))
         finder = PathFinder(world, chance, command.JOIN_SETTINGS)
@@ -417,22 +419,22 @@ class Joining(unittest.TestCase):
             search = coil_ways.CoilSearch(finder, coil_ways.CoilGround(world, []), ball, 3000 * (not is_backward),
                                           is_backward)
             first = search.first
-            room = world.free_steps(first.ball, coil_ways.LONGEST_LEG)
-            with mock.patch.object(search, "tried_leg_steps", lambda *words, most=room: range(most + 1)):
-                found = list(search.options_behind(first, room))
+            room = world.free_steps(first.ball, coil_ways.MAX_LEG_STEPS)
+            with mock.patch.object(search, "leg_steps_to_try", lambda *words, most=room: range(most + 1)):
+                found = list(search.bounce_options_behind(first, room))
             self.assertEqual([(option.steps, option.turn) for option in found], [
-                (steps, turn) for steps in range(room + 1) for turn in Turn
-                if world.can_hold(bounce(first.ball.flown(steps), turn)[1])])
-            search.queue, on = found, coil_ways.LEAST_STEPS_ON
+                (steps, turn) for steps in range(room + 1) for turn in BounceKind
+                if world.has_room_for_mirror(ball_and_mirror_after_bounce(first.ball.after_flight(steps), turn)[1])])
+            search.queue, on = found, coil_ways.LEAST_STEPS_AFTER_BOUNCE
             for bend in iter(search.pop_next_bounce, None):
-                self.assertEqual(world.free_steps(bend.ball.flown(BOUNCE_STEPS), on), on)
+                self.assertEqual(world.free_steps(bend.ball.after_flight(BOUNCE_STEPS), on), on)
                 item, left, right, top, bottom = bend.spans[-1]
-                for x, y in map(cell_of_number, item.mirrors | item.touched):
+                for x, y in map(cell_of_number, item.mirrors | item.touched_cells):
                     self.assertTrue(left <= x <= right and top <= y <= bottom, bend)
 
     def test_ways_to_open_ground(self) -> None:
         """A way out of a part or into it meets nothing, and ends or begins on open ground."""
-        world, chance, part = World(512), random.Random(1), Box(176, 176, 160, 160)
+        world, chance, part = RoutingGrid(512), random.Random(1), Box(176, 176, 160, 160)
         for _ in range(60):
             world.add(Footprint(frozenset([cell_number((chance.randrange(180, 330), chance.randrange(180, 330)))])))
         finder, ground = PathFinder(world, chance, command.JOIN_SETTINGS), coil_ways.CoilGround(world, [part])
@@ -440,10 +442,10 @@ class Joining(unittest.TestCase):
             inner = Ball(256 + (dx < 0), 256 + (dy < 0), dx, dy, 2000)
             other = Ball(60, 60, 1, 1, 1000 if is_backward else 3000)
             for cells in wiring.GOAL_STEP_COSTS:
-                search = coil_ways.OpenSearch(finder, ground, inner, other, is_backward, lambda _: True, cells)
-                legs = next(search.ways())
+                search = coil_ways.OpenGroundSearch(finder, ground, inner, other, is_backward, lambda _: True, cells)
+                legs = next(search.ways_to_free_squares())
                 first = finder.start_of_legs(inner, legs) if is_backward else inner
-                item, last = path_item(first, legs), follow_legs(first, legs)[0]
+                item, last = path_footprint(first, legs), follow_legs(first, legs)[0]
                 assert item
                 self.assertTrue(world.can_add(item))
                 self.assertEqual(inner, last if is_backward else first)
@@ -453,23 +455,24 @@ class Joining(unittest.TestCase):
 
     def test_ground_of_coils(self) -> None:
         """Squares are free if nothing is in them or near them. Tiles far away from them need as many steps at least."""
-        size, part, world = 160, Box(50, 40, 20, 30), World(160)
+        size, part, world = 160, Box(50, 40, 20, 30), RoutingGrid(160)
         taken = [(30, 100), (100, 60), *part.ring()]
         world.add(Footprint(frozenset(map(cell_number, taken[:2]))))
         ground, side, street = coil_ways.CoilGround(world, [part]), 40, coil_ways.PATH_STREET_CELLS
-        ground.take_box_and_street(Box(130, 120, 20, 20))
-        squares = ground.squares(side, 80)
+        ground.exclude_box_and_street(Box(130, 120, 20, 20))
+        squares = ground.free_squares_near(side, 80)
         for x, y in itertools.product(range(0, size, 3), repeat=2):
             own, around = Box(x, y, side, side), Box(x - street, y - street, side + 2 * street, side + 2 * street)
             inside = min(x, y) >= MARGIN_CELLS and max(x, y) + side <= size - MARGIN_CELLS
             free = inside and not any(map(around.has, taken[:2])) and not any(map(own.has, taken[2:])) and (
                 x + side <= 130 - coil_ways.STREET_CELLS or y + side <= 120 - coil_ways.STREET_CELLS)
-            self.assertEqual(squares.has(x, y), free, (x, y))
-        places = [(x + side // 2, y + side // 2) for x in range(size) for y in range(size) if squares.has(x, y)]
+            self.assertEqual(squares.has_corner_at(x, y), free, (x, y))
+        places = [(x + side // 2, y + side // 2) for x in range(size) for y in range(size)
+                  if squares.has_corner_at(x, y)]
         distances = squares.tile_distances()
         for x, y in ((5, 5), (60, 55), (155, 155)):
             least = min(max(abs(i - x), abs(j - y)) for i, j in places)
-            self.assertLess(abs(distances.steps_from(x, y) - least), 2 * TILE)
+            self.assertLess(abs(distances.least_steps_from(x, y) - least), 2 * TILE_SIDE)
 
     def test_turned_numbers(self) -> None:
         """The numbers of the cells and of the blocks of a turned part are those of its turned cells."""
@@ -492,7 +495,7 @@ class Joining(unittest.TestCase):
                 there = placing.placed_ball(ball)
                 self.assertTrue(ball.is_legal and there.is_legal)
                 self.assertEqual(there.cells(), tuple(map(placing.placed_cell, ball.cells())))
-                self.assertEqual(placing.placed_ball(ball.flown(7)), there.flown(7))
+                self.assertEqual(placing.placed_ball(ball.after_flight(7)), there.after_flight(7))
 
     def test_turned_parts(self) -> None:
         """A join of parts that are mirrored, and turned if they are squares, gets a yes in all ways."""
@@ -508,7 +511,7 @@ class Joining(unittest.TestCase):
     def test_balls_of_cells(self) -> None:
         """The balls of cells are found by place and time. Cells that are no balls are not taken for some."""
         even = [Ball(10, 10, 1, 1, 4), Ball(14, 14, 1, 1, 4), Ball(21, 30, -1, 1, 4), Ball(41, 41, -1, -1, 4)]
-        for balls, moment in ((even, 4), ([ball.moved(1, 1, 1) for ball in even], 5)):
+        for balls, moment in ((even, 4), ([ball.shifted_by(1, 1, 1) for ball in even], 5)):
             self.assertTrue(all(ball.is_legal for ball in balls))
             cells = [cell for ball in balls for cell in ball.cells()]
             self.assertEqual(sorted(whole_balls_of(cells, moment) or []), sorted(balls))
@@ -519,7 +522,7 @@ class Joining(unittest.TestCase):
         circuit = read_document(BLOCK, "circuit").circuit
         assert circuit
         for steps in (OPEN_END_STEPS, 0):
-            design = Attempt(RouterNetlist(circuit), 160, 1, Settings(open_end_steps=steps)).run()
+            design = Attempt(RouterNetlist(circuit), 160, 1, RouterSettings(open_end_steps=steps)).run()
             ends = [path for path in design.paths if path.end.time == design.end]
             kept = sum(len(path.item.mirrors) > len(mirror_cells(path.mirrors())) for path in ends)
             self.assertEqual(kept > 0, steps > 0)

@@ -15,7 +15,7 @@ from ..circuits.line_forms import qasm_text, real_text
 from ..circuits.netlists import ReadingOptions
 from ..circuits.simplifying import simplify
 from ..host.terminal import LabError, read_latin1_text, tell_user, write_bytes, write_utf8_text
-from ..route.command import read_circuit
+from ..route.command import read_text_and_circuit
 from ..texts.circuits import Circuit, evaluate_under_tables
 from ..texts.documents import read_document
 from ..texts.limits import smallest_fitting_limits, text_with_limits_line
@@ -27,7 +27,7 @@ TEXT_WRITERS = {"aiger": aiger_text, "blif": blif_text, "dot": dot_text, "qasm":
 
 def run_circuit(options: argparse.Namespace) -> int:
     """Writes the circuit of a file: in the one spelling, or in the form of another tool."""
-    text, circuit = read_circuit(options.file, ReadingOptions.from_options(options))
+    text, circuit = read_text_and_circuit(options.file, ReadingOptions.from_options(options))
     text = text_with_limits_line(text, smallest_fitting_limits(gates=len(circuit.gates), wires=len(circuit.wires)))
     try:
         for change in chosen_changes(options):
@@ -78,7 +78,7 @@ def chosen_changes(options: argparse.Namespace) -> list[Callable[[Circuit], Circ
 
 def run_table(options: argparse.Namespace) -> int:
     """Writes the rows of a circuit's values."""
-    _, circuit = read_circuit(options.file, ReadingOptions.from_options(options))
+    _, circuit = read_text_and_circuit(options.file, ReadingOptions.from_options(options))
     on = None if options.on is None else [name for name in options.on.split(",") if name]
     rows = truth.table_with_header(circuit, on)
     out = io.StringIO()
@@ -105,7 +105,8 @@ def run_stats(options: argparse.Namespace) -> int:
     text = read_latin1_text(options.file)
     document = read_document(text, "check")
     if document.circuit is None or document.layout is None or not document.layout.width:
-        found = truth.circuit_figures(read_circuit(options.file, ReadingOptions.from_options(options), text)[1])
+        _, circuit = read_text_and_circuit(options.file, ReadingOptions.from_options(options), text)
+        found = truth.circuit_figures(circuit)
     else:
         found = truth.document_figures(document)
     longest = max(len(name) for name, _ in found)
@@ -117,7 +118,7 @@ def run_equal(options: argparse.Namespace) -> int:
     """Says whether two circuits have the same outputs, and returns 0 only if they have."""
     if options.file == "-" and options.other == "-":
         raise LabError("only one of two files can be standard input", 2)
-    one, other = read_circuit(options.file)[1], read_circuit(options.other)[1]
+    one, other = read_text_and_circuit(options.file)[1], read_text_and_circuit(options.other)[1]
     differs, scope = truth.difference_and_scope_words(one, other, options.common)
     print(f"not equal: {differs}" if differs else f"equal {scope}")
     return 1 if differs else 0

@@ -8,7 +8,7 @@ from ..route.design import outermost_cell_numbers
 from ..route.netlist import RouterNetlist
 from ..route.paths import Path
 from ..route.search import RoutedBundle
-from ..route.world import BITS, RIM_CELLS, ROW_STRIDE, ROW_BITS, TILE
+from ..route.world import SINGLE_BITS, RIM_CELLS, ROW_STRIDE, ROW_BITS, TILE_SIDE
 from ..texts.layouts import Box, Cell, row_order_key
 from ..texts.limits import smallest_fitting_limits, text_with_limits_line
 from .composing import Composition
@@ -84,7 +84,7 @@ class JoinedLayout:
         rows = [0] * self.plan.height
         parts = (placed.placing.cell_number_map().map_all(placed.part.footprint.mirrors) for placed in self.plan.placed)
         for number in chain.from_iterable(chain(parts, (path.item.mirrors for path in self.paths))):
-            rows[number >> ROW_BITS] |= BITS[number & ROW_STRIDE - 1]
+            rows[number >> ROW_BITS] |= SINGLE_BITS[number & ROW_STRIDE - 1]
         return rows
 
     @property
@@ -124,8 +124,8 @@ def set_cropped_size(plan: JoinPlan, paths: list[Path]) -> None:
                  *(own.x + own.extent.width for own in plan.placed)])
     bottom = max([0, *(number // ROW_STRIDE + RIM_CELLS for number in numbers),
                   *(own.y + own.extent.height for own in plan.placed)])
-    plan.width = min(plan.side, (right // TILE + 1) * TILE)
-    plan.height = min(plan.side, (bottom // TILE + 1) * TILE)
+    plan.width = min(plan.side, (right // TILE_SIDE + 1) * TILE_SIDE)
+    plan.height = min(plan.side, (bottom // TILE_SIDE + 1) * TILE_SIDE)
 
 
 def make_joined_bundle(composed: Composition, plan: JoinPlan, modules: JoinedModules,

@@ -15,8 +15,8 @@ from ..route.board import NoRouteError
 from ..route.command import ProgressLine, require_legal_side, verdict_line
 from ..route.estimate import counted_noun
 from ..route.search import RoutedBundle
-from ..route.settings import Settings
-from ..route.world import TILE
+from ..route.settings import RouterSettings
+from ..route.world import TILE_SIDE
 from ..texts.documents import pause_garbage_collection
 from ..texts.limits import SECOND_LIMITS
 from .bundles import make_joined_bundle
@@ -29,7 +29,7 @@ from .wiring import JoinWiring, TooFewStepsError, ball_words
 
 PART_NAME_PATTERN = re.compile(r"[a-z][a-z0-9_]{0,15}")
 CONNECTION_PATTERN = re.compile(r"(\w+)\.(\w+)=(\w+)\.(\w+)")
-JOIN_SETTINGS = Settings(wander_spare_per_cell=0.07, wander_option_count=16)
+JOIN_SETTINGS = RouterSettings(wander_spare_per_cell=0.07, wander_option_count=16)
 # By how much the plane grows after an attempt that failed.
 PLANE_GROWTH_FACTOR = 1.12
 
@@ -148,7 +148,7 @@ class JoinSearch:
                 why = str(error)
                 if not self.join_options.side:
                     self.side = min(SECOND_LIMITS.max_side,
-                                    int(self.side * PLANE_GROWTH_FACTOR) // (2 * TILE) * 2 * TILE)
+                                    int(self.side * PLANE_GROWTH_FACTOR) // (2 * TILE_SIDE) * 2 * TILE_SIDE)
         return None, why
 
     def add_spare_steps(self, connections: list[int]) -> None:

@@ -149,7 +149,7 @@ def require_valid_connections(parts: dict[str, PartBundle], connections: list[Co
                 raise LabError(f"{own}: the {what} {wire} of {name} is connected twice", 2)
             used[what + name, wire] = own
         netlist = RouterNetlist(parts[own.source].circuit)
-        if netlist.root(own.output) in netlist.constants:
+        if netlist.root_wire_of(own.output) in netlist.constants:
             what = f"the output {own.output} of {own.source} is a constant"
             raise LabError(f"{own}: {what}, which `join` does not lead to an input", 1)
 

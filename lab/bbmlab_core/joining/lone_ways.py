@@ -13,7 +13,7 @@ from functools import cached_property
 from typing import Callable, Container, Iterable, Iterator
 
 from ..route.balls import Ball, block_cells, run_exactly, start_state
-from ..route.world import BITS, STEP_STRIDE, cell_number, cell_of_number
+from ..route.world import SINGLE_BITS, STEP_STRIDE, cell_number, cell_of_number
 from ..texts.layouts import Cell
 
 
@@ -111,7 +111,7 @@ class LoneRun:
     def __init__(self, mirrors: set[Cell], ball: Ball, steps: int, is_output: bool) -> None:
         self.is_output, self.bound = is_output, 0 if is_output else steps
         # The rule is run backwards from the last time, which is made time 1: blocks alternate, so it must be odd.
-        first = ball.time_reversed().moved(0, 0, 1) if is_output else ball
+        first = ball.time_reversed().shifted_by(0, 0, 1) if is_output else ball
         run = run_exactly(mirrors, start_state([(first, 1)]), first.time, first.time + steps)
         # A run backwards has the last state first.
         order = -1 if is_output else 1
@@ -160,7 +160,7 @@ class LoneRuns:
         self.runs = runs
         # The runs that claim a block at a time, as the bits of a number.
         self.claimants: dict[int, int] = {}
-        for bit, run in zip(BITS, runs):
+        for bit, run in zip(SINGLE_BITS, runs):
             for claim, _ in run.timed_claims():
                 others = self.claimants.setdefault(claim, bit)
                 if others != bit:
@@ -168,7 +168,7 @@ class LoneRuns:
 
     def claimants_of(self, claim: int) -> Iterator[LoneRun]:
         """Yields the runs that claim a block at a time."""
-        return (run for bit, run in zip(BITS, self.runs) if self.claimants[claim] & bit)
+        return (run for bit, run in zip(SINGLE_BITS, self.runs) if self.claimants[claim] & bit)
 
     def note_meetings_in_blocks(self, time: int, claims: Iterable[int], live: Container[Cell]) -> None:
         """Compares the blocks in which something moves in the step from a time."""

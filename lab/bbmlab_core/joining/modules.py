@@ -14,7 +14,7 @@ from ..route.balls import moving_path_cells
 from ..route.board import FailureKind, NoRouteError
 from ..route.netlist import RouterNetlist
 from ..route.paths import Path
-from ..route.world import ROW_STRIDE, STEP_STRIDE, TILE, Footprint, cell_of_number, cells_entering_tiles, tiles_of
+from ..route.world import ROW_STRIDE, STEP_STRIDE, TILE_SIDE, Footprint, cell_of_number, cells_entering_tiles, tiles_of
 from ..texts.certificates import MAX_CUTS, MAX_USES, Border, Module, ModuleDraft, Stop, local_wires
 from ..texts.layouts import Box, Cell
 from ..texts.limits import SECOND_LIMITS
@@ -69,18 +69,20 @@ class JoinedModules:
 
     def tiles_outside_parts(self) -> Iterator[Box]:
         """Yields boxes of at most a tile that have all cells outside the parts."""
-        for y in range(0, self.plan.side, TILE):
-            for x in range(0, self.plan.side, TILE):
+        for y in range(0, self.plan.side, TILE_SIDE):
+            for x in range(0, self.plan.side, TILE_SIDE):
                 if self.owners.owner_at((x, y)) == NOBODY:
-                    yield Box(x, y, TILE, TILE)
+                    yield Box(x, y, TILE_SIDE, TILE_SIDE)
                     continue
                 # A part begins at a tile's corner, so only the right and the lower cells of its last tiles are free.
-                wide = next((own for own in range(0, TILE, 2) if self.owners.owner_at((x + own, y)) == NOBODY), TILE)
-                high = next((own for own in range(0, TILE, 2) if self.owners.owner_at((x, y + own)) == NOBODY), TILE)
-                if wide < TILE:
-                    yield Box(x + wide, y, TILE - wide, TILE)
-                if high < TILE:
-                    yield Box(x, y + high, wide, TILE - high)
+                wide = next((own for own in range(0, TILE_SIDE, 2) if self.owners.owner_at((x + own, y)) == NOBODY),
+                            TILE_SIDE)
+                high = next((own for own in range(0, TILE_SIDE, 2) if self.owners.owner_at((x, y + own)) == NOBODY),
+                            TILE_SIDE)
+                if wide < TILE_SIDE:
+                    yield Box(x + wide, y, TILE_SIDE - wide, TILE_SIDE)
+                if high < TILE_SIDE:
+                    yield Box(x, y + high, wide, TILE_SIDE - high)
 
     # --- the part's own lines -----------------------------------------------------------------------------------------
 
@@ -119,7 +121,7 @@ class JoinedModules:
 
     def signal_of(self, wire: str) -> str:
         """Returns the signal of a wire: `1` if it is always true."""
-        is_always = wire == ALWAYS_SIGNAL or self.netlist.constants.get(self.netlist.root(wire)) == 1
+        is_always = wire == ALWAYS_SIGNAL or self.netlist.constants.get(self.netlist.root_wire_of(wire)) == 1
         return ALWAYS_SIGNAL if is_always else wire
 
     def module_numbers_near(self, cell: Cell) -> set[int]:
@@ -163,7 +165,7 @@ class JoinedModules:
                      for number in cells_entering_tiles(part, own))
             for tile in tiles_of(cells):
                 if tile not in known:
-                    number = self.owners.owner_at((tile % ROW_STRIDE * TILE, tile // ROW_STRIDE * TILE))
+                    number = self.owners.owner_at((tile % ROW_STRIDE * TILE_SIDE, tile // ROW_STRIDE * TILE_SIDE))
                     known[tile] = number == NOBODY or self.has_room_for(wire, [number])
                 if not known[tile]:
                     return False
@@ -182,7 +184,7 @@ class JoinedModules:
         own, own_uses = self.own_cuts(number), self.own_uses(number)
         extra = sorted(({*+self.extra.get(number, Counter()), *more}) - self.own_local_wires(number),
                        key=self.circuit.rank)
-        constants = [wire for wire in extra if self.netlist.root(wire) in self.netlist.constants]
+        constants = [wire for wire in extra if self.netlist.root_wire_of(wire) in self.netlist.constants]
         used = {*own_uses, *self.circuit.cone_inputs_and_gates(constants)[1]} if constants else set(own_uses)
         plain = [wire for wire in extra if wire not in constants]
         if len(own) + len(plain) <= MAX_CUTS and not any(self.is_delay_of_known(wire, number) for wire in plain):
@@ -192,8 +194,8 @@ class JoinedModules:
 
     def is_delay_of_known(self, wire: str, number: int) -> bool:
         """Whether a wire is on one ball with a wire that a module knows, by delays: then it must not be free."""
-        root = self.netlist.root(wire)
-        return root != wire and any(self.netlist.root(own) == root for own in self.own_local_wires(number))
+        root = self.netlist.root_wire_of(wire)
+        return root != wire and any(self.netlist.root_wire_of(own) == root for own in self.own_local_wires(number))
 
     # --- the certificate ----------------------------------------------------------------------------------------------
 
@@ -258,10 +260,10 @@ class JoinedModules:
         """Returns the boxes with the numbers of their modules, and None for a large box in place of many tiles."""
         tiles = range(len(self.origins), len(self.boxes))
         quiet = {(self.boxes[number].x, self.boxes[number].y) for number in tiles if self.is_quiet(number)}
-        width, height, side = self.plan.width, self.plan.height, QUIET_BOX_TILES * TILE
+        width, height, side = self.plan.width, self.plan.height, QUIET_BOX_TILES * TILE_SIDE
         large: dict[Cell, Cell] = {}
         for x, y in quiet:
-            group = [(x + i, y + j) for i in range(0, side, TILE) for j in range(0, side, TILE)]
+            group = [(x + i, y + j) for i in range(0, side, TILE_SIDE) for j in range(0, side, TILE_SIDE)]
             is_inside = x + side <= width and y + side <= height
             if x % side == 0 and y % side == 0 and is_inside and quiet.issuperset(group):
                 large |= dict.fromkeys(group, (x, y))
@@ -279,4 +281,5 @@ class JoinedModules:
     def is_quiet(self, number: int) -> bool:
         """Whether a module is a whole tile that nothing reaches."""
         box = self.boxes[number]
-        return box.width == box.height == TILE and not self.lines.get(number) and not +self.extra.get(number, Counter())
+        return (box.width == box.height == TILE_SIDE and not self.lines.get(number)
+                and not +self.extra.get(number, Counter()))

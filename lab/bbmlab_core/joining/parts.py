@@ -281,6 +281,7 @@ class PartRun:
             names = [name for name, own in values.tables.items() if own & full == table]
             names.sort(key=lambda name: (name not in spills, self.circuit.rank(name)))
             wire = names[0] if names else (ALWAYS_SIGNAL if table == full else None)
-            wires[part.cell] = ALWAYS_SIGNAL if wire is not None and netlist.constants.get(netlist.root(wire)) else wire
+            is_always = wire is not None and netlist.constants.get(netlist.root_wire_of(wire))
+            wires[part.cell] = ALWAYS_SIGNAL if is_always else wire
         return wires
 

@@ -8,11 +8,11 @@ import itertools
 from dataclasses import dataclass
 from typing import Iterator, Sequence
 
-from ..route.world import TILE
+from ..route.world import TILE_SIDE
 
 # The cells between a part and the border, and between two parts: at least, and at most.
-LEAST_GAP = 2 * TILE
-MOST_GAP = 24 * TILE
+LEAST_GAP = 2 * TILE_SIDE
+MOST_GAP = 24 * TILE_SIDE
 
 
 @dataclass(frozen=True)
@@ -82,6 +82,6 @@ def packed_rows(areas: Sequence[Extent], side: int, most: int) -> list[list[Exte
 
 def evenly_spaced_starts(lengths: list[int], side: int) -> list[int]:
     """Returns where lengths in a row begin, in the middle of a side and with equal gaps of whole tiles."""
-    gap = min(MOST_GAP, (side - sum(lengths)) // (len(lengths) + 1)) // TILE * TILE
-    first = (side - sum(lengths) - gap * (len(lengths) - 1)) // 2 // TILE * TILE
+    gap = min(MOST_GAP, (side - sum(lengths)) // (len(lengths) + 1)) // TILE_SIDE * TILE_SIDE
+    first = (side - sum(lengths) - gap * (len(lengths) - 1)) // 2 // TILE_SIDE * TILE_SIDE
     return [first + gap * index + sum(lengths[:index]) for index in range(len(lengths))]

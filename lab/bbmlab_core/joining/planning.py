@@ -7,7 +7,7 @@ import math
 from dataclasses import dataclass
 
 from ..route.balls import Ball
-from ..route.world import TILE
+from ..route.world import TILE_SIDE
 from ..texts.layouts import Cell
 from ..texts.limits import SECOND_LIMITS
 from .composing import Composition, NamedPart
@@ -83,7 +83,7 @@ class PlacedPart:
     def extent(self) -> Extent:
         """The width and the height in cells, in whole tiles."""
         layout = self.part.bundle.layout
-        return Extent(-(-layout.width // TILE) * TILE, -(-layout.height // TILE) * TILE)
+        return Extent(-(-layout.width // TILE_SIDE) * TILE_SIDE, -(-layout.height // TILE_SIDE) * TILE_SIDE)
 
     def excess_depth(self, ball: Ball) -> int:
         """Returns how many cells deeper than `SHALLOW_DEPTH_CELLS` a ball is in the part, or 0."""
@@ -251,5 +251,6 @@ def estimated_side(composed: Composition, spares: SpareIndices) -> int:
             free = side ** 2 - sum(own.extent.width * own.extent.height for own in plan.placed)
             if NEW_CELLS_PER_STEP * sum(job.steps for job in plan.jobs) <= FILL_SHARE * free:
                 break
-        side = min(SECOND_LIMITS.max_side, (math.ceil(side * 1.05) + 2 * TILE - 1) // (2 * TILE) * 2 * TILE)
+        side = min(SECOND_LIMITS.max_side,
+                   (math.ceil(side * 1.05) + 2 * TILE_SIDE - 1) // (2 * TILE_SIDE) * 2 * TILE_SIDE)
     return side

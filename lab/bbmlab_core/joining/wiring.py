@@ -13,10 +13,10 @@ from typing import Callable, Collection, Iterator
 
 from ..route.balls import Ball, Leg, follow_legs, reversed_legs
 from ..route.board import FailureKind, NoRouteError
-from ..route.coil_ways import CoiledPath, CoilGround, CoilSearch, OpenSearch
+from ..route.coil_ways import CoiledPath, CoilGround, CoilSearch, OpenGroundSearch
 from ..route.paths import Path, PathFinder, Trail, is_in_reach
-from ..route.settings import Settings
-from ..route.world import STEP_STRIDE, TILE, Footprint, World, cell_number, cell_of_number, path_item
+from ..route.settings import RouterSettings
+from ..route.world import STEP_STRIDE, TILE_SIDE, Footprint, RoutingGrid, cell_number, cell_of_number, path_footprint
 from ..texts.layouts import Box
 from .flight_claims import FlightClaims
 from .modules import JoinedModules
@@ -86,7 +86,7 @@ def sealed_footprint(item: Footprint, box: Box) -> Footprint:
     return Footprint(item.mirrors.union(map(cell_number, box.ring())), item.touched_parts, claims)
 
 
-class JoinRoutingGrid(World):
+class JoinRoutingGrid(RoutingGrid):
     """A world with parts, in which cells inside a part are dear: balls leave parts, so that they enclose no other port.
 
     Without this, 59 of 85 balls of four joined adders were led before the search ended, and with it all.
@@ -98,8 +98,8 @@ class JoinRoutingGrid(World):
         self.boxes = [(own.x, own.y, own.x + own.extent.width, own.y + own.extent.height) for own in plan.placed]
         # Parts are at whole tiles, and take whole tiles.
         self.box_of_tile = {(column, row): box for box in self.boxes
-                            for column in range(box[0] // TILE, box[2] // TILE)
-                            for row in range(box[1] // TILE, box[3] // TILE)}
+                            for column in range(box[0] // TILE_SIDE, box[2] // TILE_SIDE)
+                            for row in range(box[1] // TILE_SIDE, box[3] // TILE_SIDE)}
 
     def add_part(self, placed: PlacedPart) -> None:
         """Adds a part where and when it is in the join."""
@@ -110,7 +110,7 @@ class JoinRoutingGrid(World):
 
     def depth_in_part(self, x: int, y: int) -> int:
         """Returns how far a cell is from the border of the part that it is in, or 0."""
-        box = self.box_of_tile.get((x // TILE, y // TILE))
+        box = self.box_of_tile.get((x // TILE_SIDE, y // TILE_SIDE))
         if box is None:
             return 0
         left, top, right, bottom = box
@@ -134,7 +134,8 @@ def require_before_deadline(deadline: float) -> None:
 class JoinWiring:
     """The paths of a join, in a world that has its parts."""
 
-    def __init__(self, plan: JoinPlan, modules: JoinedModules, seed: int, settings: Settings, deadline: float) -> None:
+    def __init__(self, plan: JoinPlan, modules: JoinedModules, seed: int, settings: RouterSettings,
+                 deadline: float) -> None:
         self.plan, self.modules, self.settings, self.deadline = plan, modules, settings, deadline
         self.world = JoinRoutingGrid(plan)
         for placed in plan.placed:
@@ -197,9 +198,9 @@ class JoinWiring:
         job = self.plan.jobs[index]
         assert job.start is not None and job.goal is not None
         ends = (job.start, job.goal) if is_start else (job.goal, job.start)
-        search = OpenSearch(self.finder, self.ground, *ends, not is_start, self.modules.make_room_test(job.wire),
-                            GOAL_STEP_COSTS[0])
-        return next(search.ways(), None) is None
+        search = OpenGroundSearch(self.finder, self.ground, *ends, not is_start, self.modules.make_room_test(job.wire),
+                                  GOAL_STEP_COSTS[0])
+        return next(search.ways_to_free_squares(), None) is None
 
     def closed_ends(self, skipped: Collection[tuple[int, int]] = ()) -> list[tuple[int, Ball, int]]:
         """Returns the open ends that no ball can leave even if no other ball is led: the number of the job, the ball,
@@ -243,9 +244,9 @@ class JoinWiring:
         if way is not None:
             return way
         for steps in STUB_STEPS:
-            far = ball.flown(sign * steps)
+            far = ball.after_flight(sign * steps)
             if self.world.is_inside(far.x, far.y):
-                item = path_item(ball if sign > 0 else far, [Leg(steps, None)])
+                item = path_footprint(ball if sign > 0 else far, [Leg(steps, None)])
                 if item is not None and self.world.can_add(item):
                     return item
         return None
@@ -261,7 +262,7 @@ class JoinWiring:
             if path is not None and self.modules.has_room_for(job.wire, numbers):
                 self.world.add(occupied_footprint(path))
                 if isinstance(path, CoiledPath):
-                    self.ground.take_box_and_street(path.box)
+                    self.ground.exclude_box_and_street(path.box)
                 self.modules.change_wire_count(job.wire, numbers, 1)
                 self.paths[index] = path
                 return True
@@ -296,7 +297,7 @@ class JoinWiring:
             return coiled
         if job.goal is None:
             assert job.start is not None
-            return self.finder.lead_on_from(job.wire, job.start, job.end)
+            return self.finder.path_to_anywhere(job.wire, job.start, job.end)
         if job.start is None:
             return self.finder.path_from_anywhere(job.wire, job.goal)
         is_deep = max(self.world.depth_in_part(ball.x, ball.y) for ball in (job.start, job.goal)) > SHALLOW_DEPTH_CELLS
@@ -359,7 +360,8 @@ class JoinWiring:
         ways = dict[float, Iterator[list[Leg]]]()
         for cells in OPEN_GROUND_WAYS * GOAL_STEP_COSTS:
             if cells not in ways:
-                ways[cells] = OpenSearch(self.finder, self.ground, goal, start, True, has_room, cells).ways()
+                ways[cells] = OpenGroundSearch(self.finder, self.ground, goal, start, True, has_room,
+                                               cells).ways_to_free_squares()
             behind = next(ways[cells], None)
             if behind is not None:
                 yield cells, behind
@@ -367,8 +369,8 @@ class JoinWiring:
     def legs_to_open_ground(self, start: Ball, last: Ball, has_room: Callable[[Footprint], bool],
                             cells: float) -> list[Leg] | None:
         """Returns legs from a ball in a part to a ball on open ground, or None."""
-        search = OpenSearch(self.finder, self.ground, start, last, False, has_room, cells)
-        for ahead in islice(search.ways(), OPEN_GROUND_WAYS):
+        search = OpenGroundSearch(self.finder, self.ground, start, last, False, has_room, cells)
+        for ahead in islice(search.ways_to_free_squares(), OPEN_GROUND_WAYS):
             on = Trail(self.world, start)
             legs = self.legs_outside(on.ball, last) if all(on.push_leg(*leg) for leg in ahead) else None
             on.clear_legs()
@@ -433,8 +435,8 @@ class JoinWiring:
     def straight_way_cells(self, ball: Ball, sign: int) -> set[int]:
         """Returns the cells of the straight way behind a ball, or before it, up to the first mirror and a little on."""
         room = 6 + self.world.free_steps(ball if sign > 0 else ball.time_reversed(), STRAIGHT_WAY_STEPS)
-        way = path_item(ball if sign > 0 else ball.flown(-room), [Leg(room, None)])
-        return way.touched if way else set()
+        way = path_footprint(ball if sign > 0 else ball.after_flight(-room), [Leg(room, None)])
+        return way.touched_cells if way else set()
 
 
 def ball_words(job: BallJob) -> str:

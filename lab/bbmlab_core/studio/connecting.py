@@ -22,7 +22,7 @@ from ..joining.planning import BallJob, JoinPlan, PlacedPart
 from ..joining.wiring import JoinWiring, ball_words
 from ..route.balls import Ball, Leg
 from ..route.board import NoRouteError
-from ..route.certificate import rectangles
+from ..route.certificate import rectangles_of_cells
 from ..route.paths import Path as BallPath
 from ..route.world import RIM_CELLS, ROW_STRIDE, cell_of_number
 from ..texts.certificates import Certificate
@@ -82,7 +82,7 @@ class ConnectionWiring(JoinWiring):
     def find_connecting_path(self, wire: str, start: Ball, goal: Ball) -> BallPath | None:
         """Returns a path between two balls."""
         steps = goal.time - start.time
-        straight = [Leg(steps, None)] if start.flown(steps) == goal else None
+        straight = [Leg(steps, None)] if start.after_flight(steps) == goal else None
         legs = straight or self.finder.find_direct_legs(start, goal, self.settings.path_tries)
         path = self.finder.path_of_legs(wire, start, goal, legs) if legs else None
         return path or super().find_connecting_path(wire, start, goal)
@@ -113,7 +113,8 @@ class PortConnection:
         """Returns when the machine of the input may begin: first so that the ball flies straight on, if it can."""
         ball, goal = self.out.ball, self.goal
         far = max(abs(ball.x - goal.x), abs(ball.y - goal.y))
-        straight = [goal_time for goal_time in (ball.time + far,) if ball.flown(far) == goal.moved(0, 0, goal_time)]
+        straight = [goal_time for goal_time in (ball.time + far,)
+                    if ball.after_flight(far) == goal.shifted_by(0, 0, goal_time)]
         return straight + [(ball.time + int((1 + DETOUR_STEPS_PER_CELL) * far) + slack + 1) // 2 * 2
                            for slack in SPARE_STEPS]
 
@@ -184,7 +185,7 @@ class ConnectedText:
         layout, room = self.connection.layout, self.room
         xs, ys = [room + layout.width // 2], [room + layout.height // 2]
         for path in self.paths:
-            for number in (*path.item.mirrors, *path.item.touched):
+            for number in (*path.item.mirrors, *path.item.touched_cells):
                 xs.append(number % ROW_STRIDE)
                 ys.append(number // ROW_STRIDE)
         left, top = min(room, max(0, min(xs) - RIM_CELLS) & ~1), min(room, max(0, min(ys) - RIM_CELLS) & ~1)
@@ -215,7 +216,7 @@ class ConnectedText:
             x, y = self.moved_old_cell(part.cell)
             yield f"mirror {x} {y} {part.width} {part.height}"
         new = {self.cell_from_plane(cell_of_number(number)) for path in self.paths for number in path.item.mirrors}
-        for x, y, width, height in rectangles(new):
+        for x, y, width, height in rectangles_of_cells(new):
             yield f"mirror {x} {y} {width} {height}"
         ports = sorted(self.ports(), key=lambda port: ("ball", "in", "out", "waste").index(port[0]))
         for kind, name, (x, y) in ports:

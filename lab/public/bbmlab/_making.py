@@ -14,8 +14,8 @@ from bbmlab_core.circuits.row_check import first_missing_row_words
 from bbmlab_core.host.terminal import LabError
 from bbmlab_core.route.certificate import circuit_section
 from bbmlab_core.route.command import require_all_keeps, require_legal_side
-from bbmlab_core.route.search import Search, SearchOptions
-from bbmlab_core.route.settings import Settings
+from bbmlab_core.route.search import RouterSearch, SearchOptions
+from bbmlab_core.route.settings import RouterSettings
 from bbmlab_core.texts.certificates import Stop
 from bbmlab_core.texts.circuits import Circuit
 from bbmlab_core.texts.documents import read_document
@@ -126,7 +126,7 @@ def route(circuit: Circuit | str, *, seed: int = 1, size: int | None = None, eff
             is_cancelled = True
             raise Cancelled
 
-    outcome = Search(model, text, SearchOptions(seed, size, effort, jobs, compact), Settings(), tell).run()
+    outcome = RouterSearch(model, text, SearchOptions(seed, size, effort, jobs, compact), RouterSettings(), tell).run()
     if is_cancelled and outcome.routed is None:
         raise NotFoundError(f"the search was cancelled: {outcome.placed} of {outcome.total} gates were placed at most")
     if outcome.is_interrupted and not is_cancelled:
