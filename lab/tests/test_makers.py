@@ -249,8 +249,8 @@ def golly_run(document: support.Document, on: list[str], time: int) -> set:
             subprocess.run(["bgolly", "-q", "-q", "-a", "RuleLoader", "-s", "/usr/share/golly/Rules/", "-m", str(time),
                             "-o", str(after), str(before)], check=True, capture_output=True)
         # bgolly does not write where the pattern lies; its dead margin stays as it was.
-        return golly.live_cells(golly.golly_states_and_comments(f"#CXRLE Pos={-golly.MARGIN},{-golly.MARGIN}\n"
-                                                                + after.read_text())[0])
+        place = f"#CXRLE Pos={-golly.DEAD_MARGIN_CELLS},{-golly.DEAD_MARGIN_CELLS}\n"
+        return golly.live_cells(golly.golly_states_and_comments(place + after.read_text())[0])
 
 
 class Pictures(unittest.TestCase):

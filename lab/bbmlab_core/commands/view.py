@@ -22,7 +22,7 @@ def run(options: argparse.Namespace) -> int:
                                                     document)
         except (BadProgramError, ProgramTimeout) as error:
             tell_user(f"the page has no report: {error}")
-    write_utf8_text(options.output, viewing.page_text(document, explanation, os.path.basename(options.file)))
+    write_utf8_text(options.output, viewing.page_html(document, explanation, os.path.basename(options.file)))
     return 0
 
 

@@ -8,14 +8,14 @@ from typing import Iterable, Iterator
 
 from ..physics.simulation import DIAGONAL_STRIDE, ROW_STRIDE, TruthTable, cell_of, key_of
 from ..texts.layouts import Box, Cell, Layout
-from .flights import (BACK_FALLING, BACK_RISING, DIRECTION_OFFSETS, FALLING, FLIGHT_DIRECTIONS, RISING, ROW_SHIFT,
-                      SIDE_OFFSETS, Flights, Walls, is_firm, mirror_cell_numbers)
+from .flights import (BACK_FALLING, BACK_RISING, DIRECTION_BY_PARITIES, DIRECTION_OFFSETS, FALLING, RISING, ROW_SHIFT,
+                      SIDE_OFFSETS, Flights, MirrorBlocks, is_ball_proof, mirror_cell_numbers)
 
 # A straight piece of a way: its first and its last cell.
 Piece = tuple[Cell, Cell]
 # A piece that is not complete: its first cell, its table, and when it begins.
 OpenPiece = tuple[int, TruthTable, int]
-DIRECTION_OF = {step: number for number, step in enumerate(DIRECTION_OFFSETS)}
+DIRECTION_BY_OFFSET = {step: number for number, step in enumerate(DIRECTION_OFFSETS)}
 
 
 def block_moves(before: dict[int, TruthTable], corner: int) -> list[tuple[int, int, TruthTable]]:
@@ -38,7 +38,7 @@ class WayRun:
         # Cells of mirrors that never changed.
         self.steady = mirror_cell_numbers(layout)
         # Whether no mirror ever changes.
-        self.is_firm = is_firm(self.steady)
+        self.is_firm = is_ball_proof(self.steady)
         balls = dict.fromkeys([key_of(part.cell) for part in layout.of_kind("ball")], full)
         ins = {key_of(part.cell): table for part in layout.of_kind("in") if (table := tables.get(part.name or "", 0))}
         # What does not fly.
@@ -48,7 +48,7 @@ class WayRun:
         self.moving: list[int] = [key for key in self.live if not self.is_firm or key not in self.steady]
         self.left: tuple[list[int], list[int]] = ([] if self.is_firm else list(self.moving), [])
         self.outside = {key_of(cell) for cell in Box(0, 0, layout.width, layout.height).halo()}
-        self.flights = Flights(Walls(layout, self.steady))
+        self.flights = Flights(MirrorBlocks(layout, self.steady))
         # The pieces of balls that fly, by their numbers, and cells that they left since the last step.
         self.flown: dict[int, OpenPiece] = {}
         self.vacated: list[int] = []
@@ -61,7 +61,7 @@ class WayRun:
         """Makes steps up to a number of them, and returns whether everything stays in the rectangle."""
         until, is_inside, flights = self.time + count, True, self.flights
         while self.time < until and is_inside:
-            self.take_off(until)
+            self.start_free_flights(until)
             is_inside = self.step()
             # A ball that landed before its time may fly again, and lands now once more.
             self.moving += [self.land(number) for number in flights.due.pop(self.time, ()) if number in self.flown]
@@ -69,11 +69,11 @@ class WayRun:
         flights.due.clear()
         return is_inside
 
-    def take_off(self, until: int) -> None:
+    def start_free_flights(self, until: int) -> None:
         """Lets balls fly that can, at most until a time."""
         live, flights, time, odd, stay = self.live, self.flights, self.time, self.time & 1, list[int]()
         for key in self.moving:
-            direction = FLIGHT_DIRECTIONS[key & 1 ^ odd][key >> ROW_SHIFT & 1 ^ odd]
+            direction = DIRECTION_BY_PARITIES[key & 1 ^ odd][key >> ROW_SHIFT & 1 ^ odd]
             one, other = SIDE_OFFSETS[direction]
             is_free = not (key + DIRECTION_OFFSETS[direction] in live or key + one in live or key + other in live)
             number = flights.take_off(key, direction, time, until) if is_free else None
@@ -91,7 +91,7 @@ class WayRun:
         begun = self.flown.pop(number)
         self.live[key] = begun[1]
         self.move_count += steps
-        self.keep_open(key * 8 + (number & 3), begun)
+        self.note_open_piece(key * 8 + (number & 3), begun)
         return key
 
     def step(self) -> bool:
@@ -144,7 +144,7 @@ class WayRun:
         flip, flip_other = one & ~other | both_other, other & ~one | both
         if flip or flip_other:
             for start, end, table in block_moves(dict(zip(keys, before)), corner):
-                self.note_move(start, end, DIRECTION_OF[end - start], table, self.time)
+                self.note_move(start, end, DIRECTION_BY_OFFSET[end - start], table, self.time)
             for key, old, change in zip(keys, before, (flip, flip_other, flip_other, flip)):
                 if change:
                     if not self.is_firm:
@@ -159,7 +159,7 @@ class WayRun:
         """Notes moves in a direction that begin at a time."""
         begun = self.take_open_piece(start, direction, table, time)
         self.move_count += 1
-        self.keep_open(end * 8 + direction, begun)
+        self.note_open_piece(end * 8 + direction, begun)
 
     def take_open_piece(self, start: int, direction: int, table: TruthTable, time: int) -> OpenPiece:
         """Returns the piece that a move from a cell goes on with: the one that comes there just then, or a new one."""
@@ -171,7 +171,7 @@ class WayRun:
         self.ended.append((piece[0], start, piece[1], piece[2]))
         return start, table, time
 
-    def keep_open(self, number: int, begun: OpenPiece) -> None:
+    def note_open_piece(self, number: int, begun: OpenPiece) -> None:
         """Notes the last cell and the direction of a piece that may go on."""
         old = self.open.get(number)
         if old is not None:
@@ -211,8 +211,8 @@ def joined_pieces(pieces: Iterable[Piece]) -> list[Piece]:
     return sorted(joined)
 
 
-def all_pieces(layout: Layout, tables: dict[str, TruthTable], full: TruthTable,
-               until: int) -> dict[TruthTable, list[Piece]]:
+def pieces_by_table(layout: Layout, tables: dict[str, TruthTable], full: TruthTable,
+                    until: int) -> dict[TruthTable, list[Piece]]:
     """Returns the pieces of the ways of balls up to a time, as they fly, by the assignments under which a ball takes
     them."""
     run = WayRun(layout, tables, full)
@@ -223,21 +223,21 @@ def all_pieces(layout: Layout, tables: dict[str, TruthTable], full: TruthTable,
     return dict(sorted(found.items()))
 
 
-def ways_of(layout: Layout, tables: dict[str, TruthTable], full: TruthTable,
-            until: int) -> dict[TruthTable, list[Piece]]:
+def ways_by_table(layout: Layout, tables: dict[str, TruthTable], full: TruthTable,
+                  until: int) -> dict[TruthTable, list[Piece]]:
     """Returns the pieces of the ways of balls up to a time by the assignments under which a ball takes them.
 
     Each goes from its left end to its right end. Pieces of one line may share cells.
     """
     return {table: [(one, two) if one < two else (two, one) for one, two in pieces]
-            for table, pieces in all_pieces(layout, tables, full, until).items()}
+            for table, pieces in pieces_by_table(layout, tables, full, until).items()}
 
 
 def directed_ways(layout: Layout, tables: dict[str, TruthTable], full: TruthTable,
                   until: int) -> dict[TruthTable, list[Piece]]:
     """Returns the same ways with their directions, joined: each piece goes as its ball flies."""
     found = {}
-    for table, pieces in all_pieces(layout, tables, full, until).items():
+    for table, pieces in pieces_by_table(layout, tables, full, until).items():
         on = joined_pieces(piece for piece in pieces if piece[0] < piece[1])
         found[table] = on + [(last, first) for first,
                              last in joined_pieces(piece for piece in pieces if piece[0] >= piece[1])]

@@ -76,7 +76,7 @@ def export(job: dict[str, Any], asked: Executable, seconds: float) -> dict[str, 
     if document.certificate:
         answer = program.ask_program(asked, "check", document.text.encode("latin-1"), seconds)
         explanation = explaining.explain_answer(document.text, "check", answer.output, name, None, document)
-    return {"text": viewing.page_text(document, explanation, name)}
+    return {"text": viewing.page_html(document, explanation, name)}
 
 
 def ways_picture(document: Document, layout: Layout, name: str) -> str:
@@ -84,10 +84,11 @@ def ways_picture(document: Document, layout: Layout, name: str) -> str:
     shown = drawing.Drawing(modules=document.certificate.modules if document.certificate else [])
     on = tracing.chosen_inputs(document, None)
     shown.ways, shown.wire_labels = drawing.ball_ways_and_labels(document, None, layout.steps)
-    shown.title = f"{name}: ways of the balls{drawing.sampled_words(document)}"
-    most = len(drawing.COLOURS) if max(layout.width, layout.height) > drawing.LARGE_SIDE else drawing.MAX_LEGEND
+    shown.title = f"{name}: ways of the balls{drawing.sampling_note(document)}"
+    is_large = max(layout.width, layout.height) > drawing.LARGE_LAYOUT_SIDE
+    most = len(drawing.COLOURS) if is_large else drawing.MAX_LEGEND_WIRES
     wires = drawing.group_ways_by_level(shown, document.circuit, most) if document.circuit else on
-    return drawing.svg(layout, shown, wires)
+    return drawing.layout_svg(layout, shown, wires)
 
 
 JOB_HANDLERS = {"verdict": verdict, "explain": explain, "export": export}
