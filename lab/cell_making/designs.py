@@ -8,7 +8,7 @@ from dataclasses import replace
 from bbmlab_core.route.balls import Ball, BounceKind, Leg, Mirror, follow_legs
 from bbmlab_core.route.cells import GateCell, base_gate_cells
 
-from .bundles import Machine, rectangles
+from .bundles import Machine, rectangles_of_cells
 from .full_adder import full_adder_machine
 
 FLAT, UPRIGHT = BounceKind.FLAT, BounceKind.UPRIGHT
@@ -57,7 +57,7 @@ def gate_machine(name: str, cell: GateCell) -> Machine:
     ins = {port: ball.at_time(arrival).shifted_by(0, 0, shift) for port, ball in cell.ins.items()}
     outs = {port: ball.shifted_by(0, 0, shift) for port, ball in cell.outs.items()}
     line = f"{cell.word} {' '.join(ins)} -> {' '.join(outs)}"
-    return Machine(name, [line], ins, outs, rectangles(set(cell.mirrors)))
+    return Machine(name, [line], ins, outs, rectangles_of_cells(set(cell.mirrors)))
 
 
 def renamed_machine(machine: Machine, name: str, names: dict[str, str], gates: list[str]) -> Machine:
@@ -145,7 +145,7 @@ def xor_machine() -> Machine:
                    garbage={"carry": half.outs["carry"], **half.garbage})
 
 
-def switch_machines(switch: Machine) -> list[Machine]:
+def renamed_switch_machines(switch: Machine) -> list[Machine]:
     """Returns the machines that are a switch with other names: copies, NOT and AND."""
     copying = ["source 1 -> k", "switch a k -> d y z"]
     return [
@@ -169,5 +169,5 @@ def all_machines() -> list[Machine]:
         gate_machine("interact", cells["interact"][0]), uninteract_machine(), switch, unswitch_machine(),
         fredkin, gate_machine("fredkin_inverse", cells["fredkin"][1]),
         gate_machine("cswap", cells["cswap"][0]), gate_machine("cswap_inverse", cells["cswap"][1]),
-        *switch_machines(switch), either, xor_machine(), half_adder_machine(), full_adder_machine(),
+        *renamed_switch_machines(switch), either, xor_machine(), half_adder_machine(), full_adder_machine(),
     ]

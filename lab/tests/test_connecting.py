@@ -17,7 +17,7 @@ from bbmlab_core.physics import standard_cells
 from bbmlab_core.physics.simulation import layout_run
 from bbmlab_core.studio import connecting, machines
 from bbmlab_core.studio.connecting import ConnectedText, connect_ports
-from bbmlab_core.studio.verdicts import Judge
+from bbmlab_core.studio.verdicts import VerdictFinder
 from bbmlab_core.texts.documents import Document, read_document
 
 RUN = "import sys; from bbmlab_core.studio.connecting import main; sys.exit(main())"
@@ -53,7 +53,7 @@ class Connecting(unittest.TestCase):
 
     def assert_is_buffer(self, text: str) -> Document:
         """Asserts that the program says yes to a text, and that two NOT gates in a row copy `a` to `q`."""
-        verdict = Judge(text, open_program(support.program()), 60).verdict()
+        verdict = VerdictFinder(text, open_program(support.program()), 60).verdict()
         self.assertEqual(verdict.verdict, "yes", verdict.words)
         document = read_document(text, "design")
         self.assertEqual((document.circuit.inputs, document.circuit.outputs), (("a",), ("q",)))

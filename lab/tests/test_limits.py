@@ -26,7 +26,7 @@ from bbmlab_core.view import viewing
 
 sys.path.insert(0, str(support.LAB / "public"))
 import bbmlab  # noqa: E402
-from bbmlab._reading import byte_characters  # noqa: E402
+from bbmlab._reading import text_as_byte_characters  # noqa: E402
 
 LINE = "limits 2\n"
 # The last value without the line, and with it (docs/FORMATS.md, Limits).
@@ -117,9 +117,9 @@ class Values(unittest.TestCase):
         """A text of the most bytes is read, and one byte more is an error of the call."""
         for front, most in (("", BYTES[0]), (LINE, BYTES[1])):
             text = front + "x" * (most - len(front))
-            self.assertEqual(len(byte_characters(text)), most)
+            self.assertEqual(len(text_as_byte_characters(text)), most)
             with self.assertRaises(OSError):
-                byte_characters(text + "x")
+                text_as_byte_characters(text + "x")
 
     def test_small_texts_of_large_layouts(self) -> None:
         """A mirror over the whole of the largest layout, and a module that is missing there, take little time and

@@ -13,7 +13,7 @@ from bbmlab_core.farm.receipts import ReceiptFolder
 from bbmlab_core.host import sealed
 from bbmlab_core.host.program import ask_program, open_program
 from bbmlab_core.host.releases import program_identity
-from bbmlab_core.studio.jobs import Jobs
+from bbmlab_core.studio.jobs import JobQueue
 
 # It says yes to each text, with the digest of its certificate.
 LIE = ("digest=$(sed -n '/^certificate /,$p' | sha256sum)\n"
@@ -81,13 +81,13 @@ class Replaced(support.InRoom):
     def test_studio(self) -> None:
         """The studio's verdicts are those of the program that it named at its start, also in a process that starts
         later."""
-        jobs = Jobs(str(self.program), 20.0, 4096)
+        jobs = JobQueue(str(self.program), 20.0, 4096)
         self.addCleanup(jobs.close)
         job = {"kind": "verdict", "text": self.text.decode(), "stage": "first", "earlier": ""}
         first = jobs.answer_job("a", job)
         self.assertTrue(self.was_replaced())
         self.assertNotIn("modules 77", first["report"] + jobs.answer_job("a", job)["report"])
-        jobs.worker.end()
+        jobs.worker.end_process()
         self.assertNotIn("modules 77", jobs.answer_job("a", job)["report"])
 
     def test_worker_of_a_cluster(self) -> None:

@@ -6,7 +6,7 @@ from pathlib import Path
 
 import support
 from bbmlab_core.texts.skimming import design_text
-from bbmlab_core.studio.folder import bytes_of, text_of
+from bbmlab_core.studio.folder import decode_page_text, encode_page_text
 from bbmlab_core.texts.documents import read_document
 from bbmlab_core.texts.spelling import byte_order_mark_length, spell_text, words_without_comment
 from test_studio_model import node
@@ -26,9 +26,9 @@ class OneReader(unittest.TestCase):
     def test_words_and_lines(self) -> None:
         """Each byte gives the same words in the same lines, wherever it is."""
         texts = [place.replace(b"%b", piece) for place in PLACES for piece in PIECES]
-        found, = node(["words", [text_of(text) for text in texts]])
+        found, = node(["words", [decode_page_text(text) for text in texts]])
         for text, words in zip(texts, found):
-            own = [[bytes_of(word).decode("latin-1") for word in line] for line in words]
+            own = [[encode_page_text(word).decode("latin-1") for word in line] for line in words]
             lines = text.decode("latin-1")[byte_order_mark_length(text.decode("latin-1")):].split("\n")
             self.assertEqual(own, [words for words in map(words_without_comment, lines) if words], text)
             once = spell_text(text.decode("latin-1")).text
@@ -44,7 +44,7 @@ class OneReader(unittest.TestCase):
                    (b"\nlayout ", b"\nlayout%b"), (b"circuit\n", b"%bcircuit\n"), (b"\nend\n", b"\nend%b\n"),
                    (b" -> ", b"%b->%b")]
         texts = [good.replace(old, new.replace(b"%b", piece)) for old, new in changes for piece in PIECES]
-        found, = node(["drawn", [text_of(text) for text in texts]])
+        found, = node(["drawn", [decode_page_text(text) for text in texts]])
         yes = 0
         for text, drawn in zip(texts, found):
             own = spell_text(text.decode("latin-1")).text

@@ -14,7 +14,7 @@ from bbmlab_core.farm.answering import CheckResult
 from bbmlab_core.farm.receipts import ReceiptFolder
 from bbmlab_core.host.releases import ProgramIdentity
 from bbmlab_core.host.terminal import LabError, write_bytes
-from bbmlab_core.studio.folder import ChangedError, Folder, digest_of
+from bbmlab_core.studio.folder import Folder, StaleFileError, digest_of_bytes
 from bbmlab_core.texts.spelling import spell_text
 
 OTHER = b"# of another editor\n"
@@ -76,8 +76,8 @@ class Meanwhile(support.InRoom):
             file.write_bytes(OTHER)
             return data
 
-        with mock.patch.object(folder, "read", read_and_change), self.assertRaises(ChangedError):
-            folder.write("design.txt", b"new\n", digest_of(b"old\n"), False)
+        with mock.patch.object(folder, "read", read_and_change), self.assertRaises(StaleFileError):
+            folder.write("design.txt", b"new\n", digest_of_bytes(b"old\n"), False)
         self.assertEqual((file.read_bytes(), self.names()), (OTHER, ["design.txt"]))
 
     def test_protected_files(self) -> None:
@@ -150,7 +150,7 @@ class Meanwhile(support.InRoom):
         for is_forced in (False, True):
             with mock.patch.object(folder, "read", read_and_link):
                 try:
-                    folder.write("design.txt", b"new\n", digest_of(b"old\n"), is_forced)
+                    folder.write("design.txt", b"new\n", digest_of_bytes(b"old\n"), is_forced)
                 except Exception as error:  # pylint: disable=broad-exception-caught  # Any of them is a refusal.
                     self.assertIn("FolderError", [kind.__name__ for kind in type(error).__mro__])
             self.assertEqual(outside.read_bytes(), b"old\n")

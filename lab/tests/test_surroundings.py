@@ -15,7 +15,7 @@ from unittest import mock
 import support
 from bbmlab_core.explain.diagnosis import DiagnosticRuns, Tristate
 from bbmlab_core.host.program import BadProgramError, Executable, RunningPrograms, open_program
-from bbmlab_core.studio.jobs import Jobs
+from bbmlab_core.studio.jobs import JobQueue
 from support import processes, wait_for
 
 LAB = support.BBMLAB[1]
@@ -158,7 +158,7 @@ class Programs(Room):
                       ["explain", wrong], ["explain", "--fix", wrong]):
             ended = self.assert_ends(4, *words, "--program", program)
             self.assertNotIn("says yes", ended.stderr)
-        jobs = Jobs(program, 20.0, 4096)
+        jobs = JobQueue(program, 20.0, 4096)
         self.addCleanup(jobs.close)
         told = jobs.answer_job("a", {"kind": "verdict", "text": support.text_of("not_gate"), "stage": "first",
                                      "earlier": ""})
@@ -176,8 +176,8 @@ class Programs(Room):
 
     def test_crashed_worker(self) -> None:
         """A process of the studio that a signal ended is told as such, and as no limit. The next one answers."""
-        jobs = Jobs(self.program(f"[ -e '{self.room}/once' ] || {{ touch '{self.room}/once'; kill -9 $PPID; }}\nexec "
-                                 "\"$real\" \"$@\""), 20.0, 4096)
+        jobs = JobQueue(self.program(f"[ -e '{self.room}/once' ] || {{ touch '{self.room}/once'; kill -9 $PPID; }}\n"
+                                     "exec \"$real\" \"$@\""), 20.0, 4096)
         self.addCleanup(jobs.close)
         job = {"kind": "verdict", "text": support.text_of("not_gate"), "stage": "first", "earlier": ""}
         self.assertEqual(jobs.answer_job("a", job),

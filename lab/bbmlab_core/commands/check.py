@@ -37,7 +37,7 @@ def run(options: argparse.Namespace) -> int:
     writer.begin_results(files)
     counts: dict[str, int] = {}
     try:
-        is_contradicted = check_and_write(checker, files, writer, counts)
+        is_contradicted = write_check_results(checker, files, writer, counts)
     except StoppedBySignal as signal:
         writer.end_results(signal.name)
         return signal.status
@@ -45,7 +45,7 @@ def run(options: argparse.Namespace) -> int:
     return exit_status(counts)
 
 
-def check_and_write(checker: FileChecker, files: list[str], writer: ResultWriter, counts: dict[str, int]) -> bool:
+def write_check_results(checker: FileChecker, files: list[str], writer: ResultWriter, counts: dict[str, int]) -> bool:
     """Writes each result as it comes, and counts it.
 
     Returns whether the program contradicts itself, which ends the run.

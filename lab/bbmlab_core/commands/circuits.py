@@ -21,8 +21,8 @@ from ..texts.documents import read_document
 from ..texts.limits import smallest_fitting_limits, text_with_limits_line
 from ..texts.sections import section_text_with_limits
 
-TEXT_WRITERS = {"aiger": aiger_text, "blif": blif_text, "dot": dot_text, "qasm": qasm_text, "real": real_text,
-                "verilog": verilog_text}
+TEXT_FUNCTION_BY_FORMAT = {"aiger": aiger_text, "blif": blif_text, "dot": dot_text, "qasm": qasm_text,
+                           "real": real_text, "verilog": verilog_text}
 
 
 def run_circuit(options: argparse.Namespace) -> int:
@@ -30,7 +30,7 @@ def run_circuit(options: argparse.Namespace) -> int:
     text, circuit = read_text_and_circuit(options.file, ReadingOptions.from_options(options))
     text = text_with_limits_line(text, smallest_fitting_limits(gates=len(circuit.gates), wires=len(circuit.wires)))
     try:
-        for change in chosen_changes(options):
+        for change in chosen_circuit_changes(options):
             lines, before = change(circuit), circuit
             text, circuit = section_text_with_limits(lines), reread_circuit(lines)
             if before.outputs:
@@ -41,7 +41,8 @@ def run_circuit(options: argparse.Namespace) -> int:
     if options.clean and any(name.endswith("_not") for name in circuit.outputs):
         tell_user("each output that a gate makes also leaves as its complement, with `_not` at its end: no gate makes "
                   "balls")
-    write_bytes(options.output, (text if options.to is None else TEXT_WRITERS[options.to](circuit)).encode("latin-1"))
+    write_bytes(options.output,
+                (text if options.to is None else TEXT_FUNCTION_BY_FORMAT[options.to](circuit)).encode("latin-1"))
     return 0
 
 
@@ -50,14 +51,14 @@ def require_agreement(change: Callable[[Circuit], Circuit], before: Circuit, aft
 
     Raises LabError where it has others.
     """
-    differs, scope = (inverse_difference(before, after) if change is inverse
+    differs, scope = (inverse_difference_and_scope(before, after) if change is inverse
                       else truth.difference_and_scope_words(before, after, True))
     if differs:
         raise LabError(f"the new circuit is wrong: {differs}. This is a fault of the lab", 1)
     return scope
 
 
-def inverse_difference(before: Circuit, after: Circuit) -> tuple[str, str]:
+def inverse_difference_and_scope(before: Circuit, after: Circuit) -> tuple[str, str]:
     """Returns how the inverse of a circuit fails to give its inputs back, or nothing, and in which inputs they were
     compared."""
     values = wire_values_of(before)
@@ -67,7 +68,7 @@ def inverse_difference(before: Circuit, after: Circuit) -> tuple[str, str]:
     return ("" if wrong is None else f"it does not give `{wrong}` back"), values.tried_choices_words
 
 
-def chosen_changes(options: argparse.Namespace) -> list[Callable[[Circuit], Circuit]]:
+def chosen_circuit_changes(options: argparse.Namespace) -> list[Callable[[Circuit], Circuit]]:
     """Returns what a circuit is put through, in order.
 
     To `simplify` the second half of a clean circuit is dead, so it comes before.

@@ -27,7 +27,7 @@ def run(options: argparse.Namespace) -> int:
         raise LabError(f"{options.file}: this is {what}: `bbmlab circuit` and `route` read it{more}", 1)
     command = options.command_of_program or {"design": "check", "layout": "run",
                                              "circuit": "value"}.get(command_for_text(text), command_for_text(text))
-    program = program_of(options)
+    program = program_if_found(options)
     if options.fix:
         return find_and_write_fix(text, command, program, options)
     by_lab = False
@@ -48,7 +48,7 @@ def run(options: argparse.Namespace) -> int:
     return write_explanation(explanation, options)
 
 
-def program_of(options: argparse.Namespace) -> Executable | None:
+def program_if_found(options: argparse.Namespace) -> Executable | None:
     """Returns the program, or None if it is not found."""
     try:
         return find_and_open_program(options.program)
@@ -122,7 +122,7 @@ def explanation_text(explanation: ExplainedAnswer) -> str:
         if explanation.fix is None:
             blocks.append("\n".join(wrapped_paragraph(hint, f"  {coloured('Hint:', 'bold')} ", "        ")
                                     for hint in told.hints))
-    blocks += fix_blocks(explanation)
+    blocks += fix_paragraphs(explanation)
     for entry in explanation.entries:
         lines = [coloured(entry.report_line, "bold" if entry.is_against else "dim")]
         lines += [wrapped_paragraph(what, "  ") for what in entry.what]
@@ -136,7 +136,7 @@ def explanation_text(explanation: ExplainedAnswer) -> str:
     return "\n\n".join(blocks)
 
 
-def fix_blocks(explanation: ExplainedAnswer) -> list[str]:
+def fix_paragraphs(explanation: ExplainedAnswer) -> list[str]:
     """Returns the fix of the whole text, or what was tried in vain."""
     if explanation.fix:
         others = [line for words in explanation.fix.others for line in labelled_sentences("Or:", words)]

@@ -14,7 +14,7 @@ from ..host.program import BadProgramError, find_and_open_program
 from ..host.terminal import LabError, tell_user
 from ..studio.answers import Answers
 from ..studio.folder import Folder
-from ..studio.jobs import Jobs
+from ..studio.jobs import JobQueue
 from ..studio.routes import RouteSearches
 from ..studio.server import studio_server
 
@@ -29,7 +29,7 @@ def run(options: argparse.Namespace) -> int:
     jobs = routes = None
     try:
         program = find_and_open_program(options.program)
-        jobs = Jobs(program, options.timeout or 20.0, options.memory)
+        jobs = JobQueue(program, options.timeout or 20.0, options.memory)
         routes = RouteSearches(str(program), options.memory)
     except BadProgramError as error:
         tell_user(f"the studio gives no verdicts: {error}")
@@ -43,7 +43,7 @@ def run(options: argparse.Namespace) -> int:
     server.on_entry = lambda: print("bbmlab: a browser has opened the studio. Another one gets in by "
                                     f"{server.address}", file=sys.stderr, flush=True)
     if jobs:
-        threading.Thread(target=jobs.start_ahead, daemon=True).start()
+        threading.Thread(target=jobs.start_worker_ahead, daemon=True).start()
     with ExitStack() as ending:
         if jobs:
             ending.callback(jobs.close)

@@ -33,7 +33,7 @@ from ..texts.limits import SECOND_LIMITS, smallest_fitting_limits, text_with_lim
 from ..texts.skimming import design_text
 from ..texts.spelling import spell_text
 from .machines import FinalBall, MachineRun
-from .verdicts import Judge
+from .verdicts import VerdictFinder
 
 # The columns and rows around the layout that may be used, and the steps to spare of the ball, by the attempts.
 MARGINS_BY_ATTEMPT = (0, 32, 64, 128, 256, 512)
@@ -41,7 +41,7 @@ SPARE_STEPS = (60, 150, 250)
 # The further steps for each cell between the two ports: the ball flies round what is in the way.
 DETOUR_STEPS_PER_CELL = 0.35
 # The seconds in which the program and the lab's search for a certificate must end.
-CHECK_SECONDS = 20.0
+MAX_CHECK_SECONDS = 20.0
 
 
 class UnlimitedModules(JoinedModules):
@@ -70,7 +70,7 @@ class ConnectionWiring(JoinWiring):
         # All balls are of one layout, so none has to leave it.
         self.world.boxes, self.world.box_of_tile = [], {}
 
-    def closed_end_words(self) -> str:
+    def closed_end_reason(self) -> str:
         """Says which open end no ball can leave even if no other ball is led, or returns nothing."""
         for index, ball, sign in self.closed_ends():
             where = "behind it" if sign > 0 else "before it"
@@ -178,9 +178,9 @@ class ConnectedText:
     def __init__(self, connection: PortConnection, plan: JoinPlan, paths: list[BallPath]) -> None:
         self.connection, self.plan, self.paths = connection, plan, paths
         self.room = plan.placed[0].x
-        self.left, self.top, self.width, self.height = self.frame()
+        self.left, self.top, self.width, self.height = self.enclosing_box()
 
-    def frame(self) -> tuple[int, int, int, int]:
+    def enclosing_box(self) -> tuple[int, int, int, int]:
         """Returns the part of the plane that has the layout and all paths: its corner, its width and its height."""
         layout, room = self.connection.layout, self.room
         xs, ys = [room + layout.width // 2], [room + layout.height // 2]
@@ -251,7 +251,7 @@ def lead_all_balls(connection: PortConnection, deadline: float, seed: int) -> Co
         for delay in connection.possible_delays():
             plan = connection.join_plan(delay, room)
             wiring = ConnectionWiring(plan, seed, deadline)
-            why = wiring.closed_end_words()
+            why = wiring.closed_end_reason()
             if why:
                 break
             try:
@@ -280,7 +280,7 @@ def main() -> int:
         made = connect_ports(Path(source).read_bytes().decode("latin-1"), (output, given), deadline, int(seed))
         text = made.text()
         print(f"Led in {made.plan.end} steps. The program checks.", file=sys.stderr, flush=True)
-        verdict = Judge(text, open_program(program), CHECK_SECONDS).verdict()
+        verdict = VerdictFinder(text, open_program(program), MAX_CHECK_SECONDS).verdict()
         if verdict.verdict != "yes":
             words = " ".join(verdict.words)
             raise LabError(f"The balls could be led, but the verdict would be {verdict.verdict}. {words}")

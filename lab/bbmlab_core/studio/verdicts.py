@@ -25,8 +25,8 @@ from ..texts.spelling import source_line_number, spell_text
 
 # The most lines of a report for which fixes are looked for one by one, and the most lines that are sent to the page.
 MAX_FIXED_LINES, MAX_SENT_LINES = 6, 200
-NO_OTHER_FOUND = {"own": "The certificate of the text was checked. The lab found no other one:",
-                  "earlier": "The last certificate that got a yes was checked. The lab found no other one:"}
+NO_OTHER_CERTIFICATE_WORDS = {"own": "The certificate of the text was checked. The lab found no other one:",
+                              "earlier": "The last certificate that got a yes was checked. The lab found no other one:"}
 
 
 @dataclass
@@ -54,7 +54,7 @@ class Verdict:
     is_last: bool = True
 
 
-class Judge:
+class VerdictFinder:
     """Asks the program about one text, within a number of seconds.
 
     `earlier` is a certificate that got a yes before the last edits.
@@ -67,7 +67,7 @@ class Judge:
         self.until = processor_seconds() + seconds
         self.inputs: Sequence[str] = ()
 
-    def ask(self, bundle: str) -> ProgramAnswer:
+    def ask_program_about(self, bundle: str) -> ProgramAnswer:
         """Returns what the program answers to a bundle."""
         return ask_program(self.program, "check", bundle.encode("latin-1"), self.seconds)
 
@@ -78,7 +78,7 @@ class Judge:
         `other` is `made` after a no: no certificate is made if the program's runs show that none gets a yes.
         """
         try:
-            wrong = self.wrong_end_words(read_document(self.head, "design")) if stage == "other" else None
+            wrong = self.wrong_end_reason(read_document(self.head, "design")) if stage == "other" else None
             if wrong:
                 return Verdict("none", [wrong])
             is_first_wanted = stage not in ("made", "other")
@@ -104,7 +104,7 @@ class Judge:
             return own
         # The steps of a `delay` gate are shown by stops alone.
         has_delay = any(gate.kind == "delay" for gate in design.circuit.gates)
-        plain = None if has_delay else plain_certificate(design.circuit, design.layout)
+        plain = None if has_delay else one_module_certificate(design.circuit, design.layout)
         if plain:
             return self.bundle_verdict(self.head + plain, "plain")
         earlier = self.bundle_verdict(self.head + self.earlier, "earlier") if self.earlier else None
@@ -115,7 +115,7 @@ class Judge:
         found.is_last = False
         return found
 
-    def wrong_end_words(self, design: Document) -> str | None:
+    def wrong_end_reason(self, design: Document) -> str | None:
         """Says why no certificate gets a yes, if the program's run with all inputs on, or with none, does not end as
         the circuit and the layout ask."""
         circuit, layout = design.circuit, design.layout
@@ -142,7 +142,7 @@ class Judge:
         self.inputs = design.circuit.inputs if design.circuit else ()
         made = self.certify_and_judge(design)
         if made.verdict == "none" and first.verdict == "no":
-            first.words += [NO_OTHER_FOUND[first.by], *made.words]
+            first.words += [NO_OTHER_CERTIFICATE_WORDS[first.by], *made.words]
             first.is_last = True
             return first
         return made
@@ -167,7 +167,7 @@ class Judge:
 
     def bundle_verdict(self, bundle: str, by: str) -> Verdict:
         """Returns what the program says of a bundle."""
-        answer = self.ask(bundle)
+        answer = self.ask_program_about(bundle)
         if answer.status not in (0, 1, 3):
             raise BadProgramError(f"the program ended with status {answer.status}: {answer.errors}")
         report = parse_report(answer.output)
@@ -206,7 +206,7 @@ def wrong_cell(circuit: Circuit, layout: Layout, on: set[str], live: set[Cell]) 
     return min((wanted | layout.mirror_cells() - free) ^ (live - free), default=None)
 
 
-def plain_certificate(circuit: Circuit, layout: Layout) -> str | None:
+def one_module_certificate(circuit: Circuit, layout: Layout) -> str | None:
     """Returns a certificate of one module for the whole layout that cuts all inputs and uses all gates, or None if it
     is too large.
 

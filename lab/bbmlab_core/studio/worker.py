@@ -29,36 +29,36 @@ from ..texts.layouts import Layout
 from ..texts.reports import ReportError
 from ..texts.spelling import spell_text
 from ..view import viewing
-from .folder import FolderError, bytes_of
-from .verdicts import Judge, explanation_json, design_explanation_json
+from .folder import FolderError, encode_page_text
+from .verdicts import VerdictFinder, explanation_json, design_explanation_json
 
 # How many seconds a search for fixes takes, at most.
-FIX_SECONDS = 8.0
+MAX_FIX_SECONDS = 8.0
 # The forms in which a text is exported.
 EXPORT_FORMS = ("svg", "golly", "page")
 
 
 def byte_characters(text: str) -> str:
     """Returns a text of the page as the lab has it: one character for each byte."""
-    return bytes_of(text).decode("latin-1")
+    return encode_page_text(text).decode("latin-1")
 
 
-def verdict(job: dict[str, Any], asked: Executable, seconds: float) -> dict[str, Any]:
+def verdict_answer(job: dict[str, Any], asked: Executable, seconds: float) -> dict[str, Any]:
     """Returns the verdict on a text."""
-    judge = Judge(byte_characters(job["text"]), asked, seconds, byte_characters(job.get("earlier", "")))
+    judge = VerdictFinder(byte_characters(job["text"]), asked, seconds, byte_characters(job.get("earlier", "")))
     return asdict(judge.verdict(job.get("stage", "")))
 
 
-def explain(job: dict[str, Any], asked: Executable, seconds: float) -> dict[str, Any]:
+def explanation_answer(job: dict[str, Any], asked: Executable, seconds: float) -> dict[str, Any]:
     """Returns a verdict in words, with fixes. Without a report it is one of a text for which no certificate was found.
     """
-    limit = min(FIX_SECONDS, seconds)
+    limit = min(MAX_FIX_SECONDS, seconds)
     if not job["report"]:
         return design_explanation_json(byte_characters(job["text"]), asked, limit)
     return explanation_json(byte_characters(job["text"]), job["bundle"], job["report"], asked, limit)
 
 
-def export(job: dict[str, Any], asked: Executable, seconds: float) -> dict[str, Any]:
+def export_answer(job: dict[str, Any], asked: Executable, seconds: float) -> dict[str, Any]:
     """Returns a text in another form: `svg`, `golly` or `page`."""
     document = read_document(spell_text(byte_characters(job["bundle"] or job["text"])).text)
     if document.refusal or document.layout is None:
@@ -91,10 +91,10 @@ def ways_picture(document: Document, layout: Layout, name: str) -> str:
     return drawing.layout_svg(layout, shown, wires)
 
 
-JOB_HANDLERS = {"verdict": verdict, "explain": explain, "export": export}
+JOB_HANDLERS = {"verdict": verdict_answer, "explain": explanation_answer, "export": export_answer}
 
 
-def answer(line: str, asked: Executable, seconds: float) -> dict[str, Any]:
+def answer_job_line(line: str, asked: Executable, seconds: float) -> dict[str, Any]:
     """Returns the answer to one job."""
     try:
         job = json.loads(line)
@@ -135,7 +135,7 @@ def main() -> int:
     jobs: "queue.SimpleQueue[str]" = queue.SimpleQueue()
     threading.Thread(target=read_jobs, args=(jobs,), daemon=True).start()
     while line := jobs.get():
-        answers.write(json.dumps(answer(line, asked, seconds)) + "\n")
+        answers.write(json.dumps(answer_job_line(line, asked, seconds)) + "\n")
         answers.flush()
     return 0
 

@@ -18,7 +18,7 @@ from bbmlab_core.texts.reports import ReportError, parse_report
 from bbmlab_core.texts.sections import Bundle
 
 from ._errors import ProgramError, RefusedError
-from ._reading import byte_characters
+from ._reading import text_as_byte_characters
 
 VERDICT_OF_STATUS = {0: "yes", 1: "no"}
 COLOUR_PATTERN = re.compile(r"\033\[\d*m")
@@ -120,7 +120,7 @@ def check(text: str | Bundle, *, program: str | None = None, timeout: float | No
     Raises RefusedError if the program refuses the text, TimeoutError after `timeout` seconds, and ProgramError if it
     gives no report.
     """
-    data = byte_characters(text)
+    data = text_as_byte_characters(text)
     answer = answer_of(opened_program(program), "check", data, timeout)
     try:
         report = parse_report(answer.output)
@@ -142,7 +142,7 @@ def explain(text: str | Bundle, *, effort: float = 30.0, program: str | None = N
 
     Raises ProgramError if the program gives no answer.
     """
-    data = byte_characters(text)
+    data = text_as_byte_characters(text)
     command, asked = command_for_text(data), opened_program(program)
     command = PROGRAM_COMMAND_OF.get(command, command)
     answer = answer_of(asked, command, data, None)

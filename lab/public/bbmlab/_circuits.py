@@ -17,7 +17,7 @@ from bbmlab_core.texts.circuits import Circuit, values_and_undefined_gate
 from bbmlab_core.texts.sections import Bundle, section_text_with_limits
 
 from ._errors import NotFoundError
-from ._reading import byte_characters, document_of
+from ._reading import document_of, text_as_byte_characters
 
 
 @dataclass(frozen=True)
@@ -52,7 +52,7 @@ class Comparison(NamedTuple):
 
 def read_netlist(text: str, *, form: str | None = None) -> Netlist:
     """Reads a netlist, whose form its content says if none is given. Raises ValueError if it is none."""
-    given = byte_characters(text)
+    given = text_as_byte_characters(text)
     try:
         known = core.NetlistFormat(form) if form is not None else core.guessed_netlist_format(given)
         netlist = core.read_netlist(given, known)

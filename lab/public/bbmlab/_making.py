@@ -71,7 +71,7 @@ def certify(bundle: Bundle, *, grid: tuple[int, int] | None = None,
         raise ValueError(f"the boxes give no certificate: {refused.reason}") from refused
 
 
-class Cancelled(KeyboardInterrupt):
+class SearchCancelled(KeyboardInterrupt):
     """Ends a search, as an interrupt does."""
 
 
@@ -117,16 +117,17 @@ def route(circuit: Circuit | str, *, seed: int = 1, size: int | None = None, eff
             error) from error
     is_cancelled = False
 
-    def tell(attempt: int, side: int, placed: int, total: int) -> None:
+    def tell_progress_or_cancel(attempt: int, side: int, placed: int, total: int) -> None:
         """Hands on how far the search is, and ends it if it is cancelled."""
         nonlocal is_cancelled
         if progress:
             progress(attempt, side, placed, total)
         if cancel and cancel():
             is_cancelled = True
-            raise Cancelled
+            raise SearchCancelled
 
-    outcome = RouterSearch(model, text, SearchOptions(seed, size, effort, jobs, compact), RouterSettings(), tell).run()
+    outcome = RouterSearch(model, text, SearchOptions(seed, size, effort, jobs, compact), RouterSettings(),
+                           tell_progress_or_cancel).run()
     if is_cancelled and outcome.routed is None:
         raise NotFoundError(f"the search was cancelled: {outcome.placed} of {outcome.total} gates were placed at most")
     if outcome.is_interrupted and not is_cancelled:

@@ -12,7 +12,7 @@ from bbmlab_core.texts.sections import Bundle, bundle_of_document
 from ._errors import RefusedError
 
 
-def byte_characters(text: str | Bundle) -> str:
+def text_as_byte_characters(text: str | Bundle) -> str:
     """Returns a text with one character for each byte of its UTF-8.
 
     Raises OSError if it is longer than the program reads, and TypeError for other values, such as bytes.
@@ -30,7 +30,7 @@ def byte_characters(text: str | Bundle) -> str:
 
 def document_of(text: str, command: str | None = None) -> Document:
     """Returns what the lab's reader makes of a text. Raises RefusedError if it refuses it."""
-    document = read_document(byte_characters(text), command)
+    document = read_document(text_as_byte_characters(text), command)
     if document.refusal:
         refusal = document.refusal
         raise RefusedError(refusal.line, refusal.code, " ".join(explain_refusal(document, refusal).what))

@@ -33,10 +33,10 @@ def simulate(layout: Layout, inputs: Iterable[str] = (), steps: int | None = Non
         raise ValueError(f"no `in` cell has the name {unknown[0]}")
     if last < 0:
         raise ValueError(f"{last} steps are fewer than 0")
-    return whole_states(layout_run(model, on), last)
+    return whole_run_states(layout_run(model, on), last)
 
 
-def whole_states(run: WholeRun, last: int) -> Iterator[State]:
+def whole_run_states(run: WholeRun, last: int) -> Iterator[State]:
     """Yields the states of a whole run, up to the first one that is not inside the rectangle."""
     is_inside = True
     while True:
