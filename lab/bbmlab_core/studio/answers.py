@@ -73,7 +73,8 @@ class Answers:
             "files": self.files_answer, "refusal": self.refusal_answer,
             "spelling": self.spelled_text,
             "cells": self.cells_answer, "template": self.template_answer, "verdict": self.run_job,
-            "explain": self.run_job, "export": self.run_job, "route": self.begin_routing, "connect": self.begin_connection,
+            "explain": self.run_job, "export": self.run_job, "route": self.begin_routing,
+            "connect": self.begin_connection,
             "routed": self.search_state, "unroute": self.cancel_search}
         if name not in known:
             raise Denied(404, "there is no such request")
