@@ -596,8 +596,8 @@ def keep_selection(studio: Studio) -> None:
 
 def ask_twice(studio: Studio) -> None:
     """A question that another one replaces is answered with null, and the other one waits for its button."""
-    studio.script("window.answers = []; const { ask, element } = bbmlab.parts;"
-                  "element('dialog').addEventListener('close', () => { window.isClosed = true; }, { once: true });"
+    studio.script("window.answers = []; const { ask, elementById } = bbmlab.parts;"
+                  "elementById('dialog').addEventListener('close', () => { window.isClosed = true; }, { once: true });"
                   "for (const name of ['one', 'two']) ask(name, [], [['ok', () => 7]]).then((value) => "
                   "window.answers.push([name, value]))")
     studio.wait(lambda: studio.script("return window.isClosed"), "the event of the first question comes")

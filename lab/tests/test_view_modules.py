@@ -48,7 +48,7 @@ class Address(unittest.TestCase):
         """Each part comes back, and all of them together."""
         states = [{}, {"time": 7}, {"on": []}, {"on": ["p"]}, {"zoom": [2.5, 10, -3.25]}, {"fault": 2},
                   {"trails": False}, {"time": 30, "on": ["p", "q"], "zoom": [80, 0, 512], "fault": 1, "trails": False}]
-        written = node([["hashText", state] for state in states])
+        written = node([["addressFragment", state] for state in states])
         self.assertEqual(node([["read", f"#{text}", LIMITS] for text in written]), states)
 
     def test_a_hostile_address(self) -> None:

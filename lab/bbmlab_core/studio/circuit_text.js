@@ -27,7 +27,7 @@ const withoutByteOrderMark = (text) => (text.startsWith("\ufeff") ? text.slice(1
  */
 function linesAndLimits(text) {
   const lines = withoutByteOrderMark(text).split("\n").map(wordsOf).filter((words) => words.length);
-  const own = limits.limitsOf(lines[0] || []);
+  const own = limits.limitsByFirstLine(lines[0] || []);
   return { lines: own.line ? lines.slice(1) : lines, limits: own };
 }
 

@@ -62,7 +62,7 @@ class Desk {
     this.layout = this.model.layout || { ...this.layout };
     this.fallen = geometry.fallingMirrors(this.layout.mirrors);
     if (old) {
-      old.play(0);
+      old.setPlayDirection(0);
       clearTimeout(old.aheadTimer);
       clearTimeout(old.seekTimer);
       old.listeners = { time: [], progress: [], end: [], play: [], inputs: [] };

@@ -1,7 +1,7 @@
 /** Opens, saves and exports texts, and keeps and offers drafts. */
 import { countWithNoun } from "../view/stage.js";
 import * as drafts from "./drafts.js";
-import { ask, debounced, element, newElement, showNotice } from "./page_parts.js";
+import { ask, debounced, elementById, newElement, showNotice } from "./page_parts.js";
 import { server } from "./server_link.js";
 
 const DRAFT_DELAY = 250;
@@ -46,7 +46,7 @@ class Files {
     });
     for (const [id, action] of [["save", () => this.save()], ["open", () => this.askAndOpenFile()],
       ["new", () => this.askAndMakeLayout()],
-      ["export", () => this.askAndExport()]]) element(id).addEventListener("click", action);
+      ["export", () => this.askAndExport()]]) elementById(id).addEventListener("click", action);
     addEventListener("beforeunload", (event) => {
       this.keepDraft();
       if (this.isChanged) event.preventDefault();
@@ -59,12 +59,12 @@ class Files {
 
   showFileState() {
     const shown = `${this.name}${this.isChanged ? " *" : ""}`;
-    if (element("name").textContent !== shown) {
-      element("name").textContent = shown;
+    if (elementById("name").textContent !== shown) {
+      elementById("name").textContent = shown;
       document.title = `${this.isChanged ? "* " : ""}${this.name} · bbmlab studio`;
     }
-    element("undo").disabled = this.desk.model.past.length === 0;
-    element("redo").disabled = this.desk.model.future.length === 0;
+    elementById("undo").disabled = this.desk.model.past.length === 0;
+    elementById("redo").disabled = this.desk.model.future.length === 0;
   }
 
   /** Takes a file that the server read. */

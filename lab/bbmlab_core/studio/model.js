@@ -162,7 +162,7 @@ class Model {
     this.end = start < 0 ? this.lines.length : end < 0 ? this.lines.length - Number(this.lines.at(-1) === "") : end;
     this.after = this.end + Number(isClosed);
     // The first lines of a long text are those of its circuit, so the first line with words is near.
-    this.limits = limits.limitsOf(
+    this.limits = limits.limitsByFirstLine(
       wordsOf(withoutByteOrderMark(this.lines.find((line) => wordsOf(withoutByteOrderMark(line)).length > 0) || "")));
     this.parts = [];
     this.filed = null;

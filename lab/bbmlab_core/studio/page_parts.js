@@ -1,5 +1,5 @@
 /** Small helpers for elements of the page and its dialog. Texts are set as text, never as HTML. */
-import { element, newElement } from "../view/boxes.js";
+import { elementById, newElement } from "../view/boxes.js";
 
 /** Returns a new button. */
 function button(text, action, className = "") {
@@ -32,13 +32,13 @@ let cancelAsked = () => {};
  * @returns {Promise<any>}
  */
 function ask(title, body, choices) {
-  const dialog = element("dialog");
+  const dialog = elementById("dialog");
   if (dialog.open) {
     dialog.close();
     cancelAsked();
   }
-  element("dialog-title").textContent = title;
-  element("dialog-body").replaceChildren(...body);
+  elementById("dialog-title").textContent = title;
+  elementById("dialog-body").replaceChildren(...body);
   return new Promise((resolve) => {
     const end = (value) => {
       dialog.onclose = null;
@@ -48,14 +48,14 @@ function ask(title, body, choices) {
     cancelAsked = () => resolve(null);
     // The event of a dialog that was open before comes late: this one is open then.
     dialog.onclose = () => { if (!dialog.open) resolve(null); };
-    element("dialog-buttons").replaceChildren(...choices.map(([text, value]) => button(text, () => end(value()))));
+    elementById("dialog-buttons").replaceChildren(...choices.map(([text, value]) => button(text, () => end(value()))));
     dialog.showModal();
   });
 }
 
 /** Shows a text above the page, with buttons, or nothing. */
 function showNotice(text, choices = []) {
-  const box = element("notice");
+  const box = elementById("notice");
   box.hidden = text === "";
   box.replaceChildren(text, ...choices.map(([words, action]) => button(words, () => {
     box.hidden = true;
@@ -63,4 +63,4 @@ function showNotice(text, choices = []) {
   })));
 }
 
-export { element, newElement, button, appendWords, debounced, ask, showNotice };
+export { elementById, newElement, button, appendWords, debounced, ask, showNotice };

@@ -3,7 +3,7 @@
  * and the tool that leads the ball of an output to an input.
  */
 import { countWithNoun } from "../view/stage.js";
-import { ask, button, element, newElement } from "./page_parts.js";
+import { ask, button, elementById, newElement } from "./page_parts.js";
 import { server } from "./server_link.js";
 
 const SECONDS = 60, CONNECT_SECONDS = 60;
@@ -26,7 +26,7 @@ class RouterPanel {
   constructor(desk, say) {
     this.desk = desk;
     this.say = say;
-    element("route").addEventListener("click", () => this.askAndBegin());
+    elementById("route").addEventListener("click", () => this.askAndBegin());
   }
 
   /** Asks how long to search, and begins. */
@@ -87,14 +87,14 @@ class RouterPanel {
 
   /** Shows the progress, with a button that ends the search. */
   show(text) {
-    const box = element("routing");
+    const box = elementById("routing");
     if (box.hidden) box.replaceChildren(newElement("span"),
       button("cancel", () => { server.request("unroute"); }, "cancel"));
     box.hidden = false;
     box.firstChild.textContent = text;
   }
 
-  hide() { element("routing").hidden = true; }
+  hide() { elementById("routing").hidden = true; }
 
   /** Takes the text that was found, or says why there is none. If the text is another one now, it asks first. */
   async takeResult({ state, text, said = [], error }, isCurrent, { label, none, done }) {

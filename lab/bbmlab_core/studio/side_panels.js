@@ -1,7 +1,7 @@
 /** The panels beside the picture: size, inputs, the circuit with its refusal, and the truth table. */
 import { fillBox, inputSwitch } from "../view/boxes.js";
 import { Model, refusalAfterTrying } from "./model.js";
-import { appendWords, ask, debounced, element, newElement } from "./page_parts.js";
+import { appendWords, ask, debounced, elementById, newElement } from "./page_parts.js";
 import { server } from "./server_link.js";
 import { wireInks } from "./sketch.js";
 import * as surveys from "./survey.js";
@@ -32,19 +32,19 @@ class SidePanels {
     this.askSoon = debounced(REFUSAL_DELAY, () => this.askRefusal());
     for (const id of NUMBERS) {
       // The field in which a number is typed that is not taken yet.
-      element(id).addEventListener("input", () => { this.typed = id; });
-      element(id).addEventListener("change", () => this.applyNumbers());
+      elementById(id).addEventListener("input", () => { this.typed = id; });
+      elementById(id).addEventListener("change", () => this.applyNumbers());
     }
-    element("enlarge").addEventListener("click", () => this.askAndEnlarge());
-    const pane = element("circuit");
+    elementById("enlarge").addEventListener("click", () => this.askAndEnlarge());
+    const pane = elementById("circuit");
     pane.addEventListener("input",
       () => desk.model.setCircuitText(pane.value === "" ? "" : pane.value.replace(/\n$/, ""), "typing"));
     pane.addEventListener("blur", () => {
       desk.model.closeMerge();
       this.showCircuitText(true);
     });
-    pane.addEventListener("scroll", () => { element("gutter").scrollTop = pane.scrollTop; });
-    element("ways").addEventListener("change", (event) => desk.setWaysMode(event.target.value));
+    pane.addEventListener("scroll", () => { elementById("gutter").scrollTop = pane.scrollTop; });
+    elementById("ways").addEventListener("change", (event) => desk.setWaysMode(event.target.value));
     desk.listen("change", () => this.show());
     desk.listen("ways", () => this.showLegend());
     desk.listen("table", () => this.showTable());
@@ -60,7 +60,7 @@ class SidePanels {
 
   /** Shows the numbers of the layout, apart from one that is typed now. */
   showNumbers() {
-    for (const id of NUMBERS) if (this.typed !== id) element(id).value = this.desk.layout[id];
+    for (const id of NUMBERS) if (this.typed !== id) elementById(id).value = this.desk.layout[id];
   }
 
   /** Puts the layout's number into a field in which one was typed. Returns whether one was. */
@@ -93,8 +93,8 @@ class SidePanels {
 
   /** Sets size and steps by the fields. */
   applyNumbers() {
-    const [width, height, steps] = NUMBERS.map((id) => Number(element(id).value)), { layout, model } = this.desk;
-    const isFollowed = element("follow").checked;
+    const [width, height, steps] = NUMBERS.map((id) => Number(elementById(id).value)), { layout, model } = this.desk;
+    const isFollowed = elementById("follow").checked;
     this.typed = null;
     if (isFollowed && steps !== layout.steps && this.resizeWithEnds(width, height, steps)) {
       this.say("");
@@ -128,7 +128,7 @@ class SidePanels {
 
   /** Shows the lines before the layout, unless one types in them. */
   showCircuitText(isForced) {
-    const pane = element("circuit"), text = this.desk.model.headText.replaceAll("\r", "");
+    const pane = elementById("circuit"), text = this.desk.model.headText.replaceAll("\r", "");
     if (pane.value !== text && (isForced || document.activeElement !== pane || pane.value.replace(/\n$/, "") !== text))
         pane.value = text;
     this.showGutter();
@@ -136,16 +136,16 @@ class SidePanels {
 
   /** Shows the numbers of the lines, with a mark at the one that is refused. */
   showGutter() {
-    const count = element("circuit").value.split("\n").length, bad = this.refusal ? this.refusal.line : null;
+    const count = elementById("circuit").value.split("\n").length, bad = this.refusal ? this.refusal.line : null;
     const key = `${count} ${bad}`;
     if (this.gutterKey === key) return;
     this.gutterKey = key;
     const numbers = (from, to) =>
       [...Array(Math.max(0, to - from)).keys()].map((index) => `${from + index}\n`).join("");
-    if (bad === null || bad > count) element("gutter").replaceChildren(numbers(1, count + 1));
-    else element("gutter").replaceChildren(numbers(1, bad), newElement("span", `✗ ${bad}`, "bad"), "\n",
+    if (bad === null || bad > count) elementById("gutter").replaceChildren(numbers(1, count + 1));
+    else elementById("gutter").replaceChildren(numbers(1, bad), newElement("span", `✗ ${bad}`, "bad"), "\n",
       numbers(bad + 1, count + 1));
-    element("gutter").scrollTop = element("circuit").scrollTop;
+    elementById("gutter").scrollTop = elementById("circuit").scrollTop;
   }
 
   /** Asks the lab's reader where it refuses the circuit or the layout. */
@@ -155,7 +155,7 @@ class SidePanels {
     if (number !== this.asked || answer.gone || answer.error) return;
     this.refusal = answer.refusal;
     this.showGutter();
-    const box = element("refusal"), { refusal } = this;
+    const box = elementById("refusal"), { refusal } = this;
     box.replaceChildren();
     if (!refusal) return;
     const line = refusal.line === null ? "" : `Line ${refusal.line}: `;
@@ -167,7 +167,7 @@ class SidePanels {
 
   /** Shows a switch for each input. */
   showInputs() {
-    const { names } = this.desk.player, box = element("inputs");
+    const { names } = this.desk.player, box = elementById("inputs");
     const key = `${names.join(" ")} but ${[...this.desk.off].join(" ")}`;
     if (this.inputsKey === key) return;
     this.inputsKey = key;
@@ -178,7 +178,7 @@ class SidePanels {
 
   /** Shows which colours the wires' ways have. */
   showLegend() {
-    const { survey, isExact } = this.desk, legend = element("legend"), inks = wireInks();
+    const { survey, isExact } = this.desk, legend = elementById("legend"), inks = wireInks();
     legend.replaceChildren();
     if (!survey) return;
     const seen = [...survey.wires.keys()].filter((colour) => colour < surveys.CONSTANT_COLOUR).sort((a, b) => a - b);
@@ -195,7 +195,7 @@ class SidePanels {
 
   /** Shows what the outputs should be and what they are. */
   showTable() {
-    const { rows, hasTable, circuit } = this.desk, box = element("truth");
+    const { rows, hasTable, circuit } = this.desk, box = elementById("truth");
     if (!hasTable) {
       const count = circuit ? circuit.inputs.length : 0;
       const why = !circuit ? "The circuit cannot be read yet."

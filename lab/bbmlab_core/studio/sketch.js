@@ -1,14 +1,14 @@
 /**
  * Shows a layout that is being drawn: the viewer's picture with ways, marks, the selection and what a tool would do.
  */
-import { placeNames } from "../view/labels.js";
+import { chooseNamePlaces } from "../view/labels.js";
 import * as painting from "../view/painting.js";
 import { Stage } from "../view/stage.js";
-import { Buckets, changedIndexes } from "../view/tiles.js";
+import { SquareIndex, changedIndexes } from "../view/tiles.js";
 import * as geometry from "./geometry.js";
 import * as surveys from "./survey.js";
 
-const { RULER } = painting;
+const { RULER_SIZE } = painting;
 // A way in a survey has five numbers: x, y, x, y and a colour.
 const WIRE_INK_COUNT = 8, NUMBERS_PER_WAY = 5, PORT_FONT = "600 12px system-ui, sans-serif";
 
@@ -48,8 +48,8 @@ class Sketch extends Stage {
     this.player = player;
     this.layout = layout;
     this.good = null;
-    this.takeMirrors();
-    if (isOther && this.isFit) this.fit();
+    this.updateMirrors();
+    if (isOther && this.isFit) this.fitWholeLayout();
     else this.requestPaint();
   }
 
@@ -86,12 +86,12 @@ class Sketch extends Stage {
     this.isStale = false;
     pen.save();
     pen.beginPath();
-    pen.rect(RULER.wide, RULER.high, place.wide, place.high);
+    pen.rect(RULER_SIZE.wide, RULER_SIZE.high, place.wide, place.high);
     pen.clip();
-    for (const { box } of this.selected) painting.paintOutline(place, box, place.inks.box, [], -2, 3);
+    for (const { box } of this.selected) painting.paintBoxOutline(place, box, place.inks.box, [], -2, 3);
     if (this.ghost) this.paintGhost(place, this.ghost);
-    if (this.frame2) painting.paintOutline(place, this.frame2, place.inks.box, [5, 4], 0, 1.5);
-    if (this.cursor) painting.paintOutline(place, [...this.cursor, 1, 1], place.inks.box, [], 1, 2);
+    if (this.frame2) painting.paintBoxOutline(place, this.frame2, place.inks.box, [5, 4], 0, 1.5);
+    if (this.cursor) painting.paintBoxOutline(place, [...this.cursor, 1, 1], place.inks.box, [], 1, 2);
     pen.restore();
     painting.paintRulers(place, this.layout, pointed);
   }
@@ -110,15 +110,15 @@ class Sketch extends Stage {
   paintLayout(place) {
     super.paintWhole(place, null);
     if (this.desk.survey) this.paintSurveyMarks(place);
-    for (const { box } of this.desk.fallen) painting.paintOutline(place, box, place.inks.bad, [], -2, 2.5);
-    for (const cell of this.faults) painting.paintCircle(place, cell);
+    for (const { box } of this.desk.fallen) painting.paintBoxOutline(place, box, place.inks.bad, [], -2, 2.5);
+    for (const cell of this.faults) painting.paintCellCircle(place, cell);
   }
 
   /** Files the ways by the squares of the layout, once for each survey. */
   fileWays() {
     const { ways } = this.desk.survey;
     if (this.filedOf === ways) return;
-    this.filed = new Buckets();
+    this.filed = new SquareIndex();
     for (let index = 0; index < ways.length; index += NUMBERS_PER_WAY) this.filed.addPiece(ways[index], ways[index + 1],
         ways[index + 2], ways[index + 3]);
     this.filedOf = ways;
@@ -127,7 +127,7 @@ class Sketch extends Stage {
   /** Draws new ways at the next frame, and only the tiles again that show another way. */
   takeWays() {
     const { survey } = this.desk, fresh = survey ? survey.ways : [], old = this.shownWays || [];
-    const changed = new Buckets();
+    const changed = new SquareIndex();
     if (fresh === old) return;
     const { gone, added } = changedIndexes(old, fresh, NUMBERS_PER_WAY);
     for (const [list, places] of [[old, gone], [fresh, added]]) for (const at of places) changed.addPiece(list[at],
@@ -142,7 +142,7 @@ class Sketch extends Stage {
     if (!this.desk.survey) return;
     const { ways } = this.desk.survey, inks = wireInks(), paths = new Map();
     this.fileWays();
-    this.filed.visit(range, (number) => {
+    this.filed.visitRange(range, (number) => {
       const colour = ways[NUMBERS_PER_WAY * number + 4];
       if (!paths.has(colour)) paths.set(colour, []);
       paths.get(colour).push(NUMBERS_PER_WAY * number);
@@ -184,13 +184,13 @@ class Sketch extends Stage {
   paintGhost(place, { parts, reason, ports = [], wanted = null, time = 0, link = null }) {
     const { pen, scale } = place, ink = reason ? place.inks.bad : place.inks.good;
     if (link) this.paintLink(place, link, ink);
-    if (wanted) painting.paintOutline(place, wanted, place.inks.bad, [3, 3], 0, 1.5);
+    if (wanted) painting.paintBoxOutline(place, wanted, place.inks.bad, [3, 3], 0, 1.5);
     for (const { kind, name, box } of parts) {
       pen.globalAlpha = 0.3;
       pen.fillStyle = ink;
       pen.fillRect((box[0] - place.left) * scale, (box[1] - place.top) * scale, box[2] * scale, box[3] * scale);
       pen.globalAlpha = 1;
-      painting.paintOutline(place, box, ink, kind === "mirror" ? [] : [3, 2], 0, 2);
+      painting.paintBoxOutline(place, box, ink, kind === "mirror" ? [] : [3, 2], 0, 2);
       if (kind !== "mirror" && kind !== "waste" && ports.length === 0) this.paintArrow(place, box,
           geometry.flightDirection(box[0], box[1], kind === "out" ? time : 0), ink);
       if (name && ports.length === 0 && parts.length <= 2) this.paintWord(place, box, name, ink);
@@ -208,7 +208,7 @@ class Sketch extends Stage {
     const names = ports.map(({ cell: [x, y], direction: [dx, dy] }, index) =>
       ({ isAbove: dy > 0, height: 15, width: pen.measureText(words[index]).width + 4,
       cell: rect([x - Number(dx < 0), y - Number(dy < 0), 2, 2]) }));
-    placeNames(names, parts.map(({ box }) => rect(box)), []).forEach(({ box, away }, index) => {
+    chooseNamePlaces(names, parts.map(({ box }) => rect(box)), []).forEach(({ box, away }, index) => {
       const { cell: [x, y], direction } = ports[index], middle = rect([x + 0.5, y + 0.5, 0, 0]);
       this.paintArrow(place, [x, y], direction, inks.box);
       if (away > 0) {

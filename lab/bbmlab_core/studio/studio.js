@@ -5,7 +5,7 @@ import { Tools } from "./drawing_tools.js";
 import { Files } from "./files.js";
 import * as geometry from "./geometry.js";
 import * as parts from "./page_parts.js";
-import { ask, button, element, newElement, showNotice } from "./page_parts.js";
+import { ask, button, elementById, newElement, showNotice } from "./page_parts.js";
 import { RouterPanel } from "./router_panel.js";
 import { server } from "./server_link.js";
 import { SidePanels } from "./side_panels.js";
@@ -26,11 +26,11 @@ const KEYS_TEXT =
   + "Shift with arrows moves the picture, + − 0 zoom, space plays, comma and period step. "
   + "Ctrl-Z and Ctrl-Y undo and redo, Ctrl-C, Ctrl-X and Ctrl-V copy, cut and paste, Ctrl-S saves.";
 const PAN_STEP = 40;
-const canvasElements = { whole: element("whole"), wave: element("wave"), waveBox: element("wave-box"),
-  waveRest: element("wave-rest"), waveCursor: element("wave-cursor") };
+const canvasElements = { whole: elementById("whole"), wave: elementById("wave"), waveBox: elementById("wave-box"),
+  waveRest: elementById("wave-rest"), waveCursor: elementById("wave-cursor") };
 const desk = new Desk("circuit\nend\nlayout 48 48 40\nend\n",
   new Worker("studio/survey_worker.js", { type: "module" }));
-const sketch = new Sketch(desk, canvasElements), minimap = new Minimap(sketch, element("map"));
+const sketch = new Sketch(desk, canvasElements), minimap = new Minimap(sketch, elementById("map"));
 const tools = new Tools(desk, sketch, say);
 const panels = new SidePanels(desk, sketch, say);
 const verdicts = new VerdictPanel(desk, sketch);
@@ -39,8 +39,8 @@ const buttons = {};
 
 /** Says something below the picture. */
 function say(text, isBad = false) {
-  element("status").textContent = text;
-  element("status").classList.toggle("bad", isBad);
+  elementById("status").textContent = text;
+  elementById("status").classList.toggle("bad", isBad);
 }
 
 // ---- tools
@@ -50,12 +50,12 @@ function prepareTool() {
   for (const [name, found] of Object.entries(buttons)) found.setAttribute("aria-pressed", String(name === tools.name));
   const isPort = tools.name === "in" || tools.name === "out";
   const isCells = ["ball", "in", "out", "waste"].includes(tools.name);
-  element("wire-part").hidden = !isPort;
-  element("pair-part").hidden = !isCells;
-  element("cell-part").hidden = element("wires-part").hidden = tools.name !== "cell";
-  element("selection-part").hidden = tools.name !== "select" && tools.name !== "paste";
+  elementById("wire-part").hidden = !isPort;
+  elementById("pair-part").hidden = !isCells;
+  elementById("cell-part").hidden = elementById("wires-part").hidden = tools.name !== "cell";
+  elementById("selection-part").hidden = tools.name !== "select" && tools.name !== "paste";
   endsButton.hidden = tools.name !== "out" && tools.name !== "waste";
-  element("tool-words").textContent = tools.name === "paste" ? "Press where the copy goes." : TOOLS[tools.name][2];
+  elementById("tool-words").textContent = tools.name === "paste" ? "Press where the copy goes." : TOOLS[tools.name][2];
   canvasElements.whole.dataset.tool = tools.name;
   if (isPort) suggestWire();
   if (tools.name === "out" || tools.name === "waste") desk.player.stopAndSeek(desk.layout.steps);
@@ -65,19 +65,19 @@ function prepareTool() {
 /** Puts a wire into the field that has no port yet. */
 function suggestWire() {
   const { circuit, parts } = desk.model, isIn = tools.name === "in", names = isIn ? circuit.inputs : circuit.outputs;
-  element("wires").replaceChildren(...names.map((name) => Object.assign(newElement("option"), { value: name })));
+  elementById("wires").replaceChildren(...names.map((name) => Object.assign(newElement("option"), { value: name })));
   const taken = new Set(parts.filter(({ kind }) => kind === tools.name).map(({ name }) => name));
   const free = names.find((name) => !taken.has(name));
   if (free && (taken.has(tools.wire) || !names.includes(tools.wire))) setWire(free);
   else if (isIn && taken.has(tools.wire)) setWire(
     [..."abcdefghijklmnopqrstuvwxyz"].find((name) => !taken.has(name) && !circuit.names.has(name)) || "a");
-  else element("wire").value = tools.wire;
+  else elementById("wire").value = tools.wire;
 }
 
 /** Takes another wire for ports. */
 function setWire(name) {
   tools.wire = name;
-  element("wire").value = name;
+  elementById("wire").value = name;
 }
 
 /** Takes a tool. */
@@ -91,21 +91,21 @@ function choose(name) {
 
 function showTime() {
   const { run, target } = desk.player, { steps } = desk.layout;
-  Object.assign(element("slider"), { max: steps, value: target });
-  element("slider").setAttribute("aria-valuetext", `time ${run.time} of ${steps}`);
-  element("time").textContent = `${run.time} of ${steps}`;
+  Object.assign(elementById("slider"), { max: steps, value: target });
+  elementById("slider").setAttribute("aria-valuetext", `time ${run.time} of ${steps}`);
+  elementById("time").textContent = `${run.time} of ${steps}`;
   sketch.moveWaveCursor();
   sketch.requestPaint();
 }
 
-const showCell = () => sketch.showCellWords(element("cell"), sketch.cursor || sketch.pointed);
+const showCell = () => sketch.showCellWords(elementById("cell"), sketch.cursor || sketch.pointed);
 
 /** Shows the desk after a change. */
 function showChange() {
   sketch.takeLayout();
   tools.keepSelection();
   if (tools.name === "in" || tools.name === "out") suggestWire();
-  element("hint").hidden = desk.model.parts.length > 0 || !desk.model.header;
+  elementById("hint").hidden = desk.model.parts.length > 0 || !desk.model.header;
   const why = desk.fallen.length ? geometry.fallReason(desk.fallen[0].box) : null;
   if (why) say(`The mirror ${desk.fallen[0].box.join(" ")} falls apart: ${why}.`, true);
   else if (!desk.model.header) {
@@ -126,7 +126,7 @@ const actions = {
     if (label) say(`Did again: ${label}.`);
     tools.select([]);
   },
-  play: () => desk.player.play(desk.player.direction ? 0 : 1),
+  play: () => desk.player.setPlayDirection(desk.player.direction ? 0 : 1),
   step: (count) => desk.player.stopAndSeek(desk.player.run.time + count),
   first: () => desk.player.stopAndSeek(0), last: () => desk.player.stopAndSeek(desk.layout.steps),
   cut: () => {
@@ -152,7 +152,7 @@ const PLAIN_KEYS = { Delete: () => tools.remove(), Backspace: () => tools.remove
     choose("select");
   }, Enter: () => pressCursor(), " ": actions.play, ",": () => actions.step(-1),
   ".": () => actions.step(1), Home: actions.first, End: actions.last, "+": () => sketch.zoom(1.25),
-    "=": () => sketch.zoom(1.25), "-": () => sketch.zoom(0.8), 0: () => sketch.fit() };
+    "=": () => sketch.zoom(1.25), "-": () => sketch.zoom(0.8), 0: () => sketch.fitWholeLayout() };
 for (const [name, [, key]] of Object.entries(TOOLS)) PLAIN_KEYS[key] = () => choose(name);
 
 /** Moves the keyboard's cursor, the selection or the picture. */
@@ -195,7 +195,7 @@ function onKey(event) {
   const { target, key } = event;
   const isField = ["INPUT", "TEXTAREA", "SELECT"].includes(target.tagName) && target.type !== "checkbox";
   const isNumber = target.type === "number";
-  if (element("dialog").open) return;
+  if (elementById("dialog").open) return;
   if (event.ctrlKey || event.metaKey) {
     if (!Object.hasOwn(CONTROL_KEYS, key)
         || isField && !(target.id === "circuit" || isNumber ? "szyZ" : "s").includes(key)) return;
@@ -231,7 +231,7 @@ function movePointer(event) {
  */
 function listenToPointers(canvas) {
   canvas.addEventListener("pointerdown", (event) => {
-    sketch.putFinger(event);
+    sketch.notePressedFinger(event);
     sketch.cursor = null;
     if (sketch.fingers.size > 1) tools.cancel();
     else if (!isHand(event)) tools.beginPress(sketch.cellAt(event.offsetX, event.offsetY), event.shiftKey);
@@ -257,34 +257,34 @@ function listenToPointers(canvas) {
 function listenToButtons() {
   const clicks = { undo: actions.undo, redo: actions.redo, play: actions.play, back: () => actions.step(-1),
     next: () => actions.step(1), first: actions.first,
-    last: actions.last, fit: () => sketch.fit(), in: () => sketch.zoom(1.25), out: () => sketch.zoom(0.8),
+    last: actions.last, fit: () => sketch.fitWholeLayout(), in: () => sketch.zoom(1.25), out: () => sketch.zoom(0.8),
       rotate: () => tools.rotateOrFlip("rotate"),
     "flip-x": () => tools.rotateOrFlip("flip-x"), "flip-y": () => tools.rotateOrFlip("flip-y"),
       copy: () => tools.copy(), paste: actions.paste, delete: () => tools.remove() };
-  for (const [id, action] of Object.entries(clicks)) element(id).addEventListener("click", action);
+  for (const [id, action] of Object.entries(clicks)) elementById(id).addEventListener("click", action);
   for (const [name, [title, key]] of Object.entries(TOOLS)) {
     buttons[name] = button(title, () => choose(name));
     buttons[name].title = `${title} (${key})`;
     buttons[name].id = `tool-${name}`;
-    element("palette").append(buttons[name]);
+    elementById("palette").append(buttons[name]);
   }
-  element("slider").addEventListener("input", (event) => desk.player.stopAndSeek(Number(event.target.value)));
-  element("wire").addEventListener("input", (event) => { tools.wire = event.target.value.trim(); });
-  element("pair").addEventListener("change", (event) => { tools.isPair = event.target.checked; });
-  element("with-wires").addEventListener("change", (event) => { tools.hasWires = event.target.checked; });
-  element("skip").addEventListener("click", (event) => {
+  elementById("slider").addEventListener("input", (event) => desk.player.stopAndSeek(Number(event.target.value)));
+  elementById("wire").addEventListener("input", (event) => { tools.wire = event.target.value.trim(); });
+  elementById("pair").addEventListener("change", (event) => { tools.isPair = event.target.checked; });
+  elementById("with-wires").addEventListener("change", (event) => { tools.hasWires = event.target.checked; });
+  elementById("skip").addEventListener("click", (event) => {
     event.preventDefault();
-    element("badge").click();
+    elementById("badge").click();
   });
-  element("hint-cell").addEventListener("click", () => {
+  elementById("hint-cell").addEventListener("click", () => {
     choose("cell");
-    element("cell-name").focus();
+    elementById("cell-name").focus();
   });
-  element("hint-circuit").addEventListener("click", () => {
-    element("gates").open = true;
-    element("circuit").focus();
+  elementById("hint-circuit").addEventListener("click", () => {
+    elementById("gates").open = true;
+    elementById("circuit").focus();
   });
-  element("keys").textContent = KEYS_TEXT;
+  elementById("keys").textContent = KEYS_TEXT;
 }
 
 const endsButton = button("put outputs and waste where the balls end", () => tools.placeEnds());
@@ -294,21 +294,21 @@ endsButton.id = "ends";
 function listenToChanges() {
   desk.listen("change", showChange);
   desk.listen("time", showTime);
-  desk.listen("end", () => sketch.takeResults());
+  desk.listen("end", () => sketch.updateOutputStates());
   desk.listen("ways", () => sketch.takeWays());
-  desk.listen("play", () => { element("play").textContent = desk.player.direction ? "■ stop" : "play ▶"; });
+  desk.listen("play", () => { elementById("play").textContent = desk.player.direction ? "■ stop" : "play ▶"; });
   sketch.onPaint = showCell;
-  sketch.onPainted = () => minimap.paint();
+  sketch.onPainted = () => minimap.paintMinimap();
   tools.onTool = prepareTool;
   tools.askLarger = (words, size) => ask("The cell is larger than the layout", [newElement("p", words)],
     [[`make the layout ${size.join(" by ")}`, () => true], ["cancel", () => null]]);
   tools.onConnect = (output, input) => router.connect(output, input);
   verdicts.onInputs = () => panels.showInputs();
-  element("wave-part").addEventListener("toggle", () => desk.setWaveformShown(element("wave-part").open));
+  elementById("wave-part").addEventListener("toggle", () => desk.setWaveformShown(elementById("wave-part").open));
   const { wave } = canvasElements;
   const seek = (event) => { if (event.buttons & 1) desk.player.seek(sketch.timeAt(event.offsetX)); };
   for (const name of ["pointerdown", "pointermove"]) wave.addEventListener(name, seek);
-  sketch.listen(() => panels.showLegend());
+  sketch.listenToWheelAndWindow(() => panels.showLegend());
   document.addEventListener("keydown", onKey);
 }
 
@@ -325,13 +325,13 @@ async function begin() {
   files.examples = start.examples;
   if (!start.program.path) showNotice(`There are no verdicts: the program was not found (${start.program.why}).`);
   files.takeFile(start);
-  sketch.fit();
+  sketch.fitWholeLayout();
   await loadStandardCells();
 }
 
 /** Asks the server for the standard cells. */
 async function loadStandardCells() {
-  const { cells = [] } = await server.request("cells"), list = element("cell-name");
+  const { cells = [] } = await server.request("cells"), list = elementById("cell-name");
   list.replaceChildren(...cells.map(({ name }) => Object.assign(newElement("option", name), { value: name })));
   const take = () => { tools.cell = cells.find(({ name }) => name === list.value) || null; };
   list.addEventListener("change", take);
@@ -339,7 +339,7 @@ async function loadStandardCells() {
 }
 
 listenToButtons();
-element("choices-of-tool").append(endsButton);
+elementById("choices-of-tool").append(endsButton);
 listenToPointers(canvasElements.whole);
 listenToChanges();
 choose("mirror");

@@ -1,7 +1,7 @@
 /**
  * The badge and the report: asks the server for the verdict when the text has been still, and shows faults and fixes.
  */
-import { appendWords, button, debounced, element, newElement } from "./page_parts.js";
+import { appendWords, button, debounced, elementById, newElement } from "./page_parts.js";
 import { server } from "./server_link.js";
 
 const VERDICT_DELAY = 200, MAX_CIRCLES = 40, RETRY_DELAY = 2000;
@@ -52,9 +52,9 @@ class VerdictPanel {
     this.sketch = sketch;
     this.askSoon = debounced(VERDICT_DELAY, () => this.ask());
     desk.listen("change", () => this.outdate());
-    element("badge").addEventListener("click", () => {
-      element("verdict-box").focus();
-      element("verdict-box").scrollIntoView();
+    elementById("badge").addEventListener("click", () => {
+      elementById("verdict-box").focus();
+      elementById("verdict-box").scrollIntoView();
     });
   }
 
@@ -71,7 +71,7 @@ class VerdictPanel {
     this.editedAt = performance.now();
     this.showBadge();
     this.sketch.faults = [];
-    element("report").classList.add("old");
+    elementById("report").classList.add("old");
     this.askSoon();
   }
 
@@ -130,7 +130,7 @@ class VerdictPanel {
 
   /** Shows the verdict, grey if it is outdated. */
   showBadge() {
-    const badge = element("badge"), { verdict, isCurrent } = this;
+    const badge = elementById("badge"), { verdict, isCurrent } = this;
     const isWaiting = !verdict || isCurrent && verdict.verdict === "none" && !verdict.is_last;
     const isBlank = isCurrent && this.isDeskEmpty;
     badge.className = isWaiting || isBlank ? "waiting" : isCurrent ? verdict.verdict : "old";
@@ -139,8 +139,9 @@ class VerdictPanel {
     const said = isCurrent && !isBlank && ["yes", "no", "refused"].includes(verdict.verdict);
     const [fault] = verdict ? verdict.faults : [];
     const kind = said && verdict.verdict === "no" && fault ? `${describeFault(fault, this.desk.layout)}; ` : "";
-    element("who").textContent = said ? `${kind}${this.programWords()}` : "";
-    element("who").title = this.program && this.program.path ? `${this.program.path}\nSHA-256 ${this.program.sha256}`
+    elementById("who").textContent = said ? `${kind}${this.programWords()}` : "";
+    elementById("who").title = this.program && this.program.path
+      ? `${this.program.path}\nSHA-256 ${this.program.sha256}`
       : "";
   }
 
@@ -162,7 +163,7 @@ class VerdictPanel {
 
   /** Shows the report: words, faults and fixes. */
   showReport() {
-    const { verdict, explanation } = this, box = element("report");
+    const { verdict, explanation } = this, box = elementById("report");
     box.classList.toggle("old", !this.isCurrent);
     box.replaceChildren();
     if (this.isCurrent && this.isDeskEmpty) {
@@ -223,7 +224,7 @@ class VerdictPanel {
     }
     if (time !== undefined) desk.player.seek(time);
     if (cell) sketch.lookAt([cell[0] + 0.5, cell[1] + 0.5], null);
-    element("whole").scrollIntoView({ block: "nearest" });
+    elementById("whole").scrollIntoView({ block: "nearest" });
   }
 }
 
