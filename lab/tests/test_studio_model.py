@@ -121,7 +121,7 @@ class Commands(unittest.TestCase):
         """A part that is moved keeps its indentation and its comment, and a new one comes behind the last of its kind.
         """
         moved = node(["commands", COMMENTED,
-                      [["move", [8], 1, 1], ["add", [part("mirror", 5, 2, 2, 2)]], ["setSizeAndSteps", 10, 8, 3]]])[0]
+                      [["move", [8], 1, 1], ["addParts", [part("mirror", 5, 2, 2, 2)]], ["setSizeAndSteps", 10, 8, 3]]])[0]
         self.assertEqual(moved,
                          COMMENTED.replace("  mirror 1 4 2 2\t# stays\n", "  mirror 2 5 2 2\t# stays\nmirror 5 2 2 2\n")
                          .replace("layout 8 8 3 ", "layout 10 8 3 "))
@@ -131,7 +131,7 @@ class Commands(unittest.TestCase):
         head = "circuit\n# one\n# two" + example("not_gate").partition("\nlayout")[0].removeprefix("circuit")
         self.assertEqual(node(["moved", example("not_gate"), ["setCircuitText", head, "typing"], [0, 10, 12]])[0],
                          [[0, 12, 14], [0, 10, 12], [0, 12, 14]])
-        self.assertEqual(node(["moved", example("not_gate"), ["remove", [11]], [10, 11, 12]])[0],
+        self.assertEqual(node(["moved", example("not_gate"), ["removeParts", [11]], [10, 11, 12]])[0],
                          [[10, 11], [10, 12], [10, 11]])
         self.assertEqual(node(["moved", example("not_gate"), ["move", [10], 2, 0], [10, 12]])[0],
                          [[10, 12], [10, 12], [10, 12]])
@@ -198,14 +198,14 @@ class Commands(unittest.TestCase):
     def test_reasons(self) -> None:
         """What cannot be done says why, and changes nothing."""
         text = example("not_gate")
-        for command, reason in ((["add", [part("mirror", 7, 6, 2, 2)]], "Cell (7, 7) is taken by the ball at (7, 7)."),
-                                (["add", [part("mirror", 11, 2, 2, 2)]],
+        for command, reason in ((["addParts", [part("mirror", 7, 6, 2, 2)]], "Cell (7, 7) is taken by the ball at (7, 7)."),
+                                (["addParts", [part("mirror", 11, 2, 2, 2)]],
                                  "mirror at (11, 2) is outside the layout of 12 by 12 cells."),
-                                (["add", [part("out", 7, 4, name="b")]],
+                                (["addParts", [part("out", 7, 4, name="b")]],
                                  "Cell (7, 4) is taken by the waste at (7, 4)."),
-                                (["add", [part("ball", 2, 2), part("ball", 2, 2)]],
+                                (["addParts", [part("ball", 2, 2), part("ball", 2, 2)]],
                                  "Two of the parts take cell (2, 2)."),
-                                (["add", [part("in", 2, 2, name="1x")]], "`1x` is no name of a wire."),
+                                (["addParts", [part("in", 2, 2, name="1x")]], "`1x` is no name of a wire."),
                                 (["setSizeAndSteps", 6, 6, 3],
                                  "ball at (7, 7) would be outside the layout of 6 by 6 cells."),
                                 (["setSizeAndSteps", 13, 12, 3], "Width and height are even numbers from 2 to 512."),
@@ -355,7 +355,7 @@ class Runs(unittest.TestCase):
         wanted = [[[mirror.mirror.x, mirror.mirror.y, mirror.mirror.width, mirror.mirror.height] for mirror in
                    unstable_mirrors(Layout(20, 20, 3, tuple(Box(*box) for box in boxes)))]
                   for boxes in layouts]
-        self.assertEqual(node(*[["fallen", boxes] for boxes in layouts]), wanted)
+        self.assertEqual(node(*[["unstable", boxes] for boxes in layouts]), wanted)
         self.assertGreater(sum(map(len, wanted)), 100)
 
     def test_snapped_mirrors_stay(self) -> None:

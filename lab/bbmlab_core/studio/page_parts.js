@@ -2,7 +2,7 @@
 import { elementById, newElement } from "../view/boxes.js";
 
 /** Returns a new button. */
-function button(text, action, className = "") {
+function newButton(text, action, className = "") {
   const found = newElement("button", text, className);
   found.type = "button";
   found.addEventListener("click", action);
@@ -10,7 +10,7 @@ function button(text, action, className = "") {
 }
 
 /** Appends a text in which words between backticks are code. */
-function appendWords(parent, text) {
+function appendTextWithCode(parent, text) {
   text.split("`").forEach((part, index) => parent.append(index % 2 ? newElement("code", part) : part));
   return parent;
 }
@@ -31,7 +31,7 @@ let cancelAsked = () => {};
  * Asks something in the dialog, and resolves to the value of the button that is pressed, or to null.
  * @returns {Promise<any>}
  */
-function ask(title, body, choices) {
+function askInDialog(title, body, choices) {
   const dialog = elementById("dialog");
   if (dialog.open) {
     dialog.close();
@@ -48,7 +48,8 @@ function ask(title, body, choices) {
     cancelAsked = () => resolve(null);
     // The event of a dialog that was open before comes late: this one is open then.
     dialog.onclose = () => { if (!dialog.open) resolve(null); };
-    elementById("dialog-buttons").replaceChildren(...choices.map(([text, value]) => button(text, () => end(value()))));
+    elementById("dialog-buttons").replaceChildren(
+      ...choices.map(([text, value]) => newButton(text, () => end(value()))));
     dialog.showModal();
   });
 }
@@ -57,10 +58,10 @@ function ask(title, body, choices) {
 function showNotice(text, choices = []) {
   const box = elementById("notice");
   box.hidden = text === "";
-  box.replaceChildren(text, ...choices.map(([words, action]) => button(words, () => {
+  box.replaceChildren(text, ...choices.map(([words, action]) => newButton(words, () => {
     box.hidden = true;
     action();
   })));
 }
 
-export { elementById, newElement, button, appendWords, debounced, ask, showNotice };
+export { elementById, newElement, newButton, appendTextWithCode, debounced, askInDialog, showNotice };

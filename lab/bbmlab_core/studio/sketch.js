@@ -18,7 +18,7 @@ function wireInks() {
   return [...Array(WIRE_INK_COUNT).keys()].map((index) => style.getPropertyValue(`--wire-${index}`).trim());
 }
 
-class Sketch extends Stage {
+class EditorStage extends Stage {
   desk;
   ghost = null;
   selected = [];
@@ -29,7 +29,7 @@ class Sketch extends Stage {
   isStale = true;
   isBaseStale = true;
 
-  /** @param {Desk} desk @param {Object<string, HTMLElement>} parts */
+  /** @param {EditedLayout} desk @param {Object<string, HTMLElement>} parts */
   constructor(desk, parts) {
     super(desk.player, parts);
     // What a tool would do: parts, why they cannot be, ports of a cell; the selected parts, a frame, the keyboard's
@@ -42,7 +42,7 @@ class Sketch extends Stage {
   }
 
   /** Shows the desk's layout as it is now. */
-  takeLayout() {
+  showEditedLayout() {
     const { layout, player } = this.desk;
     const isOther = layout.width !== this.layout.width || layout.height !== this.layout.height;
     this.player = player;
@@ -57,7 +57,7 @@ class Sketch extends Stage {
   paintWave() { if (this.desk.hasWave) super.paintWave(); }
 
   /** Returns the colour of a wire by its number in the survey's order. */
-  inkOf(colour, inks, place) {
+  inkOfColour(colour, inks, place) {
     if (colour === surveys.CONSTANT_COLOUR) return place.inks.soft;
     return colour === surveys.OTHER_COLOUR ? place.inks.border : inks[(colour - 1) % WIRE_INK_COUNT];
   }
@@ -79,7 +79,7 @@ class Sketch extends Stage {
     const { pen, wide, high } = place, { width, height } = pen.canvas;
     if (this.isStale) this.paintLayout(place);
     else {
-      if (this.isBaseStale || this.base.width !== width || this.base.height !== height) this.paintBase(place);
+      if (this.isBaseStale || this.base.width !== width || this.base.height !== height) this.paintBaseCanvas(place);
       pen.drawImage(this.base, 0, 0, wide, high);
     }
     this.isBaseStale ||= this.isStale;
@@ -97,7 +97,7 @@ class Sketch extends Stage {
   }
 
   /** Draws the layout with its ways on a canvas of its own, which is then shown at each frame. */
-  paintBase(shown) {
+  paintBaseCanvas(shown) {
     this.base.width = shown.pen.canvas.width;
     this.base.height = shown.pen.canvas.height;
     const place = { ...shown, pen: this.base.getContext("2d") };
@@ -110,12 +110,12 @@ class Sketch extends Stage {
   paintLayout(place) {
     super.paintWhole(place, null);
     if (this.desk.survey) this.paintSurveyMarks(place);
-    for (const { box } of this.desk.fallen) painting.paintBoxOutline(place, box, place.inks.bad, [], -2, 2.5);
+    for (const { box } of this.desk.unstable) painting.paintBoxOutline(place, box, place.inks.bad, [], -2, 2.5);
     for (const cell of this.faults) painting.paintCellCircle(place, cell);
   }
 
   /** Files the ways by the squares of the layout, once for each survey. */
-  fileWays() {
+  indexWays() {
     const { ways } = this.desk.survey;
     if (this.filedOf === ways) return;
     this.filed = new SquareIndex();
@@ -125,7 +125,7 @@ class Sketch extends Stage {
   }
 
   /** Draws new ways at the next frame, and only the tiles again that show another way. */
-  takeWays() {
+  showChangedWays() {
     const { survey } = this.desk, fresh = survey ? survey.ways : [], old = this.shownWays || [];
     const changed = new SquareIndex();
     if (fresh === old) return;
@@ -141,7 +141,7 @@ class Sketch extends Stage {
   drawWays({ pen, scale, left, top, inks: shown }, range) {
     if (!this.desk.survey) return;
     const { ways } = this.desk.survey, inks = wireInks(), paths = new Map();
-    this.fileWays();
+    this.indexWays();
     this.filed.visitRange(range, (number) => {
       const colour = ways[NUMBERS_PER_WAY * number + 4];
       if (!paths.has(colour)) paths.set(colour, []);
@@ -150,7 +150,7 @@ class Sketch extends Stage {
     pen.lineWidth = Math.max(1.2, Math.min(0.16 * scale, 3));
     pen.globalAlpha = 0.75;
     for (const [colour, places] of paths) {
-      pen.strokeStyle = this.inkOf(colour, inks, { inks: shown });
+      pen.strokeStyle = this.inkOfColour(colour, inks, { inks: shown });
       pen.beginPath();
       for (const index of places) {
         pen.moveTo((ways[index] + 0.5 - left) * scale, (ways[index + 1] + 0.5 - top) * scale);
@@ -266,4 +266,4 @@ class Sketch extends Stage {
   }
 }
 
-export { Sketch, wireInks };
+export { EditorStage, wireInks };

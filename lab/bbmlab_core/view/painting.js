@@ -266,8 +266,8 @@ function mirrorsNearPorts(layout) {
     const filed = new SquareIndex(), near = new Set();
     for (const box of layout.mirrors) filed.addBox(...box);
     for (const { cell: [x, y] } of [...layout.ins, ...layout.outs]) {
-      filed.visitRange([x - PORT_MARGIN_CELLS, y - PORT_MARGIN_CELLS, x + PORT_MARGIN_CELLS, y + PORT_MARGIN_CELLS],
-        (number) => {
+      const range = [x - PORT_MARGIN_CELLS, y - PORT_MARGIN_CELLS, x + PORT_MARGIN_CELLS, y + PORT_MARGIN_CELLS];
+      filed.visitRange(range, (number) => {
         const [u, v, w, h] = layout.mirrors[number];
         if (u <= x + PORT_MARGIN_CELLS && u + w >= x - PORT_MARGIN_CELLS && v <= y + PORT_MARGIN_CELLS
             && v + h >= y - PORT_MARGIN_CELLS) near.add(layout.mirrors[number]);
@@ -304,8 +304,8 @@ function portNamePlaces(place, layout, size, { found, others, isNear }) {
 function portsInSquare(ports, [x0, y0, x1, y1]) {
   const found = [], others = [], isNear = (x, y, w, h) => x <= x1 + PORT_MARGIN_CELLS && y <= y1 + PORT_MARGIN_CELLS
     && x + w >= x0 - PORT_MARGIN_CELLS && y + h >= y0 - PORT_MARGIN_CELLS;
-  visitPorts(ports, [x0 - PORT_MARGIN_CELLS, y0 - PORT_MARGIN_CELLS, x1 + PORT_MARGIN_CELLS, y1 + PORT_MARGIN_CELLS],
-    (number, [x, y]) => {
+  const range = [x0 - PORT_MARGIN_CELLS, y0 - PORT_MARGIN_CELLS, x1 + PORT_MARGIN_CELLS, y1 + PORT_MARGIN_CELLS];
+  visitPorts(ports, range, (number, [x, y]) => {
     if (x >= x0 && y >= y0 && x <= x1 && y <= y1) found.push(ports[number]);
     else if (isNear(x, y, 1, 1)) others.push(ports[number]);
   });
