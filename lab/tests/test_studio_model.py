@@ -121,7 +121,8 @@ class Commands(unittest.TestCase):
         """A part that is moved keeps its indentation and its comment, and a new one comes behind the last of its kind.
         """
         moved = node(["commands", COMMENTED,
-                      [["move", [8], 1, 1], ["addParts", [part("mirror", 5, 2, 2, 2)]], ["setSizeAndSteps", 10, 8, 3]]])[0]
+                      [["move", [8], 1, 1], ["addParts", [part("mirror", 5, 2, 2, 2)]],
+                       ["setSizeAndSteps", 10, 8, 3]]])[0]
         self.assertEqual(moved,
                          COMMENTED.replace("  mirror 1 4 2 2\t# stays\n", "  mirror 2 5 2 2\t# stays\nmirror 5 2 2 2\n")
                          .replace("layout 8 8 3 ", "layout 10 8 3 "))
@@ -198,7 +199,8 @@ class Commands(unittest.TestCase):
     def test_reasons(self) -> None:
         """What cannot be done says why, and changes nothing."""
         text = example("not_gate")
-        for command, reason in ((["addParts", [part("mirror", 7, 6, 2, 2)]], "Cell (7, 7) is taken by the ball at (7, 7)."),
+        for command, reason in ((["addParts", [part("mirror", 7, 6, 2, 2)]],
+                                 "Cell (7, 7) is taken by the ball at (7, 7)."),
                                 (["addParts", [part("mirror", 11, 2, 2, 2)]],
                                  "mirror at (11, 2) is outside the layout of 12 by 12 cells."),
                                 (["addParts", [part("out", 7, 4, name="b")]],

@@ -137,7 +137,7 @@ class Ways(unittest.TestCase):
             with self.subTest(seed=seed, text=text):
                 document = read_document(text)
                 assert document.layout
-                self.assertTrue(WayRun(document.layout, {}, 1).is_firm)
+                self.assertTrue(WayRun(document.layout, {}, 1).is_ball_proof)
                 self.assert_same(document)
 
     def test_a_flight_is_one_move(self) -> None:

@@ -143,7 +143,7 @@ class JoinWiring:
         self.chance = random.Random(seed)
         self.finder = PathFinder(self.world, self.chance, settings)
         # A method of this object would keep the world in memory when it is no longer used.
-        self.finder.check_time = partial(require_before_deadline, deadline)
+        self.finder.require_time_left = partial(require_before_deadline, deadline)
         around = [Box(x - COIL_TO_PART_CELLS, y - COIL_TO_PART_CELLS, far - x + 2 * COIL_TO_PART_CELLS,
                       low - y + 2 * COIL_TO_PART_CELLS)
                   for x, y, far, low in self.world.boxes]

@@ -38,15 +38,15 @@ class WayRun:
         # Cells of mirrors that never changed.
         self.steady = mirror_cell_numbers(layout)
         # Whether no mirror ever changes.
-        self.is_firm = is_ball_proof(self.steady)
+        self.is_ball_proof = is_ball_proof(self.steady)
         balls = dict.fromkeys([key_of(part.cell) for part in layout.of_kind("ball")], full)
         ins = {key_of(part.cell): table for part in layout.of_kind("in") if (table := tables.get(part.name or "", 0))}
         # What does not fly.
         self.live = dict.fromkeys(self.steady, full) | balls | ins
         # The cells whose blocks the next step looks at: moving ones, and ones that were left in the last two steps, if
         # a mirror can change once they are gone.
-        self.moving: list[int] = [key for key in self.live if not self.is_firm or key not in self.steady]
-        self.left: tuple[list[int], list[int]] = ([] if self.is_firm else list(self.moving), [])
+        self.moving: list[int] = [key for key in self.live if not self.is_ball_proof or key not in self.steady]
+        self.left: tuple[list[int], list[int]] = ([] if self.is_ball_proof else list(self.moving), [])
         self.outside = {key_of(cell) for cell in Box(0, 0, layout.width, layout.height).halo()}
         self.flights = Flights(MirrorBlocks(layout, self.steady))
         # The pieces of balls that fly, by their numbers, and cells that they left since the last step.
@@ -81,7 +81,7 @@ class WayRun:
                 stay.append(key)
                 continue
             self.flown[number] = self.take_open_piece(key, direction, live.pop(key), time)
-            if not self.is_firm:
+            if not self.is_ball_proof:
                 self.vacated.append(key)
         self.moving = stay
 
@@ -129,7 +129,7 @@ class WayRun:
     def move_lone_cell(self, start: int, end: int, direction: int, left: list[int]) -> None:
         """Moves the only live cell of a block."""
         table = self.live[end] = self.live.pop(start)
-        if not self.is_firm:
+        if not self.is_ball_proof:
             left.append(start)
             self.steady.discard(start)
         self.note_move(start, end, direction, table, self.time)
@@ -147,7 +147,7 @@ class WayRun:
                 self.note_move(start, end, DIRECTION_BY_OFFSET[end - start], table, self.time)
             for key, old, change in zip(keys, before, (flip, flip_other, flip_other, flip)):
                 if change:
-                    if not self.is_firm:
+                    if not self.is_ball_proof:
                         steady.discard(key)
                         left.append(key)
                     live[key] = old ^ change

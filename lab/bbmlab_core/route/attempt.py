@@ -39,7 +39,7 @@ class Attempt:
         self.chance = random.Random(seed)
         self.placer = Placer(self.board, self.chance)
         self.settings, self.deadline = settings, deadline
-        self.placer.finder.check_time = self.require_time_left
+        self.placer.finder.require_time_left = self.require_time_left
         self.way_maker = PathRipper(self.board, self.placer)
         self.escapes = EscapeWiring(self.board, self.placer)
         self.ends = EndWiring(self.placer, self.way_maker, self.escapes, self.most_size, self.require_time_left)

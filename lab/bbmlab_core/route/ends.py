@@ -21,11 +21,11 @@ class EndWiring:
     """Leads the balls of a board to the last time. `most_size` is the side up to which the plane may grow."""
 
     def __init__(self, placer: Placer, way_maker: PathRipper, escapes: EscapeWiring, most_size: int,
-                 check_time: Callable[[], None]) -> None:
+                 require_time_left: Callable[[], None]) -> None:
         self.placer, self.way_maker, self.escapes = placer, way_maker, escapes
         self.board, self.settings = placer.board, placer.settings
         self.netlist, self.chance = self.board.netlist, placer.chance
-        self.most_size, self.check_time = most_size, check_time
+        self.most_size, self.require_time_left = most_size, require_time_left
         # These fields belong to one pass over all balls. For each ball that was led, how it waited before.
         self.before: dict[str, WaitingBall] = {}
         # The balls that were led first, since others would enclose them, and those that were led alone.
@@ -84,7 +84,7 @@ class EndWiring:
         self.left, self.has_no_way = self.settings.end_rips, False
         self.placer.stuck.clear()
         while queue:
-            self.check_time()
+            self.require_time_left()
             root = queue.pop(0)
             if not self.lead_to_end(root, end) and not self.requeue_before_others(queue, root, end):
                 self.placer.blame.clear()

@@ -150,7 +150,7 @@ class PathFinder:
         # The departures of waiting balls, while one gate is placed. What a place adds to the world is looked at later.
         self.known_departures: dict[tuple[Ball, int], dict[Direction, list[OuterBounce]]] = {}
         # What may raise an exception when the time is over.
-        self.check_time: Callable[[], None] = lambda: None
+        self.require_time_left: Callable[[], None] = lambda: None
 
     # --- free ends ----------------------------------------------------------------------------------------------------
 
@@ -250,7 +250,7 @@ class PathFinder:
         """Leads a trail on up to a time, so that it takes few new cells; with a goal, it can still come to this ball.
         """
         ways: list[Iterator[WanderOption]] = []
-        self.check_time()
+        self.require_time_left()
         for _ in range(self.settings.wander_tries + (end - trail.ball.time) // self.settings.steps_per_wander_try):
             left = end - trail.ball.time
             if left == 0 and not trail.steps or self.can_end(trail, left, goal) and trail.push_leg(left, None):

@@ -22,7 +22,7 @@ from .world import HALF_SQUARE_SIDE, MARGIN_CELLS, ROW_STRIDE, TILE_SIDE, Footpr
 MAX_BOX_SIDE_TILES = 4
 # A waiting ball is looked at again if something new is nearer than this many columns and rows.
 NEAR_DISTANCE = 100
-# The cells of the square in which `World.taken_count_around` counts.
+# The cells of the square in which `RoutingGrid.taken_count_around` counts.
 COUNTED_SQUARE_CELLS = (2 * HALF_SQUARE_SIDE) ** 2
 # The most steps to spare for the last input of a gate, however often inputs could not be led.
 MAX_SPARE_STEPS = 130

@@ -1,5 +1,5 @@
 /**
- * The layout on the desk: its model and its run, again at each change. A worker runs it for the ways of its balls and
+ * The layout that is edited: its model and its run, again at each change. A worker runs it for the ways of its balls and
  * its truth table.
  */
 import { Player } from "../view/player.js";
