@@ -1,6 +1,6 @@
 /**
- * The layout that is edited: its model and its run, again at each change. A worker runs it for the ways of its balls and
- * its truth table.
+ * The layout that is edited: its model and its run, again at each change. A worker runs it for the ways of its balls
+ * and its truth table.
  */
 import { Player } from "../view/player.js";
 import * as geometry from "./geometry.js";

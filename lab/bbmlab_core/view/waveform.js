@@ -162,7 +162,8 @@ function paintMark(place, x, y, isGood) {
 /**
  * Draws the rows that can be seen.
  * @param {Object} place a place of `painting`
- * @param {{probes: Probe[], recorder: SignalRecorder, steps: number, values: ?Map<string, boolean>, scrolled: number}} wave
+ * @param {{probes: Probe[], recorder: SignalRecorder, steps: number, values: ?Map<string, boolean>,
+ *   scrolled: number}} wave
  */
 function paintRows(place, { probes, recorder, steps, values, scrolled }) {
   const axis = axisGeometry(place, probes, steps), first = Math.max(0, Math.floor(scrolled / ROW_HEIGHT));
