@@ -78,6 +78,6 @@ def run(options: argparse.Namespace) -> int:
         raise LabError("--wires, --cone and --arrows need --ways")
     design = read_layout_file(options.file, has_certificate=bool(options.report))
     report = report_from_option(options, design[0])
-    write_utf8_text(options.output, picture_of(design, options.on, None if options.ways else options.time, report,
-                                               look))
+    write_utf8_text(options.output, picture_of(design, options.on, None if options.ways else options.time,
+                                               report, look))
     return 0

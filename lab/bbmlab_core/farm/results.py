@@ -141,8 +141,8 @@ class DocumentWriter(ResultWriter):
 
     def end_results(self, stopped: str | None) -> None:
         """Writes the document."""
-        sys.stdout.write(self.document_text([self.results[file] for file in self.files if file in self.results],
-                                            stopped))
+        listed = [self.results[file] for file in self.files if file in self.results]
+        sys.stdout.write(self.document_text(listed, stopped))
         sys.stdout.flush()
 
     def document_text(self, results: list[CheckResult], stopped: str | None) -> str:

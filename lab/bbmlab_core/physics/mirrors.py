@@ -75,8 +75,8 @@ def stable_mirrors_near(part: LayoutPart, reach: int = 1) -> list[LayoutPart]:
         for dh in (0, 1, -1):
             for dy in range(-reach, reach + 1):
                 for dx in range(-reach, reach + 1):
-                    other = LayoutPart("mirror", None, part.x + dx, part.y + dy, part.width + dw, part.height + dh,
-                                       part.line)
+                    other = LayoutPart("mirror", None, part.x + dx, part.y + dy,
+                                       part.width + dw, part.height + dh, part.line)
                     if min(other.x, other.y) >= 0 and min(other.width, other.height) >= 1 and is_stable(other):
                         found.append((abs(dw) + abs(dh), abs(dx) + abs(dy), other))
     return [other for _, _, other in sorted(found, key=lambda row: row[:2])]

@@ -129,5 +129,5 @@ def layout_text_from_golly(text: str) -> str:
         raise LabError(f"the pattern takes {width} by {height} cells with its margin; {SECOND_LIMITS.max_side} is the "
                        "most")
     balls = [f"ball {x - left} {y - top}" for x, y in sorted(live, key=row_order_key)]
-    return smallest_fitting_limits(max(width, height)).line_text + "\n".join([f"layout {width} {height} 0", *balls,
-                                                                              "end"]) + "\n"
+    first = smallest_fitting_limits(max(width, height)).line_text
+    return first + "\n".join([f"layout {width} {height} 0", *balls, "end"]) + "\n"

@@ -234,9 +234,8 @@ def uncropped_bundle(circuit_text: str, design: RoutedDesign) -> RoutedBundle:
     text, gates, wires = bundle_text(circuit_text, certifier), len(circuit.gates), len(circuit.wires)
     layout = circuit_section(circuit_text) + "\n".join(certifier.layout) + "\n"
     side = max(design.width, design.height)
-    return RoutedBundle(text_with_limits_line(text,
-                                              smallest_fitting_limits(side, design.end, len(certifier.modules), gates,
-                                                                      wires)),
+    limits = smallest_fitting_limits(side, design.end, len(certifier.modules), gates, wires)
+    return RoutedBundle(text_with_limits_line(text, limits),
                         text_with_limits_line(layout, smallest_fitting_limits(side, design.end, 0, gates, wires)),
                         design.width, design.height, design.end, len(certifier.mirrors), len(certifier.modules),
                         certifier.most_cuts, len(design.gates))
