@@ -186,8 +186,8 @@ class Programs(Room):
 
     def test_hard_memory_limit(self) -> None:
         """Under a hard limit of the address space, below what the studio takes by itself, there are verdicts."""
-        script = ("import sys; sys.path.insert(0, sys.argv[1]); from bbmlab_core.studio.jobs import Jobs; jobs = "
-                  "Jobs(sys.argv[2], 20.0, 4096);"
+        script = ("import sys; sys.path.insert(0, sys.argv[1]); from bbmlab_core.studio.jobs import JobQueue; jobs "
+                  "= JobQueue(sys.argv[2], 20.0, 4096);"
                   "print(jobs.answer_job('a', {'kind': 'verdict', 'text': open(sys.argv[3]).read(), 'stage': 'first', "
                   "'earlier': ''}).get('verdict')); jobs.close()")
         limit = 2 << 30
